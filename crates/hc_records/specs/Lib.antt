@@ -1,0 +1,5 @@
+pub mod ProjectFault
+pub mod EditFault
+pub mod Lending
+pub mod Variables
+pub mod Keys

@@ -1,0 +1,58 @@
+//! What a user asks of a running line.
+use std::alloc::{AllocError, Global};
+
+use crate::items::{Copied, Items, Same};
+
+/// An edit of the line.
+#[derive(Debug, Drop)]
+pub enum Edit {
+    /// The group with this alias joins the line.
+    Connect(u16),
+    /// The group with this alias leaves the line.
+    Disconnect(u16),
+    /// An area of a present slave gets these PDOs assigned, in this order.
+    Remap {
+        /// The slave's configured station address.
+        station: u16,
+        /// The area's place in the slave's record, from 0.
+        area: u8,
+        /// The indexes of the PDOs.
+        pdos: Items<u16>,
+    },
+    /// An area of a present slave moves to a task.
+    Move {
+        /// The slave's configured station address.
+        station: u16,
+        /// The area's place in the slave's record, from 0.
+        area: u8,
+        /// The task, 0 to 7.
+        task: u8,
+    },
+}
+
+impl Copied for Edit {
+    fn copied(&self, alloc: Global) -> Result<Edit, AllocError> {
+        Ok(match self {
+            Edit::Connect(alias) => Edit::Connect(*alias),
+            Edit::Disconnect(alias) => Edit::Disconnect(*alias),
+            Edit::Remap {
+                station,
+                area,
+                pdos,
+            } => Edit::Remap {
+                station: *station,
+                area: *area,
+                pdos: pdos.copied(alloc)?,
+            },
+            Edit::Move {
+                station,
+                area,
+                task,
+            } => Edit::Move {
+                station: *station,
+                area: *area,
+                task: *task,
+            },
+        })
+    }
+}

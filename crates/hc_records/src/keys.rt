@@ -1,0 +1,47 @@
+//! Keys of areas, in the order of a task's list.
+ghost use Rattle.std.specs.Prelude.{◌≡◌};
+ghost use Rattle.hc_records.specs.Keys.{is_before};
+
+use crate::records::Dir;
+
+/// The key of an area: outputs before inputs, then by the slave's rank, then by the area's place in
+/// the slave's record.
+#[derive(Clone, Copy, Debug, PartialEq, Eq, PartialOrd, Ord)]
+pub struct Key {
+    /// The area's direction.
+    pub dir: Dir,
+    /// The slave's place among all declared slaves, present or not, counted from 1.
+    pub rank: u16,
+    /// The area's place in the slave's record, counted from 0.
+    pub area: u8,
+}
+
+impl Key {
+    /// Below the key of every area, whose ranks are 1 or more.
+    pub const START: Key = Key {
+        dir: Dir::Out,
+        rank: 0,
+        area: 0,
+    };
+
+    /// Above the key of every area.
+    pub const END: Key = Key {
+        dir: Dir::In,
+        rank: u16::MAX,
+        area: u8::MAX,
+    };
+
+    /// Whether this key comes before another.
+    pub fn is_before(self, other: Key) -> bool
+        ensures { result ≡ is_before self other }
+    {
+        self < other
+    }
+}
+
+impl Default for Key {
+    /// The lowest key, `START`.
+    fn default() -> Key {
+        Key::START
+    }
+}
