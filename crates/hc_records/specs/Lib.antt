@@ -3,3 +3,13 @@ pub mod EditFault
 pub mod Lending
 pub mod Variables
 pub mod Keys
+pub mod Area
+pub mod Line
+pub mod TaskList
+pub mod Packing
+pub mod Image
+pub mod Boundaries
+pub mod Lists
+pub mod Edits
+pub mod Project
+pub mod Rows

@@ -1,7 +1,6 @@
 //! What a user asks of a running line.
-use std::alloc::{AllocError, Global};
-
 use crate::items::{Copied, Items, Same};
+use std::alloc::{AllocError, Global};
 
 /// An edit of the line.
 #[derive(Debug, Drop)]

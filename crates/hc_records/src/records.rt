@@ -3,10 +3,9 @@
 ghost use Rattle.std.specs.Prelude.{◌≡◌, ◌<◌};
 ghost use Rattle.hc_records.specs.Variables.{variable_of};
 
+use crate::items::{Copied, Items, Same};
 use std::alloc::{AllocError, Global};
 use std::marker::Model;
-
-use crate::items::{Copied, Items, Same};
 
 /// A direction of process data, as the master sees it.
 #[derive(Clone, Copy, Debug, PartialEq, Eq, PartialOrd, Ord)]

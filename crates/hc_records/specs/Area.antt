@@ -1,0 +1,25 @@
+-- The width of an area: the bits of its assigned PDOs.
+use Rattle.std.specs.Prelude.{ℕ, ◌==◌, List, [], Option, find, sum_by}
+use Rattle.std.specs.Option.{option_map_or}
+use Rattle.std.specs.List.{flat_map}
+use Rattle.hc_records.specs.declared.records.Pdo.{Pdo}
+use Rattle.hc_records.specs.declared.records.Area.{Area}
+
+-- a variable, or none for a gap, and its bits
+abbrev pub Entry : Type 0
+Entry = Option ℕ × ℕ
+
+-- the entries of the offered PDO with an index; none where it isn't offered
+abbrev pub entries_at : List Pdo → ℕ → List Entry
+entries_at offered index = option_map_or (λ pdo. pdo.entries) (find (λ pdo. pdo.index == index) offered) []
+
+-- the entries of the assigned PDOs, in assigned order
+abbrev pub assigned_entries : Area → List Entry
+assigned_entries area = flat_map (entries_at area.offered) area.assigned
+
+abbrev pub bits_of : List Entry → ℕ
+bits_of entries = sum_by (λ entry. entry.1) entries
+
+-- the width of an area, in bits
+abbrev pub width : Area → ℕ
+width area = bits_of (assigned_entries area)

@@ -1,0 +1,41 @@
+-- A state of the project, and the line of a state.
+use Rattle.std.specs.Prelude.{ℕ, ◌+◌, ◌==◌, Bool, if◌then◌else◌, List, [], ◌∷◌, ◌++◌, length, map}
+use Rattle.std.specs.List.{enumerate_from}
+use Rattle.hc_records.specs.declared.records.Slave.{Slave}
+use Rattle.hc_records.specs.declared.records.Group.{Group}
+
+-- a declared group, and whether it is present
+pub record Declared : Type 0 where
+  pub group : Group
+  pub present : Bool
+
+-- the declared groups with their assigned PDOs and tasks, those that are present, and the epoch
+pub record State : Type 0 where
+  pub groups : List Declared
+  pub epoch : ℕ
+
+-- at opening the group with alias 0, the mandatory one, is present alone, and the epoch is 0
+abbrev pub opened_group : Group → Declared
+opened_group group = record { group = group; present = group.alias == 0 }
+
+abbrev pub opened : List Group → State
+opened groups = record { groups = map opened_group groups; epoch = 0 }
+
+-- a slave of the line: its rank among all declared slaves, counted from 1, and its record
+pub record Member : Type 0 where
+  pub rank : ℕ
+  pub slave : Slave
+
+abbrev pub members_from : ℕ → List Slave → List Member
+members_from rank slaves = map (λ e. record { rank = e.0; slave = e.1 }) (enumerate_from rank slaves)
+
+-- the slaves of the present groups, in declared order; the first declared slave has this rank
+abbrev pub line_from : ℕ → List Declared → List Member
+line_from rank [] = []
+line_from rank (declared ∷ rest) =
+    (if declared.present then members_from rank declared.group.slaves else [])
+    ++ line_from (rank + length declared.group.slaves) rest
+
+-- the line of a state: the slaves whose group is present, in declared order
+abbrev pub line : State → List Member
+line state = line_from 1 state.groups
