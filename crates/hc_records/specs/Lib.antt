@@ -13,3 +13,4 @@ pub mod Lists
 pub mod Edits
 pub mod Project
 pub mod Rows
+pub mod Laws

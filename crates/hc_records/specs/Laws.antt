@@ -1,0 +1,120 @@
+-- What follows from the definitions, so that a reader can trust them. Each is the contract of a function of `laws`.
+use Rattle.std.specs.Prelude.{◌≡◌, ℕ, ◌+◌, ◌*◌, ◌<◌, ◌≤◌, ◌⊎◌, true, false, IsTrue, All, AllPairs, Contains, None, List, [], ◌∷◌, ◌++◌, length, map, if◌then◌else◌}
+use Rattle.std.specs.List.{flat_map}
+use Rattle.hc_records.specs.declared.limits.TheConstants.{MOST_AREA_BITS, MOST_DATAGRAM_BYTES}
+use Rattle.hc_records.specs.declared.keys.Key.{Key}
+use Rattle.hc_records.specs.declared.keys.TheConstants.Key.{START, END}
+use Rattle.hc_records.specs.Keys.{is_before}
+use Rattle.hc_records.specs.Line.{Declared, Member, State, line}
+use Rattle.hc_records.specs.TaskList.{Keyed, task_list}
+use Rattle.hc_records.specs.Packing.{Front, Placed, opening, fits, placed_at, behind, packed}
+use Rattle.hc_records.specs.Image.{datagram_count, datagram_length}
+use Rattle.hc_records.specs.Boundaries.{begins_later, later_keys, touched, unsettled_spans, width_in}
+use Rattle.hc_records.specs.Project.{lowest_fault}
+
+-- an area that takes a place and is no wider than a datagram
+pub record IsPackable (area : Keyed) : Type 0 where
+  pub some : 0 < area.1
+  pub narrow : area.1 ≤ MOST_AREA_BITS
+
+-- in a project, every area of every task's list of every line is packable
+abbrev pub ProjectsArePackable : Type 0
+ProjectsArePackable =
+    (state : State) (task : ℕ) → lowest_fault (map (λ declared. declared.group) state.groups) ≡ None
+      → All IsPackable (task_list task (line state))
+
+-- the places of a list are those of its areas, in its order
+abbrev pub PlacesKeepTheList : Type 0
+PlacesKeepTheList = (front : Front) (list : List Keyed) → map (λ area. (area.key, area.bits)) (packed front list) ≡ list
+
+-- an area lies in its datagram: its first bit and its bits end by the datagram's last bit
+abbrev pub LiesInside : Placed → Type 0
+LiesInside area = area.bit + area.bits ≤ MOST_AREA_BITS
+
+abbrev pub AreasLieInside : Type 0
+AreasLieInside = (list : List Keyed) → All IsPackable list → All LiesInside (packed opening list)
+
+-- a datagram has 1 to 1,486 bytes
+pub record IsDatagramLength (bytes : ℕ) : Type 0 where
+  pub some : 1 ≤ bytes
+  pub most : bytes ≤ MOST_DATAGRAM_BYTES
+
+abbrev pub DatagramsAreSendable : Type 0
+DatagramsAreSendable =
+    (list : List Keyed) (datagram : ℕ) → All IsPackable list → datagram < datagram_count (packed opening list)
+      → IsDatagramLength (datagram_length (packed opening list) datagram)
+
+-- an area stands in an earlier datagram than another, or ends in the same one before the other begins
+abbrev pub StandsBefore : Placed → Placed → Type 0
+StandsBefore a b = (a.datagram < b.datagram) ⊎ ((a.datagram ≡ b.datagram) × (a.bit + a.bits ≤ b.bit))
+
+-- so two areas of a task share no bit
+abbrev pub AreasShareNoBit : Type 0
+AreasShareNoBit = (list : List Keyed) → All IsPackable list → AllPairs StandsBefore (packed opening list)
+
+-- the keys of a task's list ascend, and each lies above START
+abbrev pub KeysAscend : Type 0
+KeysAscend = (state : State) (task : ℕ) → AllPairs (λ a b. IsTrue (is_before a.0 b.0)) (task_list task (line state))
+
+abbrev pub KeysLieAboveStart : Type 0
+KeysLieAboveStart = (state : State) (task : ℕ) → All (λ area. IsTrue (is_before START area.0)) (task_list task (line state))
+
+-- in a project each also lies below END
+abbrev pub KeysLieBelowEnd : Type 0
+KeysLieBelowEnd =
+    (state : State) (task : ℕ) → lowest_fault (map (λ declared. declared.group) state.groups) ≡ None
+      → All (λ area. IsTrue (is_before area.0 END)) (task_list task (line state))
+
+-- a list that fits one datagram
+abbrev pub FitsOneDatagram : List Keyed → Type 0
+FitsOneDatagram part = datagram_count (packed opening part) ≤ 1
+
+-- packing from the front needs no more datagrams than any cut of the list in its order into parts that fit one each
+abbrev pub PackingIsLeast : Type 0
+PackingIsLeast =
+    (list : List Keyed) (parts : List (List Keyed)) → All IsPackable list → flat_map (λ part. part) parts ≡ list
+      → All FitsOneDatagram parts → datagram_count (packed opening list) ≤ length parts
+
+-- the datagram being filled once the areas of a list stand
+abbrev pub front_after : Front → List Keyed → Front
+front_after front [] = front
+front_after front (area ∷ areas) = front_after (behind (placed_at front area)) areas
+
+-- an area with so many datagrams before those of its own list
+abbrev pub raised : ℕ → Placed → Placed
+raised datagrams area = record area { datagram = area.datagram + datagrams }
+
+-- from an area that begins a later datagram on, the areas stand as if they were a list of their own
+abbrev pub CutsStandAlone : Type 0
+CutsStandAlone =
+    (before : List Keyed) (area : Keyed) (areas : List Keyed) → All IsPackable (before ++ area ∷ areas)
+      → begins_later (placed_at (front_after opening before) area) ≡ true
+      → packed opening (before ++ area ∷ areas)
+        ≡ packed opening before ++ map (raised (datagram_count (packed opening before))) (packed opening (area ∷ areas))
+
+-- the boundary keys from an area on, where a datagram is being filled
+abbrev pub cuts_from : Front → List Keyed → List Key
+cuts_from front [] = []
+cuts_from front (area ∷ areas) =
+    if fits front area
+    then cuts_from (behind (placed_at front area)) areas
+    else area.0 ∷ cuts_from (behind (placed_at front area)) areas
+
+-- the boundaries inside a list are the keys of the areas that don't fit the datagram being filled
+abbrev pub BoundariesAreCuts : Type 0
+BoundariesAreCuts = (list : List Keyed) → All IsPackable list → later_keys list ≡ cuts_from opening list
+
+-- a task that has an area has one datagram more than boundaries inside its list
+abbrev pub DatagramsAreSpans : Type 0
+DatagramsAreSpans =
+    (area : Keyed) (areas : List Keyed) → All IsPackable (area ∷ areas)
+      → datagram_count (packed opening (area ∷ areas)) ≡ length (later_keys (area ∷ areas)) + 1
+
+-- a boundary inside a list is the key of an area with a width
+abbrev pub BoundariesHaveWidth : Type 0
+BoundariesHaveWidth =
+    (list : List Keyed) (key : Key) → All IsPackable list → Contains (later_keys list) key → 0 < width_in list key
+
+-- an edit that leaves a task's list as it was leaves all its spans settled
+abbrev pub UntouchedIsSettled : Type 0
+UntouchedIsSettled = (list : List Keyed) → unsettled_spans list list ≡ 0
