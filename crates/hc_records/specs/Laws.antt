@@ -1,15 +1,15 @@
 -- What follows from the definitions, so that a reader can trust them. Each is the contract of a function of `laws`.
-use Rattle.std.specs.Prelude.{◌≡◌, ℕ, ◌+◌, ◌*◌, ◌<◌, ◌≤◌, ◌⊎◌, true, false, IsTrue, All, AllPairs, Contains, None, List, [], ◌∷◌, ◌++◌, length, map, if◌then◌else◌}
+use Rattle.std.specs.Prelude.{◌≡◌, ℕ, ◌+◌, ◌<◌, ◌≤◌, ◌⊎◌, true, IsTrue, All, AllPairs, Contains, None, List, [], ◌∷◌, ◌++◌, length, map, if◌then◌else◌}
 use Rattle.std.specs.List.{flat_map}
 use Rattle.hc_records.specs.declared.limits.TheConstants.{MOST_AREA_BITS, MOST_DATAGRAM_BYTES}
 use Rattle.hc_records.specs.declared.keys.Key.{Key}
 use Rattle.hc_records.specs.declared.keys.TheConstants.Key.{START, END}
 use Rattle.hc_records.specs.Keys.{is_before}
-use Rattle.hc_records.specs.Line.{Declared, Member, State, line}
+use Rattle.hc_records.specs.Line.{State, line}
 use Rattle.hc_records.specs.TaskList.{Keyed, task_list}
 use Rattle.hc_records.specs.Packing.{Front, Placed, opening, fits, placed_at, behind, packed}
 use Rattle.hc_records.specs.Image.{datagram_count, datagram_length}
-use Rattle.hc_records.specs.Boundaries.{begins_later, later_keys, touched, unsettled_spans, width_in}
+use Rattle.hc_records.specs.Boundaries.{begins_later, later_keys, unsettled_spans, width_in}
 use Rattle.hc_records.specs.Project.{lowest_fault}
 
 -- an area that takes a place and is no wider than a datagram
@@ -21,7 +21,7 @@ pub record IsPackable (area : Keyed) : Type 0 where
 abbrev pub ProjectsArePackable : Type 0
 ProjectsArePackable =
     (state : State) (task : ℕ) → lowest_fault (map (λ declared. declared.group) state.groups) ≡ None
-      → All IsPackable (task_list task (line state))
+    → All IsPackable (task_list task (line state))
 
 -- the places of a list are those of its areas, in its order
 abbrev pub PlacesKeepTheList : Type 0
@@ -42,7 +42,7 @@ pub record IsDatagramLength (bytes : ℕ) : Type 0 where
 abbrev pub DatagramsAreSendable : Type 0
 DatagramsAreSendable =
     (list : List Keyed) (datagram : ℕ) → All IsPackable list → datagram < datagram_count (packed opening list)
-      → IsDatagramLength (datagram_length (packed opening list) datagram)
+    → IsDatagramLength (datagram_length (packed opening list) datagram)
 
 -- an area stands in an earlier datagram than another, or ends in the same one before the other begins
 abbrev pub StandsBefore : Placed → Placed → Type 0
@@ -63,7 +63,7 @@ KeysLieAboveStart = (state : State) (task : ℕ) → All (λ area. IsTrue (is_be
 abbrev pub KeysLieBelowEnd : Type 0
 KeysLieBelowEnd =
     (state : State) (task : ℕ) → lowest_fault (map (λ declared. declared.group) state.groups) ≡ None
-      → All (λ area. IsTrue (is_before area.0 END)) (task_list task (line state))
+    → All (λ area. IsTrue (is_before area.0 END)) (task_list task (line state))
 
 -- a list that fits one datagram
 abbrev pub FitsOneDatagram : List Keyed → Type 0
@@ -73,7 +73,7 @@ FitsOneDatagram part = datagram_count (packed opening part) ≤ 1
 abbrev pub PackingIsLeast : Type 0
 PackingIsLeast =
     (list : List Keyed) (parts : List (List Keyed)) → All IsPackable list → flat_map (λ part. part) parts ≡ list
-      → All FitsOneDatagram parts → datagram_count (packed opening list) ≤ length parts
+    → All FitsOneDatagram parts → datagram_count (packed opening list) ≤ length parts
 
 -- the datagram being filled once the areas of a list stand
 abbrev pub front_after : Front → List Keyed → Front
@@ -88,9 +88,9 @@ raised datagrams area = record area { datagram = area.datagram + datagrams }
 abbrev pub CutsStandAlone : Type 0
 CutsStandAlone =
     (before : List Keyed) (area : Keyed) (areas : List Keyed) → All IsPackable (before ++ area ∷ areas)
-      → begins_later (placed_at (front_after opening before) area) ≡ true
-      → packed opening (before ++ area ∷ areas)
-        ≡ packed opening before ++ map (raised (datagram_count (packed opening before))) (packed opening (area ∷ areas))
+    → begins_later (placed_at (front_after opening before) area) ≡ true
+    → packed opening (before ++ area ∷ areas)
+    ≡ packed opening before ++ map (raised (datagram_count (packed opening before))) (packed opening (area ∷ areas))
 
 -- the boundary keys from an area on, where a datagram is being filled
 abbrev pub cuts_from : Front → List Keyed → List Key
@@ -108,7 +108,7 @@ BoundariesAreCuts = (list : List Keyed) → All IsPackable list → later_keys l
 abbrev pub DatagramsAreSpans : Type 0
 DatagramsAreSpans =
     (area : Keyed) (areas : List Keyed) → All IsPackable (area ∷ areas)
-      → datagram_count (packed opening (area ∷ areas)) ≡ length (later_keys (area ∷ areas)) + 1
+    → datagram_count (packed opening (area ∷ areas)) ≡ length (later_keys (area ∷ areas)) + 1
 
 -- a boundary inside a list is the key of an area with a width
 abbrev pub BoundariesHaveWidth : Type 0

@@ -79,8 +79,11 @@ has_repeated_alias groups = has_repeat (map (λ group. group.alias) groups)
 abbrev pub has_repeated_station : List Group → Bool
 has_repeated_station groups = has_repeat (map (λ slave. slave.station) (slaves_of groups))
 
+abbrev pub same_sync_manager : Area → Area → Bool
+same_sync_manager a b = b.sm == a.sm
+
 abbrev pub repeats_sync_manager : Slave → Bool
-repeats_sync_manager slave = has_repeat (map (λ area. area.sm) slave.areas)
+repeats_sync_manager slave = some_pair same_sync_manager slave.areas
 
 -- the reaches of two areas have a byte in common; a reach of no bytes has none
 abbrev pub overlap : Area → Area → Bool
@@ -107,9 +110,12 @@ abbrev pub has_repeated_variable : List Group → Bool
 has_repeated_variable groups = has_repeat (slave_names (slaves_of groups))
 
 -- the assigned PDOs of an area aren't offered PDOs, each once
+abbrev pub same_index : Pdo → Pdo → Bool
+same_index a b = b.index == a.index
+
 abbrev pub has_unknown_pdo : Area → Bool
 has_unknown_pdo area =
-    has_unknown area.assigned area || has_repeat area.assigned || has_repeat (map (λ pdo. pdo.index) area.offered)
+    has_unknown area.assigned area || has_repeat area.assigned || some_pair same_index area.offered
 
 -- an assigned width is over that of a datagram
 abbrev pub is_wide : Area → Bool

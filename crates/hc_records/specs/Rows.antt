@@ -285,13 +285,17 @@ moved_output = refl
 -- Two PDOs of one width exchange their places: nothing is cut anew, and the variables move.
 
 abbrev sensor : State
-sensor = opened (group_of 0 (record { station = 1001; areas = record {
+sensor = opened (group_of 0 (record {
+  station = 1001;
+  areas = record {
     sm = 3;
     dir = In;
     phys = 0x1000;
     offered = record { index = 0x1a00; entries = (Some 2, 4) ∷ [] } ∷ record { index = 0x1a01; entries = (Some 3, 4) ∷ [] } ∷ [];
     assigned = 0x1a00 ∷ 0x1a01 ∷ [];
-    task = 0 } ∷ [] } ∷ []) ∷ [])
+    task = 0;
+  } ∷ [];
+} ∷ []) ∷ [])
 
 exchanged : recut_by sensor (Remap 1001 0 (0x1a01 ∷ 0x1a00 ∷ [])) ≡ 0
 exchanged = refl

@@ -3,9 +3,15 @@
 //! packing, image and boundaries that every crate above cites.
 #![tactic(auto)]
 
+pub mod conditions;
 pub mod edit;
 pub mod faults;
 pub mod items;
 pub mod keys;
 pub mod limits;
+mod names;
+pub mod project;
+mod ranges;
 pub mod records;
+mod sweep;
+pub mod widths;
