@@ -1,19 +1,18 @@
 //! The faults of declared groups, judged from the lowest number on.
 ghost use Rattle.std.specs.Prelude.{◌≡◌, ◌≢◌, None, Some, IfErr, OnOk};
 ghost use Rattle.std.specs.List.{list_any};
-ghost use Rattle.hc_records.specs.Edits.{has_unknown, offers};
 ghost use Rattle.hc_records.specs.Project.{lowest_fault, overlap};
 ghost use Rattle.hc_records.specs.declared.faults.ProjectFault.TheVariants.{Memory};
 
+use crate::assignment::repeats;
 use crate::faults::ProjectFault;
 use crate::limits::MOST_AREA_BITS;
 use crate::names::{
-    RepeatedManager, repeats_alias, repeats_index, repeats_pdo, repeats_station, repeats_variable,
+    RepeatedManager, repeats_alias, repeats_index, repeats_station, repeats_variable,
 };
 use crate::ranges::is_outside;
 use crate::records::{Area, Group, Slave};
 use crate::sweep::{AreaTest, SlaveTest, some_area, some_slave};
-use crate::widths::assigned_bits;
 use std::alloc::Global;
 
 /// Whether the memory that two areas may take has a byte in common.
@@ -53,20 +52,6 @@ impl SlaveTest for Overlapping {
     }
 }
 
-/// Whether an area offers a PDO of an index.
-pub fn is_offered(area: &Area, index: u16) -> bool
-    ensures { result ≡ offers area.now index }
-{
-    area.offered.as_slice().iter().any(|pdo| pdo.index == index)
-}
-
-/// Whether one of the indexes isn't offered.
-pub fn is_any_unknown(area: &Area, indexes: &[u16]) -> bool
-    ensures { result ≡ has_unknown indexes.now area.now }
-{
-    indexes.iter().any(|index| !is_offered(area, *index))
-}
-
 /// An area whose assigned PDOs aren't offered PDOs, each once.
 struct UnknownAssigned;
 
@@ -77,9 +62,7 @@ impl AreaTest for UnknownAssigned {
 
     fn holds(area: &Area) -> bool {
         let assigned = area.assigned.as_slice();
-        is_any_unknown(area, assigned)
-            || repeats_pdo(assigned)
-            || repeats_index(area.offered.as_slice())
+        area.has_unknown(assigned) || repeats(assigned) || repeats_index(area.offered.as_slice())
     }
 }
 
@@ -92,7 +75,7 @@ impl AreaTest for TooWide {
     ghost condition = { is_wide };
 
     fn holds(area: &Area) -> bool {
-        MOST_AREA_BITS < assigned_bits(area.offered.as_slice(), area.assigned.as_slice())
+        MOST_AREA_BITS < area.width_with(area.assigned.as_slice())
     }
 }
 

@@ -3,7 +3,8 @@
 //! packing, image and boundaries that every crate above cites.
 #![tactic(auto)]
 
-pub mod conditions;
+pub mod assignment;
+mod conditions;
 pub mod edit;
 pub mod faults;
 pub mod items;
@@ -14,4 +15,3 @@ pub mod project;
 mod ranges;
 pub mod records;
 mod sweep;
-pub mod widths;

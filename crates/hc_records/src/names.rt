@@ -145,16 +145,3 @@ pub fn repeats_index(offered: &[Pdo]) -> bool
     }
     false
 }
-
-/// Whether an index stands twice in a list.
-pub fn repeats_pdo(indexes: &[u16]) -> bool
-    ensures { result ≡ has_repeat indexes.now }
-{
-    for i in 0..indexes.len() {
-        let index = indexes[i];
-        if indexes[i + 1..].contains(&index) {
-            return true;
-        }
-    }
-    false
-}

@@ -59,3 +59,6 @@ impl Project {
         groups
     }
 }
+
+#[cfg(test)]
+mod tests;

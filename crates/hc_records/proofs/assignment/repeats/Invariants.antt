@@ -1,6 +1,6 @@
 use Rattle.std.proofs.Common.{◌≡◌, drop}
 use Rattle.hc_records.specs.Lists.{has_repeat}
-use Rattle.hc_records.proofs.names.repeats_pdo.Given as goal
+use Rattle.hc_records.proofs.assignment.repeats.Given as goal
 
 -- the indexes passed stand once
 abbrev pub invariant-loop-i : goal.invariant-loop-i

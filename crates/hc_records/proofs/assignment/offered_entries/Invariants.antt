@@ -1,6 +1,6 @@
 use Rattle.std.proofs.Common.{◌≡◌, drop}
 use Rattle.hc_records.specs.Area.{entries_at}
-use Rattle.hc_records.proofs.widths.offered_entries.Given as goal
+use Rattle.hc_records.proofs.assignment.offered_entries.Given as goal
 
 -- the PDOs passed have other indexes
 abbrev pub invariant-loop-pdo : goal.invariant-loop-pdo

@@ -1,0 +1,121 @@
+//! What an area can be assigned: whether it offers the PDOs of a list of indexes, and how wide it is
+//! then. Widths are counted in bits up to one more than a datagram holds, so that no sum runs over.
+ghost use Rattle.std.specs.Prelude.{◌≡◌, min};
+ghost use Rattle.std.specs.List.{flat_map};
+ghost use Rattle.hc_records.specs.Area.{bits_of, entries_at};
+ghost use Rattle.hc_records.specs.Lists.{has_repeat};
+ghost use Rattle.hc_records.specs.Project.{offered_bits};
+
+use crate::limits::MOST_AREA_BITS;
+use crate::records::{Area, Entry, Pdo};
+
+/// One bit more than the widest area.
+pub const TOO_WIDE: u32 = MOST_AREA_BITS + 1;
+
+/// Whether an index stands twice in a list.
+pub fn repeats(indexes: &[u16]) -> bool
+    ensures { result ≡ has_repeat indexes.now }
+{
+    for i in 0..indexes.len() {
+        let index = indexes[i];
+        if indexes[i + 1..].contains(&index) {
+            return true;
+        }
+    }
+    false
+}
+
+/// The bits of entries, or `TOO_WIDE` where they are more.
+fn capped_bits(entries: &[Entry]) -> u32
+    ensures { result ≡ min TOO_WIDE (bits_of entries.now) }
+{
+    let mut total = 0u32;
+    for entry in entries {
+        total = (total + u32::from(entry.1)).min(TOO_WIDE);
+    }
+    total
+}
+
+/// The entries of the offered PDO with an index, none where it isn't offered.
+fn offered_entries(offered: &[Pdo], index: u16) -> &[Entry]
+    ensures { result.now ≡ entries_at offered.now index }
+{
+    for pdo in offered {
+        if pdo.index == index {
+            return pdo.entries.as_slice();
+        }
+    }
+    &[]
+}
+
+/// The bits of offered PDOs in the order of their indexes, or `TOO_WIDE` where they are more.
+fn assigned_bits(offered: &[Pdo], indexes: &[u16]) -> u32
+    ensures { result ≡ min TOO_WIDE (bits_of (flat_map (entries_at offered.now) indexes.now)) }
+{
+    let mut total = 0u32;
+    for index in indexes {
+        total = (total + capped_bits(offered_entries(offered, *index))).min(TOO_WIDE);
+    }
+    total
+}
+
+/// The bits of all offered PDOs, or `TOO_WIDE` where they are more.
+fn all_bits(offered: &[Pdo]) -> u32
+    ensures { result ≡ min TOO_WIDE (offered_bits offered.now) }
+{
+    let mut total = 0u32;
+    for pdo in offered {
+        total = (total + capped_bits(pdo.entries.as_slice())).min(TOO_WIDE);
+    }
+    total
+}
+
+impl Area {
+    ghost use Rattle.std.specs.Prelude.{◌≡◌, ◌≤◌, min};
+    ghost use Rattle.hc_records.specs.Area.{width};
+    ghost use Rattle.hc_records.specs.Edits.{has_unknown, offers};
+    ghost use Rattle.hc_records.specs.Project.{reach};
+    ghost use Rattle.hc_records.specs.declared.limits.TheConstants.{MOST_AREA_BITS};
+
+    /// Whether the area offers a PDO of an index.
+    pub fn offers(&self, index: u16) -> bool
+        ensures { result ≡ offers self.now index }
+    {
+        self.offered.as_slice().iter().any(|pdo| pdo.index == index)
+    }
+
+    /// Whether one of the indexes isn't offered.
+    pub fn has_unknown(&self, indexes: &[u16]) -> bool
+        ensures { result ≡ has_unknown indexes.now self.now }
+    {
+        indexes.iter().any(|index| !self.offers(*index))
+    }
+
+    /// The width in bits with these PDOs assigned in place of those that are, or `TOO_WIDE` where it
+    /// is more. An index that isn't offered has no bits.
+    pub fn width_with(&self, indexes: &[u16]) -> u32
+        ensures { result ≡ min TOO_WIDE (width (record self.now { assigned = indexes.now })) }
+    {
+        assigned_bits(self.offered.as_slice(), indexes)
+    }
+
+    /// The width in bits, 0 to 11,888: the bits of the assigned PDOs' entries. An area of a project
+    /// meets the condition.
+    pub fn width(&self) -> u16
+        requires { width self.now ≤ MOST_AREA_BITS }
+        ensures { result ≡ width self.now }
+    {
+        self.width_with(self.assigned.as_slice()) as u16
+    }
+
+    /// The bytes of its slave's memory that the area may take, 0 to 1,486: those of the bits of all
+    /// its offered PDOs, or of the widest area where these are more.
+    pub fn reach(&self) -> u32
+        ensures value { result ≡ reach self.now }
+        ensures low { result ≤ 1486 }
+    {
+        all_bits(self.offered.as_slice())
+            .min(MOST_AREA_BITS)
+            .div_ceil(8)
+    }
+}
