@@ -116,7 +116,7 @@ impl<T> Items<T> {
 
 impl<T: Copied> Copied for Items<T> {
     fn copied(&self, alloc: Global) -> Result<Items<T>, AllocError> {
-        let mut inside = Vec::with_capacity(alloc, self.inside.len())?;
+        let mut inside = Vec::with_capacity(alloc, self.len())?;
         for item in self.as_slice() {
             inside.push(item.copied(alloc)?)?;
         }

@@ -40,6 +40,11 @@ impl Key {
 }
 
 impl Default for Key {
+    ghost use Rattle.std.specs.Prelude.{◌≡◌};
+    ghost use Rattle.hc_records.specs.declared.keys.TheConstants.Key.{START};
+
+    ghost is_default = { λ key. key ≡ START };
+
     /// The lowest key, `START`.
     fn default() -> Key {
         Key::START
