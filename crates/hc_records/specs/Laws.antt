@@ -1,15 +1,16 @@
 -- What follows from the definitions, so that a reader can trust them. Each is the contract of a function of `laws`.
-use Rattle.std.specs.Prelude.{◌≡◌, ℕ, ◌+◌, ◌<◌, ◌≤◌, ◌⊎◌, true, IsTrue, All, AllPairs, Contains, None, List, [], ◌∷◌, ◌++◌, length, map, if◌then◌else◌}
+use Rattle.std.specs.Prelude.{◌≡◌, ℕ, ◌+◌, ◌*◌, ◌%◌, ◌<◌, ◌≤◌, ◌⊎◌, true, IsTrue, All, AllPairs, Contains, None, List, [], ◌∷◌, ◌++◌, length, map, if◌then◌else◌}
 use Rattle.std.specs.List.{flat_map}
 use Rattle.hc_records.specs.declared.limits.TheConstants.{MOST_AREA_BITS, MOST_DATAGRAM_BYTES}
+use Rattle.hc_records.specs.declared.records.Dir.TheVariants.{Out, In}
 use Rattle.hc_records.specs.declared.keys.Key.{Key}
 use Rattle.hc_records.specs.declared.keys.TheConstants.Key.{START, END}
 use Rattle.hc_records.specs.Keys.{is_before}
 use Rattle.hc_records.specs.Line.{State, line}
 use Rattle.hc_records.specs.TaskList.{Keyed, task_list}
 use Rattle.hc_records.specs.Packing.{Front, Placed, opening, fits, placed_at, behind, packed}
-use Rattle.hc_records.specs.Image.{datagram_count, datagram_length}
-use Rattle.hc_records.specs.Boundaries.{begins_later, later_keys, unsettled_spans, width_in}
+use Rattle.hc_records.specs.Image.{datagram_count, datagram_length, datagram_offset, output_length}
+use Rattle.hc_records.specs.Boundaries.{begins_later, later_keys, touched, unsettled_spans, width_in}
 use Rattle.hc_records.specs.Project.{lowest_fault}
 
 -- an area that takes a place and is no wider than a datagram
@@ -34,6 +35,13 @@ LiesInside area = area.bit + area.bits ≤ MOST_AREA_BITS
 abbrev pub AreasLieInside : Type 0
 AreasLieInside = (list : List Keyed) → All IsPackable list → All LiesInside (packed opening list)
 
+-- an area of 8 bits or more begins a byte
+abbrev pub BeginsByte : Placed → Type 0
+BeginsByte area = 8 ≤ area.bits → area.bit % 8 ≡ 0
+
+abbrev pub WideAreasBeginBytes : Type 0
+WideAreasBeginBytes = (list : List Keyed) → All BeginsByte (packed opening list)
+
 -- a datagram has 1 to 1,486 bytes
 pub record IsDatagramLength (bytes : ℕ) : Type 0 where
   pub some : 1 ≤ bytes
@@ -50,11 +58,15 @@ StandsBefore a b = (a.datagram < b.datagram) ⊎ ((a.datagram ≡ b.datagram) ×
 
 -- so two areas of a task share no bit
 abbrev pub AreasShareNoBit : Type 0
-AreasShareNoBit = (list : List Keyed) → All IsPackable list → AllPairs StandsBefore (packed opening list)
+AreasShareNoBit = (list : List Keyed) → AllPairs StandsBefore (packed opening list)
 
--- the keys of a task's list ascend, and each lies above START
+-- the keys of a list ascend
+abbrev pub Ascends : List Keyed → Type 0
+Ascends list = AllPairs (λ a b. IsTrue (is_before a.0 b.0)) list
+
+-- those of a task's list do, and each lies above START
 abbrev pub KeysAscend : Type 0
-KeysAscend = (state : State) (task : ℕ) → AllPairs (λ a b. IsTrue (is_before a.0 b.0)) (task_list task (line state))
+KeysAscend = (state : State) (task : ℕ) → Ascends (task_list task (line state))
 
 abbrev pub KeysLieAboveStart : Type 0
 KeysLieAboveStart = (state : State) (task : ℕ) → All (λ area. IsTrue (is_before START area.0)) (task_list task (line state))
@@ -72,7 +84,7 @@ FitsOneDatagram part = datagram_count (packed opening part) ≤ 1
 -- packing from the front needs no more datagrams than any cut of the list in its order into parts that fit one each
 abbrev pub PackingIsLeast : Type 0
 PackingIsLeast =
-    (list : List Keyed) (parts : List (List Keyed)) → All IsPackable list → flat_map (λ part. part) parts ≡ list
+    (list : List Keyed) (parts : List (List Keyed)) → flat_map (λ part. part) parts ≡ list
     → All FitsOneDatagram parts → datagram_count (packed opening list) ≤ length parts
 
 -- the datagram being filled once the areas of a list stand
@@ -118,3 +130,26 @@ BoundariesHaveWidth =
 -- an edit that leaves a task's list as it was leaves all its spans settled
 abbrev pub UntouchedIsSettled : Type 0
 UntouchedIsSettled = (list : List Keyed) → unsettled_spans list list ≡ 0
+
+-- the bit of the task's image at which an area begins
+abbrev pub image_bit : List Placed → Placed → ℕ
+image_bit areas area = 8 * datagram_offset areas area.datagram + area.bit
+
+-- an output area ends by the end of the image's output bytes, and an input area begins at or behind it
+pub record KeepsToItsPart (areas : List Placed) (area : Placed) : Type 0 where
+  pub output : area.key.dir ≡ Out → image_bit areas area + area.bits ≤ 8 * output_length areas
+  pub input : area.key.dir ≡ In → 8 * output_length areas ≤ image_bit areas area
+
+-- so the outputs of a task are the first bytes of its image, and its inputs are the bytes behind them
+abbrev pub OutputsComeFirst : Type 0
+OutputsComeFirst = (list : List Keyed) → Ascends list → All (KeepsToItsPart (packed opening list)) (packed opening list)
+
+-- the keys of a list lie between START and END
+pub record LiesBetween (list : List Keyed) : Type 0 where
+  pub above : All (λ area. IsTrue (is_before START area.0)) list
+  pub below : All (λ area. IsTrue (is_before area.0 END)) list
+
+-- where the width of a key differs, at least one span of the new list isn't settled
+abbrev pub TouchedCountsOnce : Type 0
+TouchedCountsOnce =
+    (old new : List Keyed) → LiesBetween old → LiesBetween new → 0 < length (touched old new) → 1 ≤ unsettled_spans old new

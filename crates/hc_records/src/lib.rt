@@ -9,6 +9,7 @@ pub mod edit;
 pub mod faults;
 pub mod items;
 pub mod keys;
+pub mod laws;
 pub mod limits;
 mod names;
 pub mod project;

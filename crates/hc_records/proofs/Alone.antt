@@ -1,0 +1,68 @@
+-- From an area that begins a later datagram on, a list stands as a list of its own.
+use Rattle.std.proofs.Common.{◌≡◌, ℕ, ◌+◌, ◌≤◌, inl, Bool, true, false, List, [], ◌∷◌, ◌++◌, refl, sym, ap, ◌∙◌, arith}
+use Rattle.std.specs.Prelude.{All, map}
+use Rattle.std.proofs.lemmas.List.Elements.{All-head}
+use Rattle.hc_records.specs.TaskList.{Keyed}
+use Rattle.hc_records.specs.Packing.{Front, Placed, opening, fits, placed_at, behind, packed}
+use Rattle.hc_records.specs.Image.{datagram_count}
+use Rattle.hc_records.specs.Boundaries.{begins_later}
+use Rattle.hc_records.specs.Laws.{IsPackable, front_after, raised}
+use Rattle.hc_records.proofs.Packed.{place, packed-append}
+use Rattle.hc_records.proofs.Counts.{count-front_after}
+use Rattle.hc_records.proofs.Cuts.{IsBegun, front_after-IsBegun, fitting-begins}
+use Rattle.hc_records.proofs.Lengths.{opening-beginning, opening-fits}
+use Rattle.hc_records.proofs.Lists.{All-append_left, All-append_right}
+
+-- a front with so many more datagrams before it
+abbrev raised_front : ℕ → Front → Front
+raised_front datagrams front = record front { datagram = front.datagram + datagrams }
+
+place-raised : (fitting : Bool) (datagrams : ℕ) (front : Front) (area : Keyed) → place fitting (raised_front datagrams front) area ≡ raised datagrams (place fitting front area)
+place-raised true datagrams front area = refl
+place-raised false datagrams front area =
+    let sum : front.datagram + datagrams + 1 ≡ front.datagram + 1 + datagrams = omega arith in
+    ap (λ number. let placed : Placed = record { key = area.0; bits = area.1; datagram = number; bit = 0 } in placed) sum
+
+packed-raised : (datagrams : ℕ) (front : Front) (list : List Keyed) → packed (raised_front datagrams front) list ≡ map (raised datagrams) (packed front list)
+packed-raised datagrams front [] = refl
+packed-raised datagrams front (area ∷ areas) =
+    ap (λ placed. placed ∷ packed (behind placed) areas) (place-raised (fits front area) datagrams front area)
+    ∙ ap (λ rest. raised datagrams (placed_at front area) ∷ rest) (packed-raised datagrams (behind (placed_at front area)) areas)
+
+-- an area that begins a later datagram doesn't fit
+later-other : (fitting : Bool) (front : Front) (area : Keyed) → IsBegun front → begins_later (place fitting front area) ≡ true → fitting ≡ false
+later-other true front area begun later = sym later ∙ fitting-begins front area begun
+later-other false front area begun later = refl
+
+-- it stands as the first area of a list, in the next datagram
+first-raised : (datagrams : ℕ) (front : Front) (area : Keyed) → area.1 ≤ 11888 → datagrams ≡ front.datagram + 1 → fits front area ≡ false →
+    placed_at front area ≡ raised datagrams (placed_at opening area)
+first-raised datagrams front area narrow same other =
+    let first : raised datagrams (placed_at opening area) ≡ raised datagrams (place true opening area) =
+    ap (λ fitting. raised datagrams (place fitting opening area)) (opening-fits area narrow) in
+    let number : front.datagram + 1 ≡ 0 + datagrams = omega arith in
+    let bit = opening-beginning area in
+    ap (λ fitting. place fitting front area) other
+    ∙ ap (λ number. let placed : Placed = record { key = area.0; bits = area.1; datagram = number; bit = 0 } in placed) number
+    ∙ ap (λ bit. let placed : Placed = record { key = area.0; bits = area.1; datagram = 0 + datagrams; bit = bit } in placed) (sym bit)
+    ∙ sym first
+
+-- the datagrams of what stands before it are those up to the one being filled
+before-count : (before : List Keyed) (area : Keyed) → area.1 ≤ 11888 → fits (front_after opening before) area ≡ false →
+    datagram_count (packed opening before) ≡ (front_after opening before).datagram + 1
+before-count [] area narrow other = let fitting = opening-fits area narrow in let none : true ≡ false = sym fitting ∙ other in cc
+before-count (first ∷ before) area narrow other = count-front_after first before
+
+pub packed-alone : (before : List Keyed) (area : Keyed) (areas : List Keyed) → All IsPackable (before ++ area ∷ areas) →
+    begins_later (placed_at (front_after opening before) area) ≡ true →
+    packed opening (before ++ area ∷ areas) ≡ packed opening before ++ map (raised (datagram_count (packed opening before))) (packed opening (area ∷ areas))
+packed-alone before area areas all later =
+    let front = front_after opening before in
+    let count = datagram_count (packed opening before) in
+    let narrow = (All-head IsPackable area areas (All-append_right IsPackable before (area ∷ areas) all)).narrow in
+    let begun = front_after-IsBegun opening before (inl refl) (All-append_left IsPackable before (area ∷ areas) all) in
+    let other : fits front area ≡ false = later-other (fits front area) front area begun later in
+    let first : placed_at front area ≡ raised count (placed_at opening area) = first-raised count front area narrow (before-count before area narrow other) other in
+    packed-append opening before (area ∷ areas)
+    ∙ ap (λ placed. packed opening before ++ placed ∷ packed (behind placed) areas) first
+    ∙ ap (λ rest. packed opening before ++ raised count (placed_at opening area) ∷ rest) (packed-raised count (behind (placed_at opening area)) areas)

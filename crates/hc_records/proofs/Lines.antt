@@ -1,0 +1,74 @@
+-- The ranks and the records of a line's slaves.
+use Rattle.std.proofs.Common.{◌≡◌, ℕ, ◌+◌, ◌<◌, ◌≤◌, Bool, true, false, List, [], ◌∷◌, length, arith, length-append, if◌then◌else◌}
+use Rattle.std.specs.Prelude.{All, AllPairs, map}
+use Rattle.std.specs.List.{enumerate_from}
+use Rattle.std.proofs.lemmas.List.Elements.{All-nil, All-head, All-tail, All-append, All-weaker, All-map}
+use Rattle.hc_records.specs.declared.records.Slave.{Slave}
+use Rattle.hc_records.specs.Line.{Declared, Member, members_from, line_from}
+use Rattle.hc_records.specs.Project.{slaves_of}
+use Rattle.hc_records.proofs.Lists.{All-enumerate_from, All-numbers, AllPairs-nil, AllPairs-append, AllPairs-map, AllPairs-numbers}
+
+-- a rank from a first one on, below an end
+abbrev pub RankWithin : ℕ → ℕ → Member → Type 0
+RankWithin first end member = (first ≤ member.rank) × (member.rank < end)
+
+abbrev pub RanksBelow : Member → Member → Type 0
+RanksBelow a b = a.rank < b.rank
+
+-- a slave with its rank
+abbrev ranked : ℕ × Slave → Member
+ranked e = record { rank = e.0; slave = e.1 }
+
+members-within : (rank : ℕ) (slaves : List Slave) → All (RankWithin rank (rank + length slaves)) (members_from rank slaves)
+members-within rank slaves = All-map (RankWithin rank (rank + length slaves)) ranked (enumerate_from rank slaves) (All-numbers rank slaves)
+
+members-ascend : (rank : ℕ) (slaves : List Slave) → AllPairs RanksBelow (members_from rank slaves)
+members-ascend rank slaves = AllPairs-map RanksBelow ranked (enumerate_from rank slaves) (AllPairs-numbers rank slaves)
+
+-- the declared slaves
+abbrev pub declared_slaves : List Declared → List Slave
+declared_slaves groups = slaves_of (map (λ declared. declared.group) groups)
+
+-- a group's part of the line: its members, or none
+present-all : (P : Member → Type 0) (present : Bool) (members : List Member) → All P members → All P (if present then members else [])
+present-all P true members all = all
+present-all P false members all = All-nil P
+
+present-pairs : (R : Member → Member → Type 0) (present : Bool) (members : List Member) → AllPairs R members → AllPairs R (if present then members else [])
+present-pairs R true members pairs = pairs
+present-pairs R false members pairs = AllPairs-nil R
+
+pub line-within : (rank : ℕ) (groups : List Declared) → All (RankWithin rank (rank + length (declared_slaves groups))) (line_from rank groups)
+line-within rank [] = All-nil (RankWithin rank (rank + 0))
+line-within rank (declared ∷ groups) =
+    let slaves = declared.group.slaves in
+    let next = rank + length slaves in
+    let end = rank + length (declared_slaves (declared ∷ groups)) in
+    let sum : length (declared_slaves (declared ∷ groups)) ≡ length slaves + length (declared_slaves groups) = length-append slaves (declared_slaves groups) in
+    All-append (RankWithin rank end) (if declared.present then members_from rank slaves else []) (line_from next groups)
+    (present-all (RankWithin rank end) declared.present (members_from rank slaves)
+    (All-weaker (RankWithin rank next) (RankWithin rank end) (λ member within. (omega arith, omega arith)) (members_from rank slaves) (members-within rank slaves)))
+    (All-weaker (RankWithin next (next + length (declared_slaves groups))) (RankWithin rank end) (λ member within. (omega arith, omega arith)) (line_from next groups) (line-within next groups))
+
+pub line-ascends : (rank : ℕ) (groups : List Declared) → AllPairs RanksBelow (line_from rank groups)
+line-ascends rank [] = AllPairs-nil RanksBelow
+line-ascends rank (declared ∷ groups) =
+    let slaves = declared.group.slaves in
+    let next = rank + length slaves in
+    AllPairs-append RanksBelow (if declared.present then members_from rank slaves else []) (line_from next groups)
+    (present-pairs RanksBelow declared.present (members_from rank slaves) (members-ascend rank slaves)) (line-ascends next groups)
+    (present-all (λ first. All (RanksBelow first) (line_from next groups)) declared.present (members_from rank slaves)
+    (All-weaker (RankWithin rank next) (λ first. All (RanksBelow first) (line_from next groups))
+    (λ first before. All-weaker (RankWithin next (next + length (declared_slaves groups))) (RanksBelow first) (λ second behind. omega arith) (line_from next groups) (line-within next groups))
+    (members_from rank slaves) (members-within rank slaves)))
+
+-- what holds of each declared slave holds of each slave of the line
+pub line-slaves : (P : Slave → Type 0) (rank : ℕ) (groups : List Declared) → All (λ declared. All P declared.group.slaves) groups → All (λ member. P member.slave) (line_from rank groups)
+line-slaves P rank [] all = All-nil (λ member. P member.slave)
+line-slaves P rank (declared ∷ groups) all =
+    let slaves = declared.group.slaves in
+    let next = rank + length slaves in
+    All-append (λ member. P member.slave) (if declared.present then members_from rank slaves else []) (line_from next groups)
+    (present-all (λ member. P member.slave) declared.present (members_from rank slaves)
+    (All-map (λ member. P member.slave) ranked (enumerate_from rank slaves) (All-enumerate_from P rank slaves (All-head (λ declared. All P declared.group.slaves) declared groups all))))
+    (line-slaves P next groups (All-tail (λ declared. All P declared.group.slaves) declared groups all))

@@ -1,0 +1,111 @@
+-- What holds of the elements, or of each element and each later one, of lists that are joined, mapped, numbered or taken apart.
+use Rattle.std.proofs.Common.{◌≡◌, ℕ, ◌+◌, ◌<◌, ◌≤◌, suc, Bool, true, false, cond, List, [], ◌∷◌, ◌++◌, length, arith}
+use Rattle.std.specs.Prelude.{All, AllPairs, filter, map}
+use Rattle.std.specs.List.{enumerate_from, flat_map, list_any}
+use Rattle.std.proofs.lemmas.Bool.{or_parts}
+use Rattle.std.proofs.lemmas.List.Elements.{All-nil, All-cons, All-head, All-tail, All-append, All-weaker, All-filter, All-map, filter_passes}
+use Rattle.std.proofs.lemmas.List.Kept.{AllPairs-cons}
+
+pub All-append_left : {X : Type 0} (P : X → Type 0) (xs ys : List X) → All P (xs ++ ys) → All P xs
+All-append_left P [] ys all = All-nil P
+All-append_left P (x ∷ xs) ys all = All-cons P x xs (All-head P x (xs ++ ys) all) (All-append_left P xs ys (All-tail P x (xs ++ ys) all))
+
+pub All-append_right : {X : Type 0} (P : X → Type 0) (xs ys : List X) → All P (xs ++ ys) → All P ys
+All-append_right P [] ys all = all
+All-append_right P (x ∷ xs) ys all = All-append_right P xs ys (All-tail P x (xs ++ ys) all)
+
+-- the elements of all pieces
+pub All-flat_map : {X Y : Type 0} (P : Y → Type 0) (f : X → List Y) (xs : List X) → All (λ x. All P (f x)) xs → All P (flat_map f xs)
+All-flat_map P f [] all = All-nil P
+All-flat_map P f (x ∷ xs) all =
+    All-append P (f x) (flat_map f xs) (All-head (λ x. All P (f x)) x xs all) (All-flat_map P f xs (All-tail (λ x. All P (f x)) x xs all))
+
+filtered-parts : (passes : Bool) {X : Type 0} (P : X → Type 0) (x : X) (rest : List X) → All P (cond passes (x ∷ rest) rest) → (passes ≡ true → P x) × All P rest
+filtered-parts true P x rest all = (λ yes. All-head P x rest all, All-tail P x rest all)
+filtered-parts false P x rest all = (λ yes. cc, all)
+
+-- the elements that a filter keeps pass its test
+pub All-passing : {X : Type 0} (P : X → Type 0) (test : X → Bool) (xs : List X) → All (λ x. test x ≡ true → P x) xs → All P (filter test xs)
+All-passing P test xs all k d within = All-filter test (λ x. test x ≡ true → P x) xs all k d within (filter_passes test xs k d within)
+
+-- and what holds of those holds of each element that passes
+pub All-from_filter : {X : Type 0} (P : X → Type 0) (test : X → Bool) (xs : List X) → All P (filter test xs) → All (λ x. test x ≡ true → P x) xs
+All-from_filter P test [] all = All-nil (λ x. test x ≡ true → P x)
+All-from_filter P test (x ∷ xs) all =
+    let parts = filtered-parts (test x) P x (filter test xs) all in
+    All-cons (λ x. test x ≡ true → P x) x xs parts.0 (All-from_filter P test xs parts.1)
+
+-- no element passes a test that isn't passed by any
+pub All-from_none : {X : Type 0} (test : X → Bool) (xs : List X) → list_any test xs ≡ false → All (λ x. test x ≡ false) xs
+All-from_none test [] none = All-nil (λ x. test x ≡ false)
+All-from_none test (x ∷ xs) none =
+    let parts = or_parts (test x) (list_any test xs) none in
+    All-cons (λ x. test x ≡ false) x xs parts.0 (All-from_none test xs parts.1)
+
+pub All-unmap : {X Y : Type 0} (P : Y → Type 0) (f : X → Y) (xs : List X) → All P (map f xs) → All (λ x. P (f x)) xs
+All-unmap P f [] all = All-nil (λ x. P (f x))
+All-unmap P f (x ∷ xs) all = All-cons (λ x. P (f x)) x xs (All-head P (f x) (map f xs) all) (All-unmap P f xs (All-tail P (f x) (map f xs) all))
+
+-- the elements of a numbered list
+pub All-enumerate_from : {X : Type 0} (P : X → Type 0) (number : ℕ) (xs : List X) → All P xs → All (λ e. P e.1) (enumerate_from number xs)
+All-enumerate_from P number [] all = All-nil (λ e. P e.1)
+All-enumerate_from P number (x ∷ xs) all =
+    All-cons (λ e. P e.1) (number, x) (enumerate_from (number + 1) xs) (All-head P x xs all) (All-enumerate_from P (number + 1) xs (All-tail P x xs all))
+
+-- its numbers
+pub All-numbers : {X : Type 0} (number : ℕ) (xs : List X) → All (λ e. (number ≤ e.0) × (e.0 < number + length xs)) (enumerate_from number xs)
+All-numbers number [] = All-nil (λ e. (number ≤ e.0) × (e.0 < number + 0))
+All-numbers number (x ∷ xs) =
+    All-cons (λ e. (number ≤ e.0) × (e.0 < number + suc (length xs))) (number, x) (enumerate_from (number + 1) xs) (omega arith, omega arith)
+    (All-weaker (λ e. (number + 1 ≤ e.0) × (e.0 < number + 1 + length xs)) (λ e. (number ≤ e.0) × (e.0 < number + suc (length xs)))
+    (λ e within. (omega arith, omega arith)) (enumerate_from (number + 1) xs) (All-numbers (number + 1) xs))
+
+pub AllPairs-nil : {X : Type 0} (R : X → X → Type 0) → AllPairs R []
+AllPairs-nil R i j d lower within = absurd (omega arith)
+
+pub AllPairs-head : {X : Type 0} (R : X → X → Type 0) (x : X) (xs : List X) → AllPairs R (x ∷ xs) → All (R x) xs
+AllPairs-head R x xs pairs k d within = pairs 0 (suc k) d (omega arith) (omega arith)
+
+pub AllPairs-tail : {X : Type 0} (R : X → X → Type 0) (x : X) (xs : List X) → AllPairs R (x ∷ xs) → AllPairs R xs
+AllPairs-tail R x xs pairs i j d lower within = pairs (suc i) (suc j) d (omega arith) (omega arith)
+
+pub AllPairs-append : {X : Type 0} (R : X → X → Type 0) (xs ys : List X) → AllPairs R xs → AllPairs R ys → All (λ x. All (R x) ys) xs → AllPairs R (xs ++ ys)
+AllPairs-append R [] ys first second across = second
+AllPairs-append R (x ∷ xs) ys first second across =
+    AllPairs-cons R x (xs ++ ys) (All-append (R x) xs ys (AllPairs-head R x xs first) (All-head (λ x. All (R x) ys) x xs across))
+    (AllPairs-append R xs ys (AllPairs-tail R x xs first) second (All-tail (λ x. All (R x) ys) x xs across))
+
+pub AllPairs-across : {X : Type 0} (R : X → X → Type 0) (xs : List X) (y : X) (ys : List X) → AllPairs R (xs ++ y ∷ ys) → All (λ x. R x y) xs
+AllPairs-across R [] y ys pairs = All-nil (λ x. R x y)
+AllPairs-across R (x ∷ xs) y ys pairs =
+    All-cons (λ x. R x y) x xs (All-head (R x) y ys (All-append_right (R x) xs (y ∷ ys) (AllPairs-head R x (xs ++ y ∷ ys) pairs)))
+    (AllPairs-across R xs y ys (AllPairs-tail R x (xs ++ y ∷ ys) pairs))
+
+pub AllPairs-append_right : {X : Type 0} (R : X → X → Type 0) (xs ys : List X) → AllPairs R (xs ++ ys) → AllPairs R ys
+AllPairs-append_right R [] ys pairs = pairs
+AllPairs-append_right R (x ∷ xs) ys pairs = AllPairs-append_right R xs ys (AllPairs-tail R x (xs ++ ys) pairs)
+
+pub AllPairs-map : {X Y : Type 0} (R : Y → Y → Type 0) (f : X → Y) (xs : List X) → AllPairs (λ x y. R (f x) (f y)) xs → AllPairs R (map f xs)
+AllPairs-map R f [] pairs = AllPairs-nil R
+AllPairs-map R f (x ∷ xs) pairs =
+    AllPairs-cons R (f x) (map f xs) (All-map (R (f x)) f xs (AllPairs-head (λ x y. R (f x) (f y)) x xs pairs))
+    (AllPairs-map R f xs (AllPairs-tail (λ x y. R (f x) (f y)) x xs pairs))
+
+pub AllPairs-weaker : {X : Type 0} (R S : X → X → Type 0) → ((x y : X) → R x y → S x y) → (xs : List X) → AllPairs R xs → AllPairs S xs
+AllPairs-weaker R S weaker xs pairs i j d lower within = weaker _ _ (pairs i j d lower within)
+
+-- the pieces of related elements are related throughout
+pub AllPairs-flat_map : {X Y : Type 0} (R : Y → Y → Type 0) (S : X → X → Type 0) (f : X → List Y) → ((x : X) → AllPairs R (f x)) →
+    ((x y : X) → S x y → All (λ a. All (R a) (f y)) (f x)) → (xs : List X) → AllPairs S xs → AllPairs R (flat_map f xs)
+AllPairs-flat_map R S f each across [] pairs = AllPairs-nil R
+AllPairs-flat_map R S f each across (x ∷ xs) pairs =
+    AllPairs-append R (f x) (flat_map f xs) (each x) (AllPairs-flat_map R S f each across xs (AllPairs-tail S x xs pairs))
+    (λ k d within. All-flat_map (R _) f xs
+    (All-weaker (S x) (λ y. All (R _) (f y)) (λ y related. across x y related k d within) xs (AllPairs-head S x xs pairs)))
+
+pub AllPairs-numbers : {X : Type 0} (number : ℕ) (xs : List X) → AllPairs (λ a b. a.0 < b.0) (enumerate_from number xs)
+AllPairs-numbers number [] = AllPairs-nil (λ a b. a.0 < b.0)
+AllPairs-numbers number (x ∷ xs) =
+    AllPairs-cons (λ a b. a.0 < b.0) (number, x) (enumerate_from (number + 1) xs)
+    (All-weaker (λ e. (number + 1 ≤ e.0) × (e.0 < number + 1 + length xs)) (λ e. number < e.0) (λ e within. omega arith) (enumerate_from (number + 1) xs) (All-numbers (number + 1) xs))
+    (AllPairs-numbers (number + 1) xs)

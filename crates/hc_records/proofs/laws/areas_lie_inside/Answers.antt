@@ -1,0 +1,6 @@
+use Rattle.hc_records.specs.Packing.{opening}
+use Rattle.hc_records.proofs.Inside.{packed-inside}
+use Rattle.hc_records.proofs.laws.areas_lie_inside.Goals as goal
+
+pub returns : goal.returns
+returns c = packed-inside opening

@@ -1,0 +1,5 @@
+use Rattle.hc_records.proofs.Parts.{outputs-first}
+use Rattle.hc_records.proofs.laws.outputs_come_first.Goals as goal
+
+pub returns : goal.returns
+returns c = outputs-first

@@ -1,0 +1,5 @@
+use Rattle.hc_records.proofs.Least.{packing-least}
+use Rattle.hc_records.proofs.laws.packing_is_least.Goals as goal
+
+pub returns : goal.returns
+returns c = packing-least

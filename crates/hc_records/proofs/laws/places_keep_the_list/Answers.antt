@@ -1,0 +1,5 @@
+use Rattle.hc_records.proofs.Packed.{packed-areas}
+use Rattle.hc_records.proofs.laws.places_keep_the_list.Goals as goal
+
+pub returns : goal.returns
+returns c = packed-areas

@@ -1,0 +1,107 @@
+//! What follows from the definitions of `specs/`, so that a reader can trust them: each function here
+//! does nothing, and its contract is a law that holds of every list, line or project. Nobody calls it.
+ghost use Rattle.hc_records.specs.Laws.{ProjectsArePackable, PlacesKeepTheList, AreasLieInside, WideAreasBeginBytes, DatagramsAreSendable, AreasShareNoBit, KeysAscend, KeysLieAboveStart, KeysLieBelowEnd, PackingIsLeast, CutsStandAlone, BoundariesAreCuts, DatagramsAreSpans, BoundariesHaveWidth, UntouchedIsSettled, OutputsComeFirst, TouchedCountsOnce};
+
+/// In a project each area of a task's list has 1 to 11,888 bits, so that a datagram can carry it,
+/// whichever groups are present.
+pub fn projects_are_packable()
+    ensures { ProjectsArePackable }
+{}
+
+/// Packing drops no area, adds none and reorders none: the places of a list have the keys and the
+/// widths (in bits) of its areas, in its order.
+pub fn places_keep_the_list()
+    ensures { PlacesKeepTheList }
+{}
+
+/// Where each area of a list has 1 to 11,888 bits, each lies wholly in one datagram: the bit at which it
+/// begins and its bits together are at most 11,888, the bits of the longest datagram's data.
+pub fn areas_lie_inside()
+    ensures { AreasLieInside }
+{}
+
+/// An area of 8 bits or more begins at the first bit of a byte.
+pub fn wide_areas_begin_bytes()
+    ensures { WideAreasBeginBytes }
+{}
+
+/// Where each area of a list has 1 to 11,888 bits, each datagram of the task can be sent and carries
+/// something: it is 1 to 1,486 bytes long.
+pub fn datagrams_are_sendable()
+    ensures { DatagramsAreSendable }
+{}
+
+/// No two areas of a task share a bit: of two areas, the earlier in the task's list lies in an earlier
+/// datagram, or ends in the same datagram at or before the bit at which the later one begins.
+pub fn areas_share_no_bit()
+    ensures { AreasShareNoBit }
+{}
+
+/// The keys of a task's list ascend strictly: outputs before inputs, then by the slave's rank, then by
+/// the area's place in its slave's record.
+pub fn keys_ascend()
+    ensures { KeysAscend }
+{}
+
+/// The key of each area of a task's list lies above `Key::START`, whatever is declared.
+pub fn keys_lie_above_start()
+    ensures { KeysLieAboveStart }
+{}
+
+/// In a project, which declares at most 2,048 slaves, the key of each area of a task's list lies below
+/// `Key::END`.
+pub fn keys_lie_below_end()
+    ensures { KeysLieBelowEnd }
+{}
+
+/// No other packing in the list's order needs fewer datagrams: whoever cuts a task's list, in its order,
+/// into parts that fit one datagram each, has at least as many parts as packing has datagrams.
+pub fn packing_is_least()
+    ensures { PackingIsLeast }
+{}
+
+/// Where each area of a list has 1 to 11,888 bits: from an area at which a second or later datagram
+/// begins, the areas stand as if they were a list of their own, at the same bits and in datagrams
+/// numbered on from those before. So what comes before a boundary doesn't move what comes behind it.
+pub fn cuts_stand_alone()
+    ensures { CutsStandAlone }
+{}
+
+/// Where each area of a list has 1 to 11,888 bits, a second or later datagram begins exactly at the
+/// areas that don't fit the datagram being filled: the bit at which such an area would begin and its
+/// bits together are over 11,888.
+pub fn boundaries_are_cuts()
+    ensures { BoundariesAreCuts }
+{}
+
+/// Where a list has an area, and each has 1 to 11,888 bits, the task has one datagram more than boundary
+/// keys inside its list: its datagrams are the spans between boundaries.
+pub fn datagrams_are_spans()
+    ensures { DatagramsAreSpans }
+{}
+
+/// Where each area of a list has 1 to 11,888 bits, each boundary inside the list is the key of an area of
+/// it, with at least one bit.
+pub fn boundaries_have_width()
+    ensures { BoundariesHaveWidth }
+{}
+
+/// An edit that leaves a task's list as it was leaves all its spans settled: none is cut again.
+pub fn untouched_is_settled()
+    ensures { UntouchedIsSettled }
+{}
+
+/// The outputs of a task are the first bytes of its process data image, and its inputs the bytes behind
+/// them: where the keys of a list ascend, each output area ends by the bit 8 times the output length (in
+/// bytes), and each input area begins at or behind it. Bits of the image are counted from 0: an area
+/// begins 8 times its datagram's offset (in bytes) and its own first bit behind the image's start.
+pub fn outputs_come_first()
+    ensures { OutputsComeFirst }
+{}
+
+/// A changed width is never free: where the width (in bits) of a key differs between the old and the
+/// new list of a task, 0 where the key isn't in the list, at least one span of the new list isn't
+/// settled. The keys of both lists lie between `Key::START` and `Key::END`.
+pub fn touched_counts_once()
+    ensures { TouchedCountsOnce }
+{}
