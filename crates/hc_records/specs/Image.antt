@@ -4,6 +4,7 @@ use Rattle.std.specs.Option.{option_map_or}
 use Rattle.std.specs.List.{list_any, flat_map, zip}
 use Rattle.hc_records.specs.declared.records.Dir.{Dir}
 use Rattle.hc_records.specs.declared.records.Dir.TheVariants.{Out, In}
+use Rattle.hc_records.specs.declared.keys.Key.{Key}
 use Rattle.hc_records.specs.Keys.{same_dir}
 use Rattle.hc_records.specs.Area.{Entry, assigned_entries}
 use Rattle.hc_records.specs.Line.{Member}
@@ -56,17 +57,18 @@ abbrev pub input_length : List Placed → ℕ
 input_length areas = image_length areas - output_length areas
 
 -- an area of the slave with a rank, in a direction
-abbrev pub is_of : ℕ → Dir → Placed → Bool
-is_of rank dir area = (area.key.rank == rank) && same_dir area.key.dir dir
+abbrev pub is_of : ℕ → Dir → Key → Bool
+is_of rank dir key = (key.rank == rank) && same_dir key.dir dir
 
--- what a slave adds to the working counter: 2 where an output area of it lies in the datagram, 1 where an input area does
-abbrev pub counter_share : List Placed → Member → ℕ
-counter_share areas member =
-    (if list_any (is_of member.rank Out) areas then 2 else 0) + (if list_any (is_of member.rank In) areas then 1 else 0)
+-- what a slave adds to the working counter of a datagram with the areas of these keys: 2 where one is an output area of it, 1 where one is an input area
+abbrev pub counter_share : List Key → ℕ → ℕ
+counter_share keys rank =
+    (if list_any (is_of rank Out) keys then 2 else 0) + (if list_any (is_of rank In) keys then 1 else 0)
 
 -- the working counter of a datagram that every slave of the line has processed
 abbrev pub expected_counter : ℕ → ℕ → List Member → ℕ
-expected_counter task datagram line = sum_by (counter_share (inside datagram (task_places task line))) line
+expected_counter task datagram line =
+    sum_by (counter_share (map (λ area. area.key) (inside datagram (task_places task line)))) (map (λ member. member.rank) line)
 
 -- where a variable is: its task and datagram, its first bit in the datagram, its bits and its direction
 pub record VariablePlace : Type 0 where
