@@ -1,0 +1,141 @@
+-- Bits of numbers that shifts, masks and an `or` make, and of the bytes of a word.
+use Rattle.std.proofs.Common.{◌≡◌, ℕ, zero, suc, ◌+◌, ◌-◌, ◌*◌, ◌/◌, ◌%◌, ◌^◌, ◌<◌, ◌≤◌, min, max, bit_and, bit_or, get_or, refl, sym, ◌∙◌, ap, subst, arith, add-zero, lit<}
+use Rattle.std.specs.Int.{bit_at, bit_not, byte_at, bytes_low_first, w8}
+use Rattle.std.proofs.lemmas.Nat.{pow_pos, pow-add, shr-shr, shr_split, and_mask, shl_whole, mod_below, or_lt, shl_below}
+use Rattle.std.proofs.Math.Nat.{pow-suc, pow-le-pow_right, lt_of_lt_of_le}
+use Rattle.std.proofs.lemmas.Nat.Bits.{bit_at_and, bit_at_or, bit_at_not, bit_at_ones, bit_at_ones_above, bit_at_above, bit_at_cat_low, bit_at_cat_high, bit_at-lt, ones_shr}
+
+pub bit_at-shr : (n j i : ℕ) → bit_at (n / 2 ^ j) i ≡ bit_at n (j + i)
+bit_at-shr n j i = ap (λ x. x % 2) (shr-shr n j i)
+
+pub bit_at-mod : (n j i : ℕ) → i < j → bit_at (n % 2 ^ j) i ≡ bit_at n i
+bit_at-mod n j i h = sym (bit_at_cat_low (n / 2 ^ j) j (n % 2 ^ j) i h) ∙ ap (λ x. bit_at x i) (shr_split n j)
+
+pub bit_at-shl_below : (n j i : ℕ) → i < j → bit_at (n * 2 ^ j) i ≡ 0
+bit_at-shl_below n j i h =
+    ap (λ x. bit_at x i) (sym (add-zero (n * 2 ^ j))) ∙ bit_at_cat_low n j 0 i h ∙ bit_at_above 0 0 i (omega arith) (omega arith)
+
+pub bit_at-shl_from : (n j i : ℕ) → j ≤ i → bit_at (n * 2 ^ j) i ≡ bit_at n (i - j)
+bit_at-shl_from n j i h =
+    ap (λ x. bit_at x i) (sym (add-zero (n * 2 ^ j))) ∙ bit_at_cat_high n j 0 i (pow_pos j) h
+
+-- an `or` at a place where one side has a zero
+pub bit_at-or_left : (a b i x : ℕ) → bit_at a i ≡ x → bit_at b i ≡ 0 → bit_at (bit_or a b) i ≡ x
+bit_at-or_left a b i x p q = bit_at_or a b i ∙ ap (max (bit_at a i)) q ∙ (let e : max (bit_at a i) 0 ≡ bit_at a i = omega arith in e) ∙ p
+
+pub bit_at-or_right : (a b i x : ℕ) → bit_at a i ≡ 0 → bit_at b i ≡ x → bit_at (bit_or a b) i ≡ x
+bit_at-or_right a b i x p q = bit_at_or a b i ∙ ap (λ y. max y (bit_at b i)) p ∙ (let e : max 0 (bit_at b i) ≡ bit_at b i = omega arith in e) ∙ q
+
+-- an `and` at a place where the mask has a one, and where it has a zero
+pub bit_at-and_one : (a b i : ℕ) → bit_at b i ≡ 1 → bit_at (bit_and a b) i ≡ bit_at a i
+bit_at-and_one a b i q =
+    let small = bit_at-lt a i in
+    bit_at_and a b i ∙ ap (min (bit_at a i)) q ∙ (let e : min (bit_at a i) 1 ≡ bit_at a i = omega (arith, small) in e)
+
+pub bit_at-and_zero : (a b i : ℕ) → bit_at b i ≡ 0 → bit_at (bit_and a b) i ≡ 0
+bit_at-and_zero a b i q = bit_at_and a b i ∙ ap (min (bit_at a i)) q ∙ (let e : min (bit_at a i) 0 ≡ 0 = omega arith in e)
+
+-- the n lowest ones of a byte
+pub ones_is : (n : ℕ) → n ≤ 8 → 255 / 2 ^ (8 - n) ≡ 2 ^ n - 1
+ones_is n h = ones_shr 8 (8 - n) (omega arith) ∙ ap (λ k. 2 ^ k - 1) (let e : 8 - (8 - n) ≡ n = omega arith in e)
+
+pub part-bit : (byte at n k : ℕ) → k < n → bit_at (bit_and (byte / 2 ^ at) (2 ^ n - 1)) k ≡ bit_at byte (at + k)
+part-bit byte at n k h = bit_at-and_one (byte / 2 ^ at) (2 ^ n - 1) k (bit_at_ones n k h) ∙ bit_at-shr byte at k
+
+pub part-lt : (x n : ℕ) → bit_and x (2 ^ n - 1) < 2 ^ n
+part-lt x n = subst (λ (y : ℕ). y < 2 ^ n) (sym (and_mask x n)) (mod_below x (2 ^ n) (pow_pos n))
+
+-- n ones from bit `at` on
+mask_whole : (at n : ℕ) → at + n ≤ 8 → (2 ^ n - 1) * 2 ^ at % 2 ^ 8 ≡ (2 ^ n - 1) * 2 ^ at
+mask_whole at n h = shl_whole (2 ^ n - 1) n at 8 (omega (arith, pow_pos n)) (omega arith)
+
+mask-lt : (at n : ℕ) → (2 ^ n - 1) * 2 ^ at % 2 ^ 8 < 2 ^ 8
+mask-lt at n = mod_below ((2 ^ n - 1) * 2 ^ at) (2 ^ 8) (pow_pos 8)
+
+mask-inside : (at n k : ℕ) → at + n ≤ 8 → k < n → bit_at ((2 ^ n - 1) * 2 ^ at % 2 ^ 8) (at + k) ≡ 1
+mask-inside at n k h p =
+    ap (λ x. bit_at x (at + k)) (mask_whole at n h) ∙ bit_at-shl_from (2 ^ n - 1) at (at + k) (omega arith)
+    ∙ ap (bit_at (2 ^ n - 1)) (let e : at + k - at ≡ k = omega arith in e) ∙ bit_at_ones n k p
+
+mask-before : (at n k : ℕ) → at + n ≤ 8 → k < at → bit_at ((2 ^ n - 1) * 2 ^ at % 2 ^ 8) k ≡ 0
+mask-before at n k h p = ap (λ x. bit_at x k) (mask_whole at n h) ∙ bit_at-shl_below (2 ^ n - 1) at k p
+
+mask-after : (at n k : ℕ) → at + n ≤ 8 → at + n ≤ k → bit_at ((2 ^ n - 1) * 2 ^ at % 2 ^ 8) k ≡ 0
+mask-after at n k h p =
+    ap (λ x. bit_at x k) (mask_whole at n h) ∙ bit_at-shl_from (2 ^ n - 1) at k (omega arith) ∙ bit_at_ones_above n (k - at) (omega arith)
+
+-- a byte without the bits of a mask
+masked-kept : (byte mask k : ℕ) → mask < 2 ^ 8 → k < 8 → bit_at mask k ≡ 0 → bit_at (bit_and byte (bit_not w8 mask)) k ≡ bit_at byte k
+masked-kept byte mask k m low z = bit_at-and_one byte (bit_not w8 mask) k (bit_at_not w8 mask k m low ∙ ap (λ x. 1 - x) z)
+
+masked-cleared : (byte mask k : ℕ) → mask < 2 ^ 8 → k < 8 → bit_at mask k ≡ 1 → bit_at (bit_and byte (bit_not w8 mask)) k ≡ 0
+masked-cleared byte mask k m low one = bit_at-and_zero byte (bit_not w8 mask) k (bit_at_not w8 mask k m low ∙ ap (λ x. 1 - x) one)
+
+-- a byte with n bits from `at` on replaced, as masks compute it
+abbrev pub replaced_in : ℕ → ℕ → ℕ → ℕ → ℕ
+replaced_in byte at n part = bit_or (bit_and byte (bit_not w8 ((2 ^ n - 1) * 2 ^ at % 2 ^ 8))) (part * 2 ^ at % 2 ^ 8)
+
+moved_whole : (at n part : ℕ) → at + n ≤ 8 → part < 2 ^ n → part * 2 ^ at % 2 ^ 8 ≡ part * 2 ^ at
+moved_whole at n part h fits = shl_whole part n at 8 fits (omega arith)
+
+pub replaced_in-inside : (byte at n part k : ℕ) → at + n ≤ 8 → part < 2 ^ n → k < n → bit_at (replaced_in byte at n part) (at + k) ≡ bit_at part k
+replaced_in-inside byte at n part k h fits p = bit_at-or_right _ (part * 2 ^ at % 2 ^ 8) (at + k) (bit_at part k)
+    (masked-cleared byte _ (at + k) (mask-lt at n) (omega arith) (mask-inside at n k h p))
+    (ap (λ x. bit_at x (at + k)) (moved_whole at n part h fits) ∙ bit_at-shl_from part at (at + k) (omega arith)
+    ∙ ap (bit_at part) (let e : at + k - at ≡ k = omega arith in e))
+
+pub replaced_in-before : (byte at n part k : ℕ) → at + n ≤ 8 → part < 2 ^ n → k < at → bit_at (replaced_in byte at n part) k ≡ bit_at byte k
+replaced_in-before byte at n part k h fits p = bit_at-or_left _ (part * 2 ^ at % 2 ^ 8) k (bit_at byte k)
+    (masked-kept byte _ k (mask-lt at n) (omega arith) (mask-before at n k h p))
+    (ap (λ x. bit_at x k) (moved_whole at n part h fits) ∙ bit_at-shl_below part at k p)
+
+pub replaced_in-after : (byte at n part k : ℕ) → at + n ≤ 8 → part < 2 ^ n → at + n ≤ k → k < 8 → bit_at (replaced_in byte at n part) k ≡ bit_at byte k
+replaced_in-after byte at n part k h fits p low = bit_at-or_left _ (part * 2 ^ at % 2 ^ 8) k (bit_at byte k)
+    (masked-kept byte _ k (mask-lt at n) low (mask-after at n k h p))
+    (ap (λ x. bit_at x k) (moved_whole at n part h fits) ∙ bit_at-shl_from part at k (omega arith) ∙ bit_at_above part n (k - at) fits (omega arith))
+
+-- a part put above the bits that a number has
+pub joined-lt : (low high n m : ℕ) → low < 2 ^ n → high < 2 ^ m → n + m ≤ 64 → bit_or low (high * 2 ^ n % 2 ^ 64) < 2 ^ (n + m)
+joined-lt low high n m p q room =
+    let whole : high * 2 ^ n % 2 ^ 64 ≡ high * 2 ^ n = shl_whole high m n 64 q (omega arith) in
+    let turn : m + n ≡ n + m = omega arith in
+    let above : high * 2 ^ n < 2 ^ (n + m) = subst (λ (k : ℕ). high * 2 ^ n < 2 ^ k) turn (shl_below high m n q) in
+    let below : low < 2 ^ (n + m) = lt_of_lt_of_le p (pow-le-pow_right (lit< tt) (let e : n ≤ n + m = omega arith in e)) in
+    or_lt (n + m) low (high * 2 ^ n % 2 ^ 64) below (subst (λ (x : ℕ). x < 2 ^ (n + m)) (sym whole) above)
+
+pub joined-low : (low high n m k : ℕ) → high < 2 ^ m → n + m ≤ 64 → k < n → bit_at (bit_or low (high * 2 ^ n % 2 ^ 64)) k ≡ bit_at low k
+joined-low low high n m k q room h = bit_at-or_left low (high * 2 ^ n % 2 ^ 64) k (bit_at low k) refl
+    (ap (λ x. bit_at x k) (shl_whole high m n 64 q (omega arith)) ∙ bit_at-shl_below high n k h)
+
+pub joined-high : (low high n m k : ℕ) → low < 2 ^ n → high < 2 ^ m → n + m ≤ 64 → n ≤ k → bit_at (bit_or low (high * 2 ^ n % 2 ^ 64)) k ≡ bit_at high (k - n)
+joined-high low high n m k p q room h = bit_at-or_right low (high * 2 ^ n % 2 ^ 64) k (bit_at high (k - n)) (bit_at_above low n k p h)
+    (ap (λ x. bit_at x k) (shl_whole high m n 64 q (omega arith)) ∙ bit_at-shl_from high n k h)
+
+-- a word and the byte above it, moved down by some bits
+pub funnel-low : (low high at k : ℕ) → at < 64 → k < 64 - at → bit_at (bit_or (low / 2 ^ at) (high * 2 ^ (64 - at) % 2 ^ 64)) k ≡ bit_at low (at + k)
+funnel-low low high at k s h = bit_at-or_left (low / 2 ^ at) (high * 2 ^ (64 - at) % 2 ^ 64) k (bit_at low (at + k)) (bit_at-shr low at k)
+    (bit_at-mod (high * 2 ^ (64 - at)) 64 k (omega arith) ∙ bit_at-shl_below high (64 - at) k h)
+
+pub funnel-high : (low high at k : ℕ) → low < 2 ^ 64 → at < 64 → k < 64 → 64 - at ≤ k → bit_at (bit_or (low / 2 ^ at) (high * 2 ^ (64 - at) % 2 ^ 64)) k ≡ bit_at high (at + k - 64)
+funnel-high low high at k b s small h = bit_at-or_right (low / 2 ^ at) (high * 2 ^ (64 - at) % 2 ^ 64) k (bit_at high (at + k - 64))
+    (bit_at-shr low at k ∙ bit_at_above low 64 (at + k) b (omega arith))
+    (bit_at-mod (high * 2 ^ (64 - at)) 64 k small ∙ bit_at-shl_from high (64 - at) k h
+    ∙ ap (bit_at high) (let e : k - (64 - at) ≡ at + k - 64 = omega arith in e))
+
+pow_256 : (k : ℕ) → 256 ^ k ≡ 2 ^ (8 * k)
+pow_256 zero = refl
+pow_256 (suc k) =
+    pow-suc 256 k ∙ ap (λ x. x * 256) (pow_256 k) ∙ sym (pow-add 2 (8 * k) 8)
+    ∙ ap (λ x. 2 ^ x) (let e : 8 * k + 8 ≡ 8 * suc k = omega arith in e)
+
+-- the bits of a number by its bytes
+pub bit_at-byte : (i n j : ℕ) → j < 8 → bit_at (byte_at i n) j ≡ bit_at n (8 * i + j)
+bit_at-byte zero n j h = bit_at-mod n 8 j h ∙ ap (bit_at n) (let e : j ≡ 8 * 0 + j = omega arith in e)
+bit_at-byte (suc i) n j h =
+    bit_at-mod (n / 256 ^ suc i) 8 j h ∙ ap (λ x. bit_at (n / x) j) (pow_256 (suc i)) ∙ bit_at-shr n (8 * suc i) j
+
+pub get_or-bytes_low_first : (i count n j : ℕ) → j < count → get_or (bytes_low_first i count n) j 0 ≡ byte_at (i + j) n
+get_or-bytes_low_first i (suc count) n zero h = ap (λ x. byte_at x n) (let e : i ≡ i + 0 = omega arith in e)
+get_or-bytes_low_first i (suc count) n (suc j) h =
+    get_or-bytes_low_first (suc i) count n j (omega arith) ∙ ap (λ x. byte_at x n) (let e : suc i + j ≡ i + suc j = omega arith in e)
+get_or-bytes_low_first i zero n j h = absurd (omega arith)

@@ -1,0 +1,6 @@
+use Rattle.std.proofs.Common.{◌+◌, ◌*◌}
+use Rattle.hc_bits.specs.Bits.{ReplacesRun, bit_of}
+use Rattle.hc_bits.proofs.run.copy_words.Given as goal
+
+abbrev pub invariant-loop-i : goal.invariant-loop-i
+invariant-loop-i l = ReplacesRun l.initial.to l.to (8 * l.first2) (64 * l.i) (λ k. bit_of l.from (8 * l.first + l.at + k))

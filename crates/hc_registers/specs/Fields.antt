@@ -1,0 +1,10 @@
+-- The fields of register blocks, by their bytes (ETG.1000.4, 6.6 and 6.7).
+use Rattle.std.specs.Prelude.{ℕ, ◌+◌, List, slice_range}
+use Rattle.std.specs.Int.{from_le_bytes, w16, w32}
+
+-- the number that stands little-endian in two bytes, and in four
+abbrev pub word_at : List ℕ → ℕ → ℕ
+word_at bytes at = from_le_bytes w16 (slice_range bytes at (at + 2))
+
+abbrev pub long_at : List ℕ → ℕ → ℕ
+long_at bytes at = from_le_bytes w32 (slice_range bytes at (at + 4))

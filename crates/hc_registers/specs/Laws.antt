@@ -1,0 +1,32 @@
+-- What is written into a block is read from it. Each is the contract of a function of `laws`.
+use Rattle.std.specs.Prelude.{◌≡◌, ℕ, ◌+◌, ◌/◌, ◌%◌, ◌<◌, ◌≤◌, ◌^◌, slice_index}
+use Rattle.hc_records.specs.declared.limits.TheConstants.{MOST_AREA_BITS}
+use Rattle.hc_records.specs.declared.records.Area.{Area}
+use Rattle.hc_records.specs.Area.{width}
+use Rattle.hc_registers.specs.declared.fmmu.Mapping.{Mapping}
+use Rattle.hc_registers.specs.Blocks.{IsMappable, activation, byte_count, control_of, last_bit, mapped_bytes, sync_manager_bytes, touched_bytes, type_of}
+use Rattle.hc_registers.specs.Fields.{long_at, word_at}
+
+-- the fields of the sync manager block of an area
+pub record SyncManagerFields (area : Area) : Type 0 where
+  pub start_address : word_at (sync_manager_bytes area) 0 ≡ area.phys
+  pub length : word_at (sync_manager_bytes area) 2 ≡ byte_count (width area)
+  pub control : slice_index (sync_manager_bytes area) 4 ≡ control_of area.dir
+  pub activate : slice_index (sync_manager_bytes area) 6 ≡ activation (width area)
+
+abbrev pub SyncManagersAreRead : Type 0
+SyncManagersAreRead = (area : Area) → area.phys < 2 ^ 16 → width area ≤ MOST_AREA_BITS → SyncManagerFields area
+
+-- the fields of the FMMU block of an area that is mapped
+pub record FmmuFields (area : Area) (mapping : Mapping) : Type 0 where
+  pub logical_start_address : long_at (mapped_bytes area mapping) 0 ≡ mapping.address + mapping.bit / 8
+  pub length : word_at (mapped_bytes area mapping) 4 ≡ touched_bytes mapping.bit (width area)
+  pub logical_start_bit : slice_index (mapped_bytes area mapping) 6 ≡ mapping.bit % 8
+  pub logical_stop_bit : slice_index (mapped_bytes area mapping) 7 ≡ last_bit mapping.bit (width area) % 8
+  pub physical_start_address : word_at (mapped_bytes area mapping) 8 ≡ area.phys
+  pub physical_start_bit : slice_index (mapped_bytes area mapping) 10 ≡ 0
+  pub kind : slice_index (mapped_bytes area mapping) 11 ≡ type_of area.dir
+  pub activate : slice_index (mapped_bytes area mapping) 12 ≡ 1
+
+abbrev pub FmmusAreRead : Type 0
+FmmusAreRead = (area : Area) (mapping : Mapping) → area.phys < 2 ^ 16 → IsMappable area mapping → FmmuFields area mapping

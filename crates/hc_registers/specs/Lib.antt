@@ -1,0 +1,4 @@
+pub mod Blocks
+pub mod Fields
+pub mod Laws
+pub mod Rows

@@ -1,0 +1,84 @@
+//! Blocks as they are written: bytes at a register.
+ghost use Rattle.std.specs.Prelude.{◌≡◌, ◌<◌, ◌≤◌};
+ghost use Rattle.std.specs.Option.{ForSome};
+ghost use Rattle.hc_records.specs.Area.{width};
+ghost use Rattle.hc_records.specs.declared.limits.TheConstants.{LAST_SYNC_MANAGER, MOST_AREA_BITS, MOST_AREAS};
+
+use crate::fmmu::{Mapping, fmmu_block};
+use crate::registers::{
+    FMMU_BLOCK_BYTES, FMMU_BLOCKS, SYNC_MANAGER_BLOCK_BYTES, SYNC_MANAGER_BLOCKS,
+};
+use crate::sync_manager::sync_block;
+use arrayvec::ArrayVec;
+use hc_records::records::Area;
+use std::marker::Model;
+
+/// The 8 or 16 bytes of a sync manager or FMMU block, and the register at which they begin.
+#[derive(Clone, Debug, Drop)]
+pub struct Block {
+    register: u16,
+    bytes: ArrayVec<u8, 16>,
+}
+
+impl Model for Block {
+    ghost use Rattle.hc_registers.specs.Blocks.{RegisterBlock};
+
+    ghost Value = { RegisterBlock };
+
+    ghost view = { λ block. record { register = block.register; bytes = block.bytes.items } };
+}
+
+impl Block {
+    ghost use Rattle.std.specs.Prelude.{◌≡◌, ◌<◌, ◌≤◌, length};
+    ghost use Rattle.std.specs.Option.{ForSome};
+    ghost use Rattle.hc_records.specs.Area.{width};
+    ghost use Rattle.hc_records.specs.declared.limits.TheConstants.{LAST_SYNC_MANAGER, MOST_AREA_BITS, MOST_AREAS};
+    ghost use Rattle.hc_registers.specs.Blocks.{IsMappable, fmmu_block, sync_manager_block};
+
+    /// The sync manager block of an area, 8 bytes.
+    pub fn sync_manager(area: &Area) -> Block
+        requires width { width area.now ≤ MOST_AREA_BITS }
+        requires number { area.now.sm ≤ LAST_SYNC_MANAGER }
+        ensures { result ≡ sync_manager_block area.now }
+    {
+        let mut bytes = ArrayVec::new();
+        for byte in sync_block(area) {
+            bytes.push(byte);
+        }
+        Block {
+            register: SYNC_MANAGER_BLOCKS + SYNC_MANAGER_BLOCK_BYTES * u16::from(area.sm),
+            bytes,
+        }
+    }
+
+    /// The FMMU block of the area that stands at an index of its slave's record, 16 bytes. An area
+    /// of 0 bits isn't mapped.
+    pub fn fmmu(index: u8, area: &Area, mapping: Option<Mapping>) -> Block
+        requires index { index < MOST_AREAS }
+        requires mapping { ForSome mapping (IsMappable area.now) }
+        ensures { result ≡ fmmu_block index area.now mapping }
+    {
+        let mut bytes = ArrayVec::new();
+        for byte in fmmu_block(area, mapping) {
+            bytes.push(byte);
+        }
+        Block {
+            register: FMMU_BLOCKS + FMMU_BLOCK_BYTES * u16::from(index),
+            bytes,
+        }
+    }
+
+    /// The register at which the block begins.
+    pub fn register(&self) -> u16
+        ensures { result ≡ self.now.register }
+    {
+        self.register
+    }
+
+    /// The block's bytes, 8 or 16.
+    pub fn bytes(&self) -> &[u8]
+        ensures { result.now ≡ self.now.bytes }
+    {
+        self.bytes.as_slice()
+    }
+}

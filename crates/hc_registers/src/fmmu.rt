@@ -1,0 +1,128 @@
+//! The FMMU block of an area: which logical bits of a datagram are which bits of the slave's memory
+//! (ETG.1000.4, 6.6).
+ghost use Rattle.std.specs.Prelude.{◌≡◌, slice_index};
+ghost use Rattle.std.specs.Option.{ForSome};
+ghost use Rattle.hc_records.specs.Area.{width};
+ghost use Rattle.hc_records.specs.declared.limits.TheConstants.{MOST_AREA_BITS};
+ghost use Rattle.hc_registers.specs.Blocks.{IsMappable, fmmu_bytes, mapped_bytes, type_of};
+ghost use Rattle.hc_registers.specs.Fields.{long_at, word_at};
+
+use hc_records::records::{Area, Dir};
+
+/// Where an area begins.
+#[derive(Clone, Copy, Debug, PartialEq, Eq)]
+pub struct Mapping {
+    /// The logical address of its datagram.
+    pub address: u32,
+    /// Its first bit in the datagram.
+    pub bit: u16,
+}
+
+/// The type of an FMMU of a direction: the master writes outputs and reads inputs.
+fn type_byte(dir: Dir) -> u8
+    ensures { result ≡ type_of dir }
+{
+    match dir {
+        Dir::Out => 2,
+        Dir::In => 1,
+    }
+}
+
+/// The block of an area that is mapped.
+fn mapped_block(area: &Area, mapping: Mapping) -> [u8; 16]
+    requires { IsMappable area.now mapping }
+    ensures { result ≡ mapped_bytes area.now mapping }
+{
+    let bit = mapping.bit;
+    let last = bit + area.width() - 1;
+    let logical = (mapping.address + u32::from(bit / 8)).to_le_bytes();
+    let length = (last / 8 - bit / 8 + 1).to_le_bytes();
+    let physical = area.phys.to_le_bytes();
+    [
+        logical[0],
+        logical[1],
+        logical[2],
+        logical[3],
+        length[0],
+        length[1],
+        (bit % 8) as u8,
+        (last % 8) as u8,
+        physical[0],
+        physical[1],
+        0,
+        type_byte(area.dir),
+        1,
+        0,
+        0,
+        0,
+    ]
+}
+
+/// The block of an area: logical start address, length in bytes from the first to the last that it
+/// touches, logical start and stop bit, physical start address and bit, type and activation. An
+/// area that isn't mapped has a block of zeros.
+pub fn fmmu_block(area: &Area, mapping: Option<Mapping>) -> [u8; 16]
+    requires { ForSome mapping (IsMappable area.now) }
+    ensures { result ≡ fmmu_bytes area.now mapping }
+{
+    match mapping {
+        None => [0; 16],
+        Some(mapping) => mapped_block(area, mapping),
+    }
+}
+
+/// The logical start address: bytes 0 to 3.
+pub fn logical_start_address(block: &[u8; 16]) -> u32
+    ensures { result ≡ long_at block.now 0 }
+{
+    u32::from_le_bytes([block[0], block[1], block[2], block[3]])
+}
+
+/// The length in bytes: bytes 4 and 5.
+pub fn length(block: &[u8; 16]) -> u16
+    ensures { result ≡ word_at block.now 4 }
+{
+    u16::from_le_bytes([block[4], block[5]])
+}
+
+/// The logical start bit: byte 6.
+pub fn logical_start_bit(block: &[u8; 16]) -> u8
+    ensures { result ≡ slice_index block.now 6 }
+{
+    block[6]
+}
+
+/// The logical stop bit: byte 7.
+pub fn logical_stop_bit(block: &[u8; 16]) -> u8
+    ensures { result ≡ slice_index block.now 7 }
+{
+    block[7]
+}
+
+/// The physical start address: bytes 8 and 9.
+pub fn physical_start_address(block: &[u8; 16]) -> u16
+    ensures { result ≡ word_at block.now 8 }
+{
+    u16::from_le_bytes([block[8], block[9]])
+}
+
+/// The physical start bit: byte 10.
+pub fn physical_start_bit(block: &[u8; 16]) -> u8
+    ensures { result ≡ slice_index block.now 10 }
+{
+    block[10]
+}
+
+/// The type: byte 11. Bit 0 lets the master read, bit 1 write.
+pub fn fmmu_type(block: &[u8; 16]) -> u8
+    ensures { result ≡ slice_index block.now 11 }
+{
+    block[11]
+}
+
+/// The activation byte: byte 12.
+pub fn activate(block: &[u8; 16]) -> u8
+    ensures { result ≡ slice_index block.now 12 }
+{
+    block[12]
+}

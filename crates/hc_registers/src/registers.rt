@@ -1,0 +1,13 @@
+//! Where the register blocks stand (ETG.1000.4, 6.6 and 6.7).
+
+/// The register of a slave's first FMMU block.
+pub const FMMU_BLOCKS: u16 = 0x0600;
+
+/// The bytes of an FMMU block.
+pub const FMMU_BLOCK_BYTES: u16 = 16;
+
+/// The register of a slave's first sync manager block.
+pub const SYNC_MANAGER_BLOCKS: u16 = 0x0800;
+
+/// The bytes of a sync manager block.
+pub const SYNC_MANAGER_BLOCK_BYTES: u16 = 8;
