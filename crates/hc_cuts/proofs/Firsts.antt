@@ -1,0 +1,69 @@
+-- The first keys of a list, by its first area and the cuts behind it.
+use Rattle.std.proofs.Common.{◌≡◌, ◌+◌, ◌-◌, ◌<◌, ◌≤◌, [], take, drop, Bool, true, false, List, ◌∷◌, ◌++◌, length, refl, sym, ap, ◌∙◌, arith, if◌then◌else◌}
+use Rattle.std.specs.Prelude.{All, slice_index_or}
+use Rattle.std.proofs.lemmas.List.{take_rest}
+use Rattle.std.proofs.lemmas.List.Elements.{All-head}
+use Rattle.hc_records.specs.declared.keys.Key.{Key}
+use Rattle.hc_records.specs.TaskList.{Keyed}
+use Rattle.hc_records.specs.Packing.{Front, Placed, opening, fits, placed_at, behind, packed}
+use Rattle.hc_records.specs.Image.{datagram_count}
+use Rattle.hc_records.specs.Boundaries.{later_keys}
+use Rattle.hc_records.specs.Laws.{IsPackable, cuts_from}
+use Rattle.hc_records.proofs.Cuts.{later_keys-cuts, count-later_keys}
+use Rattle.hc_records.proofs.Lengths.{opening-fits}
+use Rattle.hc_cuts.specs.Firsts.{first_keys}
+
+first_by : (fitting : Bool) (rest : List Key) (key : Key) → fitting ≡ true → (if fitting then rest else key ∷ rest) ≡ rest
+first_by true rest key test = refl
+first_by false rest key test = cc
+
+-- the first area fits the empty datagram, so no cut is made at it
+pub first_keys-cuts : (area : Keyed) (areas : List Keyed) → All IsPackable (area ∷ areas)
+    → first_keys (area ∷ areas) ≡ area.0 ∷ cuts_from (behind (placed_at opening area)) areas
+first_keys-cuts area areas all =
+    let narrow = (All-head IsPackable area areas all).narrow in
+    ap (λ keys. area.0 ∷ keys)
+    (later_keys-cuts (area ∷ areas) all
+    ∙ first_by (fits opening area) (cuts_from (behind (placed_at opening area)) areas) area.0 (opening-fits area narrow))
+
+-- there is one for each datagram
+pub length-first_keys : (area : Keyed) (areas : List Keyed) → All IsPackable (area ∷ areas)
+    → datagram_count (packed opening (area ∷ areas)) ≡ length (area.0 ∷ cuts_from (behind (placed_at opening area)) areas)
+length-first_keys area areas all =
+    let spans = count-later_keys area areas all in
+    let keys : length (area.0 ∷ later_keys (area ∷ areas)) ≡ length (area.0 ∷ cuts_from (behind (placed_at opening area)) areas) = ap length (first_keys-cuts area areas all) in
+    omega arith
+
+-- the same of a list with a first area, in the words of a slice
+pub first_keys-rest : (list : List Keyed) (d : Keyed) → 0 < length list → All IsPackable list
+    → first_keys list ≡ (slice_index_or list 0 d).0 ∷ cuts_from (behind (placed_at opening (slice_index_or list 0 d))) (drop 1 list)
+first_keys-rest [] d some all = absurd (omega arith)
+first_keys-rest (area ∷ areas) d some all = first_keys-cuts area areas all
+
+pub length-first_keys-rest : (list : List Keyed) (d : Keyed) → 0 < length list → All IsPackable list
+    → datagram_count (packed opening list)
+    ≡ length ((slice_index_or list 0 d).0 ∷ cuts_from (behind (placed_at opening (slice_index_or list 0 d))) (drop 1 list))
+length-first_keys-rest [] d some all = absurd (omega arith)
+length-first_keys-rest (area ∷ areas) d some all = length-first_keys area areas all
+
+-- what stands of a list once its first area's key, and the cuts behind it, were added to no keys
+pub record AddsAll (list : List Keyed) (d : Keyed) (added pushed new : List Key) (begun front : Front) (place : Placed) : Type 0 where
+  pub some : 0 < length list
+  pub packable : All IsPackable list
+  pub empty : new ≡ []
+  pub first : pushed ≡ new ++ (slice_index_or list 0 d).0 ∷ []
+  pub opens : begun ≡ opening
+  pub stands : place ≡ placed_at begun (slice_index_or list 0 d)
+  pub goes_on : front ≡ behind place
+  pub rest : added ≡ pushed ++ cuts_from front (take (length list - 1) (drop 1 list))
+
+pub added-first_keys : (list : List Keyed) (d : Keyed) (added pushed new : List Key) (begun front : Front) (place : Placed)
+    → AddsAll list d added pushed new begun front place → added ≡ first_keys list
+added-first_keys list d added pushed new begun front place a =
+    rw (a.rest, a.first, a.empty, a.goes_on, a.stands, a.opens, take_rest list 1) (sym (first_keys-rest list d a.some a.packable))
+
+pub count-added : (list : List Keyed) (d : Keyed) (added pushed new : List Key) (begun front : Front) (place : Placed)
+    → AddsAll list d added pushed new begun front place → datagram_count (packed opening list) ≡ length added
+count-added list d added pushed new begun front place a =
+    length-first_keys-rest list d a.some a.packable
+    ∙ ap length (sym (first_keys-rest list d a.some a.packable) ∙ sym (added-first_keys list d added pushed new begun front place a))

@@ -1,0 +1,9 @@
+//! What follows from the definition of a crowded task: the function does nothing, and its contract is
+//! a law. Nobody calls it.
+ghost use Rattle.hc_cuts.specs.Firsts.{CrowdedHasNoCut};
+
+/// Where packing gives more than 16 datagrams, no other cut of the list in its order into at most 16
+/// parts that fit a datagram each exists, so nobody is refused who could have been served.
+pub fn crowded_has_no_cut()
+    ensures { CrowdedHasNoCut }
+{}

@@ -1,0 +1,177 @@
+//! The packing of a task's list, an area at a time (this project's profile): the plain program that
+//! every faster cut is compared with, and what places are worked out by.
+ghost use Rattle.std.specs.Prelude.{◌≡◌, ◌+◌, ◌<◌, ◌≤◌};
+ghost use Rattle.hc_records.specs.Keys.{is_turn};
+ghost use Rattle.hc_records.specs.Packing.{next_byte};
+ghost use Rattle.hc_records.specs.declared.limits.TheConstants.{MOST_AREA_BITS};
+
+use hc_records::keys::Key;
+use hc_records::limits::MOST_DATAGRAM_BYTES;
+use hc_records::records::Dir;
+use std::marker::Model;
+
+/// The bits of the longest datagram.
+const ROOM: u16 = 8 * MOST_DATAGRAM_BYTES;
+
+/// An area, its width in bits, and the datagram and the bit at which it begins.
+#[derive(Clone, Copy, Debug)]
+pub struct Placed {
+    key: Key,
+    bits: u16,
+    datagram: u16,
+    bit: u16,
+}
+
+impl Model for Placed {
+    ghost use Rattle.hc_records.specs.Packing.{Placed};
+
+    ghost Value = { Placed };
+
+    ghost view = { λ area. record { key = area.key; bits = area.bits; datagram = area.datagram; bit = area.bit } };
+
+    ghost inverse = { λ area. record { key = area.key; bits = area.bits; datagram = area.datagram; bit = area.bit } };
+}
+
+/// The datagram that is being filled: its number, its first free bit, and the direction of the area
+/// before that bit.
+#[derive(Clone, Copy, Debug)]
+pub struct Front {
+    datagram: u16,
+    bit: u16,
+    last: Dir,
+}
+
+impl Model for Front {
+    ghost use Rattle.hc_records.specs.Packing.{Front};
+
+    ghost Value = { Front };
+
+    ghost view = { λ front. record { datagram = front.datagram; bit = front.bit; last = front.last } };
+
+    ghost inverse = { λ front. record { datagram = front.datagram; bit = front.bit; last = front.last } };
+}
+
+/// The first byte border at or behind a bit.
+fn byte_border(bit: u16) -> u16
+    requires { bit ≤ MOST_AREA_BITS }
+    ensures { result ≡ next_byte bit }
+{
+    (bit + 7) / 8 * 8
+}
+
+/// Whether an input comes behind an output.
+fn is_turning(last: Dir, dir: Dir) -> bool
+    ensures { result ≡ is_turn last dir }
+{
+    last == Dir::Out && dir == Dir::In
+}
+
+impl Placed {
+    ghost use Rattle.std.specs.Prelude.{◌≡◌, ◌+◌, ◌<◌, ◌≤◌};
+    ghost use Rattle.hc_records.specs.Packing.{behind};
+
+    /// The area's key.
+    pub fn key(self) -> Key
+        ensures { result ≡ self.key }
+    {
+        self.key
+    }
+
+    /// The area's width in bits.
+    pub fn bits(self) -> u16
+        ensures { result ≡ self.bits }
+    {
+        self.bits
+    }
+
+    /// The number of its datagram, from 0.
+    pub fn datagram(self) -> u16
+        ensures { result ≡ self.datagram }
+    {
+        self.datagram
+    }
+
+    /// Its first bit in that datagram.
+    pub fn bit(self) -> u16
+        ensures { result ≡ self.bit }
+    {
+        self.bit
+    }
+
+    /// The datagram that is being filled once the area stands.
+    pub fn behind(self) -> Front
+        requires { self.bit + self.bits < 65536 }
+        ensures { result ≡ behind self }
+    {
+        Front {
+            datagram: self.datagram,
+            bit: self.bit + self.bits,
+            last: self.key.dir,
+        }
+    }
+}
+
+impl Front {
+    ghost use Rattle.std.specs.Prelude.{◌≡◌, ◌+◌, ◌<◌, ◌≤◌};
+    ghost use Rattle.hc_records.specs.Packing.{beginning, fits, opening, placed_at};
+    ghost use Rattle.hc_records.specs.declared.limits.TheConstants.{MOST_AREA_BITS};
+
+    /// The empty first datagram.
+    pub fn opening() -> Front
+        ensures { result ≡ opening }
+    {
+        Front {
+            datagram: 0,
+            bit: 0,
+            last: Dir::Out,
+        }
+    }
+
+    /// The bit at which an area would begin.
+    fn beginning(self, key: Key, bits: u16) -> u16
+        requires { self.bit ≤ MOST_AREA_BITS }
+        ensures value { result ≡ beginning self (key, bits) }
+        ensures low { result ≤ MOST_AREA_BITS }
+    {
+        if bits >= 8 || is_turning(self.last, key.dir) {
+            byte_border(self.bit)
+        } else {
+            self.bit
+        }
+    }
+
+    /// Whether an area of at most 11,888 bits would end within the datagram.
+    pub fn fits(self, key: Key, bits: u16) -> bool
+        requires front { self.bit ≤ MOST_AREA_BITS }
+        requires narrow { bits ≤ MOST_AREA_BITS }
+        ensures { result ≡ fits self (key, bits) }
+    {
+        self.beginning(key, bits) + bits <= ROOM
+    }
+
+    /// Where an area of at most 11,888 bits stands: in this datagram where it fits, else at bit 0 of
+    /// a new one.
+    pub fn place(self, key: Key, bits: u16) -> Placed
+        requires front { self.bit ≤ MOST_AREA_BITS }
+        requires narrow { bits ≤ MOST_AREA_BITS }
+        requires few { self.datagram < 65535 }
+        ensures value { result ≡ placed_at self (key, bits) }
+        ensures inside { result.bit + bits ≤ MOST_AREA_BITS }
+    {
+        if self.fits(key, bits) {
+            Placed {
+                key,
+                bits,
+                datagram: self.datagram,
+                bit: self.beginning(key, bits),
+            }
+        } else {
+            Placed {
+                key,
+                bits,
+                datagram: self.datagram + 1,
+                bit: 0,
+            }
+        }
+    }
+}

@@ -1,0 +1,20 @@
+-- A list in parts, and what work leaves of each.
+use Rattle.std.specs.Prelude.{ℕ, List, [], ◌∷◌, take, drop, map, All}
+use Rattle.std.specs.List.{enumerate_from}
+
+-- the parts of these lengths, one after another
+abbrev pub parts_of : List ℕ → List ℕ → List (List ℕ)
+parts_of [] bytes = []
+parts_of (n ∷ ns) bytes = take n bytes ∷ parts_of ns (drop n bytes)
+
+-- each part with its number, of which the first has this one
+abbrev pub numbered_parts : ℕ → List ℕ → List ℕ → List (ℕ × List ℕ)
+numbered_parts first lengths bytes = enumerate_from first (parts_of lengths bytes)
+
+-- what is left of each part, by its number and its bytes
+abbrev pub worked_parts : (ℕ → List ℕ → List ℕ) → ℕ → List ℕ → List ℕ → List (List ℕ)
+worked_parts leaves first lengths bytes = map (λ part. leaves part.0 part.1) (numbered_parts first lengths bytes)
+
+-- whether each part may be worked on, by its number and its bytes
+abbrev pub CanWorkOnEach : (ℕ → List ℕ → Type 0) → ℕ → List ℕ → List ℕ → Type 0
+CanWorkOnEach can first lengths bytes = All (λ part. can part.0 part.1) (numbered_parts first lengths bytes)

@@ -1,0 +1,101 @@
+//! One worker for each part of a slice, all at once.
+//! Whoever fills bytes for several tasks gives each task its part, and says what the work leaves there.
+ghost use Rattle.std.specs.Prelude.{◌≡◌, ◌+◌, ◌<◌, ◌^◌, length, sum, List, ℕ};
+ghost use Rattle.std.specs.List.{concat};
+ghost use Rattle.std.specs.Thread.{IsSync};
+ghost use Rattle.hc_lend.specs.Work.{parts_of, worked_parts, CanWorkOnEach};
+
+use crate::parts::Parts;
+use std::thread::{Threads, join_mut};
+
+/// What is done with each part of a slice, by a worker of its own. Parts are numbered from 0, in order.
+pub trait PartWork {
+    /// Whether the part with this number may be worked on, where it has these bytes.
+    /// Any may, unless the work says otherwise.
+    ghost can_work: { Self → ℕ → List ℕ → Type 0 } = { λ _ _ _. Unit {0} };
+
+    /// What the work leaves of the part with this number, which had these bytes.
+    ghost leaves: { Self → ℕ → List ℕ → List ℕ };
+
+    /// Works on the part with this number.
+    fn work(&self, part: usize, bytes: &mut [u8])
+        requires { can_work self.now part bytes.old }
+        ensures { bytes.new ≡ leaves self.now part bytes.old };
+}
+
+/// What each worker passes before its work.
+pub trait Gate {
+    /// The worker of the part with this number has begun. It may be held here, and works once this returns.
+    fn begun(&self, worker: usize);
+}
+
+/// Works on all parts at once, with one worker for each: this thread for the last part, and a thread of
+/// its own for every other. Each worker calls the gate once, with its part's number, and then does its work.
+/// It returns once all workers are done. It takes no memory and is never refused. With no part it does nothing.
+///
+/// A part for which the system makes no thread is worked on in this thread, after the parts behind it.
+/// No clause says that the workers run at once.
+pub fn each_at_once<R: Threads + Sync, W: PartWork + Sync, G: Gate + Sync>(
+    rt: &R,
+    parts: Parts<'_>,
+    work: &W,
+    gate: &G,
+)
+    requires { CanWorkOnEach (W.can_work work.now) 0 parts.lengths.now parts.bytes.now }
+    ensures each { parts_of parts.entry.lengths.now parts.exit.0.now
+        ≡ worked_parts (W.leaves work.now) 0 parts.entry.lengths.now parts.entry.bytes.now }
+    ensures whole { parts.exit.0.now
+        ≡ concat (worked_parts (W.leaves work.now) 0 parts.entry.lengths.now parts.entry.bytes.now) }
+{
+    let Parts { bytes, lengths } = parts;
+    rest_at_once(rt, bytes, lengths, 0, work, gate);
+}
+
+// One worker for each part of these lengths, of which the first has the number `first`.
+fn rest_at_once<R: Threads + Sync, W: PartWork + Sync, G: Gate + Sync>(
+    rt: &R,
+    bytes: &mut [u8],
+    lengths: &[u32],
+    first: usize,
+    work: &W,
+    gate: &G,
+)
+    requires all { sum lengths.now ≡ length bytes.old }
+    requires numbers { first + length lengths.now < 2 ^ 64 }
+    requires can { CanWorkOnEach (W.can_work work.now) first lengths.now bytes.old }
+    ensures { parts_of lengths.now bytes.new
+        ≡ worked_parts (W.leaves work.now) first lengths.now bytes.old }
+{
+    let Some((size, lengths)) = lengths.split_first() else {
+        return;
+    };
+    let (part, rest) = bytes.split_at_mut(*size as usize);
+    if lengths.is_empty() {
+        work_alone(first, part, work, gate);
+        return;
+    }
+    join_mut(
+        rt,
+        &mut ||
+            requires { W.can_work work.now first part.now }
+            ensures { part.exit.now ≡ W.leaves work.entry.now first part.entry.now }
+        { work_alone(first, part, work, gate) },
+        &mut ||
+            requires { IsSync R.row × IsSync W.row × IsSync G.row
+                × (sum lengths.now ≡ length rest.now)
+                × (first + 1 + length lengths.now < 2 ^ 64)
+                × CanWorkOnEach (W.can_work work.now) (first + 1) lengths.now rest.now }
+            ensures { parts_of lengths.entry.now rest.exit.now
+                ≡ worked_parts (W.leaves work.entry.now) (first + 1) lengths.entry.now rest.entry.now }
+        { rest_at_once(rt, rest, lengths, first + 1, work, gate) },
+    );
+}
+
+// What one worker does.
+fn work_alone<W: PartWork, G: Gate>(part: usize, bytes: &mut [u8], work: &W, gate: &G)
+    requires { W.can_work work.now part bytes.old }
+    ensures { bytes.new ≡ W.leaves work.now part bytes.old }
+{
+    gate.begun(part);
+    work.work(part, bytes);
+}

@@ -1,0 +1,10 @@
+//! Disjoint parts of a slice, lent one after another or to a thread each.
+#![tactic(auto)]
+
+mod at_once;
+mod parts;
+#[cfg(test)]
+mod tests;
+
+pub use at_once::{Gate, PartWork, each_at_once};
+pub use parts::Parts;
