@@ -1,0 +1,30 @@
+-- The frame that is left when all loans of an opened frame are over.
+use Rattle.std.specs.Prelude.{ℕ, ◌≡◌, List, [], ◌∷◌, ◌++◌, length}
+use Rattle.hc_frames.specs.FrameText.{Datagram, datagram_text, frame_head, frame_text, padding, lrw}
+use Rattle.hc_frames.specs.Handing.{more_follow}
+use Rattle.hc_frames.specs.Sizes.{datagrams_size}
+
+-- each part has its datagram's number of data bytes
+abbrev pub FitsParts : List (ℕ × ℕ) → List (List ℕ) → Type 0
+FitsParts [] [] = Unit {0}
+FitsParts [] (part ∷ parts) = ⊥
+FitsParts (d ∷ ds) [] = ⊥
+FitsParts (d ∷ ds) (part ∷ parts) = (length part ≡ d.1) × FitsParts ds parts
+
+-- the datagrams with these data
+abbrev pub filled : List (ℕ × ℕ) → List (List ℕ) → List Datagram
+filled [] parts = []
+filled (d ∷ ds) [] = []
+filled (d ∷ ds) (part ∷ parts) = lrw d.0 part ∷ filled ds parts
+
+-- what the loans leave one in front of the other, and in front of these bytes
+abbrev pub handed_back : ℕ → List (ℕ × ℕ) → List (List ℕ) → List ℕ → List ℕ
+handed_back serial [] parts behind = behind
+handed_back serial (d ∷ ds) [] behind = behind
+handed_back serial (d ∷ ds) (part ∷ parts) behind = datagram_text serial (more_follow (d ∷ ds)) (lrw d.0 part) ++ handed_back serial ds parts behind
+
+-- behind the head they are the whole frame of the datagrams with their data
+abbrev pub FilledFrame : Type 0
+FilledFrame =
+    (serial : ℕ) (ds : List (ℕ × ℕ)) (parts : List (List ℕ)) (tail : List ℕ) → FitsParts ds parts
+    → frame_head serial (datagrams_size ds) ++ handed_back serial ds parts (padding (datagrams_size ds) ++ tail) ≡ frame_text serial (filled ds parts) ++ tail

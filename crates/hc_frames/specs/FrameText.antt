@@ -1,0 +1,72 @@
+-- How a frame is spelled on the line (ETG.1000.4, frame, EtherCAT header and datagram structure).
+-- The EtherType and the serial stand high byte first, all other numbers low byte first.
+use Rattle.std.specs.Prelude.{ℕ, ◌+◌, ◌-◌, ◌*◌, ◌%◌, Bool, true, false, List, [], ◌∷◌, ◌++◌, length, replicate, if◌then◌else◌}
+use Rattle.std.specs.Int.{w16, w32, to_le_bytes, bytes_high_first}
+use Rattle.hc_frames.specs.declared.commands.Command.{Command}
+use Rattle.hc_frames.specs.declared.commands.Command.TheVariants.{Aprd, Apwr, Fpwr, Lrw}
+use Rattle.hc_frames.specs.declared.limits.TheConstants.{ALIAS_REGISTER, LEAST_FRAME, STATION_REGISTER}
+use Rattle.hc_frames.specs.Commands.{code_of}
+
+-- a datagram to be sent: the address is the logical one of LRW, else the position or station in its low word and the register in its high word
+pub record Datagram : Type 0 where
+  pub command : Command
+  pub address : ℕ
+  pub bytes : List ℕ
+
+-- bits 0 to 10 the number of data bytes, bits 11 to 14 clear, bit 15 set where more datagrams follow
+abbrev pub length_field : ℕ → Bool → ℕ
+length_field size more = size + (if more then 32768 else 0)
+
+-- the ten bytes before the data: command, index, address, length field, interrupt field
+abbrev pub datagram_head : ℕ → Command → ℕ → ℕ → Bool → List ℕ
+datagram_head index command address size more = code_of command ∷ index ∷ to_le_bytes w32 address ++ to_le_bytes w16 (length_field size more) ++ 0 ∷ 0 ∷ []
+
+-- a datagram as sent: the ten bytes, the data, the working counter 0; its index is the serial modulo 256
+abbrev pub datagram_text : ℕ → Bool → Datagram → List ℕ
+datagram_text serial more d = datagram_head (serial % 256) d.command d.address (length d.bytes) more ++ d.bytes ++ 0 ∷ 0 ∷ []
+
+-- datagrams one after another: more follow each but the last
+abbrev pub datagrams_text : ℕ → List Datagram → List ℕ
+datagrams_text serial [] = []
+datagrams_text serial (d ∷ []) = datagram_text serial false d
+datagrams_text serial (d ∷ e ∷ ds) = datagram_text serial true d ++ datagrams_text serial (e ∷ ds)
+
+-- the sixteen bytes before the datagrams: broadcast, the source address 02 and the serial, the EtherType, the EtherCAT header (bits 0 to 10 the datagrams' bytes, bits 12 to 15 the type 1)
+abbrev pub frame_head : ℕ → ℕ → List ℕ
+frame_head serial size = replicate 6 255 ++ 2 ∷ bytes_high_first 5 serial ++ 0x88 ∷ 0xa4 ∷ to_le_bytes w16 (size + 4096)
+
+-- zeros up to the least frame, after this many bytes of datagrams
+abbrev pub padding : ℕ → List ℕ
+padding size = replicate (LEAST_FRAME - (16 + size)) 0
+
+-- a whole frame as sent, without its check sequence
+abbrev pub frame_text : ℕ → List Datagram → List ℕ
+frame_text serial ds = let text = datagrams_text serial ds in frame_head serial (length text) ++ text ++ padding (length text)
+
+-- process data at a logical address
+abbrev pub lrw : ℕ → List ℕ → Datagram
+lrw address bytes = record { command = Lrw; address = address; bytes = bytes }
+
+-- process data of zeros, of this many bytes
+abbrev pub blank_lrw : ℕ × ℕ → Datagram
+blank_lrw d = lrw d.0 (replicate d.1 0)
+
+-- a register of the slave at a station address
+abbrev pub station_address : ℕ → ℕ → ℕ
+station_address station register = station + 65536 * register
+
+-- a register of the slave at a position, counted from 0: each slave adds 1 to the low word, and the one that meets 0 there is addressed
+abbrev pub position_address : ℕ → ℕ → ℕ
+position_address position register = (65536 - position) % 65536 + 65536 * register
+
+-- a write of a register block
+abbrev pub block_write : ℕ → ℕ → List ℕ → Datagram
+block_write station register bytes = record { command = Fpwr; address = station_address station register; bytes = bytes }
+
+-- a write of the configured station address
+abbrev pub station_write : ℕ → ℕ → Datagram
+station_write position station = record { command = Apwr; address = position_address position STATION_REGISTER; bytes = to_le_bytes w16 station }
+
+-- a read of the configured station alias
+abbrev pub alias_read : ℕ → Datagram
+alias_read position = record { command = Aprd; address = position_address position ALIAS_REGISTER; bytes = 0 ∷ 0 ∷ [] }

@@ -1,0 +1,27 @@
+//! Writes frames and datagrams as sent. The core, the conductor's workers and the program's line call it.
+
+use thiserror::Error;
+
+mod datagrams;
+mod frames;
+mod heads;
+mod laws;
+mod loans;
+mod opened;
+
+pub use datagrams::build_blank_datagram;
+pub use frames::{
+    build_alias_read, build_blank_frame, build_blank_lrw, build_station, build_write, frame_size,
+};
+pub use heads::build_head;
+pub use laws::law_of_filled_frames;
+pub use loans::{build_datagram, build_lrw};
+pub use opened::{Open, build_frame};
+
+/// The slice is shorter than the frame, which needs this many bytes.
+#[derive(Clone, Copy, PartialEq, Eq, Debug, Error)]
+#[error("{0} bytes are needed")]
+pub struct Room(pub usize);
+
+#[cfg(test)]
+mod tests;

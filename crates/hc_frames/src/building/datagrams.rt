@@ -1,0 +1,59 @@
+//! Datagrams in slices of their exact size.
+ghost use Rattle.std.specs.Prelude.{◌≡◌, ◌+◌, ◌≤◌, length, map};
+ghost use Rattle.hc_frames.specs.FrameText.{Datagram, datagram_text, datagrams_text, blank_lrw};
+ghost use Rattle.hc_frames.specs.Sizes.{datagrams_size};
+
+use super::heads::datagram_head;
+use crate::commands::Command;
+use crate::limits::{BESIDE_DATA_BYTES, DATAGRAM_HEAD_BYTES, MAX_DATA, MAX_ETHERCAT};
+
+/// Writes one datagram with these data bytes and the working counter 0. `out` has 12 bytes more than the data.
+pub(crate) fn write_datagram(
+    out: &mut [u8],
+    serial: u64,
+    command: Command,
+    address: u32,
+    bytes: &[u8],
+    more: bool,
+)
+    requires exact { length out.old ≡ 12 + length bytes.now }
+    requires size { length bytes.now ≤ MAX_DATA }
+    ensures { out.new ≡ datagram_text serial more (record { command = command; address = address; bytes = bytes.now }) }
+{
+    let (head, rest) = out.split_at_mut(DATAGRAM_HEAD_BYTES);
+    let (data, counter) = rest.split_at_mut(bytes.len());
+    head.copy_from_slice(&datagram_head(serial, command, address, bytes.len() as u16, more));
+    data.copy_from_slice(bytes);
+    counter.fill(0);
+}
+
+/// Writes one LRW datagram whose data bytes are 0, with the working counter 0. `out` has 12 bytes more than `size`, the
+/// number of data bytes, 1 to 1,486; the data stand from byte 10 on. `more` says that another datagram follows it.
+pub fn build_blank_datagram(out: &mut [u8], serial: u64, address: u32, size: u16, more: bool)
+    requires exact { length out.old ≡ 12 + size }
+    requires size { size ≤ MAX_DATA }
+    ensures { out.new ≡ datagram_text serial more (blank_lrw (address, size)) }
+{
+    out.fill(0);
+    out[..DATAGRAM_HEAD_BYTES].copy_from_slice(&datagram_head(
+        serial,
+        Command::Lrw,
+        address,
+        size,
+        more,
+    ));
+}
+
+/// Writes LRW datagrams, given by address and number of data bytes, one after another: their data bytes are 0, and more
+/// follow each but the last. `out` has their exact size. A frame has 115 at most, so deep is this recursion.
+pub(crate) fn write_blank_datagrams(out: &mut [u8], serial: u64, datagrams: &[(u32, u16)])
+    requires exact { length out.old ≡ datagrams_size datagrams.now }
+    requires size { 2 + length out.old ≤ MAX_ETHERCAT }
+    ensures { out.new ≡ datagrams_text serial (map blank_lrw datagrams.now) }
+{
+    if let [(address, size), rest @ ..] = datagrams {
+        let (first, others) = out.split_at_mut(BESIDE_DATA_BYTES + usize::from(*size));
+        build_blank_datagram(first, serial, *address, *size, !rest.is_empty());
+        write_blank_datagrams(others, serial, rest);
+    }
+}

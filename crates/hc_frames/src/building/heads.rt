@@ -1,0 +1,49 @@
+//! The bytes before a frame's datagrams and before a datagram's data.
+ghost use Rattle.std.specs.Prelude.{◌≡◌, ◌+◌, ◌%◌, ◌^◌, ◌<◌, ◌≤◌, length};
+ghost use Rattle.hc_frames.specs.FrameText.{length_field, datagram_head, frame_head};
+
+use crate::commands::Command;
+use crate::limits::{MAX_DATA, MAX_ETHERCAT};
+
+/// Writes a frame's first 16 bytes: destination, source with the serial (below 2^40), EtherType and EtherCAT header.
+/// `out` has 16 bytes, and `size` is the number of bytes of the datagrams, at most 1,498 (ETG.1000.4, EtherCAT header).
+pub fn build_head(out: &mut [u8], serial: u64, size: u16)
+    requires exact { length out.old ≡ 16 }
+    requires serial { serial < 2 ^ 40 }
+    requires size { size + 2 ≤ MAX_ETHERCAT }
+    ensures { out.new ≡ frame_head serial size }
+{
+    let [_, _, _, s4, s3, s2, s1, s0] = serial.to_be_bytes();
+    let [low, high] = (size + 4096).to_le_bytes();
+    out.copy_from_slice(&[
+        255, 255, 255, 255, 255, 255, 2, s4, s3, s2, s1, s0, 0x88, 0xa4, low, high,
+    ]);
+}
+
+/// The ten bytes before a datagram's data.
+pub(crate) fn datagram_head(
+    serial: u64,
+    command: Command,
+    address: u32,
+    size: u16,
+    more: bool,
+) -> [u8; 10]
+    requires { size ≤ MAX_DATA }
+    ensures { result ≡ datagram_head (serial % 256) command address size more }
+{
+    let [a0, a1, a2, a3] = address.to_le_bytes();
+    let field = if more { size + 32768 } else { size };
+    let [low, high] = field.to_le_bytes();
+    [
+        command.code(),
+        (serial % 256) as u8,
+        a0,
+        a1,
+        a2,
+        a3,
+        low,
+        high,
+        0,
+        0,
+    ]
+}

@@ -1,0 +1,9 @@
+//! EtherCAT frames as byte texts (ETG.1000.4, frame, header and datagram structure): the builders write exactly the
+//! text that `specs/FrameText` spells. The core and the segment call this crate; it takes no memory.
+#![tactic(auto)]
+
+pub mod building;
+mod commands;
+pub mod limits;
+
+pub use commands::Command;

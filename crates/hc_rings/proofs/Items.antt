@@ -1,0 +1,102 @@
+-- The items of a ring of posts.
+use Rattle.std.proofs.Common.{◌≡◌, ◌<◌, Bool, true, false, List, [], ◌∷◌, ◌++◌, length, refl, ap, sym, ◌∙◌, subst, arith}
+use Rattle.std.proofs.lemmas.List.{append-nil, length-append, map-append, nil_from_length}
+use mathlib.Core.List.{IsPrefix}
+use Rattle.hc_rings.specs.Post.{Post}
+use Rattle.hc_rings.specs.declared.item.Item.{Item}
+use Rattle.hc_rings.specs.declared.item.Item.TheVariants.{Buffer, End}
+use Rattle.hc_rings.specs.Items.{posts_of, is_open, items_of}
+
+pub posts_of_append : (xs ys : List Item) → posts_of (xs ++ ys) ≡ posts_of xs ++ posts_of ys
+posts_of_append [] ys = refl
+posts_of_append (Buffer b ∷ xs) ys = ap (λ zs. b ∷ zs) (posts_of_append xs ys)
+posts_of_append (End ∷ xs) ys = posts_of_append xs ys
+
+-- a post keeps the ring open
+pub is_open_post : (xs : List Item) (b : Post) → is_open xs ≡ true → is_open (xs ++ Buffer b ∷ []) ≡ true
+is_open_post [] b none_yet = refl
+is_open_post (Buffer c ∷ xs) b none_yet = is_open_post xs b none_yet
+is_open_post (End ∷ xs) b none_yet = none_yet
+
+-- what stands before and behind in an open ring is open
+pub is_open_behind : (xs ys : List Item) → is_open (xs ++ ys) ≡ true → is_open ys ≡ true
+is_open_behind [] ys none_yet = none_yet
+is_open_behind (Buffer b ∷ xs) ys none_yet = is_open_behind xs ys none_yet
+is_open_behind (End ∷ xs) ys none_yet = absurd (cc)
+
+pub is_open_before : (xs ys : List Item) → is_open (xs ++ ys) ≡ true → is_open xs ≡ true
+is_open_before [] ys none_yet = refl
+is_open_before (Buffer b ∷ xs) ys none_yet = is_open_before xs ys none_yet
+is_open_before (End ∷ xs) ys none_yet = none_yet
+
+-- an open ring has posts alone
+pub length_posts_of : (xs : List Item) → is_open xs ≡ true → length (posts_of xs) ≡ length xs
+length_posts_of [] none_yet = refl
+length_posts_of (Buffer b ∷ xs) none_yet = omega (arith, length_posts_of xs none_yet)
+length_posts_of (End ∷ xs) none_yet = absurd (cc)
+
+pub posts_of_items : (posts : List Post) (ended : Bool) → posts_of (items_of posts ended) ≡ posts
+posts_of_items [] false = refl
+posts_of_items [] true = refl
+posts_of_items (b ∷ posts) false = ap (λ zs. b ∷ zs) (posts_of_items posts false)
+posts_of_items (b ∷ posts) true = ap (λ zs. b ∷ zs) (posts_of_items posts true)
+
+-- behind the end the ring is not open
+pub is_open_ended : (posts : List Post) → is_open (items_of posts true) ≡ false
+is_open_ended [] = refl
+is_open_ended (b ∷ posts) = is_open_ended posts
+
+pub is_open_posts : (posts : List Post) → is_open (items_of posts false) ≡ true
+is_open_posts [] = refl
+is_open_posts (b ∷ posts) = is_open_posts posts
+
+pub is_open_items : (posts : List Post) (ended : Bool) → is_open (items_of posts ended) ≡ true → ended ≡ false
+is_open_items posts false none_yet = refl
+is_open_items posts true none_yet = let shut = is_open_ended posts in absurd (cc)
+
+pub posts_of_prefix : (xs ys : List Item) → IsPrefix xs ys → IsPrefix (posts_of xs) (posts_of ys)
+posts_of_prefix xs ys h = (posts_of h.0, sym (posts_of_append xs h.0) ∙ ap posts_of h.1)
+
+pub came_same : (xs ys : List Item) (ended : Bool) → ys ≡ xs → xs ≡ items_of (posts_of xs) ended → ys ≡ items_of (posts_of ys) ended
+came_same xs ys ended same came = let P : List Item → Type 0 = λ zs. zs ≡ items_of (posts_of zs) ended in subst P (sym same) came
+
+-- in an open ring the end did not come
+pub none_ended : (xs : List Item) (ended : Bool) → xs ≡ items_of (posts_of xs) ended → is_open xs ≡ true → ended ≡ false
+none_ended xs ended came none_yet = is_open_items (posts_of xs) ended (ap is_open (sym came) ∙ none_yet)
+
+-- one post more came
+pub came_post : (xs ys : List Item) (x : Item) (b : Post) (ended : Bool) → ended ≡ false → xs ≡ items_of (posts_of xs) ended → ys ≡ xs ++ x ∷ [] → x ≡ Buffer b → ys ≡ items_of (posts_of ys) ended
+came_post xs ys x b ended not_yet came more is =
+    let posts = posts_of_append xs (Buffer b ∷ []) in
+    let one_more = map-append Buffer (posts_of xs) (b ∷ []) in
+    let before : xs ≡ items_of (posts_of xs) false = let P : Bool → Type 0 = λ e. xs ≡ items_of (posts_of xs) e in subst P not_yet came in
+    let after : ys ≡ items_of (posts_of ys) false = cc in
+    let P : Bool → Type 0 = λ e. ys ≡ items_of (posts_of ys) e in subst P (sym not_yet) after
+
+pub posts_of_post : (xs ys : List Item) (x : Item) (b : Post) → ys ≡ xs ++ x ∷ [] → x ≡ Buffer b → posts_of ys ≡ posts_of xs ++ b ∷ []
+posts_of_post xs ys x b more is = let posts = posts_of_append xs (Buffer b ∷ []) in cc
+
+pub known_post : (xs ys : List Item) (x : Item) (b : Post) → IsPrefix xs (x ∷ ys) → x ≡ Buffer b → IsPrefix (posts_of xs) (b ∷ posts_of ys)
+known_post xs ys x b h is = posts_of_prefix xs (Buffer b ∷ ys) (h.0, h.1 ∙ ap (λ y. y ∷ ys) is)
+
+-- the end came
+pub came_end : (xs ys : List Item) (x : Item) (ended : Bool) → ended ≡ false → xs ≡ items_of (posts_of xs) ended → ys ≡ xs ++ x ∷ [] → x ≡ End → ys ≡ items_of (posts_of ys) true
+came_end xs ys x ended not_yet came more is =
+    let posts = posts_of_append xs (End ∷ []) ∙ append-nil (posts_of xs) in
+    let before : xs ≡ items_of (posts_of xs) false = let P : Bool → Type 0 = λ e. xs ≡ items_of (posts_of xs) e in subst P not_yet came in cc
+
+-- the end is no post
+pub posts_of_end : (xs ys : List Item) (x : Item) → ys ≡ xs ++ x ∷ [] → x ≡ End → posts_of ys ≡ posts_of xs
+posts_of_end xs ys x more is = ap posts_of (more ∙ ap (λ y. xs ++ y ∷ []) is) ∙ posts_of_append xs (End ∷ []) ∙ append-nil (posts_of xs)
+
+-- behind the end nothing comes
+pub shut_by_end : (xs ys : List Item) (x : Item) → ys ≡ xs ++ x ∷ [] → x ≡ End → is_open ys ≡ true → ⊥
+shut_by_end xs ys x more is none_yet =
+    let same = is_open_behind xs (End ∷ []) (ap is_open (sym (more ∙ ap (λ y. xs ++ y ∷ []) is)) ∙ none_yet) in absurd (cc)
+
+-- no post is known before an end behind which nothing is known
+pub known_before_end : (known behind : List Item) (x : Item) → IsPrefix known (x ∷ behind) → x ≡ End → (0 < length behind → false ≡ true) → posts_of known ≡ []
+known_before_end known [] x h is none =
+    let p = posts_of_prefix known (End ∷ []) (h.0, h.1 ∙ ap (λ y. y ∷ []) is) in
+    nil_from_length (posts_of known) (omega (arith, ap length p.1, length-append (posts_of known) p.0))
+known_before_end known (y ∷ behind) x h is none = let no : false ≡ true = none (omega arith) in absurd (cc)

@@ -1,0 +1,23 @@
+use Rattle.std.proofs.Common.{◌≡◌, ◌++◌, List, length, ap, sym, subst, ◌∙◌, arith}
+use Rattle.hc_rings.specs.Post.{Post}
+use Rattle.hc_rings.specs.Ring.{taken, left, IsAllPosted}
+use Rattle.hc_rings.proofs.Whole.{one_less_left}
+use Rattle.hc_rings.proofs.tests.take_what_is_left.Goals as goal
+
+pub unreachable-requires : goal.unreachable-requires
+unreachable-requires c = omega (arith, ap length c.in-None.ensures.none_left.0, c.loop.invariant.some_left)
+
+pub loop-preserved : goal.loop-preserved
+loop-preserved c =
+    let before = c.loop.receiver in
+    let after = c.take.new.self in
+    let at_end = c.give_back.new.self in
+    let posts = taken before ++ left before in
+    let one = c.take.ensures.posted posts c.loop.invariant.all in
+    let same : taken at_end ++ left at_end ≡ posts = ap (λ ps. ps ++ left at_end) c.give_back.ensures.taken.0 ∙ ap (λ ps. taken after ++ ps) c.give_back.ensures.taken.1 ∙ one.1 in
+    let P : List Post → Type 0 = λ ps. IsAllPosted at_end ps in
+    let less = one_less_left (taken before) (left before) (taken after) (left after) _ c.in-Some.ensures.some one.1 in
+    record {
+      all = subst P (sym same) (c.give_back.ensures.posted posts one.0);
+      some_left = omega (arith, less, ap length c.give_back.ensures.taken.1, c.loop.invariant.some_left);
+    }

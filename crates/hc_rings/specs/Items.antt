@@ -1,0 +1,30 @@
+-- What goes through a ring of posts: posts, and behind the last of them the end.
+use Rattle.std.specs.Prelude.{◌≡◌, ◌-◌, Bool, true, false, List, [], ◌∷◌, ◌++◌, length, take, map}
+use Rattle.hc_rings.specs.Post.{Post}
+use Rattle.hc_rings.specs.declared.item.Item.{Item}
+use Rattle.hc_rings.specs.declared.item.Item.TheVariants.{Buffer, End}
+
+-- the posts among the items, in order
+abbrev pub posts_of : List Item → List Post
+posts_of [] = []
+posts_of (Buffer post ∷ items) = post ∷ posts_of items
+posts_of (End ∷ items) = posts_of items
+
+-- no end is among the items
+abbrev pub is_open : List Item → Bool
+is_open [] = true
+is_open (Buffer post ∷ items) = is_open items
+is_open (End ∷ items) = false
+
+-- nothing follows the end
+abbrev pub Follows : List Item → Item → Type 0
+Follows before item = is_open before ≡ true
+
+-- the items of a ring through which these posts went, and after them its end or not yet
+abbrev pub items_of : List Post → Bool → List Item
+items_of posts false = map Buffer posts
+items_of posts true = map Buffer posts ++ End ∷ []
+
+-- what stands in the list before its last posts, which are as many as `rest` has
+abbrev pub before_rest : List Post → List Post → List Post
+before_rest posts rest = take (length posts - length rest) posts

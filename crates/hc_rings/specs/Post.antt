@@ -1,0 +1,19 @@
+-- What contracts see of the buffer of a post.
+use Rattle.std.specs.Prelude.{ℕ, List, ◌++◌, length, take, drop, replicate}
+
+-- the epoch that a post is for, and its output bytes
+pub record Post : Type 0 where
+  pub epoch : ℕ
+  pub bytes : List ℕ
+
+-- a post for this epoch, of `size` bytes that are all 0
+abbrev pub blank_post : ℕ → ℕ → Post
+blank_post epoch size = record { epoch = epoch; bytes = replicate size 0 }
+
+-- the bytes with others written over them from the first one on. As many stay as there were
+abbrev pub overwritten : List ℕ → List ℕ → List ℕ
+overwritten bytes written = take (length bytes) (written ++ drop (length written) bytes)
+
+-- the post with other bytes written over its own
+abbrev pub with_written : Post → List ℕ → Post
+with_written post written = record { epoch = post.epoch; bytes = overwritten post.bytes written }

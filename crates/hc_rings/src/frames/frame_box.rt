@@ -1,0 +1,55 @@
+//! A frame in a box of its own, which goes from thread to thread whole.
+ghost use Rattle.std.specs.Prelude.{◌≡◌, ◌≤◌, length, IfOk};
+ghost use Rattle.std.specs.Borrow.{Lends, Array, sem, u8 as byte};
+ghost use Rattle.hc_rings.specs.Post.{overwritten};
+ghost use Rattle.hc_rings.specs.contracts.frames.frame_box.FrameBox.{the_row};
+
+use std::alloc::{AllocError, Global};
+use std::marker::Model;
+
+/// The most bytes that a frame has, without its check sequence (IEEE 802.3).
+pub const LARGEST_FRAME: usize = 1514;
+
+/// An owned frame of at most 1,514 bytes. Contracts see it as the list of its bytes.
+#[derive(Drop)]
+pub struct FrameBox {
+    bytes: Vec<u8>,
+}
+
+impl Model for FrameBox {
+    ghost use Rattle.std.specs.Prelude.{◌≤◌, ℕ, List, vec_len};
+
+    ghost Value = { List ℕ };
+
+    ghost view = { λ f. f.bytes.items };
+
+    ghost invariant = { λ f. vec_len f.bytes ≤ 1514 };
+}
+
+impl FrameBox {
+    /// A copy of the bytes, at most 1,514. `AllocError` where their room was refused.
+    pub fn of(alloc: Global, bytes: &[u8]) -> Result<FrameBox, AllocError>
+        requires { length bytes.now ≤ LARGEST_FRAME }
+        ensures { IfOk result (λ f. f ≡ bytes.now) }
+    {
+        let bytes = Vec::from_slice(alloc, bytes)?;
+        Ok(FrameBox { bytes })
+    }
+
+    /// The frame's bytes, at most 1,514.
+    pub fn bytes(&self) -> &[u8]
+        ensures bytes { result.now ≡ self.now }
+        ensures most { length result.now ≤ LARGEST_FRAME }
+    {
+        self.bytes.as_slice()
+    }
+
+    /// Lends the frame's bytes for writing. Their number stays. Takes no memory.
+    pub fn bytes_mut(&mut self) -> &mut [u8]
+        ensures* written { sem 𝓛 (Lends the_row (Array byte 0) self.entry result (overwritten self.old)) }
+        ensures bytes { result.now ≡ self.old }
+        ensures most { length result.now ≤ LARGEST_FRAME }
+    {
+        self.bytes.as_mut_slice()
+    }
+}

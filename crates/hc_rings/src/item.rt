@@ -1,0 +1,20 @@
+//! What goes through a ring of posts, and in which order.
+ghost use Rattle.hc_rings.specs.Items.{Follows};
+
+use crate::post_buffer::PostBuffer;
+use rtrb::Protocol;
+
+/// A post, or the end that the sender leaves as it is dropped.
+#[derive(Drop)]
+pub(crate) enum Item {
+    Buffer(PostBuffer),
+    End,
+}
+
+/// Nothing follows the end.
+#[derive(Clone, Copy)]
+pub(crate) struct EndComesLast;
+
+impl Protocol<Item> for EndComesLast {
+    ghost allows = { Follows };
+}

@@ -1,0 +1,73 @@
+//! The buffer of a post. Task seats fill it and the conductor reads it; it goes through the ring whole and comes back as a spare.
+ghost use Rattle.std.specs.Prelude.{◌≡◌, ◌≤◌, length, IfOk};
+ghost use Rattle.std.specs.Borrow.{Lends, Array, sem, u8 as byte};
+ghost use Rattle.hc_rings.specs.Post.{blank_post, with_written};
+ghost use Rattle.hc_rings.specs.contracts.post_buffer.PostBuffer.{the_row};
+
+use std::alloc::{AllocError, Global};
+use std::marker::Model;
+
+/// The most bytes that the image of a task has: 16 datagrams of 1,486 bytes each.
+pub const LARGEST_IMAGE: usize = 16 * 1486;
+
+/// An epoch and the output bytes that are posted for it, with room for the largest image from the start. Contracts see it
+/// as a `Post`. None of its calls takes memory.
+#[derive(Drop)]
+pub struct PostBuffer {
+    epoch: u32,
+    bytes: Vec<u8>,
+}
+
+impl Model for PostBuffer {
+    ghost use Rattle.std.specs.Prelude.{◌≤◌, vec_len, vec_capacity};
+    ghost use Rattle.hc_rings.specs.Post.{Post};
+
+    ghost Value = { Post };
+
+    ghost view = { λ b. record { epoch = b.epoch; bytes = b.bytes.items } };
+
+    ghost invariant = { λ b. (23776 ≤ vec_capacity b.bytes) × (vec_len b.bytes ≤ 23776) };
+}
+
+impl PostBuffer {
+    /// A buffer with no bytes, for epoch 0.
+    pub(crate) fn new(alloc: Global) -> Result<PostBuffer, AllocError>
+        ensures { IfOk result (λ b. b ≡ blank_post 0 0) }
+    {
+        let bytes = Vec::with_capacity(alloc, LARGEST_IMAGE)?;
+        Ok(PostBuffer { epoch: 0, bytes })
+    }
+
+    /// The epoch that the post is for.
+    pub fn epoch(&self) -> u32
+        ensures { result ≡ self.now.epoch }
+    {
+        self.epoch
+    }
+
+    /// The output bytes, at most 23,776.
+    pub fn bytes(&self) -> &[u8]
+        ensures bytes { result.now ≡ self.now.bytes }
+        ensures most { length result.now ≤ LARGEST_IMAGE }
+    {
+        self.bytes.as_slice()
+    }
+
+    /// Begins the post anew: for this epoch, with `size` bytes (at most 23,776) that are all 0.
+    pub fn begin(&mut self, epoch: u32, size: usize)
+        requires { size ≤ LARGEST_IMAGE }
+        ensures { self.new ≡ blank_post epoch size }
+    {
+        self.epoch = epoch;
+        self.bytes.clear();
+        self.bytes.resize(size, 0).unwrap();
+    }
+
+    /// Lends the output bytes for writing. The epoch stays, and so does the number of bytes.
+    pub fn bytes_mut(&mut self) -> &mut [u8]
+        ensures* written { sem 𝓛 (Lends the_row (Array byte 0) self.entry result (with_written self.old)) }
+        ensures bytes { result.now ≡ self.old.bytes }
+    {
+        self.bytes.as_mut_slice()
+    }
+}

@@ -1,0 +1,44 @@
+//! The two ends of a ring of posts: a task seat posts at one, and the conductor takes at the other and gives the buffers back.
+ghost use Rattle.std.specs.Prelude.{◌≡◌, ◌+◌, ◌≤◌, ◌++◌, length};
+ghost use Rattle.std.specs.VecDeque.{deque_len, deque_capacity};
+ghost use Rattle.rtrb.specs.Ring.{received, known_items};
+ghost use Rattle.hc_rings.specs.Items.{posts_of, before_rest};
+
+use crate::incoming::IncomingPosts;
+use crate::outgoing::OutgoingPosts;
+use crate::post_buffer::PostBuffer;
+use rtrb::{Consumer, Producer};
+use std::collections::VecDeque;
+
+mod opening;
+mod receiving;
+mod sending;
+
+pub use opening::post_ring;
+pub use sending::{Full, NoSpare};
+
+/// How many posts may wait in a ring.
+pub const POSTS_WAITING: usize = 4;
+
+/// How many buffers a ring has for its posts.
+pub const SPARE_BUFFERS: usize = 4;
+
+/// The end that posts. It may go to a thread of its own. As it is dropped the receiver learns that no post follows.
+#[derive(Drop)]
+pub struct PostSender {
+    posts: OutgoingPosts,
+    spares: Consumer<PostBuffer>,
+    // Four spares were there before the first was handed out.
+    ghost four: { 4 ≤ length (received spares) + length (known_items spares) },
+}
+
+/// The end that takes posts and gives their buffers back. It may go to a thread of its own.
+#[derive(Drop)]
+pub struct PostReceiver {
+    posts: IncomingPosts,
+    // Posts that came out of the ring ahead of its end and were not taken yet.
+    rest: VecDeque<PostBuffer>,
+    spares: Producer<PostBuffer>,
+    ghost room: { (deque_len rest ≤ 5) × (5 ≤ deque_capacity rest) },
+    ghost in_order: { before_rest (posts_of (received posts.ring)) rest.items ++ rest.items ≡ posts_of (received posts.ring) },
+}

@@ -1,0 +1,97 @@
+//! What the conductor does with its end of a ring of posts.
+ghost use Rattle.std.specs.Prelude.{◌≡◌, ◌<◌, ◌⊎◌, [], ◌∷◌, ◌++◌, List, length, IsSome, IfSome, IfNone};
+ghost use mathlib.Core.List.{IsPrefix};
+ghost use Rattle.hc_rings.specs.Post.{Post};
+ghost use Rattle.hc_rings.specs.Ring.{posted, handed_out, taken, left, given_back, spare_places, IsAllPosted, ArePostEnds, SameSender, SameReceiver};
+
+use super::{POSTS_WAITING, PostReceiver, PostSender};
+use crate::post_buffer::PostBuffer;
+
+impl PostReceiver {
+    /// The oldest post that was not taken yet, or `None` where none is found; the sender may post at any time.
+    pub fn take(&mut self) -> Option<PostBuffer>
+        ensures ring { SameReceiver self.old self.new }
+
+        // The post that is given is the first that was known to be left; more may be known afterwards.
+        ensures some { IfSome result (λ b. taken self.new ≡ taken self.old ++ b ∷ []) }
+        ensures first { IfSome result (λ b. IsPrefix (left self.old) (b ∷ left self.new)) }
+
+        // A post that is known to be left is given.
+        ensures none { IfNone result (taken self.new ≡ taken self.old) }
+        ensures none_left { IfNone result ((left self.old ≡ []) × (left self.new ≡ [])) }
+
+        // Once the end is known, what was taken and what is left stays all that was posted.
+        ensures posted { (posts : List Post) → IsAllPosted self.old posts
+            → IsAllPosted self.new posts × (taken self.new ++ left self.new ≡ posts) }
+        ensures given_back { given_back self.new ≡ given_back self.old }
+    {
+        match self.rest.pop_front() {
+            Some(buffer) => Some(buffer),
+            None => self.posts.next(),
+        }
+    }
+
+    /// Puts a buffer among the spares, for the sender to fill again. It is dropped where no place is found.
+    pub fn give_back(&mut self, buffer: PostBuffer)
+        ensures ring { SameReceiver self.old self.new }
+        ensures taken { (taken self.new ≡ taken self.old) × (left self.new ≡ left self.old) }
+        ensures posted { (posts : List Post) → IsAllPosted self.old posts → IsAllPosted self.new posts }
+
+        // It is dropped only where no place is known, also after a look.
+        ensures given_back { (given_back self.new ≡ given_back self.old ++ buffer ∷ [])
+            ⊎ ((given_back self.new ≡ given_back self.old) × (spare_places self.new ≡ 0)) }
+        ensures kept { 0 < spare_places self.old → given_back self.new ≡ given_back self.old ++ buffer ∷ [] }
+    {
+        let _ = self.spares.push(buffer);
+    }
+
+    /// How many posts are left, once the sender is gone; `None` while it may still post. After `Some(n)` the next `n` calls of
+    /// `take` give a post each, and then there is none.
+    pub fn finish(&mut self) -> Option<u32>
+        ensures ring { SameReceiver self.old self.new }
+        ensures taken { (taken self.new ≡ taken self.old) × IsPrefix (left self.old) (left self.new) }
+        ensures posted { IfSome result (λ _. IsAllPosted self.new (taken self.new ++ left self.new)) }
+        ensures count { IfSome result (λ n. n ≡ length (left self.new)) }
+        ensures again { (posts : List Post) → IsAllPosted self.old posts → IsSome result × IsAllPosted self.new posts }
+        ensures given_back { given_back self.new ≡ given_back self.old }
+    {
+        self.look_for_end();
+        if self.posts.ended {
+            Some(self.rest.len() as u32)
+        } else {
+            None
+        }
+    }
+
+    /// How many posts are left, for a thread that holds both ends: what was taken and what is left is all that was posted.
+    pub fn beside(&mut self, sender: &mut PostSender) -> u32
+        requires { ArePostEnds sender.old self.old }
+        ensures ring { SameReceiver self.old self.new × SameSender sender.old sender.new }
+        ensures taken { (taken self.new ≡ taken self.old) × IsPrefix (left self.old) (left self.new) }
+        ensures posted { (posted sender.new ≡ posted sender.old) × (handed_out sender.new ≡ handed_out sender.old) }
+        ensures split { taken self.new ++ left self.new ≡ posted sender.new }
+        ensures count { result ≡ length (left self.new) }
+        ensures given_back { given_back self.new ≡ given_back self.old }
+    {
+        let waiting = self.posts.beside(&mut sender.posts);
+        (self.rest.len() + waiting) as u32
+    }
+
+    /// Once the sender is gone, moves what is in the ring to `rest`, up to the end: at most four posts.
+    fn look_for_end(&mut self)
+        ensures ring { SameReceiver self.old self.new }
+        ensures taken { (taken self.new ≡ taken self.old) × IsPrefix (left self.old) (left self.new) }
+        ensures again { (posts : List Post) → IsAllPosted self.old posts → IsAllPosted self.new posts }
+        ensures given_back { given_back self.new ≡ given_back self.old }
+    {
+        if !self.posts.is_abandoned() {
+            return;
+        }
+        while self.rest.len() <= POSTS_WAITING {
+            let Some(buffer) = self.posts.next() else {
+                return;
+            };
+            self.rest.push_back_reserved(buffer);
+        }
+    }
+}

@@ -1,0 +1,333 @@
+//! Rings between threads, and what no clause says of them: that what was put is found, and that a call succeeds where there is memory.
+ghost use Rattle.std.specs.Prelude.{IfSome};
+ghost use Rattle.hc_rings.specs.Ring.{taken, IsAllPosted, SameSender, SameReceiver};
+
+use super::*;
+use std::test::Fail;
+use std::thread;
+
+/// How often a thread looks again before it gives up.
+const TURNS: u32 = 10_000_000;
+
+/// How many posts go from thread to thread.
+const POSTS: u32 = 500;
+
+/// How many frames go from thread to thread.
+const FRAMES: u32 = 12;
+
+/// Posts `POSTS` posts, each as soon as a buffer is back, and answers whether it could.
+fn post_all(mut sender: PostSender) -> bool {
+    for number in 0..POSTS {
+        if !post_waiting(&mut sender, number) {
+            return false;
+        }
+    }
+    true
+}
+
+fn post_waiting(sender: &mut PostSender, number: u32) -> bool {
+    for _ in 0..TURNS {
+        if let Ok(mut buffer) = sender.buffer() {
+            buffer.begin(number, number as usize % 7);
+            buffer.bytes_mut().fill((number % 251) as u8);
+            return sender.post(buffer).is_ok();
+        }
+        thread::yield_now();
+    }
+    false
+}
+
+/// Takes `POSTS` posts, and answers whether they came as they were posted, in order, and then the end.
+fn take_all(mut receiver: PostReceiver) -> bool {
+    for number in 0..POSTS {
+        let Some(buffer) = take_waiting(&mut receiver) else {
+            return false;
+        };
+        let bytes = buffer.bytes();
+        let same = bytes.iter().all(|&b| b as u32 == number % 251);
+        if buffer.epoch() != number || bytes.len() as u32 != number % 7 || !same {
+            return false;
+        }
+        receiver.give_back(buffer);
+    }
+    for _ in 0..TURNS {
+        if receiver.finish() == Some(0) {
+            return receiver.take().is_none();
+        }
+        thread::yield_now();
+    }
+    false
+}
+
+fn take_waiting(receiver: &mut PostReceiver) -> Option<PostBuffer> {
+    for _ in 0..TURNS {
+        if let Some(buffer) = receiver.take() {
+            return Some(buffer);
+        }
+        thread::yield_now();
+    }
+    None
+}
+
+#[test]
+fn posts_go_from_thread_to_thread(rt: HostRuntime) -> Result<(), Fail> {
+    let (sender, receiver) = post_ring(rt.alloc())?;
+    let (posted, taken) = thread::join(&rt, move || post_all(sender), move || take_all(receiver));
+    assert!(rt; posted);
+    assert!(rt; taken);
+    Ok(())
+}
+
+/// Posts this epoch with these bytes.
+fn post(sender: &mut PostSender, epoch: u32, bytes: &[u8; 3]) -> bool
+    ensures { SameSender sender.old sender.new }
+{
+    let Ok(mut buffer) = sender.buffer() else {
+        return false;
+    };
+    buffer.begin(epoch, 3);
+    for (to, from) in buffer.bytes_mut().iter_mut().zip(bytes) {
+        *to = *from;
+    }
+    sender.post(buffer).is_ok()
+}
+
+/// Whether the next post is for this epoch and has these bytes. Its buffer is given back.
+fn takes(receiver: &mut PostReceiver, epoch: u32, bytes: &[u8; 3]) -> bool
+    ensures { SameReceiver receiver.old receiver.new }
+{
+    let Some(buffer) = receiver.take() else {
+        return false;
+    };
+    let same = buffer.epoch() == epoch && buffer.bytes() == bytes.as_slice();
+    receiver.give_back(buffer);
+    same
+}
+
+#[test]
+fn a_dropped_sender_leaves_its_posts(rt: HostRuntime) -> Result<(), Fail> {
+    let (mut sender, mut receiver) = post_ring(rt.alloc())?;
+    assert_eq!(rt; receiver.finish(), None);
+    assert!(rt; post(&mut sender, 7, &[1, 2, 3]));
+    assert!(rt; post(&mut sender, 8, &[4, 5, 6]));
+    assert_eq!(rt; receiver.finish(), None);
+    drop(sender);
+    assert_eq!(rt; receiver.finish(), Some(2));
+    assert!(rt; takes(&mut receiver, 7, &[1, 2, 3]));
+    assert_eq!(rt; receiver.finish(), Some(1));
+    assert!(rt; takes(&mut receiver, 8, &[4, 5, 6]));
+    assert!(rt; receiver.take().is_none());
+    assert_eq!(rt; receiver.finish(), Some(0));
+    Ok(())
+}
+
+/// Takes what is left once the sender is gone. It is proved that no `take` is in vain, and that what was taken is then all that was posted.
+fn take_what_is_left(receiver: &mut PostReceiver) -> Option<u32>
+    ensures { IfSome result (λ _. IsAllPosted receiver.new (taken receiver.new)) }
+{
+    let count = receiver.finish()?;
+    for _ in 0..count {
+        match receiver.take() {
+            Some(buffer) => receiver.give_back(buffer),
+            None => unreachable!(),
+        }
+    }
+    Some(count)
+}
+
+#[test]
+fn a_full_ring_is_finished_too(rt: HostRuntime) -> Result<(), Fail> {
+    let (mut sender, mut receiver) = post_ring(rt.alloc())?;
+    for epoch in 0..6 {
+        assert!(rt; post(&mut sender, epoch, &[9, 9, 9]), "epoch {epoch}");
+        if epoch < 2 {
+            assert!(rt; takes(&mut receiver, epoch, &[9, 9, 9]), "epoch {epoch}");
+        }
+    }
+    drop(sender);
+    assert_eq!(rt; receiver.finish(), Some(4));
+    assert!(rt; takes(&mut receiver, 2, &[9, 9, 9]));
+    assert_eq!(rt; take_what_is_left(&mut receiver), Some(3));
+    assert!(rt; receiver.take().is_none());
+    Ok(())
+}
+
+#[test]
+fn a_take_may_meet_the_end_first(rt: HostRuntime) -> Result<(), Fail> {
+    let (mut sender, mut receiver) = post_ring(rt.alloc())?;
+    assert!(rt; post(&mut sender, 1, &[1, 1, 1]));
+    drop(sender);
+    assert!(rt; takes(&mut receiver, 1, &[1, 1, 1]));
+    assert!(rt; receiver.take().is_none());
+    assert_eq!(rt; receiver.finish(), Some(0));
+    Ok(())
+}
+
+#[test]
+fn four_buffers_go_round(rt: HostRuntime) -> Result<(), Fail> {
+    let (mut sender, mut receiver) = post_ring(rt.alloc())?;
+    for round in 0..3 {
+        for epoch in 0..4 {
+            assert!(rt; post(&mut sender, epoch, &[round, 0, 0]), "round {round}");
+        }
+        assert!(rt; sender.buffer().is_err(), "round {round}");
+        for epoch in 0..4 {
+            assert!(rt;
+                takes(&mut receiver, epoch, &[round, 0, 0]),
+                "round {round}"
+            );
+        }
+        assert!(rt; receiver.take().is_none(), "round {round}");
+    }
+    Ok(())
+}
+
+#[test]
+fn both_ends_in_hand_count_what_is_left(rt: HostRuntime) -> Result<(), Fail> {
+    let (mut sender, mut receiver) = post_ring(rt.alloc())?;
+    assert_eq!(rt; receiver.beside(&mut sender), 0);
+    assert!(rt; post(&mut sender, 3, &[3, 3, 3]));
+    assert!(rt; post(&mut sender, 4, &[4, 4, 4]));
+    assert_eq!(rt; receiver.beside(&mut sender), 2);
+    assert!(rt; takes(&mut receiver, 3, &[3, 3, 3]));
+    assert_eq!(rt; receiver.beside(&mut sender), 1);
+    Ok(())
+}
+
+#[test]
+fn a_full_ring_hands_the_post_back(rt: HostRuntime) -> Result<(), Fail> {
+    let (mut sender, mut receiver) = post_ring(rt.alloc())?;
+    let (mut other, _) = post_ring(rt.alloc())?;
+    for epoch in 0..4 {
+        assert!(rt; post(&mut sender, epoch, &[0, 0, 0]), "epoch {epoch}");
+    }
+    let mut buffer = other.buffer().ok().ok_or("no spare")?;
+    buffer.begin(70, 2);
+    buffer.bytes_mut().fill(5);
+    let Full(buffer) = sender.post(buffer).err().ok_or("not full")?;
+    assert_eq!(rt; buffer.epoch(), 70);
+    assert_eq!(rt; buffer.bytes(), [5, 5].as_slice());
+
+    // A fifth buffer finds no place among the spares, and is dropped.
+    for epoch in 0..4 {
+        assert!(rt; takes(&mut receiver, epoch, &[0, 0, 0]), "epoch {epoch}");
+    }
+    receiver.give_back(buffer);
+    for epoch in 0..4 {
+        assert!(rt; post(&mut sender, epoch, &[0, 0, 0]), "epoch {epoch}");
+    }
+    assert!(rt; sender.buffer().is_err());
+    Ok(())
+}
+
+#[test]
+fn a_buffer_begins_anew(rt: HostRuntime) -> Result<(), Fail> {
+    let (mut sender, _) = post_ring(rt.alloc())?;
+    let mut buffer = sender.buffer().ok().ok_or("no spare")?;
+    assert_eq!(rt; (buffer.epoch(), buffer.bytes().len()), (0, 0));
+    buffer.begin(4_294_967_295, LARGEST_IMAGE);
+    buffer.bytes_mut().fill(255);
+    assert_eq!(rt; buffer.epoch(), 4_294_967_295);
+    assert_eq!(rt; buffer.bytes().len(), 23_776);
+    assert!(rt; buffer.bytes().iter().all(|&b| b == 255));
+    buffer.begin(1, 4);
+    assert_eq!(rt; buffer.epoch(), 1);
+    assert_eq!(rt; buffer.bytes(), [0; 4].as_slice());
+    Ok(())
+}
+
+#[test]
+fn frames_go_in_order(rt: HostRuntime) -> Result<(), Fail> {
+    let alloc = rt.alloc();
+    let (mut sender, mut receiver) = frame_ring(alloc, 2)?;
+    assert!(rt; receiver.take().is_none());
+    assert!(rt; sender.send(FrameBox::of(alloc, &[1, 2, 3])?).is_ok());
+    assert!(rt; sender.send(FrameBox::of(alloc, &[])?).is_ok());
+    assert_eq!(rt; receiver.beside(&mut sender), 2);
+    let back = sender.send(FrameBox::of(alloc, &[4; 1514])?);
+    let mut back = back.err().ok_or("not full")?;
+    assert_eq!(rt; back.bytes(), [4; 1514].as_slice());
+    back.bytes_mut().fill(6);
+    let first = receiver.take().ok_or("no frame")?;
+    assert_eq!(rt; first.bytes(), [1, 2, 3].as_slice());
+    assert!(rt; sender.send(back).is_ok());
+    let second = receiver.take().ok_or("no frame")?;
+    assert!(rt; second.bytes().is_empty());
+    assert_eq!(rt; receiver.beside(&mut sender), 1);
+    let third = receiver.take().ok_or("no frame")?;
+    assert_eq!(rt; third.bytes(), [6; 1514].as_slice());
+    assert!(rt; receiver.take().is_none());
+    Ok(())
+}
+
+#[test]
+fn a_ring_with_no_room_hands_each_frame_back(rt: HostRuntime) -> Result<(), Fail> {
+    let (mut sender, mut receiver) = frame_ring(rt.alloc(), 0)?;
+    let back = sender.send(FrameBox::of(rt.alloc(), &[8])?);
+    assert_eq!(rt; back.err().ok_or("not full")?.bytes(), [8].as_slice());
+    assert_eq!(rt; receiver.beside(&mut sender), 0);
+    Ok(())
+}
+
+/// Sends each frame as soon as there is a place, and answers whether it could.
+fn send_all(mut sender: FrameSender, frames: Vec<FrameBox>) -> bool {
+    for frame in frames {
+        if !send_waiting(&mut sender, frame) {
+            return false;
+        }
+    }
+    true
+}
+
+fn send_waiting(sender: &mut FrameSender, frame: FrameBox) -> bool {
+    let mut frame = frame;
+    for _ in 0..TURNS {
+        match sender.send(frame) {
+            Ok(()) => return true,
+            Err(back) => frame = back,
+        }
+        thread::yield_now();
+    }
+    false
+}
+
+/// Takes `FRAMES` frames, and answers whether they came as they were sent, in order.
+fn take_frames(mut receiver: FrameReceiver) -> bool {
+    for number in 0..FRAMES {
+        let Some(frame) = take_frame_waiting(&mut receiver) else {
+            return false;
+        };
+        if frame.bytes() != [(number % 256) as u8, 1].as_slice() {
+            return false;
+        }
+    }
+    receiver.take().is_none()
+}
+
+fn take_frame_waiting(receiver: &mut FrameReceiver) -> Option<FrameBox> {
+    for _ in 0..TURNS {
+        if let Some(frame) = receiver.take() {
+            return Some(frame);
+        }
+        thread::yield_now();
+    }
+    None
+}
+
+#[test]
+fn frames_go_from_thread_to_thread(rt: HostRuntime) -> Result<(), Fail> {
+    let alloc = rt.alloc();
+    let mut frames = Vec::new(alloc);
+    for number in 0..FRAMES {
+        frames.push(FrameBox::of(alloc, &[(number % 256) as u8, 1])?)?;
+    }
+    let (sender, receiver) = frame_ring(alloc, 3)?;
+    let (sent, taken) = thread::join(
+        &rt,
+        move || send_all(sender, frames),
+        move || take_frames(receiver),
+    );
+    assert!(rt; sent);
+    assert!(rt; taken);
+    Ok(())
+}
