@@ -1,0 +1,5 @@
+mod Keys
+mod Numbers
+mod Inside
+mod ReadBack
+mod WholeProject

@@ -1,0 +1,131 @@
+-- What follows from the definitions, so that a reader can trust them. Each is the contract of a function of `laws`.
+use Rattle.std.specs.Prelude.{◌≡◌, ℕ, ℤ, pos, negsuc, ◌≤◌, ◌||◌, nat_lt, unwrap_or, Bool, true, false, List, [], ◌∷◌, map, Some, None, Ok, codes}
+use Rattle.std.specs.Option.{option_map_or}
+use Rattle.std.specs.List.{list_any}
+use Rattle.toml.specs.Data.{Data, string, integer, array, table, no_items, item, Members, no_members, member, get}
+use Rattle.toml.specs.View.{items_of}
+use Rattle.hc_records.specs.declared.records.Dir.{Dir}
+use Rattle.hc_records.specs.declared.records.Dir.TheVariants.{Out, In}
+use Rattle.hc_records.specs.declared.records.Pdo.{Pdo}
+use Rattle.hc_records.specs.declared.records.Area.{Area}
+use Rattle.hc_records.specs.declared.records.Slave.{Slave}
+use Rattle.hc_records.specs.declared.records.Group.{Group}
+use Rattle.hc_records.specs.Area.{Entry}
+use Rattle.hc_records.specs.Project.{is_outside, lowest_fault}
+use Rattle.hc_project.specs.Values.{number}
+use Rattle.hc_project.specs.Levels.{pdo, area, slave, group, declared_groups}
+use Rattle.hc_project.specs.Text.{project_of}
+
+-- an integer lies outside a range
+abbrev pub lies_outside : ℕ → ℕ → ℤ → Bool
+lies_outside low high (pos n) = is_outside low high n
+lies_outside low high (negsuc n) = true
+
+-- what reading refuses because it doesn't fit, with what the range of every project refuses afterwards, is what lies
+-- outside the range
+abbrev pub RangesAreJudgedWhole : Type 0
+RangesAreJudgedWhole =
+    (most low high : ℕ) (z : ℤ) → high ≤ most
+    → ((number most (Some (integer z))).flaws.outside || is_outside low high (number most (Some (integer z))).value)
+    ≡ lies_outside low high z
+
+-- two values hold the same at a key
+abbrev pub AgreeAt : List ℕ → Data → Data → Type 0
+AgreeAt key a b = get key a ≡ get key b
+
+-- a level reads its own keys: values that agree at them read the same
+abbrev pub DocumentsReadTheirKeys : Type 0
+DocumentsReadTheirKeys =
+    (a b : Data) → AgreeAt (codes "slave") a b → AgreeAt (codes "group") a b → declared_groups a ≡ declared_groups b
+
+abbrev pub GroupsReadTheirKeys : Type 0
+GroupsReadTheirKeys = (a b : Data) → AgreeAt (codes "alias") a b → AgreeAt (codes "slave") a b → group a ≡ group b
+
+abbrev pub SlavesReadTheirKeys : Type 0
+SlavesReadTheirKeys = (a b : Data) → AgreeAt (codes "station") a b → AgreeAt (codes "area") a b → slave a ≡ slave b
+
+abbrev pub AreasReadTheirKeys : Type 0
+AreasReadTheirKeys =
+    (a b : Data)
+    → AgreeAt (codes "sm") a b
+    → AgreeAt (codes "dir") a b
+    → AgreeAt (codes "phys") a b
+    → AgreeAt (codes "task") a b
+    → AgreeAt (codes "assigned") a b
+    → AgreeAt (codes "pdo") a b
+    → area a ≡ area b
+
+abbrev pub PdosReadTheirKeys : Type 0
+PdosReadTheirKeys = (a b : Data) → AgreeAt (codes "index") a b → AgreeAt (codes "entries") a b → pdo a ≡ pdo b
+
+-- a project as a tree, its keys in the order of a TOML table
+abbrev pub array_by : {X : Type 0} → (X → Data) → List X → Data
+array_by one xs = array (items_of (map one xs))
+
+abbrev pub number_tree : ℕ → Data
+number_tree n = integer (pos n)
+
+abbrev pub dir_tree : Dir → Data
+dir_tree Out = string (codes "out")
+dir_tree In = string (codes "in")
+
+abbrev pub entry_tree : Entry → Data
+entry_tree entry = array (item (number_tree (unwrap_or entry.0 0)) (item (number_tree entry.1) no_items))
+
+abbrev pub pdo_tree : Pdo → Data
+pdo_tree pdo =
+    table (member (codes "entries") (array_by entry_tree pdo.entries)
+    (member (codes "index") (number_tree pdo.index) no_members))
+
+abbrev pub area_tree : Area → Data
+area_tree area =
+    table (member (codes "assigned") (array_by number_tree area.assigned)
+    (member (codes "dir") (dir_tree area.dir)
+    (member (codes "pdo") (array_by pdo_tree area.offered)
+    (member (codes "phys") (number_tree area.phys)
+    (member (codes "sm") (number_tree area.sm)
+    (member (codes "task") (number_tree area.task) no_members))))))
+
+abbrev pub slave_tree : Slave → Data
+slave_tree slave =
+    table (member (codes "area") (array_by area_tree slave.areas)
+    (member (codes "station") (number_tree slave.station) no_members))
+
+abbrev pub group_tree : Group → Data
+group_tree group =
+    table (member (codes "alias") (number_tree group.alias)
+    (member (codes "slave") (array_by slave_tree group.slaves) no_members))
+
+abbrev pub project_tree : List Group → Members
+project_tree [] = no_members
+project_tree (mandatory ∷ others) =
+    member (codes "group") (array_by group_tree others)
+    (member (codes "slave") (array_by slave_tree mandatory.slaves) no_members)
+
+-- a number that no record of the code holds
+abbrev pub variable_unheld : ℕ → Bool
+variable_unheld variable = is_outside 1 4294967295 variable
+
+abbrev pub entry_unheld : Entry → Bool
+entry_unheld entry = option_map_or variable_unheld entry.0 false
+
+abbrev pub word_unheld : ℕ → Bool
+word_unheld n = nat_lt 65535 n
+
+abbrev pub pdo_unheld : Pdo → Bool
+pdo_unheld pdo = word_unheld pdo.index || list_any entry_unheld pdo.entries
+
+abbrev pub area_unheld : Area → Bool
+area_unheld area = list_any word_unheld area.assigned || list_any pdo_unheld area.offered
+
+abbrev pub slave_unheld : Slave → Bool
+slave_unheld slave = word_unheld slave.station || list_any area_unheld slave.areas
+
+abbrev pub group_unheld : Group → Bool
+group_unheld group = word_unheld group.alias || list_any slave_unheld group.slaves
+
+-- every project can be written: its tree is read as that project
+abbrev pub ProjectsReadBack : Type 0
+ProjectsReadBack =
+    (groups : List Group) → list_any group_unheld groups ≡ false → lowest_fault groups ≡ None
+    → project_of (Some (project_tree groups)) ≡ Ok groups

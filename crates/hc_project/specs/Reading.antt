@@ -1,0 +1,26 @@
+-- What reading gives: a value, and what is wrong with it or inside it.
+use Rattle.std.specs.Prelude.{true, false, ◌||◌, List}
+use Rattle.std.specs.List.{list_any}
+use Rattle.hc_project.specs.declared.reading.Flaws.{Flaws}
+use Rattle.hc_project.specs.declared.reading.Reading.{Reading}
+
+abbrev pub no_flaws : Flaws
+no_flaws = record { missing = false; outside = false }
+
+-- what is wrong with two values, with each of a list
+abbrev pub both : Flaws → Flaws → Flaws
+both a b = record { missing = a.missing || b.missing; outside = a.outside || b.outside }
+
+abbrev pub joined : List Flaws → Flaws
+joined list = record { missing = list_any (λ flaws. flaws.missing) list; outside = list_any (λ flaws. flaws.outside) list }
+
+-- a value in which nothing is wrong
+abbrev pub right : {X : Type 0} → X → Reading X
+right x = record { value = x; flaws = no_flaws }
+
+-- what stands in for a value that is absent or of another kind, and for one outside its range
+abbrev pub missing : {X : Type 0} → X → Reading X
+missing x = record { value = x; flaws = record { missing = true; outside = false } }
+
+abbrev pub outside : {X : Type 0} → X → Reading X
+outside x = record { value = x; flaws = record { missing = false; outside = true } }

@@ -1,0 +1,92 @@
+-- Worked documents, read by the definitions: a wrong definition fails here.
+use Rattle.std.specs.Prelude.{◌≡◌, ℕ, negsuc, List, [], ◌∷◌, map, Some, None, Result, Ok, Err, codes, refl}
+use Rattle.toml.specs.Data.{Data, string, integer, array, table, no_items, item, Members, no_members, member}
+use Rattle.toml.specs.View.{items_of}
+use Rattle.hc_records.specs.declared.records.Dir.TheVariants.{Out}
+use Rattle.hc_records.specs.declared.records.Group.{Group}
+use Rattle.hc_records.specs.declared.faults.ProjectFault.{ProjectFault}
+use Rattle.hc_records.specs.declared.faults.ProjectFault.TheVariants.{NotToml, MissingField, OutOfRange, RepeatedStation}
+use Rattle.hc_project.specs.Text.{project_of}
+use Rattle.hc_project.specs.Laws.{number_tree}
+
+abbrev read : Members → Result (List Group) ProjectFault
+read members = project_of (Some members)
+
+abbrev tables : List Members → Data
+tables list = array (items_of (map table list))
+
+abbrev numbers : List ℕ → Data
+numbers list = array (items_of (map number_tree list))
+
+-- What TOML refuses is no project; a document of no keys is one of no slaves.
+
+refused : project_of None ≡ Err NotToml
+refused = refl
+
+empty : read no_members ≡ Ok (record { alias = 0; slaves = [] } ∷ [])
+empty = refl
+
+-- A slave with an output area of 2 bits, read with keys of other levels beside its own.
+
+abbrev small : Members
+small =
+    member (codes "alias") (number_tree 7)
+    (member (codes "slave")
+    (tables (
+    member (codes "area")
+    (tables (
+    member (codes "assigned") (numbers (0x1600 ∷ []))
+    (member (codes "dir") (string (codes "out"))
+    (member (codes "pdo")
+    (tables (
+    member (codes "entries") (array (item (numbers (1 ∷ 2 ∷ [])) no_items))
+    (member (codes "index") (number_tree 0x1600) no_members)
+    ∷ []))
+    (member (codes "phys") (number_tree 0x1100)
+    (member (codes "sm") (number_tree 2)
+    (member (codes "station") (number_tree 0)
+    (member (codes "task") (number_tree 0) no_members))))))
+    ∷ []))
+    (member (codes "station") (number_tree 1001) no_members)
+    ∷ [])) no_members)
+
+small_project : read small ≡ Ok (
+    record {
+      alias = 0;
+      slaves = record {
+        station = 1001;
+        areas = record {
+          sm = 2;
+          dir = Out;
+          phys = 0x1100;
+          offered = record { index = 0x1600; entries = (Some 1, 2) ∷ [] } ∷ [];
+          assigned = 0x1600 ∷ [];
+          task = 0;
+        } ∷ [];
+      } ∷ [];
+    } ∷ [])
+small_project = refl
+
+-- Of several faults the lowest, wherever it stands.
+
+abbrev of_stations : List Data → Members
+of_stations stations =
+    member (codes "slave") (array (items_of (map (λ station. table (member (codes "station") station no_members)) stations))) no_members
+
+stations_once : read (of_stations (number_tree 1 ∷ number_tree 65535 ∷ [])) ≡ Ok (record { alias = 0; slaves = record { station = 1; areas = [] } ∷ record { station = 65535; areas = [] } ∷ [] } ∷ [])
+stations_once = refl
+
+station_twice : read (of_stations (number_tree 1 ∷ number_tree 1 ∷ [])) ≡ Err RepeatedStation
+station_twice = refl
+
+station_of_17_bits : read (of_stations (number_tree 1 ∷ number_tree 1 ∷ number_tree 65536 ∷ [])) ≡ Err OutOfRange
+station_of_17_bits = refl
+
+station_0 : read (of_stations (number_tree 1 ∷ number_tree 1 ∷ number_tree 0 ∷ [])) ≡ Err OutOfRange
+station_0 = refl
+
+station_below_0 : read (of_stations (number_tree 1 ∷ number_tree 1 ∷ integer (negsuc 0) ∷ [])) ≡ Err OutOfRange
+station_below_0 = refl
+
+station_as_string : read (of_stations (number_tree 1 ∷ number_tree 1 ∷ number_tree 0 ∷ string (codes "1") ∷ [])) ≡ Err MissingField
+station_as_string = refl

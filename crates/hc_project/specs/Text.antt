@@ -1,0 +1,28 @@
+-- The project of a text, or the lowest fault of its tree.
+use Rattle.std.specs.Prelude.{Bool, List, ◌∷◌, Option, Some, None, Result, Ok, Err}
+use Rattle.toml.specs.Data.{Members, table}
+use Rattle.hc_records.specs.declared.records.Group.{Group}
+use Rattle.hc_records.specs.declared.faults.ProjectFault.{ProjectFault}
+use Rattle.hc_records.specs.declared.faults.ProjectFault.TheVariants.{NotToml, MissingField, OutOfRange}
+use Rattle.hc_records.specs.Lists.{lowest}
+use Rattle.hc_records.specs.Project.{project_faults}
+use Rattle.hc_project.specs.declared.reading.Reading.{Reading}
+use Rattle.hc_project.specs.Levels.{declared_groups}
+
+-- the faults of what was read with their conditions, the lowest first: those of reading, then those of
+-- every project
+abbrev pub reading_faults : Reading (List Group) → List (Bool × ProjectFault)
+reading_faults groups =
+    (groups.flaws.missing, MissingField) ∷ (groups.flaws.outside, OutOfRange) ∷ project_faults groups.value
+
+abbrev pub unless_refused : Option ProjectFault → List Group → Result (List Group) ProjectFault
+unless_refused None groups = Ok groups
+unless_refused (Some fault) groups = Err fault
+
+abbrev pub settled : Reading (List Group) → Result (List Group) ProjectFault
+settled groups = unless_refused (lowest (reading_faults groups)) groups.value
+
+-- the project of the tree that TOML reads, where it reads one
+abbrev pub project_of : Option Members → Result (List Group) ProjectFault
+project_of None = Err NotToml
+project_of (Some members) = settled (declared_groups (table members))

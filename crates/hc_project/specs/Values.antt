@@ -1,0 +1,37 @@
+-- The numbers and words of a project's text.
+use Rattle.std.specs.Prelude.{ℕ, ℤ, pos, negsuc, nat_le, if◌then◌else◌, List, Option, Some, None, option_and_then, codes}
+use Rattle.std.specs.Str.{bytes_eq}
+use Rattle.toml.specs.Data.{Data, as_integer, as_str}
+use Rattle.hc_records.specs.declared.records.Dir.{Dir}
+use Rattle.hc_records.specs.declared.records.Dir.TheVariants.{Out, In}
+use Rattle.hc_project.specs.declared.reading.Reading.{Reading}
+use Rattle.hc_project.specs.Reading.{right, missing, outside}
+
+-- a needed integer, from 0 to the most that its place holds
+abbrev pub number_of : ℕ → Option ℤ → Reading ℕ
+number_of most None = missing 0
+number_of most (Some (pos n)) = if nat_le n most then right n else outside 0
+number_of most (Some (negsuc n)) = outside 0
+
+abbrev pub number : ℕ → Option Data → Reading ℕ
+number most found = number_of most (option_and_then as_integer found)
+
+-- integers of 8, 16 and 32 bits; a narrower range is that of every project
+abbrev pub byte : Option Data → Reading ℕ
+byte found = number 255 found
+
+abbrev pub word : Option Data → Reading ℕ
+word found = number 65535 found
+
+abbrev pub double_word : Option Data → Reading ℕ
+double_word found = number 4294967295 found
+
+-- a needed string, "out" or "in"
+abbrev pub direction_of : Option (List ℕ) → Reading Dir
+direction_of None = missing Out
+direction_of (Some text) =
+    if bytes_eq text (codes "out") then right Out
+    else (if bytes_eq text (codes "in") then right In else outside Out)
+
+abbrev pub direction : Option Data → Reading Dir
+direction found = direction_of (option_and_then as_str found)
