@@ -12,8 +12,8 @@ pub fn projects_read_back()
 {}
 
 /// A number of a project's text is judged twice, first by what its place in a record holds, then by the
-/// range that every project keeps. Together they refuse exactly the integers outside that range, from
-/// -9,223,372,036,854,775,808 up, as `OutOfRange`.
+/// range that every project keeps. Together they refuse exactly the integers outside that range, negative
+/// ones too.
 pub fn ranges_are_judged_whole()
     ensures { RangesAreJudgedWhole }
 {}

@@ -392,3 +392,15 @@ fn copies_are_the_same(rt: HostRuntime) -> Result<(), Fail> {
     assert!(rt; project.into_groups().is_same(&copy));
     Ok(())
 }
+
+/// Each growth is refused in turn to this test (tools/sweep.sh): want of memory and nothing else comes of it.
+#[test]
+fn the_project_or_memory(rt: HostRuntime) -> Result<(), Fail> {
+    let groups = groups_of(rt.alloc(), &LINE)?;
+    let kept = groups.copied(rt.alloc())?;
+    match Project::checked(rt.alloc(), groups) {
+        Ok(project) => assert!(rt; project.into_groups().is_same(&kept)),
+        Err(fault) => assert_eq!(rt; fault, ProjectFault::Memory),
+    }
+    Ok(())
+}
