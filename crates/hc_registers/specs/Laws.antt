@@ -12,7 +12,9 @@ pub record SyncManagerFields (area : Area) : Type 0 where
   pub start_address : word_at (sync_manager_bytes area) 0 ≡ area.phys
   pub length : word_at (sync_manager_bytes area) 2 ≡ byte_count (width area)
   pub control : slice_index (sync_manager_bytes area) 4 ≡ control_of area.dir
+  pub status : slice_index (sync_manager_bytes area) 5 ≡ 0
   pub activate : slice_index (sync_manager_bytes area) 6 ≡ activation (width area)
+  pub pdi_control : slice_index (sync_manager_bytes area) 7 ≡ 0
 
 abbrev pub SyncManagersAreRead : Type 0
 SyncManagersAreRead = (area : Area) → area.phys < 2 ^ 16 → width area ≤ MOST_AREA_BITS → SyncManagerFields area

@@ -1,5 +1,5 @@
 -- Worked blocks, computed by the definitions: a wrong definition fails here.
-use Rattle.std.specs.Prelude.{◌≡◌, ℕ, List, [], ◌∷◌, map, Option, Some, None, refl}
+use Rattle.std.specs.Prelude.{◌≡◌, ℕ, ◌*◌, List, [], ◌∷◌, map, Option, Some, None, refl}
 use Rattle.hc_records.specs.declared.records.Dir.{Dir}
 use Rattle.hc_records.specs.declared.records.Dir.TheVariants.{Out, In}
 use Rattle.hc_records.specs.declared.records.Area.{Area}
@@ -96,3 +96,59 @@ same_moves = refl
 
 other_task_moves : moved_by one_slave (Move 1001 0 1) ≡ 2
 other_task_moves = refl
+
+-- A tool of one slave and a module of seven: where a datagram's number falls, its blocks move, and no others.
+
+abbrev with_output : ℕ → ℕ → Slave
+with_output station bytes = slave_of station (area_of 0 Out 0x1000 (8 * bytes) None ∷ [])
+
+abbrev tool_and_module : State
+tool_and_module = opened (
+    record { alias = 0; slaves = [] }
+    ∷ record { alias = 10; slaves = with_output 1 700 ∷ [] }
+    ∷ record { alias = 20; slaves = with_output 2 700 ∷ with_output 3 700 ∷ with_output 4 700 ∷ with_output 5 700 ∷ with_output 6 1400 ∷ with_output 7 700 ∷ with_output 8 700 ∷ [] }
+    ∷ [])
+
+tool_moves : moved_by tool_and_module (Connect 10) ≡ 2
+tool_moves = refl
+
+module_moves : moved_by (state_after tool_and_module (Connect 10)) (Connect 20) ≡ 14
+module_moves = refl
+
+undocked_tool_moves : moved_by (state_after (state_after tool_and_module (Connect 10)) (Connect 20)) (Disconnect 10) ≡ 7
+undocked_tool_moves = refl
+
+-- A remapped slave and its follower move; with outputs and inputs both touched, the datagrams between stay.
+
+abbrev remapped : State
+remapped = opened (record {
+  alias = 0;
+  slaves =
+      with_output 1 1000
+      ∷ slave_of 2 (record {
+        sm = 0;
+        dir = Out;
+        phys = 0x1000;
+        offered = record { index = 0x1600; entries = (None, 8 * 300) ∷ [] } ∷ record { index = 0x1601; entries = (None, 8 * 400) ∷ [] } ∷ [];
+        assigned = 0x1600 ∷ 0x1601 ∷ [];
+        task = 0;
+      } ∷ [])
+      ∷ with_output 3 700
+      ∷ [];
+} ∷ [])
+
+remapped_moves : moved_by remapped (Remap 2 0 (0x1600 ∷ [])) ≡ 3
+remapped_moves = refl
+
+abbrev with_both : ℕ → ℕ → Slave
+with_both station bytes = slave_of station (area_of 0 Out 0x1000 (8 * bytes) None ∷ area_of 1 In 0x2000 (8 * bytes) None ∷ [])
+
+abbrev gripper : State
+gripper = opened (
+    record { alias = 0; slaves = [] }
+    ∷ record { alias = 10; slaves = with_both 1 100 ∷ [] }
+    ∷ record { alias = 20; slaves = with_both 2 1400 ∷ with_output 3 1400 ∷ with_output 4 1400 ∷ [] }
+    ∷ [])
+
+gripper_moves : moved_by (state_after (state_after gripper (Connect 10)) (Connect 20)) (Disconnect 10) ≡ 4
+gripper_moves = refl
