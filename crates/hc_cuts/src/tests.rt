@@ -1,5 +1,5 @@
 //! Lists whose datagrams are known.
-use crate::fold::{TooManyDatagrams, fold_cuts};
+use crate::fold::fold_cuts;
 use crate::packing::Front;
 use hc_records::keys::Key;
 use hc_records::records::Dir;
@@ -35,14 +35,4 @@ fn the_first_input_begins_a_byte(rt: HostRuntime) {
     assert_eq!(rt; front.place(key(Dir::Out, 2), 3).bit(), 3);
     assert_eq!(rt; front.place(key(Dir::In, 1), 1).bit(), 8);
     assert_eq!(rt; front.place(key(Dir::Out, 2), 8).bit(), 8);
-}
-
-#[test]
-fn seventeen_datagrams_are_too_many(rt: HostRuntime) {
-    let mut list = [(Key::START, 11200); 17];
-    for i in 0..17u16 {
-        list[usize::from(i)].0 = key(Dir::Out, i + 1);
-    }
-    assert_eq!(rt; fold_cuts(&list).err(), Some(TooManyDatagrams));
-    assert_eq!(rt; fold_cuts(&list[..16]).map_or(0, |keys| keys.len()), 16);
 }
