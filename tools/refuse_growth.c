@@ -1,14 +1,13 @@
 /* Refuses one growth of memory of a program that is preloaded with it: the call of malloc or realloc whose number, from 1,
-   stands in REFUSE_GROWTH. Where it refused one, the program's last words on standard error are "refused growth". */
+   stands in REFUSE_GROWTH. Where it refuses one, it says "refused growth" on standard error at once: the program may end
+   without running what stands at an exit. */
 #define _GNU_SOURCE
 #include <dlfcn.h>
 #include <stdatomic.h>
 #include <stdlib.h>
-#include <string.h>
 #include <unistd.h>
 
 static atomic_long calls;
-static atomic_int refused;
 static long number;
 static int words_to;
 
@@ -20,19 +19,14 @@ __attribute__((constructor)) static void begin(void)
     atomic_store(&calls, 0);
 }
 
-__attribute__((destructor)) static void end(void)
-{
-    static const char words[] = "refused growth\n";
-    if (atomic_load(&refused) && write(words_to, words, strlen(words)) < 0)
-        _exit(9);
-}
-
 /* Whether this growth is the one to refuse. */
 static int refuses(void)
 {
     if (number == 0 || atomic_fetch_add(&calls, 1) + 1 != number)
         return 0;
-    atomic_store(&refused, 1);
+    static const char words[] = "refused growth\n";
+    if (write(words_to, words, sizeof words - 1) < 0)
+        _exit(9);
     return 1;
 }
 

@@ -1,5 +1,5 @@
 -- The keys at which the datagrams of a task's list begin.
-use Rattle.std.specs.Prelude.{◌≡◌, ◌<◌, ◌≤◌, ℕ, All, List, [], ◌∷◌, length}
+use Rattle.std.specs.Prelude.{◌≡◌, ◌<◌, All, List, [], ◌∷◌, length}
 use Rattle.std.specs.List.{flat_map}
 use Rattle.hc_records.specs.declared.limits.TheConstants.{MOST_DATAGRAMS}
 use Rattle.hc_records.specs.declared.keys.Key.{Key}
@@ -7,7 +7,7 @@ use Rattle.hc_records.specs.TaskList.{Keyed}
 use Rattle.hc_records.specs.Packing.{opening, packed}
 use Rattle.hc_records.specs.Image.{datagram_count}
 use Rattle.hc_records.specs.Boundaries.{later_keys}
-use Rattle.hc_records.specs.Laws.{FitsOneDatagram, IsPackable}
+use Rattle.hc_records.specs.Laws.{FitsOneDatagram}
 
 -- the key of the first area, and the boundaries inside the list; none of an empty list
 abbrev pub first_keys : List Keyed → List Key

@@ -1,13 +1,15 @@
 //! The packing of a task's list, an area at a time (this project's profile): the plain program that
 //! every faster cut is compared with, and what places are worked out by.
-ghost use Rattle.std.specs.Prelude.{◌≡◌, ◌+◌, ◌<◌, ◌≤◌};
+ghost use Rattle.std.specs.Prelude.{◌≡◌, ◌+◌, ◌<◌, ◌≤◌, All, IfOk, length};
 ghost use Rattle.hc_records.specs.Keys.{is_turn};
-ghost use Rattle.hc_records.specs.Packing.{next_byte};
+ghost use Rattle.hc_records.specs.Laws.{IsPackable};
+ghost use Rattle.hc_records.specs.Packing.{next_byte, opening, packed};
 ghost use Rattle.hc_records.specs.declared.limits.TheConstants.{MOST_AREA_BITS};
 
 use hc_records::keys::Key;
 use hc_records::limits::MOST_DATAGRAM_BYTES;
 use hc_records::records::Dir;
+use std::alloc::{AllocError, Global};
 use std::marker::Model;
 
 /// The bits of the longest datagram.
@@ -174,4 +176,24 @@ impl Front {
             }
         }
     }
+}
+
+/// The areas of a task's list with their places, in its order: packed one after another from the
+/// empty first datagram, however many datagrams that takes. The list has the task's keys with their
+/// widths, 1 to 11,888 bits, fewer than 65,535 of them. The room for all places is taken at the
+/// start; `AllocError` where memory is refused.
+pub fn pack(alloc: Global, list: &[(Key, u16)]) -> Result<Vec<Placed>, AllocError>
+    requires packable { All IsPackable list.now }
+    requires few { length list.now < 65535 }
+    ensures { IfOk result (λ places. places.items ≡ packed opening list.now) }
+{
+    let mut places = Vec::with_capacity(alloc, list.len())?;
+    let mut front = Front::opening();
+    for area in list {
+        let (key, bits) = *area;
+        let place = front.place(key, bits);
+        places.push(place)?;
+        front = place.behind();
+    }
+    Ok(places)
 }

@@ -4,7 +4,8 @@ use Rattle.std.specs.Prelude.{All, AllPairs, map}
 use Rattle.std.specs.List.{enumerate_from}
 use Rattle.std.proofs.lemmas.List.Elements.{All-nil, All-head, All-tail, All-append, All-weaker, All-map}
 use Rattle.hc_records.specs.declared.records.Slave.{Slave}
-use Rattle.hc_records.specs.Line.{Declared, Member, members_from, line_from}
+use Rattle.hc_records.specs.declared.records.Declared.{Declared}
+use Rattle.hc_records.specs.Line.{Member, members_from, line_from, present_slaves}
 use Rattle.hc_records.specs.Project.{slaves_of}
 use Rattle.hc_records.proofs.Lists.{All-enumerate_from, All-numbers, AllPairs-nil, AllPairs-append, AllPairs-map, AllPairs-numbers}
 
@@ -30,13 +31,13 @@ abbrev pub declared_slaves : List Declared → List Slave
 declared_slaves groups = slaves_of (map (λ declared. declared.group) groups)
 
 -- a group's part of the line: its members, or none
-present-all : (P : Member → Type 0) (present : Bool) (members : List Member) → All P members → All P (if present then members else [])
-present-all P true members all = all
-present-all P false members all = All-nil P
+present-all : (P : Member → Type 0) (present : Bool) (rank : ℕ) (slaves : List Slave) → All P (members_from rank slaves) → All P (members_from rank (if present then slaves else []))
+present-all P true rank slaves all = all
+present-all P false rank slaves all = All-nil P
 
-present-pairs : (R : Member → Member → Type 0) (present : Bool) (members : List Member) → AllPairs R members → AllPairs R (if present then members else [])
-present-pairs R true members pairs = pairs
-present-pairs R false members pairs = AllPairs-nil R
+present-pairs : (R : Member → Member → Type 0) (present : Bool) (rank : ℕ) (slaves : List Slave) → AllPairs R (members_from rank slaves) → AllPairs R (members_from rank (if present then slaves else []))
+present-pairs R true rank slaves pairs = pairs
+present-pairs R false rank slaves pairs = AllPairs-nil R
 
 pub line-within : (rank : ℕ) (groups : List Declared) → All (RankWithin rank (rank + length (declared_slaves groups))) (line_from rank groups)
 line-within rank [] = All-nil (RankWithin rank (rank + 0))
@@ -45,8 +46,8 @@ line-within rank (declared ∷ groups) =
     let next = rank + length slaves in
     let end = rank + length (declared_slaves (declared ∷ groups)) in
     let sum : length (declared_slaves (declared ∷ groups)) ≡ length slaves + length (declared_slaves groups) = length-append slaves (declared_slaves groups) in
-    All-append (RankWithin rank end) (if declared.present then members_from rank slaves else []) (line_from next groups)
-    (present-all (RankWithin rank end) declared.present (members_from rank slaves)
+    All-append (RankWithin rank end) (members_from rank (present_slaves declared)) (line_from next groups)
+    (present-all (RankWithin rank end) declared.present rank slaves
     (All-weaker (RankWithin rank next) (RankWithin rank end) (λ member within. (omega arith, omega arith)) (members_from rank slaves) (members-within rank slaves)))
     (All-weaker (RankWithin next (next + length (declared_slaves groups))) (RankWithin rank end) (λ member within. (omega arith, omega arith)) (line_from next groups) (line-within next groups))
 
@@ -55,9 +56,9 @@ line-ascends rank [] = AllPairs-nil RanksBelow
 line-ascends rank (declared ∷ groups) =
     let slaves = declared.group.slaves in
     let next = rank + length slaves in
-    AllPairs-append RanksBelow (if declared.present then members_from rank slaves else []) (line_from next groups)
-    (present-pairs RanksBelow declared.present (members_from rank slaves) (members-ascend rank slaves)) (line-ascends next groups)
-    (present-all (λ first. All (RanksBelow first) (line_from next groups)) declared.present (members_from rank slaves)
+    AllPairs-append RanksBelow (members_from rank (present_slaves declared)) (line_from next groups)
+    (present-pairs RanksBelow declared.present rank slaves (members-ascend rank slaves)) (line-ascends next groups)
+    (present-all (λ first. All (RanksBelow first) (line_from next groups)) declared.present rank slaves
     (All-weaker (RankWithin rank next) (λ first. All (RanksBelow first) (line_from next groups))
     (λ first before. All-weaker (RankWithin next (next + length (declared_slaves groups))) (RanksBelow first) (λ second behind. omega arith) (line_from next groups) (line-within next groups))
     (members_from rank slaves) (members-within rank slaves)))
@@ -68,7 +69,7 @@ line-slaves P rank [] all = All-nil (λ member. P member.slave)
 line-slaves P rank (declared ∷ groups) all =
     let slaves = declared.group.slaves in
     let next = rank + length slaves in
-    All-append (λ member. P member.slave) (if declared.present then members_from rank slaves else []) (line_from next groups)
-    (present-all (λ member. P member.slave) declared.present (members_from rank slaves)
+    All-append (λ member. P member.slave) (members_from rank (present_slaves declared)) (line_from next groups)
+    (present-all (λ member. P member.slave) declared.present rank slaves
     (All-map (λ member. P member.slave) ranked (enumerate_from rank slaves) (All-enumerate_from P rank slaves (All-head (λ declared. All P declared.group.slaves) declared groups all))))
     (line-slaves P next groups (All-tail (λ declared. All P declared.group.slaves) declared groups all))

@@ -10,7 +10,8 @@ use Rattle.hc_records.specs.declared.records.Area.{Area}
 use Rattle.hc_records.specs.declared.records.Slave.{Slave}
 use Rattle.hc_records.specs.Keys.{same_dir}
 use Rattle.hc_records.specs.Area.{width}
-use Rattle.hc_records.specs.Line.{Declared, State, line}
+use Rattle.hc_records.specs.declared.records.Declared.{Declared}
+use Rattle.hc_records.specs.Line.{State, line}
 use Rattle.hc_records.specs.TaskList.{belongs, keyed, task_list}
 use Rattle.hc_records.specs.Project.{is_wide, lowest_fault}
 use Rattle.hc_records.specs.Laws.{IsPackable}

@@ -26,16 +26,16 @@ offset-rises areas (suc more) datagram =
     let rest = offset-rises areas more datagram in
     rw next (omega arith)
 
-offset-le : (areas : List Placed) (low high : ℕ) → low ≤ high → datagram_offset areas low ≤ datagram_offset areas high
+pub offset-le : (areas : List Placed) (low high : ℕ) → low ≤ high → datagram_offset areas low ≤ datagram_offset areas high
 offset-le areas low high less =
     let sum : (high - low) + low ≡ high = omega arith in
     subst (λ datagram. datagram_offset areas low ≤ datagram_offset areas datagram) sum (offset-rises areas (high - low) low)
 
 -- an area of a task ends within its datagram's bytes
-abbrev EndsInDatagram : List Placed → Placed → Type 0
+abbrev pub EndsInDatagram : List Placed → Placed → Type 0
 EndsInDatagram areas area = area.bit + area.bits ≤ 8 * datagram_length areas area.datagram
 
-ends-in-datagram : (areas : List Placed) → All (EndsInDatagram areas) areas
+pub ends-in-datagram : (areas : List Placed) → All (EndsInDatagram areas) areas
 ends-in-datagram areas k d within =
     let area = get_or areas k d in
     let number = area.datagram in

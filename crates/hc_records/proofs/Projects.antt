@@ -26,6 +26,14 @@ project-inside groups none = none-holds (project_faults groups) none 0 (false, O
 pub project-narrow : (groups : List Group) → lowest_fault groups ≡ None → some_area is_wide groups ≡ false
 project-narrow groups none = none-holds (project_faults groups) none 7 (false, OutOfRange) (omega arith)
 
+fourth-false : (a b c d : Bool) → (a || b || c || d) ≡ false → d ≡ false
+fourth-false a b c true none = grind arith
+fourth-false a b c false none = refl
+
+pub project-slaves : (groups : List Group) → lowest_fault groups ≡ None → some_slave slave_outside groups ≡ false
+project-slaves groups none =
+    fourth-false (is_misplaced groups) (nat_lt MOST_GROUPS (length groups)) (nat_lt MOST_SLAVES (length (slaves_of groups))) (some_slave slave_outside groups) (project-inside groups none)
+
 third-false : (a b c d : Bool) → (a || b || c || d) ≡ false → c ≡ false
 third-false a b true d none = grind arith
 third-false a b false d none = refl

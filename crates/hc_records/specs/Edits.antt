@@ -12,7 +12,8 @@ use Rattle.hc_records.specs.declared.faults.EditFault.{EditFault}
 use Rattle.hc_records.specs.declared.faults.EditFault.TheVariants.{UnknownAlias, AlreadyPresent, NotPresent, Mandatory, UnknownStation, Absent, NoSuchArea, NoSuchTask, UnknownPdo, RepeatedPdo, AreaTooBig, TooManyDatagrams, EpochsSpent}
 use Rattle.hc_records.specs.Lists.{changed_at, has_repeat, lowest}
 use Rattle.hc_records.specs.Area.{width}
-use Rattle.hc_records.specs.Line.{Declared, State, Member, line}
+use Rattle.hc_records.specs.declared.records.Declared.{Declared}
+use Rattle.hc_records.specs.Line.{State, Member, has_address, is_at, line}
 use Rattle.hc_records.specs.Image.{datagram_count, task_places, tasks}
 
 -- a declared group has the alias
@@ -25,14 +26,14 @@ is_present state alias = list_any (λ declared. (declared.group.alias == alias) 
 
 -- a declared slave has the station address
 abbrev pub has_station : ℕ → List Slave → Bool
-has_station station slaves = list_any (λ slave. slave.station == station) slaves
+has_station station slaves = list_any (has_address station) slaves
 
 abbrev pub is_declared_station : State → ℕ → Bool
 is_declared_station state station = list_any (λ declared. has_station station declared.group.slaves) state.groups
 
 -- the slave of the line with a station address
 abbrev pub slave_at : State → ℕ → Option Member
-slave_at state station = find (λ member. member.slave.station == station) (line state)
+slave_at state station = find (is_at station) (line state)
 
 -- an area of that slave
 abbrev pub area_at : State → ℕ → ℕ → Option Area

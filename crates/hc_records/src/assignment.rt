@@ -37,7 +37,7 @@ fn capped_bits(entries: &[Entry]) -> u32
 }
 
 /// The entries of the offered PDO with an index, none where it isn't offered.
-fn offered_entries(offered: &[Pdo], index: u16) -> &[Entry]
+pub fn offered_entries(offered: &[Pdo], index: u16) -> &[Entry]
     ensures { result.now ≡ entries_at offered.now index }
 {
     for pdo in offered {

@@ -11,6 +11,7 @@ pub mod items;
 pub mod keys;
 pub mod laws;
 pub mod limits;
+pub mod line;
 mod names;
 pub mod project;
 mod ranges;

@@ -99,6 +99,15 @@ pub struct Group {
     pub slaves: Items<Slave>,
 }
 
+/// A declared group of a state, and whether it is present.
+#[derive(Debug, Drop)]
+pub struct Declared {
+    /// The group, with the assignments and tasks that it has now or will return with.
+    pub group: Group,
+    /// Whether its slaves are in the line.
+    pub present: bool,
+}
+
 impl Copied for Entry {
     fn copied(&self, _alloc: Global) -> Result<Self, AllocError> {
         Ok(*self)

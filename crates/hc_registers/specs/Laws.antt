@@ -1,10 +1,14 @@
--- What is written into a block is read from it. Each is the contract of a function of `laws`.
-use Rattle.std.specs.Prelude.{◌≡◌, ℕ, ◌+◌, ◌/◌, ◌%◌, ◌<◌, ◌≤◌, ◌^◌, slice_index}
+-- What is written into a block is read from it, and a datagram's counter is counted in one pass. Each is the contract of a function of `laws`.
+use Rattle.std.specs.Prelude.{◌≡◌, ℕ, ◌+◌, ◌/◌, ◌%◌, ◌<◌, ◌≤◌, ◌^◌, slice_index, sum_by, All, AllPairs, Contains, IsTrue, List, None}
 use Rattle.hc_records.specs.declared.limits.TheConstants.{MOST_AREA_BITS}
 use Rattle.hc_records.specs.declared.records.Area.{Area}
+use Rattle.hc_records.specs.declared.keys.Key.{Key}
+use Rattle.hc_records.specs.Keys.{is_before}
 use Rattle.hc_records.specs.Area.{width}
+use Rattle.hc_records.specs.Image.{counter_share}
 use Rattle.hc_registers.specs.declared.fmmu.Mapping.{Mapping}
 use Rattle.hc_registers.specs.Blocks.{IsMappable, activation, byte_count, control_of, last_bit, mapped_bytes, sync_manager_bytes, touched_bytes, type_of}
+use Rattle.hc_registers.specs.Counting.{counted_from}
 use Rattle.hc_registers.specs.Fields.{long_at, word_at}
 
 -- the fields of the sync manager block of an area
@@ -32,3 +36,9 @@ pub record FmmuFields (area : Area) (mapping : Mapping) : Type 0 where
 
 abbrev pub FmmusAreRead : Type 0
 FmmusAreRead = (area : Area) (mapping : Mapping) → area.phys < 2 ^ 16 → IsMappable area mapping → FmmuFields area mapping
+
+-- where keys ascend, and so do ranks that have each key's, what the slaves with these ranks add is what the areas add in their order
+abbrev pub AscendingKeysAreCounted : Type 0
+AscendingKeysAreCounted =
+    (keys : List Key) (ranks : List ℕ) → AllPairs (λ a b. IsTrue (is_before a b)) keys → AllPairs (λ a b. a < b) ranks
+    → All (λ key. Contains ranks key.rank) keys → sum_by (counter_share keys) ranks ≡ counted_from None keys

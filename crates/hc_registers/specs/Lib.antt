@@ -1,4 +1,5 @@
 pub mod Blocks
+pub mod Counting
 pub mod Fields
 pub mod Laws
 pub mod Rows

@@ -4,12 +4,11 @@ use Rattle.hc_records.specs.declared.records.Dir.{Dir}
 use Rattle.hc_records.specs.declared.records.Dir.TheVariants.{Out, In}
 use Rattle.hc_records.specs.declared.records.Area.{Area}
 use Rattle.hc_records.specs.declared.records.Slave.{Slave}
-use Rattle.hc_records.specs.declared.records.Group.{Group}
 use Rattle.hc_records.specs.declared.edit.Edit.{Edit}
 use Rattle.hc_records.specs.declared.edit.Edit.TheVariants.{Connect, Disconnect, Remap, Move}
 use Rattle.hc_records.specs.Line.{State, line, opened}
 use Rattle.hc_records.specs.Edits.{state_after}
-use Rattle.hc_registers.specs.Blocks.{LineBlock, line_blocks, moved}
+use Rattle.hc_registers.specs.Blocks.{line_blocks, moved}
 
 abbrev area_of : ℕ → Dir → ℕ → ℕ → Option ℕ → Area
 area_of sm dir phys bits variable = record {

@@ -4,6 +4,7 @@ ghost use Rattle.std.specs.Prelude.{◌≡◌, ◌≤◌, length, sum_by};
 ghost use Rattle.std.specs.List.{list_any};
 ghost use Rattle.hc_records.specs.Image.{counter_share, is_of};
 ghost use Rattle.hc_records.specs.declared.limits.TheConstants.{MOST_SLAVES};
+ghost use Rattle.hc_registers.specs.Counting.{added_share, weight};
 
 use hc_records::keys::Key;
 use hc_records::records::Dir;
@@ -37,6 +38,31 @@ pub fn expected_count(keys: &[Key], ranks: &[u16]) -> u16
         total += share(keys, *rank);
     }
     total
+}
+
+/// What an area of a direction adds to the working counter: 2 for outputs, 1 for inputs.
+fn weight(dir: Dir) -> u16
+    ensures value { result ≡ weight dir }
+    ensures low { result ≤ 2 }
+{
+    match dir {
+        Dir::Out => 2,
+        Dir::In => 1,
+    }
+}
+
+/// What the area with a key adds to the working counter of its datagram behind the area before it,
+/// if there is one: 2 for outputs and 1 for inputs, and 0 where both areas are of one slave and
+/// direction. A pass over a datagram's areas, whose keys ascend, that adds this from 0 ends with the
+/// datagram's expected counter, as `expected_count` gives it.
+pub fn added_count(before: Option<Key>, key: Key) -> u16
+    ensures value { result ≡ added_share before key }
+    ensures low { result ≤ 2 }
+{
+    match before {
+        Some(before) if before.rank == key.rank && before.dir == key.dir => 0,
+        _ => weight(key.dir),
+    }
 }
 
 /// The working counter of a register write that its slave has accepted.

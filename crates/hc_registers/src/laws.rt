@@ -1,6 +1,6 @@
-//! What follows from the definitions of the blocks: each function does nothing, and its contract is
-//! a law. Nobody calls it.
-ghost use Rattle.hc_registers.specs.Laws.{FmmusAreRead, SyncManagersAreRead};
+//! What follows from the definitions of the blocks and of the working counter: each function does
+//! nothing, and its contract is a law. Nobody calls it.
+ghost use Rattle.hc_registers.specs.Laws.{AscendingKeysAreCounted, FmmusAreRead, SyncManagersAreRead};
 
 /// The fields of an area's sync manager block are read as they were written: its start address, its
 /// length in bytes, its control and its activation; its status and its PDI control are 0.
@@ -11,4 +11,11 @@ pub fn sync_managers_are_read()
 /// The fields of a mapped area's FMMU block are read as they were written.
 pub fn fmmus_are_read()
     ensures { FmmusAreRead }
+{}
+
+/// Where keys ascend strictly, and so do ranks among which each key's is, the counter by slaves (for
+/// each rank 2 for its outputs and 1 for its inputs) is what the areas add one after another: 2 or 1,
+/// and nothing behind an area of the same slave and direction.
+pub fn ascending_keys_are_counted()
+    ensures { AscendingKeysAreCounted }
 {}

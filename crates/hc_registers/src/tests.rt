@@ -1,6 +1,6 @@
 //! Blocks of worked lines, with the bytes that their registers must hold.
 use crate::blocks::Block;
-use crate::counters::expected_count;
+use crate::counters::{added_count, expected_count};
 use crate::fmmu::{self, Mapping, fmmu_block};
 use crate::sync_manager::{self, sync_block};
 use hc_records::items::Items;
@@ -132,9 +132,12 @@ fn fields_are_read(rt: HostRuntime) {
     assert_eq!(rt; fmmu::activate(&block), 13);
 }
 
+fn key(dir: Dir, rank: u16, area: u8) -> Key {
+    Key { dir, rank, area }
+}
+
 #[test]
 fn counters_count_slaves(rt: HostRuntime) {
-    let key = |dir: Dir, rank: u16, area: u8| Key { dir, rank, area };
     let three_bits = [
         key(Dir::Out, 1, 0),
         key(Dir::Out, 1, 1),
@@ -149,4 +152,41 @@ fn counters_count_slaves(rt: HostRuntime) {
     ];
     assert_eq!(rt; expected_count(&and_an_input, &[1, 2]), 5);
     assert_eq!(rt; expected_count(&[], &[1, 2]), 0);
+}
+
+/// The counter of a datagram, by one pass over the keys of its areas.
+fn counted(keys: &[Key]) -> u64 {
+    let mut total = 0;
+    let mut before = None;
+    for key in keys {
+        total += u64::from(added_count(before, *key));
+        before = Some(*key);
+    }
+    total
+}
+
+/// Whether the pass and the count by slaves both give this counter, on a line of the ranks 1, 2 and 7.
+fn is_counter(keys: &[Key], counter: u16) -> bool {
+    expected_count(keys, &[1, 2, 7]) == counter && counted(keys) == u64::from(counter)
+}
+
+#[test]
+fn a_pass_counts_what_slaves_add(rt: HostRuntime) {
+    let [first, second] = [key(Dir::Out, 1, 0), key(Dir::Out, 1, 1)];
+    assert!(rt; is_counter(&[], 0));
+    assert!(rt; is_counter(&[first], 2));
+    assert!(rt; is_counter(&[first, second], 2));
+    assert!(rt; is_counter(&[first, key(Dir::In, 1, 2)], 3));
+    assert!(rt; is_counter(&[first, key(Dir::Out, 2, 0)], 4));
+    let line = [
+        first,
+        second,
+        key(Dir::Out, 7, 3),
+        key(Dir::In, 1, 2),
+        key(Dir::In, 2, 0),
+        key(Dir::In, 2, 1),
+        key(Dir::In, 7, 0),
+    ];
+    assert!(rt; is_counter(&line, 7));
+    assert!(rt; is_counter(&line[1..5], 6));
 }

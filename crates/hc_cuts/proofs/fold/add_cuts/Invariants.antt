@@ -1,7 +1,6 @@
 use Rattle.std.proofs.Common.{◌≡◌, ◌+◌, ◌≤◌, ◌++◌, length, drop}
-use Rattle.std.specs.Prelude.{All}
 use Rattle.hc_records.specs.declared.limits.TheConstants.{MOST_AREA_BITS, MOST_DATAGRAMS}
-use Rattle.hc_records.specs.Laws.{IsPackable, cuts_from}
+use Rattle.hc_records.specs.Laws.{cuts_from}
 use Rattle.hc_cuts.proofs.fold.add_cuts.Given as goal
 
 -- the keys so far, and those of what is left, are all; there is one for each datagram so far

@@ -1,9 +1,9 @@
-use Rattle.std.proofs.Common.{◌≡◌, ◌<◌, ◌≤◌, ◌-◌, ◌++◌, length, take, drop, arith, refl}
+use Rattle.std.proofs.Common.{◌-◌, ◌++◌, length, take, drop, arith, refl}
 use Rattle.std.proofs.lemmas.Result.{err_from_is_err_and}
 use Rattle.hc_records.specs.Laws.{cuts_from}
 use Rattle.hc_records.specs.declared.records.Dir.TheVariants.{Out}
 use Rattle.hc_records.specs.TaskList.{Keyed}
-use Rattle.hc_cuts.proofs.Firsts.{AddsAll, added-first_keys, count-added}
+use Rattle.hc_cuts.proofs.Firsts.{added-first_keys, count-added}
 use Rattle.hc_cuts.proofs.fold.fold_cuts.Goals as goal
 
 -- what stands for an element of an empty list

@@ -1,0 +1,9 @@
+pub mod Configurable
+pub mod Crowded
+pub mod Entries
+pub mod Found
+pub mod Order
+pub mod Pairs
+pub mod Ranks
+pub mod Sorted
+pub mod Tables

@@ -1,0 +1,53 @@
+-- The areas of a task beside their places.
+use Rattle.std.proofs.Common.{◌≡◌, ℕ, zero, suc, ◌+◌, ◌<◌, ◌≤◌, List, [], ◌∷◌, length, get_or, ap, arith}
+use Rattle.std.specs.Prelude.{map}
+use Rattle.hc_records.specs.declared.limits.TheConstants.{MOST_AREA_BITS}
+use Rattle.hc_records.specs.Area.{width}
+use Rattle.hc_records.specs.TaskList.{Keyed, Listed, keyed}
+use Rattle.hc_records.specs.Packing.{Placed}
+use Rattle.hc_records.specs.Image.{datagram_count}
+use Rattle.hc_records.proofs.Greatest.{greatest-all}
+use Rattle.hc_records.proofs.Packed.{area_of}
+use Rattle.hc_places.specs.Parts.{AreSendable}
+
+head-same : {X : Type 0} (x y : X) (xs ys : List X) → x ∷ xs ≡ y ∷ ys → x ≡ y
+head-same x y xs ys same = cc
+
+tail-same : {X : Type 0} (x y : X) (xs ys : List X) → x ∷ xs ≡ y ∷ ys → xs ≡ ys
+tail-same x y xs ys same = cc
+
+-- an area has the bits of its place
+pair-bits : (areas : List Listed) (places : List Placed) (i : ℕ) (d : Listed) (e : Placed) → map area_of places ≡ map keyed areas → i < length areas
+    → (get_or places i e).bits ≡ width (get_or areas i d).area
+pair-bits [] places i d e same within = absurd (omega arith)
+pair-bits (area ∷ areas) [] i d e same within = cc
+pair-bits (area ∷ areas) (place ∷ places) zero d e same within =
+    ap (λ (k : Keyed). k.1) (head-same (area_of place) (keyed area) (map area_of places) (map keyed areas) same)
+pair-bits (area ∷ areas) (place ∷ places) (suc i) d e same within =
+    pair-bits areas places i d e (tail-same (area_of place) (keyed area) (map area_of places) (map keyed areas) same) (omega arith)
+
+pair-within : (areas : List Listed) (places : List Placed) (i : ℕ) → map area_of places ≡ map keyed areas → i < length areas → i < length places
+pair-within [] places i same within = absurd (omega arith)
+pair-within (area ∷ areas) [] i same within = cc
+pair-within (area ∷ areas) (place ∷ places) zero same within = omega arith
+pair-within (area ∷ areas) (place ∷ places) (suc i) same within =
+    let rest = pair-within areas places i (tail-same (area_of place) (keyed area) (map area_of places) (map keyed areas) same) (omega arith) in omega arith
+
+-- an area that is met beside its place lies in one of the datagrams
+pub record MeetsPlace (listed : Listed) (placed : Placed) : Type 0 where
+  pub few : placed.datagram < 256
+  pub inside : placed.bit + width listed.area ≤ MOST_AREA_BITS
+
+pub pair-meets : (areas : List Listed) (places : List Placed) (i : ℕ) (listed : Listed) (placed : Placed) → AreSendable places
+    → map area_of places ≡ map keyed areas → i < length areas
+    → listed ≡ get_or areas i listed → placed ≡ get_or places i placed → MeetsPlace listed placed
+pair-meets areas places i listed placed sendable same within is stands =
+    let inside = pair-within areas places i same within in
+    let number : (get_or places i placed).datagram + 1 ≤ datagram_count places = greatest-all (λ area. area.datagram + 1) 0 places i placed inside in
+    let lies = sendable.inside i placed inside in
+    let few = sendable.few in
+    let bits = pair-bits areas places i listed placed same within in
+    let number' : placed.datagram ≡ (get_or places i placed).datagram = ap (λ (p : Placed). p.datagram) stands in
+    let bit' : placed.bit ≡ (get_or places i placed).bit = ap (λ (p : Placed). p.bit) stands in
+    let width' : width listed.area ≡ width (get_or areas i listed).area = ap (λ (l : Listed). width l.area) is in
+    record { few = omega arith; inside = omega (arith, lies) }

@@ -1,0 +1,175 @@
+-- A stable sort by number puts rows in the order that the table keeps.
+use Rattle.std.proofs.Common.{◌≡◌, ℕ, zero, suc, ◌≤◌, Bool, true, false, cond, List, [], ◌∷◌, filter, nat_cmp, is_lt, refl, sym, ap, ◌∙◌, arith, suc-le-suc, zero-le, if◌then◌else◌}
+use Rattle.std.specs.Prelude.{All, nat_lt, find, Option, Some, None, ◌==◌}
+use Rattle.std.proofs.lemmas.Bool.{cond-true, eq-eqb, eqb-true}
+use Rattle.std.proofs.lemmas.Bool.Decides.{nat_tests}
+use Rattle.std.proofs.lemmas.List.Elements.{All-nil, All-cons, All-head, All-tail, All-weaker, filter_agree}
+use Rattle.std.specs.List.Sorted.{ties, IsNonDecreasingBy, IsStableByKey}
+use Rattle.hc_records.specs.declared.records.Dir.TheVariants.{Out}
+use Rattle.hc_places.specs.Table.{Row, by_number, put}
+
+-- rows of a number
+abbrev numbered : ℕ → Row → Bool
+numbered number row = row.0 == number
+
+-- rows whose numbers are no lower than the first one's, and so on
+abbrev AreAtLeast : ℕ → List Row → Type 0
+AreAtLeast number rows = All (λ row. number ≤ row.0) rows
+
+abbrev Rises : List Row → Type 0
+Rises [] = Unit {0}
+Rises (row ∷ rows) = AreAtLeast row.0 rows × Rises rows
+
+-- a row that is put among others keeps the rows of each number, in their order
+
+kept-both : (first second : Bool) (row other : Row) (with without : List Row) → (first ≡ true → second ≡ true → zero ≡ suc zero)
+    → with ≡ cond first (row ∷ without) without
+    → cond second (other ∷ with) with ≡ cond first (row ∷ cond second (other ∷ without) without) (cond second (other ∷ without) without)
+kept-both true true row other with without apart is = let no = apart refl refl in cc
+kept-both true false row other with without apart is = is
+kept-both false true row other with without apart is = ap (λ rows. other ∷ rows) is
+kept-both false false row other with without apart is = is
+
+numbers-apart : (low high number : ℕ) → nat_lt low high ≡ true → (high == number) ≡ true → (low == number) ≡ true → zero ≡ suc zero
+numbers-apart low high number less first second = grind (arith, nat_tests)
+
+filter-put-by : (past : Bool) (number : ℕ) (row other : Row) (others : List Row) → nat_lt other.0 row.0 ≡ past
+    → filter (numbered number) (put row others) ≡ filter (numbered number) (row ∷ others)
+    → filter (numbered number) (if past then other ∷ put row others else row ∷ other ∷ others) ≡ filter (numbered number) (row ∷ other ∷ others)
+filter-put-by true number row other others test rest =
+    kept-both (row.0 == number) (other.0 == number) row other (filter (numbered number) (put row others)) (filter (numbered number) others)
+    (numbers-apart other.0 row.0 number test) rest
+filter-put-by false number row other others test rest = refl
+
+filter-put : (number : ℕ) (row : Row) (rows : List Row) → filter (numbered number) (put row rows) ≡ filter (numbered number) (row ∷ rows)
+filter-put number row [] = refl
+filter-put number row (other ∷ others) = filter-put-by (nat_lt other.0 row.0) number row other others refl (filter-put number row others)
+
+pub filter-by_number : (number : ℕ) (rows : List Row) → filter (numbered number) (by_number rows) ≡ filter (numbered number) rows
+filter-by_number number [] = refl
+filter-by_number number (row ∷ rows) =
+    filter-put number row (by_number rows)
+    ∙ ap (λ kept. cond (row.0 == number) (row ∷ kept) kept) (filter-by_number number rows)
+
+-- the first row of a number is the first that is kept
+first : List Row → Option Row
+first [] = None
+first (row ∷ rows) = Some row
+
+first-by : (passes : Bool) (row : Row) (found : Option Row) (kept : List Row) → found ≡ first kept → cond passes (Some row) found ≡ first (cond passes (row ∷ kept) kept)
+unfolding first
+first-by true row found kept is = refl
+first-by false row found kept is = is
+
+find-first : (number : ℕ) (rows : List Row) → find (numbered number) rows ≡ first (filter (numbered number) rows)
+unfolding first
+find-first number [] = refl
+find-first number (row ∷ rows) = first-by (row.0 == number) row (find (numbered number) rows) (filter (numbered number) rows) (find-first number rows)
+
+pub find-by_number : (number : ℕ) (rows : List Row) → find (numbered number) (by_number rows) ≡ find (numbered number) rows
+find-by_number number rows =
+    find-first number (by_number rows) ∙ ap first (filter-by_number number rows) ∙ sym (find-first number rows)
+
+-- rows that are put in their place rise
+
+put-least : (number : ℕ) (past : Bool) (row other : Row) (rest others : List Row) → number ≤ row.0 → AreAtLeast number (other ∷ others) → AreAtLeast number rest
+    → AreAtLeast number (if past then other ∷ rest else row ∷ other ∷ others)
+put-least number true row other rest others low all put = All-cons (λ row. number ≤ row.0) other rest (All-head (λ row. number ≤ row.0) other others all) put
+put-least number false row other rest others low all put = All-cons (λ row. number ≤ row.0) row (other ∷ others) low all
+
+least-put : (number : ℕ) (row : Row) (rows : List Row) → number ≤ row.0 → AreAtLeast number rows → AreAtLeast number (put row rows)
+least-put number row [] low all = All-cons (λ row. number ≤ row.0) row [] low all
+least-put number row (other ∷ others) low all =
+    put-least number (nat_lt other.0 row.0) row other (put row others) others low all
+    (least-put number row others low (All-tail (λ row. number ≤ row.0) other others all))
+
+past-less : (a b : ℕ) → nat_lt a b ≡ true → a ≤ b
+past-less a b test = grind (arith, nat_tests)
+
+not-past : (a b : ℕ) → nat_lt a b ≡ false → b ≤ a
+not-past a b test = grind (arith, nat_tests)
+
+rises-put-by : (past : Bool) (row other : Row) (others : List Row) → nat_lt other.0 row.0 ≡ past → AreAtLeast other.0 others → Rises others → Rises (put row others)
+    → Rises (if past then other ∷ put row others else row ∷ other ∷ others)
+rises-put-by true row other others test least rises put-rises = (least-put other.0 row others (past-less other.0 row.0 test) least, put-rises)
+rises-put-by false row other others test least rises put-rises =
+    let low = not-past other.0 row.0 test in (
+      All-cons (λ later. row.0 ≤ later.0) other others low (All-weaker (λ later. other.0 ≤ later.0) (λ later. row.0 ≤ later.0) (λ later less. omega arith) others least),
+      (least, rises),
+    )
+
+rises-put : (row : Row) (rows : List Row) → Rises rows → Rises (put row rows)
+rises-put row [] rises = (All-nil (λ later. row.0 ≤ later.0), tt)
+rises-put row (other ∷ others) rises = rises-put-by (nat_lt other.0 row.0) row other others refl rises.0 rises.1 (rises-put row others rises.1)
+
+rises-by_number : (rows : List Row) → Rises (by_number rows)
+rises-by_number [] = tt
+rises-by_number (row ∷ rows) = rises-put row (by_number rows) (rises-by_number rows)
+
+-- rows in order that have the same rows of each number are the same
+
+rises-sorted : (rows : List Row) → IsNonDecreasingBy (λ row. row.0) rows → Rises rows
+rises-sorted [] sorted = tt
+rises-sorted (row ∷ rows) sorted = (
+  (λ k d within. sorted 0 (suc k) d zero-le (suc-le-suc within)),
+  rises-sorted rows (λ i j d low within. sorted (suc i) (suc j) d (suc-le-suc low) (suc-le-suc within)),
+)
+
+filter-own : (row : Row) (rows : List Row) → filter (numbered row.0) (row ∷ rows) ≡ row ∷ filter (numbered row.0) rows
+filter-own row rows = cond-true _ _ _ (eq-eqb row.0 row.0 refl)
+
+-- a number that is among them is no lower
+least-found-by : (passes : Bool) (number least : ℕ) (row : Row) (rows kept : List Row) → (row.0 == number) ≡ passes → least ≤ row.0 → (filter (numbered number) rows ≡ kept → least ≤ number)
+    → cond passes (row ∷ filter (numbered number) rows) (filter (numbered number) rows) ≡ kept → least ≤ number
+least-found-by true number least row rows kept test low later is = let same = eqb-true row.0 number test in omega arith
+least-found-by false number least row rows kept test low later is = later is
+
+least-found : (number least : ℕ) (rows : List Row) (one : Row) (more : List Row) → AreAtLeast least rows → filter (numbered number) rows ≡ one ∷ more → least ≤ number
+least-found number least [] one more all is = cc
+least-found number least (row ∷ rows) one more all is =
+    least-found-by (row.0 == number) number least row rows (one ∷ more) refl (All-head (λ row. least ≤ row.0) row rows all)
+    (least-found number least rows one more (All-tail (λ row. least ≤ row.0) row rows all)) is
+
+tails-by : (passes : Bool) (one two : Row) (ones twos : List Row) → one ≡ two → cond passes (one ∷ ones) ones ≡ cond passes (two ∷ twos) twos → ones ≡ twos
+tails-by true one two ones twos head is = cc
+tails-by false one two ones twos head is = is
+
+tails : (one two : Row) (ones twos : List Row) → one ≡ two → ((number : ℕ) → filter (numbered number) (one ∷ ones) ≡ filter (numbered number) (two ∷ twos))
+    → (number : ℕ) → filter (numbered number) ones ≡ filter (numbered number) twos
+tails one two ones twos head same number =
+    tails-by (one.0 == number) one two (filter (numbered number) ones) (filter (numbered number) twos) head
+    (same number ∙ ap (λ row. cond (row.0 == number) (two ∷ filter (numbered number) twos) (filter (numbered number) twos)) (sym head))
+
+same-rows : (ones twos : List Row) → Rises ones → Rises twos → ((number : ℕ) → filter (numbered number) ones ≡ filter (numbered number) twos) → ones ≡ twos
+same-rows [] [] first second same = refl
+same-rows [] (two ∷ twos) first second same = let clash = same two.0 ∙ filter-own two twos in cc
+same-rows (one ∷ ones) [] first second same = let clash = sym (same one.0) ∙ filter-own one ones in cc
+same-rows (one ∷ ones) (two ∷ twos) first second same =
+    let up = least-found one.0 two.0 (two ∷ twos) one _ (All-cons (λ row. two.0 ≤ row.0) two twos (omega arith) second.0) (sym (same one.0) ∙ filter-own one ones) in
+    let down = least-found two.0 one.0 (one ∷ ones) two _ (All-cons (λ row. one.0 ≤ row.0) one ones (omega arith) first.0) (same two.0 ∙ filter-own two twos) in
+    let number : two.0 ≡ one.0 = omega arith in
+    let heads = sym (filter-own one ones) ∙ same one.0 ∙ cond-true _ _ _ (eq-eqb two.0 one.0 number) in
+    let head : one ≡ two = cc in
+    let rest = same-rows ones twos first.1 second.1 (tails one two ones twos head same) in
+    cc
+
+-- the ties of a stable sort are the rows of one number
+ties-numbered : (a b : ℕ) → ties (λ x y. is_lt (nat_cmp x y)) a b ≡ (b == a)
+ties-numbered a b = grind (arith, nat_tests)
+
+-- a row of a number, whatever its place
+abbrev row_of : ℕ → Row
+row_of number = (number, record { task = 0; datagram = 0; bit = 0; bits = 0; dir = Out })
+
+abbrev tied_with : ℕ → Row → Bool
+tied_with number = ties (λ (a b : Row). is_lt (nat_cmp a.0 b.0)) (row_of number)
+
+pub sorted-by_number : (rows sorted : List Row) → IsNonDecreasingBy (λ row. row.0) sorted → IsStableByKey (λ (row : Row). row.0) nat_cmp rows sorted → sorted ≡ by_number rows
+sorted-by_number rows sorted rises stable =
+    same-rows sorted (by_number rows) (rises-sorted sorted rises) (rises-by_number rows)
+    (λ number.
+    let tied : (row : Row) → tied_with number row ≡ numbered number row = λ row. ties-numbered number row.0 in
+    sym (filter_agree (tied_with number) (numbered number) tied sorted)
+    ∙ stable (row_of number)
+    ∙ filter_agree (tied_with number) (numbered number) tied rows
+    ∙ sym (filter-by_number number rows))

@@ -1,0 +1,25 @@
+use Rattle.std.proofs.Common.{◌≡◌, ◌+◌, ◌<◌, ◌++◌, ◌∙◌, ap, sym, length, drop, get_or, arith}
+use Rattle.std.specs.List.{flat_map}
+use Rattle.hc_records.specs.Area.{entries_at}
+use Rattle.hc_places.specs.Parts.{row_at}
+use Rattle.hc_places.proofs.Entries.{AddsEntries, added-bits, added-rows, entries-drop}
+use Rattle.hc_places.proofs.variables.add_area.Goals as goal
+
+pub loop-index-preserved : goal.loop-index-preserved
+loop-index-preserved c =
+    let area = c.area-area.result.now in
+    let i = c.loop-index.index-index in
+    let entries = c.offered_entries-entries.result.now in
+    let within : i < length area.assigned = omega (arith, ap length c.as_slice-index-items.ensures) in
+    let is : entries ≡ entries_at area.offered (get_or area.assigned i 0) = cc in
+    let rest = flat_map (entries_at area.offered) (drop (i + 1) area.assigned) in
+    let adds : AddsEntries (row_at c.args.task c.datagram.result area.dir) c.loop-index.rows.items c.add_entries.new.rows.items c.loop-index.bit c.in_ok-bit.bit
+    entries rest (flat_map (entries_at area.offered) (drop i area.assigned)) = record {
+      whole_is = entries-drop area.offered area.assigned i within ∙ ap (λ own. own ++ rest) (sym is);
+      adds = c.in_ok-bit.ensures.rows;
+      behind = c.in_ok-bit.ensures.behind;
+    } in
+    record {
+      rows = added-rows _ _ _ _ _ _ _ _ _ adds c.loop-index.invariant.rows;
+      bits = added-bits _ _ _ _ _ _ _ _ _ adds c.loop-index.invariant.bits;
+    }

@@ -1,0 +1,72 @@
+-- The table of a task from the places of its areas, as it is worked out.
+use Rattle.std.specs.Prelude.{◌≡◌, ◌≢◌, ℕ, ◌<◌, ◌≤◌, All, List, None, length, map}
+use Rattle.std.specs.List.{range_with_len}
+use Rattle.hc_records.specs.declared.limits.TheConstants.{MOST_AREA_BITS, MOST_AREAS, MOST_DATAGRAMS, MOST_SLAVES}
+use Rattle.hc_records.specs.declared.keys.Key.{Key}
+use Rattle.hc_records.specs.declared.records.Dir.{Dir}
+use Rattle.hc_records.specs.declared.faults.EditFault.{EditFault}
+use Rattle.hc_records.specs.declared.faults.EditFault.TheVariants.{Memory, TooManyDatagrams}
+use Rattle.hc_records.specs.Area.{width}
+use Rattle.hc_records.specs.Line.{Member}
+use Rattle.hc_records.specs.TaskList.{task_list}
+use Rattle.hc_records.specs.Packing.{Placed}
+use Rattle.hc_records.specs.Image.{datagram_count, datagram_length, datagram_offset, expected_counter, input_length, inside, logical_address, output_length, task_places}
+use Rattle.hc_records.specs.Laws.{Ascends, IsPackable, LiesInside}
+use Rattle.hc_registers.specs.Counting.{counted_from}
+use Rattle.hc_places.specs.declared.table.Datagram.{Datagram}
+use Rattle.hc_places.specs.Table.{Row, TaskTable}
+
+-- the keys of the areas that lie in a datagram
+abbrev pub keys_inside : ℕ → List Placed → List Key
+keys_inside d areas = map (λ area. area.key) (inside d areas)
+
+-- what the areas of a datagram add to its working counter, in their order
+abbrev pub counted_inside : ℕ → List Placed → ℕ
+counted_inside d areas = counted_from None (keys_inside d areas)
+
+abbrev pub datagram_at : ℕ → List Placed → ℕ → Datagram
+datagram_at task areas d = record {
+  address = logical_address task d;
+  length = datagram_length areas d;
+  expected = counted_inside d areas;
+  offset = datagram_offset areas d;
+}
+
+abbrev pub datagrams_of : ℕ → List Placed → List Datagram
+datagrams_of task areas = map (datagram_at task areas) (range_with_len 0 (datagram_count areas))
+
+abbrev pub table_at : ℕ → List Placed → TaskTable
+table_at task areas = record {
+  datagrams = datagrams_of task areas;
+  outputs = output_length areas;
+  inputs = input_length areas;
+}
+
+-- the row of a variable of an area, with its first bit and its bits
+abbrev pub row_at : ℕ → ℕ → Dir → ℕ × (ℕ × ℕ) → Row
+row_at task datagram dir found =
+    (found.0, record { task = task; datagram = datagram; bit = found.1.0; bits = found.1.1; dir = dir })
+
+-- places whose datagrams can be sent: at most 16, none of which is too long or counts too many slaves
+pub record AreSendable (areas : List Placed) : Type 0 where
+  pub few : datagram_count areas ≤ MOST_DATAGRAMS
+  pub inside : All LiesInside areas
+  pub counted : (d : ℕ) → counted_inside d areas < 65536
+
+-- a fault other than want of memory names a task that needs more than 16 datagrams
+pub record IsRefusal (task : ℕ) (areas : List Placed) (fault : EditFault) : Type 0 where
+  pub names : fault ≢ Memory → fault ≡ TooManyDatagrams task
+  pub crowded : fault ≢ Memory → MOST_DATAGRAMS < datagram_count areas
+
+-- a slave's areas are few, and none is wider than a datagram
+pub record IsListable (member : Member) : Type 0 where
+  pub few : length member.slave.areas ≤ MOST_AREAS
+  pub narrow : All (λ area. width area ≤ MOST_AREA_BITS) member.slave.areas
+
+-- what holds of the line of a project's groups
+pub record IsConfigurable (line : List Member) : Type 0 where
+  pub few : length line ≤ MOST_SLAVES
+  pub listable : All IsListable line
+  pub packable : (task : ℕ) → All IsPackable (task_list task line)
+  pub ascends : (task : ℕ) → Ascends (task_list task line)
+  pub counted : (task d : ℕ) → counted_inside d (task_places task line) ≡ expected_counter task d line

@@ -1,0 +1,77 @@
+-- The whole table of a worked line, computed by the definitions: a wrong definition fails here.
+use Rattle.std.specs.Prelude.{◌≡◌, ℕ, List, [], ◌∷◌, Some, None, refl}
+use Rattle.hc_records.specs.declared.records.Dir.TheVariants.{Out, In}
+use Rattle.hc_records.specs.declared.records.Dir.{Dir}
+use Rattle.hc_records.specs.declared.records.Area.{Area}
+use Rattle.hc_records.specs.Area.{Entry}
+use Rattle.hc_records.specs.Image.{VariablePlace}
+use Rattle.hc_records.specs.Line.{Member}
+use Rattle.hc_places.specs.Table.{TaskTable, table_of}
+
+-- an area of a task with one PDO of these entries, which is assigned
+abbrev area_of : ℕ → Dir → List Entry → Area
+area_of task dir entries = record {
+  sm = 0;
+  dir = dir;
+  phys = 0x1000;
+  offered = record { index = 0x1600; entries = entries } ∷ [];
+  assigned = 0x1600 ∷ [];
+  task = task;
+}
+
+-- Two slaves. In task 0 they have three output areas of 3 bits, the second of which is a gap of 2 bits
+-- and a variable, and an input of 1 bit, which begins a byte; in task 1 the second one has an input of
+-- 2 bytes. Variables are numbered out of line order.
+abbrev two_slaves : List Member
+two_slaves =
+    record {
+      rank = 1;
+      slave = record {
+        station = 1001;
+        areas = area_of 0 Out ((Some 7, 3) ∷ []) ∷ area_of 0 Out ((None, 2) ∷ (Some 5, 1) ∷ []) ∷ area_of 0 In ((Some 9, 1) ∷ []) ∷ [];
+      };
+    }
+    ∷ record {
+      rank = 2;
+      slave = record { station = 1002; areas = area_of 1 In ((Some 8, 16) ∷ []) ∷ area_of 0 Out ((Some 6, 3) ∷ []) ∷ [] };
+    }
+    ∷ []
+
+abbrev at : ℕ → ℕ → ℕ → Dir → VariablePlace
+at task bit bits dir = record { task = task; datagram = 0; bit = bit; bits = bits; dir = dir }
+
+abbrev none : TaskTable
+none = record { datagrams = []; outputs = 0; inputs = 0 }
+
+-- the first slave writes and reads in task 0's datagram and the second one writes: 3 and 2; in task 1's the second one reads
+two_slaves_table : table_of two_slaves ≡ record {
+  tasks =
+      record { datagrams = record { address = 0x0100_0000; length = 3; expected = 5; offset = 0 } ∷ []; outputs = 2; inputs = 1 }
+      ∷ record { datagrams = record { address = 0x0200_0000; length = 2; expected = 1; offset = 0 } ∷ []; outputs = 0; inputs = 2 }
+      ∷ none ∷ none ∷ none ∷ none ∷ none ∷ none ∷ [];
+  variables =
+      (5, at 0 5 1 Out) ∷ (6, at 0 6 3 Out) ∷ (7, at 0 0 3 Out) ∷ (8, at 1 0 16 In) ∷ (9, at 0 16 1 In) ∷ [];
+}
+two_slaves_table = refl
+
+-- An output area of a whole datagram, and one of a byte behind it, which begins the second datagram.
+abbrev two_datagrams : List Member
+two_datagrams =
+    record { rank = 1; slave = record { station = 1001; areas = area_of 0 Out ((None, 11888) ∷ []) ∷ [] } }
+    ∷ record { rank = 2; slave = record { station = 1002; areas = area_of 0 Out ((Some 3, 8) ∷ []) ∷ [] } }
+    ∷ []
+
+two_datagrams_table : table_of two_datagrams ≡ record {
+  tasks =
+      record {
+        datagrams =
+            record { address = 0x0100_0000; length = 1486; expected = 2; offset = 0 }
+            ∷ record { address = 0x0100_0800; length = 1; expected = 2; offset = 1486 }
+            ∷ [];
+        outputs = 1487;
+        inputs = 0;
+      }
+      ∷ none ∷ none ∷ none ∷ none ∷ none ∷ none ∷ none ∷ [];
+  variables = (3, record { task = 0; datagram = 1; bit = 0; bits = 8; dir = Out }) ∷ [];
+}
+two_datagrams_table = refl

@@ -1,0 +1,69 @@
+-- The table of a line: the datagrams and the parts of its tasks, and the places of its variables.
+use Rattle.std.specs.Prelude.{◌≡◌, ℕ, ◌==◌, nat_lt, if◌then◌else◌, List, [], ◌∷◌, map, find, slice_get, option_and_then, option_map, Option}
+use Rattle.std.specs.Option.{option_map_or}
+use Rattle.std.specs.List.{flat_map, range_with_len}
+use Rattle.hc_records.specs.Line.{Member}
+use Rattle.hc_records.specs.Image.{VariablePlace, task_places, datagram_count, datagram_length, datagram_offset, expected_counter, input_length, logical_address, output_length, task_variables, tasks, variable_place}
+use Rattle.hc_places.specs.declared.table.Datagram.{Datagram}
+
+-- a datagram of a task: its logical address, its length in bytes, its expected working counter, and its offset in the task's image
+abbrev pub datagram_of : List Member → ℕ → ℕ → Datagram
+datagram_of line task d = record {
+  address = logical_address task d;
+  length = datagram_length (task_places task line) d;
+  expected = expected_counter task d line;
+  offset = datagram_offset (task_places task line) d;
+}
+
+-- a task: its datagrams, and the bytes of its outputs and of its inputs
+pub record TaskTable : Type 0 where
+  pub datagrams : List Datagram
+  pub outputs : ℕ
+  pub inputs : ℕ
+
+abbrev pub task_table : List Member → ℕ → TaskTable
+task_table line task = record {
+  datagrams = map (datagram_of line task) (range_with_len 0 (datagram_count (task_places task line)));
+  outputs = output_length (task_places task line);
+  inputs = input_length (task_places task line);
+}
+
+-- a variable's number and its place
+abbrev pub Row : Type 0
+Row = ℕ × VariablePlace
+
+-- rows in the order of their numbers; of two with one number the earlier stays before the other
+abbrev pub put : Row → List Row → List Row
+put row [] = row ∷ []
+put row (other ∷ others) = if nat_lt other.0 row.0 then other ∷ put row others else row ∷ other ∷ others
+
+abbrev pub by_number : List Row → List Row
+by_number [] = []
+by_number (row ∷ rows) = put row (by_number rows)
+
+-- the eight tasks, and the variables in the order of their numbers
+pub record Table : Type 0 where
+  pub tasks : List TaskTable
+  pub variables : List Row
+
+abbrev pub table_of : List Member → Table
+table_of line = record {
+  tasks = map (task_table line) tasks;
+  variables = by_number (flat_map (task_variables line) tasks);
+}
+
+-- what a table answers
+
+abbrev pub place_in : Table → ℕ → Option VariablePlace
+place_in table variable = option_map (λ row. row.1) (find (λ row. row.0 == variable) table.variables)
+
+abbrev pub datagram_in : Table → ℕ → ℕ → Option Datagram
+datagram_in table task d = option_and_then (λ found. slice_get found.datagrams d) (slice_get table.tasks task)
+
+-- the bytes of the outputs, and of the inputs, of a task's image
+abbrev pub part_in : Table → ℕ → ℕ × ℕ
+part_in table task = option_map_or (λ found. (found.outputs, found.inputs)) (slice_get table.tasks task) (0, 0)
+
+-- in the table of a line each variable has its place in the line
+abbrev pub TablesHavePlaces : Type 0
+TablesHavePlaces = (line : List Member) (variable : ℕ) → place_in (table_of line) variable ≡ variable_place variable line

@@ -1,0 +1,14 @@
+//! Where everything of a line stands: the areas in their datagrams, the datagrams in the image of a
+//! task, and the variables in both. The plan configures a line by it; the core and the views look
+//! places up.
+#![tactic(auto)]
+
+mod areas;
+pub mod configure;
+mod datagrams;
+pub mod laws;
+pub mod layout;
+pub mod table;
+#[cfg(test)]
+mod tests;
+mod variables;

@@ -1,0 +1,176 @@
+//! The table of a line, in which tasks look up their datagrams and their variables.
+ghost use Rattle.std.specs.Prelude.{◌≡◌, ◌==◌, false, find, nat_lt, OnOk, option_map, true};
+ghost use Rattle.std.specs.List.Sorted.{IsNonDecreasingBy, IsPartitionPoint};
+ghost use Rattle.hc_places.specs.Table.{by_number};
+
+use arrayvec::ArrayVec;
+use hc_records::items::{Copied, Items};
+use hc_records::records::{Dir, VarId};
+use std::alloc::{AllocError, Global};
+use std::marker::Model;
+
+/// Where a variable stands.
+#[derive(Clone, Copy, Debug, PartialEq, Eq)]
+pub struct Place {
+    /// The task whose datagrams carry it, 0 to 7.
+    pub task: u8,
+    /// The number of its datagram in the task, 0 to 15.
+    pub datagram: u8,
+    /// Its first bit in the datagram's data, counted from the least significant bit of byte 0.
+    pub bit: u16,
+    /// Its bits, 1 to 64.
+    pub bits: u8,
+    /// The direction of its area.
+    pub dir: Dir,
+}
+
+impl Model for Place {
+    ghost use Rattle.hc_records.specs.Image.{VariablePlace};
+
+    ghost Value = { VariablePlace };
+
+    ghost view = { λ place. record { task = place.task; datagram = place.datagram; bit = place.bit; bits = place.bits; dir = place.dir } };
+
+    ghost inverse = { λ place. record { task = place.task; datagram = place.datagram; bit = place.bit; bits = place.bits; dir = place.dir } };
+}
+
+/// A datagram of a task.
+#[derive(Clone, Copy, Debug, Default, PartialEq, Eq)]
+pub struct Datagram {
+    /// Its logical address.
+    pub address: u32,
+    /// The bytes of its data, 1 to 1,486.
+    pub length: u16,
+    /// The working counter that it comes back with when every slave of the line has processed it.
+    pub expected: u16,
+    /// The bytes of the task's earlier datagrams: where its data stand in the task's image.
+    pub offset: u16,
+}
+
+/// The datagrams of a task, and how many bytes of its image are outputs and inputs.
+#[derive(Debug, Drop)]
+pub(crate) struct TaskTable {
+    pub(crate) datagrams: ArrayVec<Datagram, 16>,
+    pub(crate) outputs: u16,
+    pub(crate) inputs: u16,
+}
+
+impl Model for TaskTable {
+    ghost use Rattle.hc_places.specs.Table.{TaskTable};
+
+    ghost Value = { TaskTable };
+
+    ghost view = { λ task. record { datagrams = task.datagrams.items; outputs = task.outputs; inputs = task.inputs } };
+}
+
+/// The datagrams and the parts of the eight tasks, and the place of each variable of a line.
+#[derive(Debug, Drop)]
+pub struct Places {
+    tasks: Items<TaskTable>,
+    variables: Vec<(VarId, Place)>,
+}
+
+impl Model for Places {
+    ghost use Rattle.hc_places.specs.Table.{Table};
+    ghost use Rattle.std.specs.List.Sorted.{IsNonDecreasingBy};
+
+    ghost Value = { Table };
+
+    ghost view = { λ places. record { tasks = places.tasks; variables = places.variables.items } };
+
+    ghost invariant = { λ places. IsNonDecreasingBy (λ row. row.0) places.variables.items };
+}
+
+impl Copied for TaskTable {
+    fn copied(&self, _alloc: Global) -> Result<TaskTable, AllocError> {
+        let mut datagrams = ArrayVec::new();
+        for datagram in self.datagrams.as_slice() {
+            datagrams.push(*datagram);
+        }
+        Ok(TaskTable {
+            datagrams,
+            outputs: self.outputs,
+            inputs: self.inputs,
+        })
+    }
+}
+
+/// Puts rows in the order of their numbers; those of one number stay in their order. `AllocError`
+/// where the sort's memory was refused.
+fn sort_rows(rows: &mut Vec<(VarId, Place)>) -> Result<(), AllocError>
+    ensures sorted { OnOk result (rows.new.items ≡ by_number rows.old.items) }
+    ensures order { OnOk result (IsNonDecreasingBy (λ row. row.0) rows.new.items) }
+{
+    rows.sort_by_key(|row| row.0.number())
+}
+
+/// How many rows have a lower number than a variable.
+fn count_below(rows: &[(VarId, Place)], variable: VarId) -> usize
+    requires { IsNonDecreasingBy (λ row. row.0) rows.now }
+    ensures { IsPartitionPoint (λ row. nat_lt row.0 variable ≡ true) (λ row. nat_lt row.0 variable ≡ false) rows.now result }
+{
+    rows.partition_point(|row| row.0.number() < variable.number())
+}
+
+/// The place of a variable among rows in the order of their numbers.
+fn find_place(rows: &[(VarId, Place)], variable: VarId) -> Option<Place>
+    requires { IsNonDecreasingBy (λ row. row.0) rows.now }
+    ensures { result ≡ option_map (λ row. row.1) (find (λ row. row.0 == variable) rows.now) }
+{
+    let row = *rows.get(count_below(rows, variable))?;
+    if row.0 == variable { Some(row.1) } else { None }
+}
+
+impl Places {
+    ghost use Rattle.std.specs.Prelude.{◌≡◌, IfOk};
+    ghost use Rattle.hc_places.specs.Table.{by_number, datagram_in, part_in, place_in};
+
+    /// The table of tasks and of rows in any order, which are sorted. `AllocError` where the sort's
+    /// memory was refused.
+    pub(crate) fn of(tasks: Vec<TaskTable>, rows: Vec<(VarId, Place)>) -> Result<Places, AllocError>
+        ensures { IfOk result (λ places. places ≡ record { tasks = tasks.items; variables = by_number rows.items }) }
+    {
+        let mut variables = rows;
+        sort_rows(&mut variables)?;
+        Ok(Places {
+            tasks: Items::of(tasks),
+            variables,
+        })
+    }
+
+    /// Where a variable stands; none where no assigned entry of the line has it.
+    pub fn place(&self, variable: VarId) -> Option<Place>
+        ensures { result ≡ place_in self.now variable }
+    {
+        find_place(self.variables.as_slice(), variable)
+    }
+
+    /// The datagram of a task with a number; none where the task has fewer, or there is no such task.
+    pub fn datagram(&self, task: u8, number: u8) -> Option<Datagram>
+        ensures { result ≡ datagram_in self.now task number }
+    {
+        let task = self.tasks.as_slice().get(usize::from(task))?;
+        task.datagrams.get(usize::from(number)).copied()
+    }
+
+    /// The bytes of the outputs, which come first, and of the inputs of a task's image; 0 and 0 where
+    /// there is no such task.
+    pub fn part(&self, task: u8) -> (u16, u16)
+        ensures { result ≡ part_in self.now task }
+    {
+        match self.tasks.as_slice().get(usize::from(task)) {
+            Some(task) => (task.outputs, task.inputs),
+            None => (0, 0),
+        }
+    }
+
+    /// A copy that equals this table, or `AllocError` where a growth was refused.
+    pub fn copied(&self, alloc: Global) -> Result<Places, AllocError>
+        ensures { IfOk result (λ copy. copy ≡ self.now) }
+    {
+        Ok(Places {
+            tasks: self.tasks.copied(alloc)?,
+            variables: Vec::from_slice(alloc, self.variables.as_slice())?,
+        })
+    }
+}

@@ -1,0 +1,95 @@
+//! The places of a task's variables.
+ghost use Rattle.std.specs.Prelude.{◌≡◌, ◌+◌, ◌<◌, ◌≤◌, ◌++◌, IfOk, OnOk, map};
+ghost use Rattle.std.specs.List.{flat_map, zip};
+ghost use Rattle.hc_records.specs.Area.{bits_of, width};
+ghost use Rattle.hc_records.specs.Image.{area_variables, variables_from};
+ghost use Rattle.hc_records.specs.TaskList.{keyed};
+ghost use Rattle.hc_records.specs.declared.limits.TheConstants.{MOST_AREA_BITS};
+ghost use Rattle.hc_places.specs.Parts.{AreSendable, row_at};
+
+use crate::areas::Listed;
+use crate::table::Place;
+use hc_cuts::packing::Placed;
+use hc_records::assignment::offered_entries;
+use hc_records::records::{Dir, Entry, VarId};
+use std::alloc::AllocError;
+
+/// The task, the datagram and the direction that an area's variables have in common.
+#[derive(Clone, Copy)]
+struct Carrier {
+    task: u8,
+    datagram: u8,
+    dir: Dir,
+}
+
+/// Adds the variables of entries, the first of which begins at a bit. Gives the first bit behind them.
+fn add_entries(
+    rows: &mut Vec<(VarId, Place)>,
+    carrier: Carrier,
+    first: u16,
+    entries: &[Entry],
+) -> Result<u16, AllocError>
+    requires { first + bits_of entries.now < 65536 }
+    ensures rows { OnOk result (rows.new.items ≡ rows.old.items ++ map (row_at carrier.task carrier.datagram carrier.dir) (variables_from first entries.now)) }
+    ensures behind { IfOk result (λ behind. behind ≡ first + bits_of entries.now) }
+{
+    let mut bit = first;
+    for entry in entries {
+        let (variable, bits) = *entry;
+        if let Some(variable) = variable {
+            let place = Place {
+                task: carrier.task,
+                datagram: carrier.datagram,
+                bit,
+                bits,
+                dir: carrier.dir,
+            };
+            rows.push((variable, place))?;
+        }
+        bit += u16::from(bits);
+    }
+    Ok(bit)
+}
+
+/// Adds the variables of an area that stands in a task.
+fn add_area(
+    rows: &mut Vec<(VarId, Place)>,
+    task: u8,
+    listed: &Listed,
+    placed: Placed,
+) -> Result<(), AllocError>
+    requires few { placed.datagram < 256 }
+    requires inside { placed.bit + width listed.now.area ≤ MOST_AREA_BITS }
+    ensures { OnOk result (rows.new.items ≡ rows.old.items ++ area_variables task (listed.now, placed)) }
+{
+    let area = listed.area();
+    let carrier = Carrier {
+        task,
+        datagram: placed.datagram() as u8,
+        dir: area.dir,
+    };
+    let mut bit = placed.bit();
+    for index in area.assigned.as_slice() {
+        let entries = offered_entries(area.offered.as_slice(), *index);
+        bit = add_entries(rows, carrier, bit, entries)?;
+    }
+    Ok(())
+}
+
+/// Adds the variables of a task whose areas have these places. `AllocError` where a growth was
+/// refused.
+pub(crate) fn add_variables(
+    rows: &mut Vec<(VarId, Place)>,
+    task: u8,
+    areas: &[Listed],
+    places: &[Placed],
+) -> Result<(), AllocError>
+    requires sendable { AreSendable places.now }
+    requires same { map (λ area. (area.key, area.bits)) places.now ≡ map keyed areas.now }
+    ensures { OnOk result (rows.new.items ≡ rows.old.items ++ flat_map (area_variables task) (zip areas.now places.now)) }
+{
+    for i in 0..areas.len() {
+        add_area(rows, task, &areas[i], places[i])?;
+    }
+    Ok(())
+}

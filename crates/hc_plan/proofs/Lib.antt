@@ -1,0 +1,4 @@
+pub mod LineBlocks
+pub mod Mapped
+pub mod Numbered
+pub mod Opening

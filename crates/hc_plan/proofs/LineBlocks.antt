@@ -1,0 +1,170 @@
+-- The blocks of a line, slave by slave.
+use Rattle.std.proofs.Common.{◌≡◌, ℕ, zero, suc, ◌+◌, ◌-◌, ◌*◌, ◌<◌, ◌≤◌, List, [], ◌∷◌, ◌++◌, length, drop, refl, sym, ap, subst, ◌∙◌, arith, length-append, drop-cons}
+use Rattle.std.proofs.lemmas.List.{length-map}
+use Rattle.std.specs.Prelude.{All, Option, Some, None, find, option_and_then, option_map, slice_get, slice_index_or, sum_by}
+use Rattle.std.specs.List.{enumerate_from, flat_map}
+use Rattle.std.proofs.lemmas.Option.{get_or_from_slice_get, slice_get-get_or, slice_get-map, slice_get_within}
+use Rattle.std.proofs.lemmas.List.Elements.{All-head, All-tail}
+use Rattle.hc_records.specs.declared.records.Area.{Area}
+use Rattle.hc_records.specs.declared.records.Declared.{Declared}
+use Rattle.hc_records.specs.declared.keys.Key.{Key}
+use Rattle.hc_records.specs.Line.{Member, is_at, line_from}
+use Rattle.hc_records.specs.Packing.{Placed}
+use Rattle.hc_records.proofs.Slaves.{project-counted}
+use Rattle.hc_records.proofs.Walks.{get-back, get-front, length-line}
+use Rattle.hc_registers.specs.declared.fmmu.Mapping.{Mapping}
+use Rattle.hc_registers.specs.Blocks.{LineBlock, RegisterBlock, area_blocks, line_blocks, member_blocks, slave_blocks, sync_manager_block, fmmu_block, mapping_at, mapping_of}
+use Rattle.hc_places.specs.Layout.{placed_in}
+use Rattle.hc_plan.specs.Blocks.{IsLaidOut, IsMappedSlave, area_blocks_in, mapping_in, slave_blocks_in}
+use Rattle.hc_plan.specs.Configuration.{at_station, block_at, line_block_at}
+use Rattle.hc_plan.proofs.Mapped.{found-has, placed-in-line, slave-mapped}
+use Rattle.hc_plan.proofs.Numbered.{get-numbered-from-0, numbered-get}
+
+flat_map-same : {X Y : Type 0} (f g : X → List Y) (xs : List X) → All (λ x. f x ≡ g x) xs → flat_map f xs ≡ flat_map g xs
+flat_map-same f g [] all = refl
+flat_map-same f g (x ∷ xs) all =
+    ap (λ (front : List _). front ++ flat_map f xs) (All-head (λ x. f x ≡ g x) x xs all)
+    ∙ ap (λ (rest : List _). g x ++ rest) (flat_map-same f g xs (All-tail (λ x. f x ≡ g x) x xs all))
+
+-- every slave of the line that a layout is of has its areas mapped
+laid-out-all : (groups : List Declared) (layout : List (List Placed)) → IsLaidOut groups layout → All (IsMappedSlave layout) (line_from 1 groups)
+laid-out-all groups layout laid j d inside =
+    let member = slice_index_or (line_from 1 groups) j d in
+    subst (λ (l : List (List Placed)). IsMappedSlave l member) (sym laid.stands)
+    (slave-mapped groups j member laid.project laid.uncrowded (slice_get-get_or (line_from 1 groups) j d inside))
+
+pub found-mapped : (groups : List Declared) (layout : List (List Placed)) (station : ℕ) (member : Member) → IsLaidOut groups layout
+    → find (is_at station) (line_from 1 groups) ≡ Some member → IsMappedSlave layout member
+found-mapped groups layout station member laid found = (found-has (IsMappedSlave layout) (is_at station) (line_from 1 groups) member (laid-out-all groups layout laid) found).0
+
+pub nth-mapped : (groups : List Declared) (layout : List (List Placed)) (n : ℕ) (member : Member) → IsLaidOut groups layout
+    → slice_get (line_from 1 groups) n ≡ Some member → IsMappedSlave layout member
+nth-mapped groups layout n member laid at =
+    subst (λ (l : List (List Placed)). IsMappedSlave l member) (sym laid.stands) (slave-mapped groups n member laid.project laid.uncrowded at)
+
+-- the blocks by a layout of the line are the blocks of the line
+pub slave_blocks-line : (groups : List Declared) (layout : List (List Placed)) (member : Member) → IsLaidOut groups layout → IsMappedSlave layout member
+    → slave_blocks_in layout member ≡ slave_blocks (line_from 1 groups) member
+slave_blocks-line groups layout member laid mapped =
+    let members = line_from 1 groups in
+    flat_map-same (area_blocks_in layout member.rank) (area_blocks members member.rank) (enumerate_from 0 member.slave.areas)
+    (λ k d inside.
+    let e = slice_index_or (enumerate_from 0 member.slave.areas) k d in
+    let key : Key = record { dir = e.1.dir; rank = member.rank; area = e.0 } in
+    let task = (mapped.areas e.0 e.1 (numbered-get member.slave.areas k d inside)).task in
+    let mapping : mapping_in layout member.rank e.0 e.1 ≡ mapping_of members e.1.task key =
+    ap (option_map (mapping_at e.1.task)) (ap (λ (l : List (List Placed)). placed_in l e.1.task key) laid.stands ∙ placed-in-line members e.1.task key task) in
+    ap (λ (m : Option Mapping). sync_manager_block e.1 ∷ fmmu_block e.0 e.1 m ∷ []) mapping)
+
+length-pairs : {X Y : Type 0} (f g : X → Y) (xs : List X) → length (flat_map (λ x. f x ∷ g x ∷ []) xs) ≡ 2 * length xs
+length-pairs f g [] = refl
+length-pairs f g (x ∷ xs) = let rest = length-pairs f g xs in omega (arith, rest)
+
+length-enumerated : {X : Type 0} (first : ℕ) (xs : List X) → length (enumerate_from first xs) ≡ length xs
+length-enumerated first [] = refl
+length-enumerated first (x ∷ xs) = ap suc (length-enumerated (first + 1) xs)
+
+-- a slave has two blocks for each area
+pub length-member_blocks : (members : List Member) (member : Member) → length (member_blocks members member) ≡ 2 * length member.slave.areas
+length-member_blocks members member =
+    length-map (enumerate_from 0 (slave_blocks members member)) (λ e. record { station = member.slave.station; number = e.0; block = e.1 })
+    ∙ length-enumerated 0 (slave_blocks members member)
+    ∙ length-pairs (λ (e : ℕ × Area). sync_manager_block e.1)
+    (λ (e : ℕ × Area). fmmu_block e.0 e.1 (mapping_of members e.1.task (record { dir = e.1.dir; rank = member.rank; area = e.0 }))) (enumerate_from 0 member.slave.areas)
+    ∙ ap (λ (n : ℕ). 2 * n) (length-enumerated 0 member.slave.areas)
+
+-- the line from a slave on
+pub drop-met : (members : List Member) (position : ℕ) (member : Member) → slice_get members position ≡ Some member → drop position members ≡ member ∷ drop (position + 1) members
+drop-met members position member at =
+    let next : suc position ≡ position + 1 = omega arith in
+    drop-cons members position member (slice_get_within members position member at)
+    ∙ ap (λ (m : Member). m ∷ drop (suc position) members) (get_or_from_slice_get members position member member at)
+    ∙ ap (λ (k : ℕ). member ∷ drop k members) next
+
+abbrev told : LineBlock → ℕ × RegisterBlock
+told found = at_station found.station found.block
+
+told-numbered : (station n : ℕ) (o : Option RegisterBlock)
+    → option_map told (option_map (λ (e : ℕ × RegisterBlock). record { station = station; number = e.0; block = e.1 }) (option_map (λ b. (n, b)) o)) ≡ option_map (at_station station) o
+told-numbered station n None = refl
+told-numbered station n (Some b) = refl
+
+-- a block of the first slave of a part of the line
+pub block-here : (whole rest : List Member) (member : Member) (n : ℕ) → n < 2 * length member.slave.areas
+    → option_map told (slice_get (flat_map (member_blocks whole) (member ∷ rest)) n) ≡ option_map (at_station member.slave.station) (slice_get (slave_blocks whole member) n)
+block-here whole rest member n inside =
+    let count = length-member_blocks whole member in
+    let own = slave_blocks whole member in
+    let made : ℕ × RegisterBlock → LineBlock = λ e. record { station = member.slave.station; number = e.0; block = e.1 } in
+    ap (option_map told) (get-front (member_blocks whole member) (flat_map (member_blocks whole) rest) n (omega (arith, inside, count))
+    ∙ slice_get-map made (enumerate_from 0 own) n
+    ∙ ap (option_map made) (get-numbered-from-0 own n))
+    ∙ told-numbered member.slave.station n (slice_get own n)
+
+pub block-behind : (whole rest : List Member) (member : Member) (n : ℕ) → 2 * length member.slave.areas ≤ n
+    → slice_get (flat_map (member_blocks whole) (member ∷ rest)) n ≡ slice_get (flat_map (member_blocks whole) rest) (n - 2 * length member.slave.areas)
+block-behind whole rest member n past =
+    let count = length-member_blocks whole member in
+    get-back (member_blocks whole member) (flat_map (member_blocks whole) rest) n (omega (arith, past, count))
+    ∙ ap (λ (k : ℕ). slice_get (flat_map (member_blocks whole) rest) (n - k)) count
+
+-- a slave met at a position of the line that a layout is of
+pub record Met (groups : List Declared) (layout : List (List Placed)) (position own : ℕ) (member : Member) : Type 0 where
+  pub laid : IsLaidOut groups layout
+  pub at : slice_get (line_from 1 groups) position ≡ Some member
+  pub counts : own ≡ 2 * length member.slave.areas
+
+pub met-mapped : (groups : List Declared) (layout : List (List Placed)) (position own : ℕ) (member : Member) → Met groups layout position own member → IsMappedSlave layout member
+met-mapped groups layout position own member met = nth-mapped groups layout position member met.laid met.at
+
+pub met-early : (groups : List Declared) (layout : List (List Placed)) (position own : ℕ) (member : Member) → Met groups layout position own member
+    → (position < length (line_from 1 groups)) × (length (line_from 1 groups) < 65535)
+met-early groups layout position own member met =
+    let counted : sum_by (λ (d : Declared). length d.group.slaves) groups < 65535 = project-counted groups met.laid.project in
+    let most = length-line 1 groups in
+    (slice_get_within (line_from 1 groups) position member met.at, omega (arith, counted, most))
+
+-- the blocks from its position on are its own and those behind it
+pub met-count : (groups : List Declared) (layout : List (List Placed)) (position own : ℕ) (member : Member) → Met groups layout position own member
+    → length (flat_map (member_blocks (line_from 1 groups)) (drop position (line_from 1 groups)))
+    ≡ own + length (flat_map (member_blocks (line_from 1 groups)) (drop (position + 1) (line_from 1 groups)))
+met-count groups layout position own member met =
+    let line = line_from 1 groups in
+    ap (λ (members : List Member). length (flat_map (member_blocks line) members)) (drop-met line position member met.at)
+    ∙ length-append (member_blocks line member) (flat_map (member_blocks line) (drop (position + 1) line))
+    ∙ ap (λ (n : ℕ). n + length (flat_map (member_blocks line) (drop (position + 1) line))) (length-member_blocks line member ∙ sym met.counts)
+
+pub met-here : (groups : List Declared) (layout : List (List Placed)) (position own : ℕ) (member : Member) (n left : ℕ) → Met groups layout position own member → left < own
+    → slice_get (flat_map (member_blocks (line_from 1 groups)) (drop position (line_from 1 groups))) left ≡ slice_get (line_blocks (line_from 1 groups)) n
+    → line_block_at (line_from 1 groups) n ≡ option_map (at_station member.slave.station) (slice_get (slave_blocks_in layout member) left)
+met-here groups layout position own member n left met inside same =
+    let line = line_from 1 groups in
+    let counts = met.counts in
+    ap (option_map told) (sym same)
+    ∙ ap (λ (members : List Member). option_map told (slice_get (flat_map (member_blocks line) members) left)) (drop-met line position member met.at)
+    ∙ block-here line (drop (position + 1) line) member left (omega (arith, inside, counts))
+    ∙ ap (λ (blocks : List RegisterBlock). option_map (at_station member.slave.station) (slice_get blocks left))
+    (sym (slave_blocks-line groups layout member met.laid (met-mapped groups layout position own member met)))
+
+pub met-behind : (groups : List Declared) (layout : List (List Placed)) (position own : ℕ) (member : Member) (left : ℕ) → Met groups layout position own member → own ≤ left
+    → slice_get (flat_map (member_blocks (line_from 1 groups)) (drop position (line_from 1 groups))) left
+    ≡ slice_get (flat_map (member_blocks (line_from 1 groups)) (drop (position + 1) (line_from 1 groups))) (left - own)
+met-behind groups layout position own member left met past =
+    let line = line_from 1 groups in
+    let counts = met.counts in
+    ap (λ (members : List Member). slice_get (flat_map (member_blocks line) members) left) (drop-met line position member met.at)
+    ∙ block-behind line (drop (position + 1) line) member left (omega (arith, past, counts))
+    ∙ ap (λ (k : ℕ). slice_get (flat_map (member_blocks line) (drop (position + 1) line)) (left - k)) (sym met.counts)
+
+-- the walk ends behind the last slave
+pub drop-past : (members : List Member) (position : ℕ) → slice_get members position ≡ None → drop position members ≡ []
+drop-past [] zero none = refl
+drop-past [] (suc position) none = refl
+drop-past (member ∷ members) zero none = cc
+drop-past (member ∷ members) (suc position) none = drop-past members position none
+
+pub found-block : (groups : List Declared) (layout : List (List Placed)) (station number : ℕ) (member : Member) → IsLaidOut groups layout
+    → find (is_at station) (line_from 1 groups) ≡ Some member → block_at (line_from 1 groups) station number ≡ slice_get (slave_blocks_in layout member) number
+found-block groups layout station number member laid found =
+    ap (option_and_then (λ m. slice_get (slave_blocks (line_from 1 groups) m) number)) found
+    ∙ ap (λ (blocks : List RegisterBlock). slice_get blocks number) (sym (slave_blocks-line groups layout member laid (found-mapped groups layout station member laid found)))

@@ -1,0 +1,216 @@
+-- In the line of a project every area's blocks can be written, by the places that packing gives.
+use Rattle.std.proofs.Common.{◌≡◌, ℕ, zero, suc, ◌+◌, ◌<◌, ◌≤◌, ◌==◌, ◌&&◌, Bool, true, false, List, [], ◌∷◌, refl, sym, ap, subst, ◌∙◌, arith, cond, inl, inr}
+use Rattle.std.specs.Prelude.{All, AllPairs, Option, Some, None, find, map, nat_lt, option_and_then, option_map, slice_get, slice_index_or}
+use Rattle.std.specs.List.{enumerate_from}
+use Rattle.std.proofs.lemmas.Bool.{and_parts, cases_order, eqb-true, ltb-false}
+use Rattle.std.proofs.lemmas.List.Elements.{All-cons, All-head, All-nil, All-tail}
+use Rattle.std.proofs.lemmas.Option.{get_or_from_slice_get, slice_get-get_or, slice_get-map, slice_get_within}
+use Rattle.hc_records.specs.declared.limits.TheConstants.{MOST_AREA_BITS, MOST_DATAGRAMS, TASKS}
+use Rattle.hc_records.specs.declared.records.Dir.{Dir}
+use Rattle.hc_records.specs.declared.records.Dir.TheVariants.{Out, In}
+use Rattle.hc_records.specs.declared.records.Area.{Area}
+use Rattle.hc_records.specs.declared.records.Declared.{Declared}
+use Rattle.hc_records.specs.declared.keys.Key.{Key}
+use Rattle.hc_records.specs.Keys.{same_dir, same_key}
+use Rattle.hc_records.specs.Area.{width}
+use Rattle.hc_records.specs.Line.{Member, State, line_from}
+use Rattle.hc_records.specs.TaskList.{Keyed, task_list}
+use Rattle.hc_records.specs.Packing.{Placed, opening, packed}
+use Rattle.hc_records.specs.Image.{datagram_count, task_places, tasks}
+use Rattle.hc_records.specs.Edits.{crowded_task}
+use Rattle.hc_records.specs.Project.{lowest_fault}
+use Rattle.hc_records.specs.Laws.{IsPackable, LiesInside}
+use Rattle.hc_records.proofs.Greatest.{greatest-all}
+use Rattle.hc_records.proofs.Inside.{packed-inside}
+use Rattle.hc_records.proofs.Lines.{RanksBelow, line-ascends}
+use Rattle.hc_records.proofs.Lists.{All-unmap}
+use Rattle.hc_records.proofs.Packable.{project-packable}
+use Rattle.hc_records.proofs.Packed.{area_of, packed-areas}
+use Rattle.hc_records.proofs.Slaves.{IsAreaInside, IsSlaveInside, line-inside}
+use Rattle.hc_records.proofs.Tasks.{task-list-all}
+use Rattle.hc_registers.specs.declared.fmmu.Mapping.{Mapping}
+use Rattle.hc_registers.specs.Blocks.{IsMappable, mapping_at}
+use Rattle.hc_places.specs.Layout.{layout_of, placed_in}
+use Rattle.hc_plan.specs.Blocks.{IsMappedArea, IsMappedSlave}
+use Rattle.hc_plan.proofs.Numbered.{numbered-get}
+
+-- what a test finds passes it, and has what every element has
+
+found-first : {X : Type 0} (P : X → Type 0) (test : X → Bool) (b : Bool) (y x : X) (rest : Option X) → test y ≡ b → P y
+    → (rest ≡ Some x → P x × (test x ≡ true)) → cond b (Some y) rest ≡ Some x → P x × (test x ≡ true)
+found-first P test true y x rest is holds later found =
+    let same : y ≡ x = cc in
+    (subst P same holds, ap test (sym same) ∙ is)
+found-first P test false y x rest is holds later found = later found
+
+pub found-has : {X : Type 0} (P : X → Type 0) (test : X → Bool) (xs : List X) (x : X) → All P xs → find test xs ≡ Some x → P x × (test x ≡ true)
+found-has P test [] x all found = cc
+found-has P test (y ∷ ys) x all found =
+    found-first P test (test y) y x (find test ys) refl (All-head P y ys all) (found-has P test ys x (All-tail P y ys all)) found
+
+-- two slaves of a line with one rank are one
+
+not-below : (members : List Member) (i j : ℕ) (a b : Member) → AllPairs RanksBelow members
+    → slice_get members i ≡ Some a → slice_get members j ≡ Some b → a.rank ≡ b.rank → i < j → a ≡ b
+not-below members i j a b ascending first second same below =
+    let inside = slice_get_within members j b second in
+    let ranks : (slice_index_or members i a).rank < (slice_index_or members j a).rank = ascending i j a below inside in
+    let one : (slice_index_or members i a).rank ≡ a.rank = ap (λ (m : Member). m.rank) (get_or_from_slice_get members i a a first) in
+    let two : (slice_index_or members j a).rank ≡ b.rank = ap (λ (m : Member). m.rank) (get_or_from_slice_get members j b a second) in
+    absurd (omega (arith, ranks, one, two, same))
+
+same-rank : (members : List Member) (i j : ℕ) (a b : Member) → AllPairs RanksBelow members
+    → slice_get members i ≡ Some a → slice_get members j ≡ Some b → a.rank ≡ b.rank → a ≡ b
+same-rank members i j a b ascending first second same = elim (cases_order i j) [
+  | inl equal ↦ cc
+  | inr (inl below) ↦ not-below members i j a b ascending first second same below
+  | inr (inr above) ↦ sym (not-below members j i b a ascending second first (sym same) above)
+]
+
+-- a list's key has the width of the area that it names
+pub record NamesArea (line : List Member) (area : Keyed) : Type 0 where
+  pub named : (j : ℕ) (member : Member) (found : Area) → slice_get line j ≡ Some member → member.rank ≡ area.0.rank
+      → slice_get member.slave.areas area.0.area ≡ Some found → area.1 ≡ width found
+
+task-list-names : (task : ℕ) (members : List Member) → AllPairs RanksBelow members → All (NamesArea members) (task_list task members)
+task-list-names task members ascending =
+    task-list-all (NamesArea members) task members (λ dir i d inside k e below belonging. record {
+      named = λ j member found at rank named.
+          let own = slice_index_or members i d in
+          let same : own ≡ member = same-rank members i j own member ascending (slice_get-get_or members i d inside) at (sym rank) in
+          let numbered = numbered-get own.slave.areas k e below in
+          let area : Some (slice_index_or (enumerate_from 0 own.slave.areas) k e).1 ≡ Some found = sym numbered ∙ ap (λ (m : Member). slice_get m.slave.areas (slice_index_or (enumerate_from 0 own.slave.areas) k e).0) same ∙ named in
+          let one : (slice_index_or (enumerate_from 0 own.slave.areas) k e).1 ≡ found = cc in
+          ap width one;
+    })
+
+-- a layout's place of a key in a task is its place in the task's list
+
+task-at : (task : ℕ) → task < TASKS → slice_get tasks task ≡ Some task
+task-at zero below = refl
+task-at (suc zero) below = refl
+task-at (suc (suc zero)) below = refl
+task-at (suc (suc (suc zero))) below = refl
+task-at (suc (suc (suc (suc zero)))) below = refl
+task-at (suc (suc (suc (suc (suc zero))))) below = refl
+task-at (suc (suc (suc (suc (suc (suc zero)))))) below = refl
+task-at (suc (suc (suc (suc (suc (suc (suc zero))))))) below = refl
+task-at (suc (suc (suc (suc (suc (suc (suc (suc n)))))))) below = absurd (omega arith)
+
+pub placed-in-line : (members : List Member) (task : ℕ) (key : Key) → task < TASKS
+    → placed_in (layout_of members) task key ≡ find (λ placed. same_key placed.key key) (task_places task members)
+placed-in-line members task key below =
+    ap (option_and_then (find (λ (placed : Placed). same_key placed.key key)))
+    (slice_get-map (λ t. task_places t members) tasks task ∙ ap (option_map (λ t. task_places t members)) (task-at task below))
+
+-- where no task is crowded, each has at most 16 datagrams
+
+neither-first : {X : Type 0} (b : Bool) (x : X) (rest : Option X) → cond b (Some x) rest ≡ None → (b ≡ false) × (rest ≡ None)
+neither-first true x rest none = cc
+neither-first false x rest none = (refl, none)
+
+none-passes : {X : Type 0} (test : X → Bool) (xs : List X) → find test xs ≡ None → All (λ x. test x ≡ false) xs
+none-passes test [] none = All-nil (λ x. test x ≡ false)
+none-passes test (x ∷ xs) none =
+    let parts = neither-first (test x) x (find test xs) none in
+    All-cons (λ y. test y ≡ false) x xs parts.0 (none-passes test xs parts.1)
+
+few-datagrams : (members : List Member) (task : ℕ) → crowded_task members ≡ None → task < TASKS → datagram_count (task_places task members) ≤ MOST_DATAGRAMS
+few-datagrams members task none below =
+    let test : ℕ → Bool = λ t. nat_lt MOST_DATAGRAMS (datagram_count (task_places t members)) in
+    let passes : test (slice_index_or tasks task task) ≡ false = none-passes test tasks none task task below in
+    ltb-false MOST_DATAGRAMS (datagram_count (task_places task members)) (ap test (sym (get_or_from_slice_get tasks task task task (task-at task below))) ∙ passes)
+
+-- the areas of a task's list with their places, in the line of a project that isn't crowded
+pub record StandsWell (members : List Member) (placed : Placed) : Type 0 where
+  pub packable : IsPackable (area_of placed)
+  pub names : NamesArea members (area_of placed)
+  pub inside : LiesInside placed
+  pub early : placed.datagram < MOST_DATAGRAMS
+
+pub places-stand : (groups : List Declared) (task : ℕ) → lowest_fault (map (λ declared. declared.group) groups) ≡ None → crowded_task (line_from 1 groups) ≡ None → task < TASKS
+    → All (StandsWell (line_from 1 groups)) (task_places task (line_from 1 groups))
+places-stand groups task project uncrowded below i d under =
+    let members = line_from 1 groups in
+    let list = task_list task members in
+    let places = packed opening list in
+    let state : State = record { groups = groups; epoch = 0 } in
+    let packable : All IsPackable list = project-packable state task project in
+    let count = few-datagrams members task uncrowded below in
+    let behind : (slice_index_or places i d).datagram + 1 ≤ datagram_count places = greatest-all (λ (placed : Placed). placed.datagram + 1) 0 places i d under in
+    record {
+      packable = All-unmap IsPackable area_of places (subst (All IsPackable) (sym (packed-areas opening list)) packable) i d under;
+      names = All-unmap (NamesArea members) area_of places (subst (All (NamesArea members)) (sym (packed-areas opening list)) (task-list-names task members (line-ascends 1 groups))) i d under;
+      inside = packed-inside opening list packable i d under;
+      early = omega (arith, behind, count);
+    }
+
+same_dir-is : (a b : Dir) → same_dir a b ≡ true → a ≡ b
+same_dir-is Out Out same = refl
+same_dir-is Out In same = cc
+same_dir-is In Out same = cc
+same_dir-is In In same = refl
+
+same_key-is : (a b : Key) → same_key a b ≡ true → a ≡ b
+same_key-is a b same =
+    let parts = and_parts (same_dir a.dir b.dir && (a.rank == b.rank)) (a.area == b.area) same in
+    let front = and_parts (same_dir a.dir b.dir) (a.rank == b.rank) parts.0 in
+    let dir = same_dir-is a.dir b.dir front.0 in
+    let rank = eqb-true a.rank b.rank front.1 in
+    let area = eqb-true a.area b.area parts.1 in
+    ap (λ (d : Dir). record { dir = d; rank = a.rank; area = a.area }) dir
+    ∙ ap (λ (r : ℕ). record { dir = b.dir; rank = r; area = a.area }) rank
+    ∙ ap (λ (n : ℕ). record { dir = b.dir; rank = b.rank; area = n }) area
+
+-- an area's place in its task's list is where its FMMU maps it
+
+mapped-from : (o : Option Placed) (f : Placed → Mapping) (mapping : Mapping) (P : Mapping → Type 0) → ((placed : Placed) → o ≡ Some placed → P (f placed)) → option_map f o ≡ Some mapping → P mapping
+mapped-from None f mapping P holds is = cc
+mapped-from (Some placed) f mapping P holds is = let same : f placed ≡ mapping = cc in subst P same (holds placed refl)
+
+area-mappable : (members : List Member) (j : ℕ) (member : Member) (index : ℕ) (area : Area) (placed : Placed) → area.task < TASKS
+    → slice_get members j ≡ Some member → slice_get member.slave.areas index ≡ Some area
+    → StandsWell members placed → placed.key ≡ record { dir = area.dir; rank = member.rank; area = index }
+    → IsMappable area (mapping_at area.task placed)
+area-mappable members j member index area placed task at found stands key =
+    let bits : placed.bits ≡ width area = stands.names.named j member area at (sym (ap (λ (k : Key). k.rank) key)) (ap (λ (k : Key). slice_get member.slave.areas k.area) key ∙ found) in
+    let some : 0 < placed.bits = stands.packable.some in
+    let inside : placed.bit + placed.bits ≤ MOST_AREA_BITS = stands.inside in
+    let early = stands.early in
+    record {
+      some = omega (arith, some, bits);
+      inside = omega (arith, inside, bits);
+      room = omega (arith, early, task);
+    }
+
+area-mapped : (groups : List Declared) (j : ℕ) (member : Member) (index : ℕ) (area : Area) → lowest_fault (map (λ declared. declared.group) groups) ≡ None → crowded_task (line_from 1 groups) ≡ None
+    → slice_get (line_from 1 groups) j ≡ Some member → slice_get member.slave.areas index ≡ Some area → IsAreaInside area
+    → IsMappedArea (layout_of (line_from 1 groups)) member.rank index area
+area-mapped groups j member index area project uncrowded at found inside =
+    let members = line_from 1 groups in
+    let key : Key = record { dir = area.dir; rank = member.rank; area = index } in
+    record {
+      manager = inside.manager;
+      task = inside.task;
+      narrow = inside.narrow;
+      mapped = λ mapping is.
+          mapped-from (placed_in (layout_of members) area.task key) (mapping_at area.task) mapping (IsMappable area)
+          (λ placed has.
+          let stands = found-has (StandsWell members) (λ (p : Placed). same_key p.key key) (task_places area.task members) placed (places-stand groups area.task project uncrowded inside.task)
+          (sym (placed-in-line members area.task key inside.task) ∙ has) in
+          area-mappable members j member index area placed inside.task at found stands.0 (same_key-is placed.key key stands.1))
+          is;
+    }
+
+pub slave-mapped : (groups : List Declared) (j : ℕ) (member : Member) → lowest_fault (map (λ declared. declared.group) groups) ≡ None → crowded_task (line_from 1 groups) ≡ None
+    → slice_get (line_from 1 groups) j ≡ Some member → IsMappedSlave (layout_of (line_from 1 groups)) member
+slave-mapped groups j member project uncrowded at =
+    let members = line_from 1 groups in
+    let own : IsSlaveInside member.slave =
+    subst (λ (m : Member). IsSlaveInside m.slave) (get_or_from_slice_get members j member member at) (line-inside groups project j member (slice_get_within members j member at)) in
+    record {
+      few = own.few;
+      areas = λ index area found.
+          area-mapped groups j member index area project uncrowded at found
+          (subst IsAreaInside (get_or_from_slice_get member.slave.areas index area area found) (own.areas index area (slice_get_within member.slave.areas index area found)));
+    }

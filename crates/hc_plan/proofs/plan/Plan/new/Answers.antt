@@ -1,0 +1,29 @@
+use Rattle.std.proofs.Common.{◌≡◌, ◌∙◌, List, None, map, ap, subst}
+use Rattle.hc_records.specs.Edits.{crowded_task}
+use Rattle.hc_records.specs.declared.records.Declared.{Declared}
+use Rattle.hc_records.specs.Line.{line_from, opened_group}
+use Rattle.hc_records.specs.Project.{lowest_fault}
+use Rattle.hc_places.specs.Layout.{layout_of}
+use Rattle.hc_places.specs.Table.{table_of}
+use Rattle.hc_plan.proofs.Opening.{opened-project}
+use Rattle.hc_plan.proofs.plan.Plan.new.Goals as goal
+
+pub configure-requires : goal.configure-requires
+configure-requires c =
+    opened-project c.into_groups.result c.as_slice.result.now
+    (c.as_slice.ensures ∙ c.in_ok-groups.ensures ∙ ap (map opened_group) c.into_vec.ensures)
+    (ap lowest_fault c.into_groups.ensures.value ∙ c.into_groups.ensures.kept)
+
+pub invariant_of-result : goal.invariant_of-result
+invariant_of-result c =
+    let groups = c.as_slice.ensures in (
+      record {
+        project =
+            opened-project c.into_groups.result c.in_ok-groups.groups
+            (c.in_ok-groups.ensures ∙ ap (map opened_group) c.into_vec.ensures)
+            (ap lowest_fault c.into_groups.ensures.value ∙ c.into_groups.ensures.kept);
+        uncrowded = subst (λ (g : List Declared). crowded_task (line_from 1 g) ≡ None) groups c.in_ok-configured.ensures.accepted;
+        stands = c.in_ok-configured.ensures.layout ∙ ap (λ (g : List Declared). layout_of (line_from 1 g)) groups;
+      },
+      c.in_ok-configured.ensures.places ∙ ap (λ (g : List Declared). table_of (line_from 1 g)) groups,
+    )

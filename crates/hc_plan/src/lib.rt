@@ -1,0 +1,6 @@
+//! The plan of a line: which groups are present, and what the present line is configured to. The core
+//! and the program ask it for datagrams, places and register blocks.
+#![tactic(auto)]
+
+mod blocks;
+pub mod plan;

@@ -1,0 +1,11 @@
+pub mod Parts
+pub mod Sections
+pub mod Fronts
+pub mod Digits
+pub mod Numbered
+pub mod Arguments
+pub mod Lengths
+pub mod Turns
+pub mod Openings
+pub mod Outcomes
+pub mod Grown

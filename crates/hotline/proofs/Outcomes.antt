@@ -1,0 +1,29 @@
+-- The outcome of an input, from where its project opens.
+use Rattle.std.proofs.Common.{◌≡◌, ℕ, ◌≤◌, List, [], length, cond, false, ap, ◌∙◌, Ok, Err}
+use Rattle.std.specs.Prelude.{nat_lt}
+use Rattle.std.proofs.lemmas.Bool.{le-ltb}
+use Rattle.hc_records.specs.Line.{State}
+use Rattle.hotline.specs.declared.input.TheConstants.{MOST_INPUT}
+use Rattle.hotline.specs.declared.opening.Unopened.{Unopened}
+use Rattle.hotline.specs.Lines.{command_lines, lines_of, project_text}
+use Rattle.hotline.specs.Opening.{opening_of}
+use Rattle.hotline.specs.Runs.{run}
+use Rattle.hotline.specs.Text.{outcome_of, outcome_of_lines, run_opened, unopened}
+
+not_long : (n m : ℕ) → n ≤ m → nat_lt m n ≡ false
+not_long n m within = le-ltb m n within
+
+lines_outcome : (input : List ℕ) → length input ≤ MOST_INPUT → outcome_of input ≡ outcome_of_lines (lines_of input)
+unfolding outcome_of
+lines_outcome input within =
+    ap (λ b. cond b (record { text = []; status = 4 }) (outcome_of_lines (lines_of input))) (not_long (length input) MOST_INPUT within)
+
+pub opened_outcome : (input : List ℕ) (state : State) → length input ≤ MOST_INPUT → opening_of (project_text (lines_of input)) ≡ Ok state
+    → outcome_of input ≡ run state (command_lines (lines_of input))
+unfolding outcome_of_lines
+opened_outcome input state within opens = lines_outcome input within ∙ ap (λ opening. run_opened opening (command_lines (lines_of input))) opens
+
+pub unopened_outcome : (input : List ℕ) (fault : Unopened) → length input ≤ MOST_INPUT → opening_of (project_text (lines_of input)) ≡ Err fault
+    → outcome_of input ≡ unopened fault
+unfolding outcome_of_lines
+unopened_outcome input fault within opens = lines_outcome input within ∙ ap (λ opening. run_opened opening (command_lines (lines_of input))) opens

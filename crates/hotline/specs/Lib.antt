@@ -1,0 +1,13 @@
+pub mod Lines
+pub mod Cutting
+pub mod Numbers
+pub mod Printing
+pub mod Refusals
+pub mod Layout
+pub mod Regs
+pub mod Show
+pub mod Commands
+pub mod Runs
+pub mod Opening
+pub mod Text
+pub mod Turns

@@ -1,0 +1,33 @@
+-- How commands spell numbers.
+use Rattle.std.specs.Prelude.{ℕ, ◌+◌, ◌-◌, ◌*◌, ◌==◌, nat_lt, nat_le, ◌&&◌, Bool, true, List, [], ◌∷◌, length, take, drop, if◌then◌else◌, Option, Some, None, codes}
+use Rattle.std.specs.Str.{bytes_eq}
+
+-- what a digit of either case stands for, and 16 where a byte is none
+abbrev pub digit_of : ℕ → ℕ
+digit_of b =
+    if nat_le 48 b && nat_le b 57 then b - 48
+    else (if nat_le 97 b && nat_le b 102 then b - 87 else (if nat_le 65 b && nat_le b 70 then b - 55 else 16))
+
+-- each byte is a digit of the base
+abbrev pub all_digits : ℕ → List ℕ → Bool
+all_digits base [] = true
+all_digits base (b ∷ bs) = nat_lt (digit_of b) base && all_digits base bs
+
+-- the number that digits spell behind those of n
+abbrev pub spelt : ℕ → ℕ → List ℕ → ℕ
+spelt base n [] = n
+spelt base n (b ∷ bs) = spelt base (n * base + digit_of b) bs
+
+-- the same where they are digits and it is at most `most`
+abbrev pub spelt_within : ℕ → ℕ → ℕ → List ℕ → Option ℕ
+spelt_within base most n digits =
+    if all_digits base digits && nat_le (spelt base n digits) most then Some (spelt base n digits) else None
+
+-- the number of digits, of which there is at least one
+abbrev pub digits_number : ℕ → ℕ → List ℕ → Option ℕ
+digits_number base most digits = if length digits == 0 then None else spelt_within base most 0 digits
+
+-- a number: decimal digits, or `0x` and hexadecimal digits of either case
+abbrev pub number_in : ℕ → List ℕ → Option ℕ
+number_in most word =
+    if bytes_eq (take 2 word) (codes "0x") then digits_number 16 most (drop 2 word) else digits_number 10 most word

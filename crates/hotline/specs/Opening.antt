@@ -1,0 +1,60 @@
+-- Opening the project of an input.
+use Rattle.std.specs.Prelude.{◌≡◌, ℕ, Bool, true, false, if◌then◌else◌, List, ◌++◌, map, Option, Some, None, Result, Ok, Err, codes}
+use Rattle.std.specs.Fmt.{decimal}
+use Rattle.std.specs.Str.{is_utf8}
+use Rattle.toml.specs.Parse.{parse_document}
+use Rattle.hc_records.specs.declared.records.Group.{Group}
+use Rattle.hc_records.specs.declared.faults.ProjectFault.{ProjectFault}
+use Rattle.hc_records.specs.declared.faults.ProjectFault.TheVariants as fault
+use Rattle.hc_records.specs.Edits.{crowded_task}
+use Rattle.hc_records.specs.Line.{State, line, opened}
+use Rattle.hc_records.specs.Project.{lowest_fault}
+use Rattle.hc_project.specs.Text.{project_of}
+use Rattle.hotline.specs.declared.opening.Unopened.{Unopened}
+use Rattle.hotline.specs.declared.opening.Unopened.TheVariants.{Project, TooManyDatagrams, Memory}
+use Rattle.hotline.specs.Refusals.{project_fault_text}
+
+-- the project of a text, or its lowest fault
+unfoldable pub project_in : List ℕ → Result (List Group) ProjectFault
+project_in text = if is_utf8 text then project_of (parse_document text) else Err fault.NotToml
+
+-- the lowest task of the opening line that needs more than 16 datagrams
+unfoldable pub crowded_at_opening : List Group → Option ℕ
+crowded_at_opening groups = crowded_task (line (opened groups))
+
+abbrev pub opened_unless : Option ℕ → List Group → Result State Unopened
+opened_unless None groups = Ok (opened groups)
+opened_unless (Some task) groups = Err (TooManyDatagrams task)
+
+abbrev pub opened_project : Result (List Group) ProjectFault → Result State Unopened
+opened_project (Ok groups) = opened_unless (crowded_at_opening groups) groups
+opened_project (Err refused) = Err (Project refused)
+
+-- the state in which the project of a text opens, or why there is none
+unfoldable pub opening_of : List ℕ → Result State Unopened
+opening_of text = opened_project (project_in text)
+
+unfoldable pub unopened_text : Unopened → List ℕ
+unopened_text (Project refused) = project_fault_text refused
+unopened_text (TooManyDatagrams task) = codes "open fault 1 TooManyDatagrams " ++ decimal task ++ codes "\n"
+unopened_text Memory = codes "open fault 2 Memory\n"
+
+-- a growth was refused
+abbrev pub is_project_memory : ProjectFault → Bool
+is_project_memory fault.Memory = true
+is_project_memory _ = false
+
+abbrev pub is_memory : Unopened → Bool
+is_memory (Project refused) = is_project_memory refused
+is_memory (TooManyDatagrams task) = false
+is_memory Memory = true
+
+-- what is told in place of a fault where a growth is refused while it is told
+abbrev pub in_want : Unopened → Unopened
+in_want (Project refused) = Project fault.Memory
+in_want (TooManyDatagrams task) = Memory
+in_want Memory = Memory
+
+-- no fault's condition holds of the state's declared groups
+unfoldable pub HoldsProject : State → Type 0
+HoldsProject state = lowest_fault (map (λ declared. declared.group) state.groups) ≡ None

@@ -1,0 +1,31 @@
+-- One turn of a run: a line is answered, and its reply is written.
+use Rattle.std.specs.Prelude.{◌≡◌, ◌≢◌, ℕ, true, false, List, ◌++◌, take, Option, Some, None}
+use Rattle.std.specs.Io.KnownBytes.{Appends}
+use Rattle.hc_records.specs.Line.{State}
+use Rattle.hotline.specs.Runs.{Outcome, Reply}
+
+-- the run goes on behind the reply, in the state that it leaves
+pub record GoesOn (old new : Option (List ℕ)) (state : State) (reply : Reply) : Type 0 where
+  pub written : Appends old new reply.text
+  pub state_kept : state ≡ reply.state
+  pub on : reply.goes_on ≡ true
+
+-- the run ends here: behind the whole reply, which ends it, or with status 4 behind a front of the reply
+pub record Ends (old new : Option (List ℕ)) (status : ℕ) (reply : Reply) : Type 0 where
+  pub whole : status ≢ 4 → Appends old new reply.text × (status ≡ 2) × (reply.goes_on ≡ false)
+  pub front : (n : ℕ) × Appends old new (take n reply.text)
+
+abbrev pub Takes : Option (List ℕ) → Option (List ℕ) → State → Option ℕ → Reply → Type 0
+Takes old new state None reply = GoesOn old new state reply
+Takes old new state (Some status) reply = Ends old new status reply
+
+-- some bytes were written, and with those that are left to write they are all
+pub record Writes (old new : Option (List ℕ)) (left all : List ℕ) : Type 0 where
+  pub done : List ℕ
+  pub appended : Appends old new done
+  pub whole : done ++ left ≡ all
+
+-- what is left of a run and what was written of it are the whole run
+pub record Continues (old new : Option (List ℕ)) (left all : Outcome) : Type 0 where
+  pub text : Writes old new left.text all.text
+  pub status : left.status ≡ all.status

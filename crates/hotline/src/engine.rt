@@ -1,0 +1,180 @@
+//! The run: reads all input, opens the project, answers each command line, and writes each reply before
+//! the next line is answered.
+ghost use Rattle.std.specs.Prelude.{◌≡◌, ◌≤◌, ◌+◌, false, length, IfSome};
+ghost use Rattle.std.specs.Option.{option_copied};
+ghost use Rattle.hotline.specs.Cutting.{left_in, lines_after};
+ghost use Rattle.hotline.specs.Opening.{HoldsProject, is_memory};
+ghost use Rattle.hotline.specs.Runs.{reply_to, run};
+ghost use Rattle.hotline.specs.Text.{EndsAs, outcome_of, unopened};
+ghost use Rattle.hotline.specs.Turns.{Takes};
+ghost use Rattle.hotline.specs.declared.input.TheConstants.{MOST_INPUT};
+
+use crate::input::{Unread, read_all};
+use crate::lines::{split_line, split_sections};
+use crate::opening::{Unopened, memory_text, open_plan, push_unopened};
+use crate::output::write_text;
+use crate::replies::answer;
+use hc_plan::plan::Plan;
+use std::alloc::Global;
+use std::io::{Read, Write};
+
+/// The exit status of a run whose last line was reached.
+const DONE: u8 = 0;
+
+/// The exit status behind a line that is no command.
+const BAD_COMMAND: u8 = 2;
+
+/// The exit status where the project isn't opened.
+const UNOPENED: u8 = 3;
+
+/// The exit status where the input isn't read or a write failed.
+const BROKEN: u8 = 4;
+
+/// What a command prints for which a growth was refused.
+const MEMORY_REFUSAL: &[u8] = b"refused 14 Memory\n";
+
+/// How a run ended.
+#[derive(Clone, Copy, Debug, PartialEq, Eq)]
+pub struct RunEnd {
+    /// The exit status: 0 done, 2 behind a line that is no command, 3 where the project isn't opened,
+    /// 4 where the input isn't read or a write failed.
+    pub status: u8,
+    /// Whether a growth was refused on the way.
+    pub starved: bool,
+}
+
+/// How the turn of a line ended.
+#[derive(Clone, Copy, Debug, PartialEq, Eq)]
+struct Turn {
+    /// The exit status where the run ends here.
+    end: Option<u8>,
+    /// Whether a growth was refused.
+    starved: bool,
+}
+
+/// Answers a line and writes its reply.
+fn take_turn<W: Write>(
+    alloc: Global,
+    line: &[u8],
+    number: u32,
+    plan: &mut Plan,
+    output: &mut W,
+) -> Turn
+    requires { HoldsProject plan.old }
+    ensures kept { HoldsProject plan.new }
+    ensures taken { result.starved ≡ false
+        → Takes (W.contents output.old) (W.contents output.new) plan.new result.end (reply_to plan.old number line.now) }
+{
+    let Ok(reply) = answer(alloc, line, number, plan) else {
+        let end = match write_text(output, MEMORY_REFUSAL) {
+            Ok(()) => None,
+            Err(_) => Some(BROKEN),
+        };
+        return Turn { end, starved: true };
+    };
+    if write_text(output, reply.text.as_bytes()).is_err() {
+        return Turn {
+            end: Some(BROKEN),
+            starved: false,
+        };
+    }
+    if !reply.goes_on {
+        return Turn {
+            end: Some(BAD_COMMAND),
+            starved: false,
+        };
+    }
+    Turn {
+        end: None,
+        starved: false,
+    }
+}
+
+/// Runs the command lines that follow, the first of which has a number.
+fn run_commands<W: Write>(
+    alloc: Global,
+    opened: Plan,
+    lines: Option<&[u8]>,
+    first: u32,
+    output: &mut W,
+) -> RunEnd
+    requires project { HoldsProject opened }
+    requires few { first + left_in (option_copied lines) ≤ MOST_INPUT + 2 }
+    ensures { result.starved ≡ false
+        → EndsAs (W.contents output.old) (W.contents output.new) result.status (run opened (lines_after first (option_copied lines.entry))) }
+{
+    let mut plan = opened;
+    let mut starved = false;
+    let mut number = first;
+    let mut rest = lines;
+    while let Some(text) = rest {
+        let (line, more) = split_line(text);
+        let turn = take_turn(alloc, line, number, &mut plan, output);
+        starved |= turn.starved;
+        if let Some(status) = turn.end {
+            return RunEnd { status, starved };
+        }
+        number += 1;
+        rest = more;
+    }
+    RunEnd {
+        status: DONE,
+        starved,
+    }
+}
+
+/// Tells why the project isn't opened.
+fn end_unopened<W: Write>(alloc: Global, fault: Unopened, output: &mut W) -> RunEnd
+    ensures told { result.starved ≡ false
+        → EndsAs (W.contents output.old) (W.contents output.new) result.status (unopened fault) }
+    ensures starved { result.starved ≡ false → is_memory fault ≡ false }
+{
+    let mut text = String::new(alloc);
+    let (written, starved) = match push_unopened(fault, &mut text) {
+        Ok(()) => (write_text(output, text.as_bytes()), fault.is_memory()),
+        Err(_) => (write_text(output, memory_text(fault)), true),
+    };
+    match written {
+        Ok(()) => RunEnd {
+            status: UNOPENED,
+            starved,
+        },
+        Err(_) => RunEnd {
+            status: BROKEN,
+            starved,
+        },
+    }
+}
+
+/// Runs an input that is read.
+fn run_input<W: Write>(alloc: Global, input: &[u8], output: &mut W) -> RunEnd
+    requires { length input.now ≤ MOST_INPUT }
+    ensures { result.starved ≡ false
+        → EndsAs (W.contents output.old) (W.contents output.new) result.status (outcome_of input.now) }
+{
+    let sections = split_sections(input);
+    match open_plan(alloc, sections.project) {
+        Ok(plan) => run_commands(alloc, plan, sections.commands, sections.first, output),
+        Err(fault) => end_unopened(alloc, fault, output),
+    }
+}
+
+/// Runs the program: reads all of a reader, and writes what the definition of its text gives for these
+/// bytes. Where it ends unstarved with another status than 4, what was written is the whole text and
+/// the status is its status; in any unstarved end it is a front of the text.
+///
+/// Faults are found in the order input, project, opening, commands. Status 4 comes where the input is
+/// longer than 4,194,304 bytes, where reading fails or doesn't end within 4,194,305 turns, and where a
+/// write fails or takes nothing.
+pub fn run_hotline<R: Read, W: Write>(alloc: Global, input: &mut R, output: &mut W) -> RunEnd
+    ensures { result.starved ≡ false → IfSome (R.remaining input.old)
+        (λ bytes. EndsAs (W.contents output.old) (W.contents output.new) result.status (outcome_of bytes)) }
+{
+    match read_all(alloc, input) {
+        Ok(bytes) => run_input(alloc, &bytes, output),
+        Err(fault) => RunEnd {
+            status: BROKEN,
+            starved: fault == Unread::Memory,
+        },
+    }
+}

@@ -1,0 +1,83 @@
+//! Faults as they are printed.
+ghost use Rattle.std.specs.Prelude.{◌≡◌, ◌++◌, OnOk, string_bytes};
+ghost use Rattle.hotline.specs.Refusals.{bad_command_text, edit_fault_name, project_fault_name, project_fault_text, project_fault_words, refusal_text};
+
+use hc_records::faults::{EditFault, ProjectFault};
+use std::alloc::AllocError;
+
+fn push_project_fault_name(fault: ProjectFault, out: &mut String) -> Result<(), AllocError>
+    ensures { OnOk result (string_bytes out.new ≡ string_bytes out.old ++ project_fault_name fault) }
+{
+    match fault {
+        ProjectFault::NotToml => out.push_str("NotToml"),
+        ProjectFault::MissingField => out.push_str("MissingField"),
+        ProjectFault::OutOfRange => out.push_str("OutOfRange"),
+        ProjectFault::RepeatedAlias => out.push_str("RepeatedAlias"),
+        ProjectFault::RepeatedStation => out.push_str("RepeatedStation"),
+        ProjectFault::RepeatedSyncManager => out.push_str("RepeatedSyncManager"),
+        ProjectFault::OverlappingAreas => out.push_str("OverlappingAreas"),
+        ProjectFault::RepeatedVariable => out.push_str("RepeatedVariable"),
+        ProjectFault::UnknownPdo => out.push_str("UnknownPdo"),
+        ProjectFault::AreaTooBig => out.push_str("AreaTooBig"),
+        ProjectFault::Memory => out.push_str("Memory"),
+    }
+}
+
+/// The line of a project's fault, as `project fault 3 OutOfRange`.
+pub fn push_project_fault(fault: ProjectFault, out: &mut String) -> Result<(), AllocError>
+    ensures { OnOk result (string_bytes out.new ≡ string_bytes out.old ++ project_fault_text fault) }
+{
+    out.push_str("project fault ")?;
+    push_project_fault_words(fault, out)
+}
+
+/// The fault's number and name, and the end of the line.
+#[tactic(auto, unfolding(crate::specs::Refusals::project_fault_words))]
+fn push_project_fault_words(fault: ProjectFault, out: &mut String) -> Result<(), AllocError>
+    ensures { OnOk result (string_bytes out.new ≡ string_bytes out.old ++ project_fault_words fault) }
+{
+    let number = fault.number();
+    write!(out, "{number} ")?;
+    push_project_fault_name(fault, out)?;
+    out.push_str("\n")
+}
+
+fn push_edit_fault_name(fault: EditFault, out: &mut String) -> Result<(), AllocError>
+    ensures { OnOk result (string_bytes out.new ≡ string_bytes out.old ++ edit_fault_name fault) }
+{
+    match fault {
+        EditFault::UnknownAlias => out.push_str("UnknownAlias"),
+        EditFault::AlreadyPresent => out.push_str("AlreadyPresent"),
+        EditFault::NotPresent => out.push_str("NotPresent"),
+        EditFault::Mandatory => out.push_str("Mandatory"),
+        EditFault::UnknownStation => out.push_str("UnknownStation"),
+        EditFault::Absent => out.push_str("Absent"),
+        EditFault::NoSuchArea => out.push_str("NoSuchArea"),
+        EditFault::NoSuchTask => out.push_str("NoSuchTask"),
+        EditFault::UnknownPdo => out.push_str("UnknownPdo"),
+        EditFault::RepeatedPdo => out.push_str("RepeatedPdo"),
+        EditFault::AreaTooBig => out.push_str("AreaTooBig"),
+        EditFault::TooManyDatagrams(task) => write!(out, "TooManyDatagrams {task}"),
+        EditFault::EpochsSpent => out.push_str("EpochsSpent"),
+        EditFault::Memory => out.push_str("Memory"),
+    }
+}
+
+/// The line of a refused command, as `refused 12 TooManyDatagrams 0`.
+#[tactic(auto, unfolding(crate::specs::Refusals::refusal_text))]
+pub fn push_refusal(fault: EditFault, out: &mut String) -> Result<(), AllocError>
+    ensures { OnOk result (string_bytes out.new ≡ string_bytes out.old ++ refusal_text fault) }
+{
+    let number = fault.number();
+    write!(out, "refused {number} ")?;
+    push_edit_fault_name(fault, out)?;
+    out.push_str("\n")
+}
+
+/// The line about a line that is no command, as `line 9: bad command`.
+#[tactic(auto, unfolding(crate::specs::Refusals::bad_command_text))]
+pub fn push_bad_command(number: u32, out: &mut String) -> Result<(), AllocError>
+    ensures { OnOk result (string_bytes out.new ≡ string_bytes out.old ++ bad_command_text number) }
+{
+    write!(out, "line {number}: bad command\n")
+}

@@ -1,0 +1,137 @@
+//! Whole runs over memory, and over readers and writers that fail. Expected texts were worked out by
+//! hand and by a separate model of the formats.
+mod breaks;
+mod devices;
+mod refusals;
+mod runs;
+
+use crate::engine::{RunEnd, run_hotline};
+use std::alloc::{AllocError, Global};
+
+/// One mandatory slave with an output and an input area.
+const ONE_SLAVE: &str = r#"[[slave]]
+station = 1001
+[[slave.area]]
+sm = 2
+dir = "out"
+phys = 0x1100
+task = 0
+assigned = [0x1600]
+[[slave.area.pdo]]
+index = 0x1600
+entries = [[1, 2]]
+[[slave.area]]
+sm = 3
+dir = "in"
+phys = 0x1180
+task = 0
+assigned = [0x1a00]
+[[slave.area.pdo]]
+index = 0x1a00
+entries = [[2, 12]]
+"#;
+
+/// The commands of the first run.
+const FIRST_COMMANDS: &str = "%%\nlayout\nregs 1001\nshow 0 0\n";
+
+/// What the first run prints.
+const FIRST_TEXT: &str = "epoch 0
+task 0 parts 1 2
+datagram 0 address 0x01000000 length 3 expected 3
+sm 2 at 0x0810: 00 11 01 00 64 00 01 00
+fmmu 0 at 0x0600: 00 00 00 01 01 00 00 01 00 11 00 02 01 00 00 00
+sm 3 at 0x0818: 80 11 02 00 20 00 01 00
+fmmu 1 at 0x0610: 01 00 00 01 02 00 00 03 80 11 00 01 01 00 00 00
+frame 0: ffffffffffff02000000000088a40f100c00000000010300000000000000000000000000000000000000000000000000000000000000000000000000
+";
+
+/// The bytes that a run may print without a growth of the list that takes them.
+const ROOM: usize = 16_384;
+
+/// What a run printed, and how it ended.
+#[derive(Debug, Drop)]
+struct Printed {
+    end: RunEnd,
+    text: Vec<u8>,
+}
+
+impl Printed {
+    /// Whether it ended unstarved with a status and a text.
+    fn is(&self, status: u8, text: &str) -> bool {
+        !self.end.starved && self.end.status == status && self.text.as_slice() == text.as_bytes()
+    }
+
+    /// Whether it said that a growth was refused, or ended while the input was read.
+    fn says_memory(&self) -> bool {
+        match self.end.status {
+            3 => {
+                self.text.as_slice() == b"project fault 11 Memory\n".as_slice()
+                    || self.text.as_slice() == b"open fault 2 Memory\n".as_slice()
+            }
+            4 => self.text.is_empty(),
+            _ => self.text.ends_with(b"Memory\n") || has_memory_line(&self.text),
+        }
+    }
+}
+
+/// Whether a text has a line of a command for which a growth was refused.
+fn has_memory_line(text: &[u8]) -> bool {
+    text.windows(18)
+        .any(|part| part == b"refused 14 Memory\n".as_slice())
+}
+
+/// Runs an input over memory.
+fn run(alloc: Global, input: &[u8]) -> Result<Printed, AllocError> {
+    let mut reader: &[u8] = input;
+    let mut text = Vec::with_capacity(alloc, ROOM)?;
+    let end = run_hotline(alloc, &mut reader, &mut text);
+    Ok(Printed { end, text })
+}
+
+/// Whether an input ends with a status and a text. `AllocError` where a growth was refused and the run
+/// said so; false where it didn't say so.
+fn ends_as(alloc: Global, input: &[u8], status: u8, text: &str) -> Result<bool, AllocError> {
+    let run = run(alloc, input)?;
+    if run.end.starved && run.says_memory() {
+        return Err(AllocError);
+    }
+    Ok(run.is(status, text))
+}
+
+/// A project text and commands behind it.
+fn joined(alloc: Global, project: &str, commands: &str) -> Result<String, AllocError> {
+    let mut input = String::new(alloc);
+    input.push_str(project)?;
+    input.push_str(commands)?;
+    Ok(input)
+}
+
+/// Adds a slave with one output area of so many bits, at most 12,288, in task 0.
+fn push_wide_slave(text: &mut String, station: u32, bits: u32) -> Result<(), AllocError> {
+    write!(text, "[[slave]]\nstation = {station}\n")?;
+    text.push_str("[[slave.area]]\nsm = 0\ndir = 'out'\nphys = 0x1000\ntask = 0\n")?;
+    text.push_str("assigned = [1, 2, 3]\npdo = [")?;
+    let mut left = bits;
+    for index in 1..=3u32 {
+        let part = left.min(64 * 64);
+        write!(text, "{{ index = {index}, entries = [")?;
+        push_entries(text, part)?;
+        text.push_str("] }, ")?;
+        left -= part;
+    }
+    text.push_str("]\n")
+}
+
+/// Adds at most 64 gaps that have so many bits together.
+fn push_entries(text: &mut String, bits: u32) -> Result<(), AllocError> {
+    let mut left = bits;
+    for _ in 0..64 {
+        let width = left.min(64);
+        if width == 0 {
+            return Ok(());
+        }
+        write!(text, "[0, {width}], ")?;
+        left -= width;
+    }
+    Ok(())
+}

@@ -1,0 +1,133 @@
+//! Inputs that are too long, readers that fail, and writers that fail.
+use super::devices::{Halting, Interrupted, LineFeeds, Narrow};
+use super::{FIRST_COMMANDS, FIRST_TEXT, ONE_SLAVE, ROOM, joined};
+use crate::engine::{RunEnd, run_hotline};
+use crate::input::MOST_INPUT;
+use std::alloc::AllocError;
+use std::io::ErrorKind;
+use std::test::Fail;
+
+/// An unstarved end.
+fn ended(status: u8) -> RunEnd {
+    RunEnd {
+        status,
+        starved: false,
+    }
+}
+
+#[test]
+fn one_byte_too_long(rt: HostRuntime) -> Result<(), Fail> {
+    for (size, status) in [(MOST_INPUT, 0), (MOST_INPUT + 1, 4)] {
+        let mut input = LineFeeds { left: size };
+        let mut output = Vec::new(rt.alloc());
+        let end = run_hotline(rt.alloc(), &mut input, &mut output);
+        if end.starved {
+            return Err(Fail::from(AllocError));
+        }
+        assert_eq!(rt; end, ended(status));
+        assert!(rt; output.is_empty());
+    }
+    Ok(())
+}
+
+#[test]
+fn reading_ends_after_its_turns(rt: HostRuntime) -> Result<(), Fail> {
+    let mut input = Interrupted { calls: 0 };
+    let mut output = Vec::new(rt.alloc());
+    let end = run_hotline(rt.alloc(), &mut input, &mut output);
+    assert_eq!(rt; end, ended(4));
+    assert_eq!(rt; input.calls, 4_194_305);
+    assert!(rt; output.is_empty());
+    Ok(())
+}
+
+#[test]
+fn each_read_fails_once(rt: HostRuntime) -> Result<(), Fail> {
+    let text = joined(rt.alloc(), ONE_SLAVE, FIRST_COMMANDS)?;
+    let reads = text.as_bytes().len() / 50 + 2;
+    for calls_left in 0..20u32 {
+        let mut input = Halting {
+            left: text.as_bytes(),
+            calls_left,
+            kind: ErrorKind::BrokenPipe,
+        };
+        let mut output = Vec::with_capacity(rt.alloc(), ROOM)?;
+        let end = run_hotline(rt.alloc(), &mut input, &mut output);
+        if end.starved {
+            return Err(Fail::from(AllocError));
+        }
+        let is_read = calls_left as usize >= reads;
+        assert_eq!(rt; end, ended(if is_read { 0 } else { 4 }), "at {calls_left}");
+        assert_eq!(rt; output.is_empty(), !is_read, "at {calls_left}");
+    }
+    Ok(())
+}
+
+#[test]
+fn an_interrupted_read_is_taken_again(rt: HostRuntime) -> Result<(), Fail> {
+    let text = joined(rt.alloc(), ONE_SLAVE, FIRST_COMMANDS)?;
+    for calls_left in 0..8 {
+        let mut input = Halting {
+            left: text.as_bytes(),
+            calls_left,
+            kind: ErrorKind::Interrupted,
+        };
+        let mut output = Vec::with_capacity(rt.alloc(), ROOM)?;
+        let end = run_hotline(rt.alloc(), &mut input, &mut output);
+        if end.starved {
+            return Err(Fail::from(AllocError));
+        }
+        assert_eq!(rt; end, ended(0), "at {calls_left}");
+        assert_eq!(rt; output.as_slice(), FIRST_TEXT.as_bytes(), "at {calls_left}");
+    }
+    Ok(())
+}
+
+#[test]
+fn each_write_fails_in_turn(rt: HostRuntime) -> Result<(), Fail> {
+    let text = joined(rt.alloc(), ONE_SLAVE, FIRST_COMMANDS)?;
+    for calls in 0..160u32 {
+        let mut input = text.as_bytes();
+        let mut output = Narrow {
+            taken: Vec::with_capacity(rt.alloc(), ROOM)?,
+            calls_left: calls / 2,
+            fails: calls % 2 == 1,
+        };
+        let end = run_hotline(rt.alloc(), &mut input, &mut output);
+        if end.starved {
+            return Err(Fail::from(AllocError));
+        }
+        assert!(rt;
+            FIRST_TEXT.as_bytes().starts_with(output.taken.as_slice()),
+            "at {calls}"
+        );
+        let is_whole = output.taken.len() == FIRST_TEXT.len();
+        assert_eq!(rt; end, ended(if is_whole { 0 } else { 4 }), "at {calls}");
+    }
+    Ok(())
+}
+
+#[test]
+fn a_refusal_is_cut_too(rt: HostRuntime) -> Result<(), Fail> {
+    for (text, printed, status) in [
+        ("%%\nfoo\n", "line 2: bad command\n", 2),
+        ("slave = 1\n", "project fault 2 MissingField\n", 3),
+    ] {
+        for calls_left in 0..6 {
+            let mut input = text.as_bytes();
+            let mut output = Narrow {
+                taken: Vec::with_capacity(rt.alloc(), ROOM)?,
+                calls_left,
+                fails: false,
+            };
+            let end = run_hotline(rt.alloc(), &mut input, &mut output);
+            if end.starved {
+                return Err(Fail::from(AllocError));
+            }
+            assert!(rt; printed.as_bytes().starts_with(output.taken.as_slice()));
+            let is_whole = output.taken.len() == printed.len();
+            assert_eq!(rt; end, ended(if is_whole { status } else { 4 }));
+        }
+    }
+    Ok(())
+}

@@ -1,0 +1,80 @@
+//! Readers and writers that fail, or give and take little.
+use std::io::{self, ErrorKind, Read, Write};
+
+/// A reader of bytes that gives a few at a time, and fails once, at a call that is counted down to.
+#[derive(Drop)]
+pub struct Halting<'a> {
+    pub left: &'a [u8],
+    pub calls_left: u32,
+    pub kind: ErrorKind,
+}
+
+impl Read for Halting<'_> {
+    fn read(&mut self, buf: &mut [u8]) -> io::Result<usize> {
+        if self.calls_left == 0 {
+            self.calls_left = u32::MAX;
+            return Err(io::Error::from(self.kind));
+        }
+        self.calls_left -= 1;
+        let count = self.left.len().min(buf.len()).min(50);
+        buf[..count].copy_from_slice(&self.left[..count]);
+        self.left = &self.left[count..];
+        Ok(count)
+    }
+}
+
+/// A reader of so many line feeds.
+#[derive(Drop)]
+pub struct LineFeeds {
+    pub left: usize,
+}
+
+impl Read for LineFeeds {
+    fn read(&mut self, buf: &mut [u8]) -> io::Result<usize> {
+        let count = self.left.min(buf.len());
+        buf[..count].fill(b'\n');
+        self.left -= count;
+        Ok(count)
+    }
+}
+
+/// A reader that is interrupted forever.
+#[derive(Drop)]
+pub struct Interrupted {
+    pub calls: u32,
+}
+
+impl Read for Interrupted {
+    fn read(&mut self, _buf: &mut [u8]) -> io::Result<usize> {
+        self.calls = self.calls.saturating_add(1);
+        Err(io::Error::from(ErrorKind::Interrupted))
+    }
+}
+
+/// A writer that takes a few bytes at a time, and none or an error from a call on that is counted down
+/// to.
+#[derive(Drop)]
+pub struct Narrow {
+    pub taken: Vec<u8>,
+    pub calls_left: u32,
+    pub fails: bool,
+}
+
+impl Write for Narrow {
+    fn write(&mut self, buf: &[u8]) -> io::Result<usize> {
+        if self.calls_left == 0 {
+            if self.fails {
+                return Err(io::Error::from(ErrorKind::BrokenPipe));
+            }
+            return Ok(0);
+        }
+        self.calls_left -= 1;
+        let count = buf.len().min(7);
+        self.taken.extend_from_slice(&buf[..count])?;
+        Ok(count)
+    }
+
+    fn flush(&mut self) -> io::Result<()> {
+        Ok(())
+    }
+}

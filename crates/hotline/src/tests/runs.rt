@@ -1,0 +1,180 @@
+//! Runs that print what their commands ask for.
+use super::{FIRST_COMMANDS, FIRST_TEXT, ONE_SLAVE, ends_as, joined, push_wide_slave};
+use std::test::Fail;
+
+/// Two slaves whose areas of 3 bits share bytes.
+const SHARED_BYTES: &str = r#"[[slave]]
+station = 1
+[[slave.area]]
+sm = 0
+dir = "out"
+phys = 0x1000
+task = 0
+assigned = [1]
+pdo = [{ index = 1, entries = [[0, 3]] }]
+[[slave.area]]
+sm = 1
+dir = "out"
+phys = 0x1010
+task = 0
+assigned = [1]
+pdo = [{ index = 1, entries = [[0, 3]] }]
+"#;
+
+/// An input area of 1 bit for the first of them.
+const ONE_BIT: &str = r#"[[slave.area]]
+sm = 2
+dir = "in"
+phys = 0x1020
+task = 0
+assigned = [1]
+pdo = [{ index = 1, entries = [[0, 1]] }]
+"#;
+
+/// The second of them.
+const SECOND_SLAVE: &str = r#"[[slave]]
+station = 2
+[[slave.area]]
+sm = 0
+dir = "out"
+phys = 0x1000
+task = 0
+assigned = [1]
+pdo = [{ index = 1, entries = [[0, 3]] }]
+"#;
+
+const SHARED_TEXT: &str = "epoch 0
+task 0 parts 2 0
+datagram 0 address 0x01000000 length 2 expected 4
+sm 0 at 0x0800: 00 10 01 00 64 00 01 00
+fmmu 0 at 0x0600: 00 00 00 01 01 00 00 02 00 10 00 02 01 00 00 00
+sm 1 at 0x0808: 10 10 01 00 64 00 01 00
+fmmu 1 at 0x0610: 00 00 00 01 01 00 03 05 10 10 00 02 01 00 00 00
+sm 0 at 0x0800: 00 10 01 00 64 00 01 00
+fmmu 0 at 0x0600: 00 00 00 01 02 00 06 00 00 10 00 02 01 00 00 00
+";
+
+/// A mandatory slave without areas, and a group that is absent.
+const ABSENT_GROUP: &str =
+    "slave = [{ station = 5 }]\ngroup = [{ alias = 100, slave = [{ station = 6 }] }]\n";
+
+#[test]
+fn the_first_run(rt: HostRuntime) -> Result<(), Fail> {
+    let input = joined(rt.alloc(), ONE_SLAVE, FIRST_COMMANDS)?;
+    assert!(rt; ends_as(rt.alloc(), input.as_bytes(), 0, FIRST_TEXT)?);
+    Ok(())
+}
+
+#[test]
+fn areas_of_few_bits_share_bytes(rt: HostRuntime) -> Result<(), Fail> {
+    let mut input = joined(rt.alloc(), SHARED_BYTES, SECOND_SLAVE)?;
+    input.push_str("%%\nlayout\nregs 1\nregs 2\n")?;
+    assert!(rt; ends_as(rt.alloc(), input.as_bytes(), 0, SHARED_TEXT)?);
+    Ok(())
+}
+
+#[test]
+fn the_first_input_begins_a_byte(rt: HostRuntime) -> Result<(), Fail> {
+    let mut input = joined(rt.alloc(), SHARED_BYTES, ONE_BIT)?;
+    input.push_str(SECOND_SLAVE)?;
+    input.push_str("%%\nlayout\n")?;
+    let text = "epoch 0\ntask 0 parts 2 1\ndatagram 0 address 0x01000000 length 3 expected 5\n";
+    assert!(rt; ends_as(rt.alloc(), input.as_bytes(), 0, text)?);
+    Ok(())
+}
+
+#[test]
+fn an_empty_project_has_no_datagrams(rt: HostRuntime) -> Result<(), Fail> {
+    assert!(rt; ends_as(rt.alloc(), b"%%\nlayout\n", 0, "epoch 0\n")?);
+    Ok(())
+}
+
+#[test]
+fn without_a_mark_nothing_is_printed(rt: HostRuntime) -> Result<(), Fail> {
+    for input in [
+        b"".as_slice(),
+        b"slave = []".as_slice(),
+        b"# %%\n %%\nx = 1\n".as_slice(),
+    ] {
+        let is_text = input != b"# %%\n %%\nx = 1\n".as_slice();
+        let (status, text) = if is_text {
+            (0, "")
+        } else {
+            (3, "project fault 1 NotToml\n")
+        };
+        assert!(rt; ends_as(rt.alloc(), input, status, text)?);
+    }
+    Ok(())
+}
+
+#[test]
+fn a_full_datagram_and_one_more(rt: HostRuntime) -> Result<(), Fail> {
+    let mut input = String::new(rt.alloc());
+    push_wide_slave(&mut input, 1, 8 * 1485)?;
+    push_wide_slave(&mut input, 2, 8)?;
+    push_wide_slave(&mut input, 3, 1)?;
+    input.push_str("%%\nlayout\nshow 0 0\nshow 0 1\n")?;
+    let mut text = String::new(rt.alloc());
+    text.push_str("epoch 0\ntask 0 parts 1487 0\n")?;
+    text.push_str("datagram 0 address 0x01000000 length 1486 expected 4\n")?;
+    text.push_str("datagram 1 address 0x01000800 length 1 expected 2\n")?;
+    text.push_str("frame 0: ffffffffffff02000000000088a4da150c0000000001ce05")?;
+    for _ in 0..1490 {
+        text.push_str("00")?;
+    }
+    text.push_str("\nframe 0: ffffffffffff02000000000088a40d100c00000800010100")?;
+    for _ in 0..36 {
+        text.push_str("00")?;
+    }
+    text.push_str("\n")?;
+    assert!(rt; ends_as(rt.alloc(), input.as_bytes(), 0, text.as_str())?);
+    Ok(())
+}
+
+#[test]
+fn refused_commands_go_on(rt: HostRuntime) -> Result<(), Fail> {
+    let commands =
+        "%%\nregs 5\nregs 6\nregs 7\nregs 0\nshow 8 0\nshow 255 255\nshow 7 15\nshow 0 16\nlayout\n";
+    let input = joined(rt.alloc(), ABSENT_GROUP, commands)?;
+    let text = "refused 6 Absent
+refused 5 UnknownStation
+refused 5 UnknownStation
+refused 8 NoSuchTask
+refused 8 NoSuchTask
+none
+none
+epoch 0
+";
+    assert!(rt; ends_as(rt.alloc(), input.as_bytes(), 0, text)?);
+    Ok(())
+}
+
+#[test]
+fn lines_and_words(rt: HostRuntime) -> Result<(), Fail> {
+    let four = "epoch 0\nepoch 0\nepoch 0\nepoch 0\n";
+    for (commands, text) in [
+        ("%%\r\nlayout\r\nlayout\r\nlayout\nlayout", four),
+        (
+            "%%\n  layout\nlayout   \n\n   \n\r\n layout \nlayout\n",
+            four,
+        ),
+        (
+            "%%\nshow  00  0x0\nshow 0X0 0\n",
+            "none\nline 3: bad command\n",
+        ),
+        (
+            "%%\nshow 000000000000000000000000008 0xfF\n",
+            "refused 8 NoSuchTask\n",
+        ),
+        ("%%", ""),
+        ("%%\n", ""),
+        ("%%\r\n\r\n", ""),
+    ] {
+        let status = if text.ends_with("command\n") { 2 } else { 0 };
+        assert!(rt;
+            ends_as(rt.alloc(), commands.as_bytes(), status, text)?,
+            "{commands}"
+        );
+    }
+    Ok(())
+}

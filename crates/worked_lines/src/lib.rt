@@ -1,0 +1,8 @@
+//! Worked lines, from their project text to what their plan answers. There is nothing to call: these
+//! are tests of the crates from project text to plan together.
+#![tactic(auto)]
+
+#[cfg(test)]
+mod layouts;
+#[cfg(test)]
+mod texts;
