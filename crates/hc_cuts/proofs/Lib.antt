@@ -1,1 +1,5 @@
+pub mod Ascending
 pub mod Firsts
+pub mod Found
+pub mod Hulls
+pub mod Order

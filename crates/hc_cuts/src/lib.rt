@@ -4,5 +4,6 @@
 pub mod fold;
 pub mod laws;
 pub mod packing;
+pub mod settled;
 #[cfg(test)]
 mod tests;

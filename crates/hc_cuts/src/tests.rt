@@ -1,9 +1,13 @@
 //! Lists whose datagrams are known.
-ghost use Rattle.std.specs.Prelude.{All, IfOk};
-ghost use Rattle.hc_records.specs.Laws.{IsPackable};
+ghost use Rattle.std.specs.Prelude.{◌≡◌, All, IfOk, IfSome, IsTrue};
+ghost use Rattle.std.specs.List.{list_all};
+ghost use Rattle.hc_records.specs.Keys.{is_before};
+ghost use Rattle.hc_records.specs.Boundaries.{unsettled_spans};
+ghost use Rattle.hc_records.specs.Laws.{Ascends, IsPackable};
 
 use crate::fold::{TooManyDatagrams, fold_cuts};
 use crate::packing::{Front, pack};
+use crate::settled::{is_touched_task, unsettled_spans, width_in};
 use hc_records::keys::Key;
 use hc_records::records::Dir;
 use std::alloc::{AllocError, Global};
@@ -75,4 +79,105 @@ fn sixteen_datagrams_are_the_most(rt: HostRuntime) -> Result<(), Fail> {
     let list = filling(rt.alloc(), 17)?;
     assert_eq!(rt; fold_cuts(&list).err(), Some(TooManyDatagrams));
     Ok(())
+}
+
+/// Whether a key comes before those of a list.
+fn is_first(key: Key, list: &[(Key, u16)]) -> bool
+    ensures { result ≡ list_all (λ other. is_before key other.0) list.now }
+{
+    list.iter().all(|other| key.is_before(other.0))
+}
+
+/// Whether the keys of a list ascend.
+fn ascends(list: &[(Key, u16)]) -> bool
+    ensures { IsTrue result → Ascends list.now }
+{
+    for i in 0..list.len() {
+        if !is_first(list[i].0, &list[i + 1..]) {
+            return false;
+        }
+    }
+    true
+}
+
+/// The spans that aren't settled of a task whose lists ascend and need at most 16 datagrams each.
+fn unsettled(old: &[(Key, u16)], new: &[(Key, u16)]) -> Option<usize>
+    requires old { All IsPackable old.now }
+    requires new { All IsPackable new.now }
+    ensures { IfSome result (λ spans. spans ≡ unsettled_spans old.now new.now) }
+{
+    if !ascends(old) || !ascends(new) {
+        return None;
+    }
+    let old_starts = fold_cuts(old).ok()?;
+    let new_starts = fold_cuts(new).ok()?;
+    Some(unsettled_spans(old, &old_starts, new, &new_starts))
+}
+
+#[test]
+fn an_edit_at_the_front_reaches_two_spans(rt: HostRuntime) {
+    let [a, b, c, d] = [
+        key(Dir::Out, 1),
+        key(Dir::Out, 2),
+        key(Dir::Out, 3),
+        key(Dir::Out, 4),
+    ];
+    let [e, f, g, h] = [
+        key(Dir::Out, 5),
+        key(Dir::Out, 6),
+        key(Dir::Out, 7),
+        key(Dir::Out, 8),
+    ];
+    let old = [
+        (a, 5600),
+        (b, 5600),
+        (c, 5600),
+        (d, 5600),
+        (e, 5600),
+        (f, 11200),
+        (g, 5600),
+        (h, 5600),
+    ];
+    let new = [
+        (b, 5600),
+        (c, 5600),
+        (d, 5600),
+        (e, 5600),
+        (f, 11200),
+        (g, 5600),
+        (h, 5600),
+    ];
+    assert_eq!(rt; unsettled(&old, &new), Some(2));
+    assert_eq!(rt; unsettled(&new, &new), Some(0));
+    assert_eq!(rt; unsettled(&new, &[]), Some(1));
+    assert_eq!(rt; unsettled(&[], &new), Some(4));
+}
+
+#[test]
+fn a_narrower_area_moves_a_boundary(rt: HostRuntime) {
+    let [a, b, c] = [key(Dir::Out, 1), key(Dir::Out, 2), key(Dir::Out, 3)];
+    let old = [(a, 8000), (b, 5600), (c, 5600)];
+    let new = [(a, 8000), (b, 2400), (c, 5600)];
+    assert!(rt; ascends(&old) && ascends(&new));
+    assert_eq!(rt; unsettled(&old, &new), Some(2));
+    assert!(rt; is_touched_task(&old, &new));
+    assert!(rt; !is_touched_task(&new, &new));
+    assert_eq!(rt; width_in(&new, b), 2400);
+    assert_eq!(rt; width_in(&[], b), 0);
+}
+
+#[test]
+fn outputs_and_inputs_are_reached_apart(rt: HostRuntime) {
+    let [a, b, c] = [key(Dir::Out, 1), key(Dir::Out, 2), key(Dir::Out, 3)];
+    let [d, e, f] = [key(Dir::Out, 4), key(Dir::In, 1), key(Dir::In, 2)];
+    let old = [
+        (a, 800),
+        (b, 11200),
+        (c, 11200),
+        (d, 11200),
+        (e, 800),
+        (f, 11200),
+    ];
+    let new = [(b, 11200), (c, 11200), (d, 11200), (f, 11200)];
+    assert_eq!(rt; unsettled(&old, &new), Some(2));
 }
