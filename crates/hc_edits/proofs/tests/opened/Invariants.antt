@@ -1,0 +1,6 @@
+use Rattle.std.proofs.Common.{◌≡◌, ◌++◌, drop}
+use Rattle.hc_edits.specs.Edits.{groups_of}
+use Rattle.hc_edits.proofs.tests.opened.Given as goal
+
+abbrev pub invariant-loop-group : goal.invariant-loop-group
+invariant-loop-group l = groups_of l.declared ++ drop l.group-index l.group-items ≡ l.project

@@ -1,0 +1,9 @@
+//! What an edit makes of the declared groups: whether it is refused by itself, and the groups that it
+//! leaves. The plan above adds what concerns the whole line: datagrams and epochs.
+#![tactic(auto)]
+
+mod areas;
+pub mod faults;
+pub mod groups;
+#[cfg(test)]
+mod tests;
