@@ -17,12 +17,12 @@ use Rattle.hc_places.specs.Parts.{IsRefusal}
 abbrev pub tasks_from : ℕ → List ℕ
 tasks_from task = range_with_len task (8 - task)
 
-tasks-next : (task : ℕ) → task < 8 → tasks_from task ≡ task ∷ tasks_from (task + 1)
+pub tasks-next : (task : ℕ) → task < 8 → tasks_from task ≡ task ∷ tasks_from (task + 1)
 tasks-next task low =
     let left : 8 - task ≡ suc (8 - (task + 1)) = omega arith in
     ap (range_with_len task) left
 
-tasks-none : (task : ℕ) → 8 ≤ task → tasks_from task ≡ []
+pub tasks-none : (task : ℕ) → 8 ≤ task → tasks_from task ≡ []
 tasks-none task high =
     let left : 8 - task ≡ 0 = omega arith in
     ap (range_with_len task) left

@@ -1,12 +1,21 @@
 -- A stable sort by number puts rows in the order that the table keeps.
-use Rattle.std.proofs.Common.{◌≡◌, ℕ, zero, suc, ◌≤◌, Bool, true, false, cond, List, [], ◌∷◌, filter, nat_cmp, is_lt, refl, sym, ap, ◌∙◌, arith, suc-le-suc, zero-le, if◌then◌else◌}
-use Rattle.std.specs.Prelude.{All, nat_lt, find, Option, Some, None, ◌==◌}
+use Rattle.std.proofs.Common.{◌≡◌, ℕ, zero, suc, ◌+◌, ◌<◌, ◌≤◌, Bool, true, false, cond, List, [], ◌∷◌, filter, length, nat_cmp, is_lt, refl, sym, ap, ◌∙◌, arith, suc-le-suc, zero-le, if◌then◌else◌}
+use Rattle.std.specs.Prelude.{All, map, nat_lt, find, Option, Some, None, ◌==◌}
 use Rattle.std.proofs.lemmas.Bool.{cond-true, eq-eqb, eqb-true}
 use Rattle.std.proofs.lemmas.Bool.Decides.{nat_tests}
 use Rattle.std.proofs.lemmas.List.Elements.{All-nil, All-cons, All-head, All-tail, All-weaker, filter_agree}
 use Rattle.std.specs.List.Sorted.{ties, IsNonDecreasingBy, IsStableByKey}
 use Rattle.hc_records.specs.declared.records.Dir.TheVariants.{Out}
-use Rattle.hc_places.specs.Table.{Row, by_number, put}
+use Rattle.std.proofs.lemmas.List.Kept.{AllPairs-cons}
+use Rattle.hc_records.proofs.Lists.{AllPairs-nil}
+use Rattle.hc_places.specs.Table.{Row, RowsAscend, by_number, put}
+use Rattle.hc_records.specs.declared.records.Declared.{Declared}
+use Rattle.hc_records.specs.Image.{task_variables, tasks}
+use Rattle.hc_records.specs.Line.{line_from}
+use Rattle.hc_records.specs.Project.{lowest_fault}
+use Rattle.std.specs.List.{flat_map}
+use Rattle.hc_places.proofs.Once.{of_row, variable-once}
+use Rattle.hc_places.proofs.Totals.{total}
 
 -- rows of a number
 abbrev numbered : ℕ → Row → Bool
@@ -173,3 +182,56 @@ sorted-by_number rows sorted rises stable =
     ∙ stable (row_of number)
     ∙ filter_agree (tied_with number) (numbered number) tied rows
     ∙ sym (filter-by_number number rows))
+
+-- rows that rise, of which no two have one number, ascend
+
+none-kept-by : (passes : Bool) (row : Row) (kept : List Row) → length (cond passes (row ∷ kept) kept) ≤ 0 → (passes ≡ false) × (length kept ≤ 0)
+none-kept-by true row kept few = absurd (omega arith)
+none-kept-by false row kept few = (refl, few)
+
+none-kept : (number : ℕ) (rows : List Row) → length (filter (numbered number) rows) ≤ 0 → All (λ row. (row.0 == number) ≡ false) rows
+none-kept number [] few = All-nil (λ row. (row.0 == number) ≡ false)
+none-kept number (row ∷ rows) few =
+    let both = none-kept-by (row.0 == number) row (filter (numbered number) rows) few in
+    All-cons (λ row. (row.0 == number) ≡ false) row rows both.0 (none-kept number rows both.1)
+
+strictly : (a b : ℕ) → a ≤ b → (b == a) ≡ false → a < b
+strictly a b low other = grind (arith, nat_tests)
+
+kept-fewer : (passes : Bool) (row : Row) (kept : List Row) → length (cond passes (row ∷ kept) kept) ≤ 1 → length kept ≤ 1
+kept-fewer true row kept few = omega arith
+kept-fewer false row kept few = few
+
+rising-ascends : (rows : List Row) → Rises rows → ((number : ℕ) → length (filter (numbered number) rows) ≤ 1) → RowsAscend rows
+rising-ascends [] rises few = AllPairs-nil (λ a b. a.0 < b.0)
+rising-ascends (row ∷ rows) rises few =
+    let own : length (filter (numbered row.0) (row ∷ rows)) ≡ suc (length (filter (numbered row.0) rows)) = ap length (filter-own row rows) in
+    let one = few row.0 in
+    let others = none-kept row.0 rows (omega arith) in
+    AllPairs-cons (λ a b. a.0 < b.0) row rows (λ k d within. strictly _ _ (rises.0 k d within) (others k d within))
+    (rising-ascends rows rises.1 (λ number. kept-fewer (row.0 == number) row (filter (numbered number) rows) (few number)))
+
+pub ascends-by_number : (rows : List Row) → ((number : ℕ) → length (filter (numbered number) rows) ≤ 1) → RowsAscend (by_number rows)
+ascends-by_number rows few =
+    rising-ascends (by_number rows) (rises-by_number rows) (λ number. rw (filter-by_number number rows) (few number))
+
+same-both : (a b : ℕ) → (a == b) ≡ (b == a)
+same-both a b = grind (arith, nat_tests)
+
+kept-length-by : (passes : Bool) (row : Row) (kept : List Row) → length (cond passes (row ∷ kept) kept) ≡ cond passes 1 0 + length kept
+kept-length-by true row kept = omega arith
+kept-length-by false row kept = omega arith
+
+-- how many rows a number has
+pub kept-length : (number : ℕ) (rows : List Row) → length (filter (numbered number) rows) ≡ total (of_row number) rows
+kept-length number [] = refl
+kept-length number (row ∷ rows) =
+    kept-length-by (row.0 == number) row (filter (numbered number) rows)
+    ∙ ap (λ (b : Bool). cond b 1 0 + length (filter (numbered number) rows)) (same-both row.0 number)
+    ∙ ap (λ (n : ℕ). cond (number == row.0) 1 0 + n) (kept-length number rows)
+
+-- the rows of a project's line, in the order of their numbers, ascend
+pub rows-ascend : (groups : List Declared) → lowest_fault (map (λ declared. declared.group) groups) ≡ None → RowsAscend (by_number (flat_map (task_variables (line_from 1 groups)) tasks))
+rows-ascend groups none =
+    let rows = flat_map (task_variables (line_from 1 groups)) tasks in
+    ascends-by_number rows (λ number. let same = kept-length number rows in let once = variable-once groups none number in omega arith)

@@ -1,4 +1,4 @@
--- The whole table of a worked line, computed by the definitions: a wrong definition fails here.
+-- The whole table of a worked line, and worked swaps, computed by the definitions: a wrong definition fails here.
 use Rattle.std.specs.Prelude.{◌≡◌, ℕ, List, [], ◌∷◌, Some, None, refl}
 use Rattle.hc_records.specs.declared.records.Dir.TheVariants.{Out, In}
 use Rattle.hc_records.specs.declared.records.Dir.{Dir}
@@ -6,7 +6,8 @@ use Rattle.hc_records.specs.declared.records.Area.{Area}
 use Rattle.hc_records.specs.Area.{Entry}
 use Rattle.hc_records.specs.Image.{VariablePlace}
 use Rattle.hc_records.specs.Line.{Member}
-use Rattle.hc_places.specs.Table.{TaskTable, table_of}
+use Rattle.hc_places.specs.Table.{Row, Table, TaskTable, table_of}
+use Rattle.hc_places.specs.Swap.{changed_variables, merged}
 
 -- an area of a task with one PDO of these entries, which is assigned
 abbrev area_of : ℕ → Dir → List Entry → Area
@@ -75,3 +76,19 @@ two_datagrams_table : table_of two_datagrams ≡ record {
   variables = (3, record { task = 0; datagram = 1; bit = 0; bits = 8; dir = Out }) ∷ [];
 }
 two_datagrams_table = refl
+
+-- A variable that goes, one that stands elsewhere, one that stays and one that appears.
+abbrev table_with : List Row → Table
+table_with rows = record { tasks = []; variables = rows }
+
+abbrev old_rows : List Row
+old_rows = (5, at 0 3 1 Out) ∷ (6, at 0 4 3 Out) ∷ (7, at 0 0 3 Out) ∷ []
+
+abbrev new_rows : List Row
+new_rows = (6, at 0 3 3 Out) ∷ (7, at 0 0 3 Out) ∷ (8, at 0 6 2 Out) ∷ []
+
+rows_merged : merged ((5, None) ∷ (6, Some (at 0 3 3 Out)) ∷ (8, Some (at 0 6 2 Out)) ∷ []) old_rows ≡ new_rows
+rows_merged = refl
+
+variables_changed : changed_variables (table_with old_rows) (table_with new_rows) ≡ 5 ∷ 6 ∷ 8 ∷ []
+variables_changed = refl

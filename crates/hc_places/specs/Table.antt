@@ -1,5 +1,5 @@
 -- The table of a line: the datagrams and the parts of its tasks, and the places of its variables.
-use Rattle.std.specs.Prelude.{◌≡◌, ℕ, ◌==◌, nat_lt, if◌then◌else◌, List, [], ◌∷◌, map, find, slice_get, option_and_then, option_map, Option}
+use Rattle.std.specs.Prelude.{◌≡◌, ℕ, ◌<◌, ◌==◌, nat_lt, if◌then◌else◌, List, [], ◌∷◌, AllPairs, map, find, slice_get, option_and_then, option_map, Option}
 use Rattle.std.specs.Option.{option_map_or}
 use Rattle.std.specs.List.{flat_map, range_with_len}
 use Rattle.hc_records.specs.Line.{Member}
@@ -40,6 +40,10 @@ put row (other ∷ others) = if nat_lt other.0 row.0 then other ∷ put row othe
 abbrev pub by_number : List Row → List Row
 by_number [] = []
 by_number (row ∷ rows) = put row (by_number rows)
+
+-- each variable once, in the order of their numbers
+abbrev pub RowsAscend : List Row → Type 0
+RowsAscend rows = AllPairs (λ a b. a.0 < b.0) rows
 
 -- the eight tasks, and the variables in the order of their numbers
 pub record Table : Type 0 where

@@ -1,9 +1,27 @@
 //! What follows from the definitions of the table: each function does nothing, and its contract is a
 //! law. Nobody calls it.
+ghost use Rattle.hc_places.specs.Swap.{ChangedVariablesDiffer, ChangedVariablesStandOnce, SameIsEqual};
 ghost use Rattle.hc_places.specs.Table.{TablesHavePlaces};
 
 /// In the table of a line each variable has its place in the line, and one without a place there has
 /// none.
 pub fn tables_have_places()
     ensures { TablesHavePlaces }
+{}
+
+/// Two answers for a variable, a place or none, are told to be the same exactly where they are equal:
+/// by this the changed variables of two tables are those whose place differs.
+pub fn same_is_equal()
+    ensures { SameIsEqual }
+{}
+
+/// A variable is among the changed ones of two tables exactly where its place differs, one that appears
+/// or goes included.
+pub fn changed_variables_differ()
+    ensures { ChangedVariablesDiffer }
+{}
+
+/// Where two tables have each variable once, each of their changed variables is counted once.
+pub fn changed_variables_stand_once()
+    ensures { ChangedVariablesStandOnce }
 {}

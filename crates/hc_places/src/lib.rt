@@ -8,6 +8,8 @@ pub mod configure;
 mod datagrams;
 pub mod laws;
 pub mod layout;
+pub mod recut;
+pub mod swap;
 pub mod table;
 #[cfg(test)]
 mod tests;

@@ -66,19 +66,18 @@ impl Model for TaskTable {
 /// The datagrams and the parts of the eight tasks, and the place of each variable of a line.
 #[derive(Debug, Drop)]
 pub struct Places {
-    tasks: Items<TaskTable>,
-    variables: Vec<(VarId, Place)>,
+    pub(crate) tasks: Items<TaskTable>,
+    pub(crate) variables: Vec<(VarId, Place)>,
 }
 
 impl Model for Places {
-    ghost use Rattle.hc_places.specs.Table.{Table};
-    ghost use Rattle.std.specs.List.Sorted.{IsNonDecreasingBy};
+    ghost use Rattle.hc_places.specs.Table.{RowsAscend, Table};
 
     ghost Value = { Table };
 
     ghost view = { λ places. record { tasks = places.tasks; variables = places.variables.items } };
 
-    ghost invariant = { λ places. IsNonDecreasingBy (λ row. row.0) places.variables.items };
+    ghost invariant = { λ places. RowsAscend places.variables.items };
 }
 
 impl Copied for TaskTable {
@@ -123,11 +122,12 @@ fn find_place(rows: &[(VarId, Place)], variable: VarId) -> Option<Place>
 
 impl Places {
     ghost use Rattle.std.specs.Prelude.{◌≡◌, IfOk};
-    ghost use Rattle.hc_places.specs.Table.{by_number, datagram_in, part_in, place_in};
+    ghost use Rattle.hc_places.specs.Table.{RowsAscend, by_number, datagram_in, part_in, place_in};
 
-    /// The table of tasks and of rows in any order, which are sorted. `AllocError` where the sort's
+    /// The table of tasks and of rows in any order, which are sorted; no variable has two. `AllocError` where the sort's
     /// memory was refused.
     pub(crate) fn of(tasks: Vec<TaskTable>, rows: Vec<(VarId, Place)>) -> Result<Places, AllocError>
+        requires { RowsAscend (by_number rows.items) }
         ensures { IfOk result (λ places. places ≡ record { tasks = tasks.items; variables = by_number rows.items }) }
     {
         let mut variables = rows;

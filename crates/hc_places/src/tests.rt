@@ -2,13 +2,21 @@
 ghost use Rattle.std.specs.Prelude.{◌≡◌, IfOk, map};
 
 use crate::configure::{Configured, configure};
-use crate::table::{Datagram, Place};
+use crate::swap::Swap;
+use crate::table::{Datagram, Place, Places};
+use hc_records::edit::Edit;
 use hc_records::items::{Copied, Items};
 use hc_records::keys::Key;
 use hc_records::project::Project;
 use hc_records::records::{Area, Declared, Dir, Entry, Group, Pdo, Slave, VarId};
 use std::alloc::{AllocError, Global};
 use std::test::Fail;
+
+/// An alias that no group has.
+const NONE: u16 = 1;
+
+/// The alias of the tool that comes and goes.
+const TOOL: u16 = 9;
 
 /// An output area of task 0 at a sync manager, with one PDO of these entries, which is assigned.
 fn area(alloc: Global, sm: u8, entries: &[Entry]) -> Result<Area, AllocError> {
@@ -29,15 +37,15 @@ fn area(alloc: Global, sm: u8, entries: &[Entry]) -> Result<Area, AllocError> {
     })
 }
 
-/// Copies of the groups, all present.
-fn present(alloc: Global, groups: &[Group]) -> Result<Vec<Declared>, AllocError>
+/// Copies of the groups, all present but one with an alias.
+fn present(alloc: Global, groups: &[Group], absent: u16) -> Result<Vec<Declared>, AllocError>
     ensures { IfOk result (λ declared. map (λ one. one.group) declared.items ≡ groups.now) }
 {
     let mut declared = Vec::new(alloc);
     for group in groups {
         declared.push(Declared {
             group: group.copied(alloc)?,
-            present: true,
+            present: group.alias != absent,
         })?;
     }
     Ok(declared)
@@ -65,11 +73,35 @@ fn two_slaves(alloc: Global) -> Result<Items<Group>, AllocError> {
     Ok(groups)
 }
 
-fn configured(alloc: Global) -> Result<Configured, Fail> {
-    let project = Project::checked(alloc, two_slaves(alloc)?)
-        .ok()
-        .ok_or("a project")?;
-    let declared = present(alloc, project.groups())?;
+/// A group of one slave, with an output area of one variable.
+fn one_slave(
+    alloc: Global,
+    alias: u16,
+    station: u16,
+    variable: u32,
+    bits: u8,
+) -> Result<Group, AllocError> {
+    let mut areas = Items::new(alloc);
+    areas.push(area(alloc, 0, &[(VarId::new(variable), bits)])?)?;
+    let mut slaves = Items::new(alloc);
+    slaves.push(Slave { station, areas })?;
+    Ok(Group { alias, slaves })
+}
+
+/// The mandatory slave writes variable 7 of 3 bits, a tool behind it variable 6 of 3 bits, and a
+/// module behind both variable 8 of 5 bits.
+fn tool_and_module(alloc: Global) -> Result<Items<Group>, AllocError> {
+    let mut groups = Items::new(alloc);
+    groups.push(one_slave(alloc, 0, 1001, 7, 3)?)?;
+    groups.push(one_slave(alloc, TOOL, 1002, 6, 3)?)?;
+    groups.push(one_slave(alloc, 8, 1003, 8, 5)?)?;
+    Ok(groups)
+}
+
+/// The line of groups, all present but one with an alias.
+fn configured(alloc: Global, groups: Items<Group>, absent: u16) -> Result<Configured, Fail> {
+    let project = Project::checked(alloc, groups).ok().ok_or("a project")?;
+    let declared = present(alloc, project.groups(), absent)?;
     let configured = configure(alloc, declared.as_slice())
         .ok()
         .ok_or("few datagrams")?;
@@ -78,7 +110,8 @@ fn configured(alloc: Global) -> Result<Configured, Fail> {
 
 #[test]
 fn areas_of_three_bits_share_bytes(rt: HostRuntime) -> Result<(), Fail> {
-    let Configured { layout, places } = configured(rt.alloc())?;
+    let alloc = rt.alloc();
+    let Configured { layout, places } = configured(alloc, two_slaves(alloc)?, NONE)?;
     for (rank, area, bit) in [(1, 0, 0), (1, 1, 3), (2, 0, 6)] {
         let key = Key {
             dir: Dir::Out,
@@ -106,8 +139,9 @@ fn areas_of_three_bits_share_bytes(rt: HostRuntime) -> Result<(), Fail> {
 
 #[test]
 fn a_variable_stands_behind_a_gap(rt: HostRuntime) -> Result<(), Fail> {
-    let Configured { places, .. } = configured(rt.alloc())?;
-    let copy = places.copied(rt.alloc())?;
+    let alloc = rt.alloc();
+    let Configured { places, .. } = configured(alloc, two_slaves(alloc)?, NONE)?;
+    let copy = places.copied(alloc)?;
     for (number, bit, bits) in [(5, 5, 1), (6, 6, 3), (7, 0, 3)] {
         let variable = VarId::new(number).ok_or("a variable")?;
         let place = Place {
@@ -123,5 +157,94 @@ fn a_variable_stands_behind_a_gap(rt: HostRuntime) -> Result<(), Fail> {
     let unknown = VarId::new(8).ok_or("a variable")?;
     assert_eq!(rt; places.place(unknown), None);
     assert_eq!(rt; copy.datagram(0, 0), places.datagram(0, 0));
+    Ok(())
+}
+
+/// Whether a variable has this first bit, or has no place.
+fn stands_at(places: &Places, number: u32, bit: Option<u16>) -> bool {
+    let Some(variable) = VarId::new(number) else {
+        return false;
+    };
+    match places.place(variable) {
+        Some(place) => bit == Some(place.bit),
+        None => bit.is_none(),
+    }
+}
+
+/// Whether the only datagram of task 0 has this length and this expected counter, and is the task's
+/// outputs.
+fn has_datagram(places: &Places, length: u16, expected: u16) -> bool {
+    let datagram = Datagram {
+        address: 0x0100_0000,
+        length,
+        expected,
+        offset: 0,
+    };
+    places.datagram(0, 0) == Some(datagram)
+        && places.datagram(0, 1).is_none()
+        && places.part(0) == (length, 0)
+}
+
+/// The table of the mandatory slave, the tool and the module: 3, 3 and 5 bits, and three slaves that
+/// write.
+fn has_tool(places: &Places) -> bool {
+    stands_at(places, 7, Some(0))
+        && stands_at(places, 6, Some(3))
+        && stands_at(places, 8, Some(6))
+        && has_datagram(places, 2, 6)
+}
+
+/// The table of the mandatory slave and the module: 3 and 5 bits, and two slaves that write.
+fn has_no_tool(places: &Places) -> bool {
+    stands_at(places, 7, Some(0))
+        && stands_at(places, 6, None)
+        && stands_at(places, 8, Some(3))
+        && has_datagram(places, 1, 4)
+}
+
+/// Swaps a copy of a table for the next one: how many variables change, and the copy.
+fn swapped(
+    alloc: Global,
+    edit: Edit,
+    old: &Places,
+    new: &Places,
+) -> Result<(usize, Places), AllocError> {
+    let swap = Swap::between(alloc, &edit, old, new)?;
+    let mut places = old.copied(alloc)?;
+    places.swap(alloc, &swap)?;
+    Ok((swap.places(), places))
+}
+
+#[test]
+fn a_tool_goes(rt: HostRuntime) -> Result<(), Fail> {
+    let alloc = rt.alloc();
+    let with = configured(alloc, tool_and_module(alloc)?, NONE)?.places;
+    let without = configured(alloc, tool_and_module(alloc)?, TOOL)?.places;
+    let (count, places) = swapped(alloc, Edit::Disconnect(TOOL), &with, &without)?;
+    assert_eq!(rt; count, 2);
+    assert!(rt; has_tool(&with));
+    assert!(rt; has_no_tool(&places));
+    Ok(())
+}
+
+#[test]
+fn a_tool_comes(rt: HostRuntime) -> Result<(), Fail> {
+    let alloc = rt.alloc();
+    let with = configured(alloc, tool_and_module(alloc)?, NONE)?.places;
+    let without = configured(alloc, tool_and_module(alloc)?, TOOL)?.places;
+    let (count, places) = swapped(alloc, Edit::Connect(TOOL), &without, &with)?;
+    assert_eq!(rt; count, 2);
+    assert!(rt; has_no_tool(&without));
+    assert!(rt; has_tool(&places));
+    Ok(())
+}
+
+#[test]
+fn a_swap_names_its_edit(rt: HostRuntime) -> Result<(), Fail> {
+    let alloc = rt.alloc();
+    let places = configured(alloc, tool_and_module(alloc)?, NONE)?.places;
+    let swap = Swap::between(alloc, &Edit::Connect(TOOL), &places, &places)?;
+    assert_eq!(rt; swap.places(), 0);
+    assert!(rt; matches!(swap.edit(), Edit::Connect(TOOL)));
     Ok(())
 }

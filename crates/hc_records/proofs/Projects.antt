@@ -7,7 +7,7 @@ use Rattle.hc_records.specs.declared.limits.TheConstants.{MOST_GROUPS, MOST_SLAV
 use Rattle.hc_records.specs.declared.records.Group.{Group}
 use Rattle.hc_records.specs.declared.faults.ProjectFault.TheVariants.{OutOfRange}
 use Rattle.hc_records.specs.Lists.{lowest}
-use Rattle.hc_records.specs.Project.{slaves_of, some_slave, some_area, slave_outside, is_misplaced, has_outside, is_wide, project_faults, lowest_fault}
+use Rattle.hc_records.specs.Project.{slaves_of, some_slave, some_area, slave_outside, is_misplaced, has_outside, has_repeated_variable, has_unknown_pdo, is_wide, project_faults, lowest_fault}
 
 none-first : {F : Type 0} (judged : Bool) (fault : F) (rest : List (Bool × F)) → (if judged then Some fault else lowest rest) ≡ None → (judged ≡ false) × (lowest rest ≡ None)
 none-first true fault rest none = cc
@@ -22,6 +22,12 @@ none-holds (judged ∷ rest) none =
 
 project-inside : (groups : List Group) → lowest_fault groups ≡ None → has_outside groups ≡ false
 project-inside groups none = none-holds (project_faults groups) none 0 (false, OutOfRange) (omega arith)
+
+pub project-names : (groups : List Group) → lowest_fault groups ≡ None → has_repeated_variable groups ≡ false
+project-names groups none = none-holds (project_faults groups) none 5 (false, OutOfRange) (omega arith)
+
+pub project-assigned : (groups : List Group) → lowest_fault groups ≡ None → some_area has_unknown_pdo groups ≡ false
+project-assigned groups none = none-holds (project_faults groups) none 6 (false, OutOfRange) (omega arith)
 
 pub project-narrow : (groups : List Group) → lowest_fault groups ≡ None → some_area is_wide groups ≡ false
 project-narrow groups none = none-holds (project_faults groups) none 7 (false, OutOfRange) (omega arith)

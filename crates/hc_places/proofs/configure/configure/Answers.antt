@@ -1,12 +1,14 @@
-use Rattle.std.proofs.Common.{◌∙◌, ap}
+use Rattle.std.proofs.Common.{◌≡◌, ◌∙◌, ap, List}
+use Rattle.std.specs.List.{flat_map}
 use Rattle.std.proofs.lemmas.List.Elements.{All-map, All-same}
-use Rattle.hc_records.specs.Image.{task_places, tasks}
+use Rattle.hc_records.specs.Image.{task_places, task_variables, tasks}
 use Rattle.hc_records.specs.TaskList.{task_list}
-use Rattle.hc_records.specs.Line.{line_from}
+use Rattle.hc_records.specs.Line.{Member, line_from}
 use Rattle.hc_records.proofs.Slaves.{project-counted}
 use Rattle.hc_places.specs.Layout.{AreInOrder, layout_of}
 use Rattle.hc_places.proofs.Configurable.{project-configurable}
 use Rattle.hc_places.proofs.Ranks.{places-in-order}
+use Rattle.hc_places.proofs.Sorted.{rows-ascend}
 use Rattle.hc_places.proofs.configure.configure.Goals as goal
 
 pub line_of-requires : goal.line_of-requires
@@ -24,3 +26,10 @@ of-requires c =
     let all = All-map AreInOrder (λ task. task_places task (line_from 1 c.args.groups.now)) tasks
     (λ k d within. places-in-order (task_list _ (line_from 1 c.args.groups.now)) (configurable.ascends _)) in
     All-same AreInOrder _ _ (c.in_ok-layout.ensures.layout ∙ ap layout_of line) all
+
+pub of-requires-2 : goal.of-requires-2
+of-requires-2 c =
+    let line = c.as_slice.ensures.value ∙ c.in_ok-line.ensures in
+    let rows : c.in_ok-layout.field-0.rows.items ≡ flat_map (task_variables (line_from 1 c.args.groups.now)) tasks =
+    c.in_ok-layout.ensures.rows ∙ ap (λ (l : List Member). flat_map (task_variables l) tasks) line in
+    rw rows (rows-ascend c.args.groups.now c.requires)

@@ -1,0 +1,10 @@
+use Rattle.std.proofs.Common.{◌≡◌, ◌+◌, ◌++◌, length}
+use Rattle.hc_places.specs.Walk.{merges, walked}
+use Rattle.hc_places.proofs.swap.merge.Given as goal
+
+-- what is added so far, and the changes and rows that are left, merged, are all
+abbrev pub invariant-loop-changes : goal.invariant-loop-changes
+invariant-loop-changes l = l.rows.items ++ walked merges l.before l.changes ≡ walked merges l.old l.changed
+
+abbrev pub decreases-loop-changes : goal.decreases-loop-changes
+decreases-loop-changes l = length l.changes + length l.before

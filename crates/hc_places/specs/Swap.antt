@@ -1,0 +1,92 @@
+-- What turns the table of one epoch into that of the next.
+use Rattle.std.specs.Prelude.{ℕ, ◌==◌, ◌&&◌, not, nat_lt, Bool, true, false, if◌then◌else◌, List, [], ◌∷◌, ◌++◌, AllPairs, IsTrue, ◌<◌, ◌≡◌, ◌≢◌, ◌↔◌, filter, length, map, Option, Some, None}
+use Rattle.std.specs.Option.{option_map_or}
+use Rattle.std.specs.List.{list_any}
+use Rattle.hc_records.specs.declared.edit.Edit.{Edit}
+use Rattle.hc_records.specs.Keys.{same_dir}
+use Rattle.hc_records.specs.Image.{VariablePlace}
+use Rattle.hc_places.specs.Table.{Row, RowsAscend, Table, TaskTable, place_in}
+
+-- a variable that stands elsewhere, appears or goes: its number, and its new place or none
+abbrev pub ChangedRow : Type 0
+ChangedRow = ℕ × Option VariablePlace
+
+-- the new tasks, and the variables that change, in the order of their numbers
+pub record Change : Type 0 where
+  pub tasks : List TaskTable
+  pub rows : List ChangedRow
+
+-- a swap names the edit that asks for it
+pub record Swap : Type 0 where
+  pub edit : Edit
+  pub change : Change
+
+-- the row that a changed variable has from now on, if any
+abbrev pub new_row : ChangedRow → List Row
+new_row changed = option_map_or (λ place. (changed.0, place) ∷ []) changed.1 []
+
+-- rows with one variable changed: rows of lower numbers stay in front of its new row, and its old row goes
+abbrev pub with_changed : ChangedRow → List Row → List Row
+with_changed changed [] = new_row changed
+with_changed changed (row ∷ rows) =
+    if nat_lt row.0 changed.0 then row ∷ with_changed changed rows
+    else new_row changed ++ (if row.0 == changed.0 then rows else row ∷ rows)
+
+abbrev pub merged : List ChangedRow → List Row → List Row
+merged [] rows = rows
+merged (changed ∷ others) rows = with_changed changed (merged others rows)
+
+-- the table that a change leads to
+abbrev pub swapped : Change → Table → Table
+swapped change table = record { tasks = change.tasks; variables = merged change.rows table.variables }
+
+-- two places, or the lack of one, are the same
+abbrev pub same_place : VariablePlace → VariablePlace → Bool
+same_place a b =
+    (a.task == b.task) && (a.datagram == b.datagram) && (a.bit == b.bit) && (a.bits == b.bits) && same_dir a.dir b.dir
+
+abbrev pub same_found : Option VariablePlace → Option VariablePlace → Bool
+same_found None None = true
+same_found None (Some b) = false
+same_found (Some a) None = false
+same_found (Some a) (Some b) = same_place a b
+
+-- a variable stands in a table
+abbrev pub stands_in : Table → ℕ → Bool
+stands_in table variable = option_map_or (λ place. true) (place_in table variable) false
+
+-- the numbers of a table's rows
+abbrev pub numbers_of : Table → List ℕ
+numbers_of table = map (λ row. row.0) table.variables
+
+-- the variables of either table
+abbrev pub variables_of_both : Table → Table → List ℕ
+variables_of_both old new = numbers_of old ++ filter (λ variable. not (stands_in old variable)) (numbers_of new)
+
+-- the variables whose place differs, one that appears or goes included
+abbrev pub changed_variables : Table → Table → List ℕ
+changed_variables old new =
+    filter (λ variable. not (same_found (place_in old variable) (place_in new variable))) (variables_of_both old new)
+
+-- how many variables a swap changes
+abbrev pub changed_places : Swap → ℕ
+changed_places swap = length swap.change.rows
+
+-- the changed variables stand in the order of their numbers, each once
+abbrev pub ChangesAscend : List ChangedRow → Type 0
+ChangesAscend rows = AllPairs (λ a b. a.0 < b.0) rows
+
+-- answers that are the same are equal, and equal ones are the same
+abbrev pub SameIsEqual : Type 0
+SameIsEqual = (a b : Option VariablePlace) → IsTrue (same_found a b) ↔ (a ≡ b)
+
+-- a variable is among the changed ones of two tables exactly where its place differs
+abbrev pub ChangedVariablesDiffer : Type 0
+ChangedVariablesDiffer =
+    (old new : Table) (variable : ℕ)
+    → list_any (λ changed. changed == variable) (changed_variables old new) ≡ not (same_found (place_in old variable) (place_in new variable))
+
+-- and each stands there once
+abbrev pub ChangedVariablesStandOnce : Type 0
+ChangedVariablesStandOnce =
+    (old new : Table) → RowsAscend old.variables → RowsAscend new.variables → AllPairs (λ a b. a ≢ b) (changed_variables old new)
