@@ -1,8 +1,9 @@
 -- The blocks of a line, slave by slave.
 use Rattle.std.proofs.Common.{◌≡◌, ℕ, zero, suc, ◌+◌, ◌-◌, ◌*◌, ◌<◌, ◌≤◌, List, [], ◌∷◌, ◌++◌, length, drop, refl, sym, ap, subst, ◌∙◌, arith, length-append, drop-cons}
 use Rattle.std.proofs.lemmas.List.{length-map}
-use Rattle.std.specs.Prelude.{All, Option, Some, None, find, option_and_then, option_map, slice_get, slice_index_or, sum_by}
-use Rattle.std.specs.List.{enumerate_from, flat_map}
+use Rattle.std.specs.Prelude.{All, Bool, Option, Some, None, filter, find, not, option_and_then, option_map, slice_get, slice_index_or, sum_by}
+use Rattle.std.specs.List.{enumerate_from, flat_map, list_any}
+use Rattle.std.proofs.lemmas.List.Filters.{length-filter_both}
 use Rattle.std.proofs.lemmas.Option.{get_or_from_slice_get, slice_get-get_or, slice_get-map, slice_get_within}
 use Rattle.std.proofs.lemmas.List.Elements.{All-head, All-tail}
 use Rattle.hc_records.specs.declared.records.Area.{Area}
@@ -13,9 +14,9 @@ use Rattle.hc_records.specs.Packing.{Placed}
 use Rattle.hc_records.proofs.Slaves.{project-counted}
 use Rattle.hc_records.proofs.Walks.{get-back, get-front, length-line}
 use Rattle.hc_registers.specs.declared.fmmu.Mapping.{Mapping}
-use Rattle.hc_registers.specs.Blocks.{LineBlock, RegisterBlock, area_blocks, line_blocks, member_blocks, slave_blocks, sync_manager_block, fmmu_block, mapping_at, mapping_of}
+use Rattle.hc_registers.specs.Blocks.{LineBlock, RegisterBlock, area_blocks, line_blocks, member_blocks, moved_blocks, same_block, slave_blocks, sync_manager_block, fmmu_block, mapping_at, mapping_of}
 use Rattle.hc_places.specs.Layout.{placed_in}
-use Rattle.hc_plan.specs.Blocks.{IsLaidOut, IsMappedSlave, area_blocks_in, mapping_in, slave_blocks_in}
+use Rattle.hc_plan.specs.Blocks.{IsLaidOut, IsMappedSlave, area_blocks_in, fmmu_block_in, mapping_in, slave_blocks_in}
 use Rattle.hc_plan.specs.Configuration.{at_station, block_at, line_block_at}
 use Rattle.hc_plan.proofs.Mapped.{found-has, placed-in-line, slave-mapped}
 use Rattle.hc_plan.proofs.Numbered.{get-numbered-from-0, numbered-get}
@@ -27,7 +28,7 @@ flat_map-same f g (x ∷ xs) all =
     ∙ ap (λ (rest : List _). g x ++ rest) (flat_map-same f g xs (All-tail (λ x. f x ≡ g x) x xs all))
 
 -- every slave of the line that a layout is of has its areas mapped
-laid-out-all : (groups : List Declared) (layout : List (List Placed)) → IsLaidOut groups layout → All (IsMappedSlave layout) (line_from 1 groups)
+pub laid-out-all : (groups : List Declared) (layout : List (List Placed)) → IsLaidOut groups layout → All (IsMappedSlave layout) (line_from 1 groups)
 laid-out-all groups layout laid j d inside =
     let member = slice_index_or (line_from 1 groups) j d in
     subst (λ (l : List (List Placed)). IsMappedSlave l member) (sym laid.stands)
@@ -65,6 +66,11 @@ length-enumerated first [] = refl
 length-enumerated first (x ∷ xs) = ap suc (length-enumerated (first + 1) xs)
 
 -- a slave has two blocks for each area
+pub length-slave_blocks : (layout : List (List Placed)) (member : Member) → length (slave_blocks_in layout member) ≡ 2 * length member.slave.areas
+length-slave_blocks layout member =
+    length-pairs (λ (e : ℕ × Area). sync_manager_block e.1) (fmmu_block_in layout member.rank) (enumerate_from 0 member.slave.areas)
+    ∙ ap (λ (n : ℕ). 2 * n) (length-enumerated 0 member.slave.areas)
+
 pub length-member_blocks : (members : List Member) (member : Member) → length (member_blocks members member) ≡ 2 * length member.slave.areas
 length-member_blocks members member =
     length-map (enumerate_from 0 (slave_blocks members member)) (λ e. record { station = member.slave.station; number = e.0; block = e.1 })
@@ -73,13 +79,13 @@ length-member_blocks members member =
     (λ (e : ℕ × Area). fmmu_block e.0 e.1 (mapping_of members e.1.task (record { dir = e.1.dir; rank = member.rank; area = e.0 }))) (enumerate_from 0 member.slave.areas)
     ∙ ap (λ (n : ℕ). 2 * n) (length-enumerated 0 member.slave.areas)
 
--- the line from a slave on
-pub drop-met : (members : List Member) (position : ℕ) (member : Member) → slice_get members position ≡ Some member → drop position members ≡ member ∷ drop (position + 1) members
-drop-met members position member at =
+-- a list from an element on
+pub drop-met : {X : Type 0} (xs : List X) (position : ℕ) (x : X) → slice_get xs position ≡ Some x → drop position xs ≡ x ∷ drop (position + 1) xs
+drop-met {X} xs position x at =
     let next : suc position ≡ position + 1 = omega arith in
-    drop-cons members position member (slice_get_within members position member at)
-    ∙ ap (λ (m : Member). m ∷ drop (suc position) members) (get_or_from_slice_get members position member member at)
-    ∙ ap (λ (k : ℕ). member ∷ drop k members) next
+    drop-cons xs position x (slice_get_within xs position x at)
+    ∙ ap (λ (y : X). y ∷ drop (suc position) xs) (get_or_from_slice_get xs position x x at)
+    ∙ ap (λ (k : ℕ). x ∷ drop k xs) next
 
 abbrev told : LineBlock → ℕ × RegisterBlock
 told found = at_station found.station found.block
@@ -156,15 +162,40 @@ met-behind groups layout position own member left met past =
     ∙ block-behind line (drop (position + 1) line) member left (omega (arith, past, counts))
     ∙ ap (λ (k : ℕ). slice_get (flat_map (member_blocks line) (drop (position + 1) line)) (left - k)) (sym met.counts)
 
--- the walk ends behind the last slave
-pub drop-past : (members : List Member) (position : ℕ) → slice_get members position ≡ None → drop position members ≡ []
+-- a walk ends behind the last element
+pub drop-past : {X : Type 0} (xs : List X) (position : ℕ) → slice_get xs position ≡ None → drop position xs ≡ []
 drop-past [] zero none = refl
 drop-past [] (suc position) none = refl
-drop-past (member ∷ members) zero none = cc
-drop-past (member ∷ members) (suc position) none = drop-past members position none
+drop-past (x ∷ xs) zero none = cc
+drop-past (x ∷ xs) (suc position) none = drop-past xs position none
 
 pub found-block : (groups : List Declared) (layout : List (List Placed)) (station number : ℕ) (member : Member) → IsLaidOut groups layout
     → find (is_at station) (line_from 1 groups) ≡ Some member → block_at (line_from 1 groups) station number ≡ slice_get (slave_blocks_in layout member) number
 found-block groups layout station number member laid found =
     ap (option_and_then (λ m. slice_get (slave_blocks (line_from 1 groups) m) number)) found
     ∙ ap (λ (blocks : List RegisterBlock). slice_get blocks number) (sym (slave_blocks-line groups layout member laid (found-mapped groups layout station member laid found)))
+
+-- a slave has at most 16 blocks
+pub length-blocks : (layout : List (List Placed)) (all members : List Member) → All (IsMappedSlave layout) members
+    → length (flat_map (member_blocks all) members) ≤ 16 * length members
+length-blocks layout all [] mapped = omega arith
+length-blocks layout all (member ∷ members) mapped =
+    let few = (All-head (IsMappedSlave layout) member members mapped).few in
+    let own = length-member_blocks all member in
+    let front = length-append (member_blocks all member) (flat_map (member_blocks all) members) in
+    let rest = length-blocks layout all members (All-tail (IsMappedSlave layout) member members mapped) in
+    omega (arith, few, own, front, rest)
+
+length-some : {X : Type 0} (p : X → Bool) (xs : List X) → length (filter p xs) ≤ length xs
+length-some p xs = let both = length-filter_both p (λ x. not (p x)) (λ x. refl) xs in omega (arith, both)
+
+-- so no line has more blocks than a number of 32 bits
+pub few-moved : (groups : List Declared) (layout : List (List Placed)) (old : List Member) → IsLaidOut groups layout
+    → length (moved_blocks old (line_from 1 groups)) < 4294967296
+few-moved groups layout old laid =
+    let line = line_from 1 groups in
+    let counted : sum_by (λ (d : Declared). length d.group.slaves) groups < 65535 = project-counted groups laid.project in
+    let members = length-line 1 groups in
+    let blocks = length-blocks layout line line (laid-out-all groups layout laid) in
+    let some = length-some (λ block. not (list_any (same_block block) (line_blocks old))) (line_blocks line) in
+    omega (arith, counted, members, blocks, some)

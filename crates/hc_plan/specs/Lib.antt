@@ -1,2 +1,4 @@
 pub mod Blocks
 pub mod Configuration
+pub mod Reports
+pub mod Moved

@@ -44,7 +44,7 @@ fn area_block(layout: &Layout, rank: u16, index: u8, area: &Area, number: u8) ->
 }
 
 /// The block with a number, from 0, in the order of a slave; none where it has fewer.
-fn block_of(layout: &Layout, member: &Member<'_>, number: u8) -> Option<Block>
+pub(crate) fn block_of(layout: &Layout, member: &Member<'_>, number: u8) -> Option<Block>
     requires { IsMappedSlave layout.now member.now }
     ensures { result ≡ slice_get (slave_blocks_in layout.now member.now) number }
 {

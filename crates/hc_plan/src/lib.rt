@@ -3,4 +3,6 @@
 #![tactic(auto)]
 
 mod blocks;
+mod moved;
 pub mod plan;
+pub mod report;

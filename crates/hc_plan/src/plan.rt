@@ -3,11 +3,19 @@ ghost use Rattle.std.specs.Prelude.{◌≡◌, IfOk, map};
 ghost use Rattle.hc_records.specs.Line.{opened_group};
 
 use crate::blocks::{block_at, count_blocks, nth_block};
+use crate::moved::moved_blocks;
+use crate::report::{Report, names_of};
+use hc_edits::faults::own_fault;
+use hc_edits::groups::groups_after;
 use hc_places::configure::configure;
 use hc_places::layout::Layout;
+use hc_places::recut::recut;
+use hc_places::swap::Swap;
 use hc_places::table::Places;
+use hc_records::edit::Edit;
 use hc_records::faults::EditFault;
 use hc_records::items::Items;
+use hc_records::limits::LAST_EPOCH;
 use hc_records::line::{is_declared, member_index, nth_member};
 use hc_records::project::Project;
 use hc_records::records::{Declared, Group};
@@ -50,11 +58,15 @@ impl Model for Plan {
 }
 
 impl Plan {
-    ghost use Rattle.std.specs.Prelude.{◌≡◌, IfErr, IfOk, None, OnOk, length, slice_get};
-    ghost use Rattle.hc_records.specs.Edits.{crowded_task};
+    ghost use Rattle.std.specs.Prelude.{◌≡◌, ◌≢◌, Err, IfErr, IfOk, None, Ok, OnErr, OnOk, length, map, slice_get};
+    ghost use Rattle.hc_records.specs.declared.faults.EditFault.TheVariants.{Memory};
+    ghost use Rattle.std.specs.List.{zip};
+    ghost use Rattle.hc_records.specs.Edits.{crowded_task, edited, state_after_all};
     ghost use Rattle.hc_records.specs.Line.{line, opened};
+    ghost use Rattle.hc_records.specs.Project.{lowest_fault};
     ghost use Rattle.hc_places.specs.Layout.{NamesCrowded};
     ghost use Rattle.hc_plan.specs.Configuration.{block_at, config, line_block_at, position_of, station_at};
+    ghost use Rattle.hc_plan.specs.Reports.{AreAnswers, Tells, carried};
 
     /// The plan of a project at its opening: the mandatory group alone is present and the epoch is 0.
     /// Otherwise `TooManyDatagrams` with the lowest task that needs more than 16, or `Memory` where a
@@ -81,9 +93,11 @@ impl Plan {
         self.epoch
     }
 
-    /// The table of the present line: its datagrams, parts and variable places.
+    /// The table of the present line: its datagrams, parts and variable places. No fault's condition
+    /// holds of the declared groups, so each datagram fits a frame.
     pub fn places(&self) -> &Places
-        ensures { result.now ≡ (config (line self.now)).table }
+        ensures table { result.now ≡ (config (line self.now)).table }
+        ensures kept { lowest_fault (map (λ declared. declared.group) self.now.groups) ≡ None }
     {
         &self.places
     }
@@ -132,5 +146,80 @@ impl Plan {
             None if is_declared(groups, station) => Err(EditFault::Absent),
             None => Err(EditFault::UnknownStation),
         }
+    }
+
+    /// The plan that an edit makes of this one, configured from nothing; this one stays as it is.
+    /// Otherwise the lowest fault whose condition holds, or `Memory` where a growth was refused.
+    pub fn edited(&self, alloc: Global, edit: &Edit) -> Result<Plan, EditFault>
+        ensures accepted { IfOk result (λ next. edited self.now edit.now ≡ Ok next) }
+        ensures refused { IfErr result (λ fault. fault ≢ Memory → edited self.now edit.now ≡ Err fault) }
+    {
+        if let Some(fault) = own_fault(self.groups.as_slice(), edit) {
+            return Err(fault);
+        }
+        let groups = groups_after(alloc, self.groups.as_slice(), edit)?;
+        let configured = configure(alloc, groups.as_slice())?;
+        if self.epoch == LAST_EPOCH {
+            return Err(EditFault::EpochsSpent);
+        }
+        Ok(Plan {
+            groups,
+            epoch: self.epoch + 1,
+            layout: configured.layout,
+            places: configured.places,
+        })
+    }
+
+    /// What the edit did that made the next plan of this one: their differences, and the edit's name.
+    /// `AllocError` where a growth was refused.
+    pub fn report(&self, alloc: Global, edit: &Edit, next: &Plan) -> Result<Report, AllocError>
+        ensures { IfOk result (Tells self.now edit.now next.now) }
+    {
+        let old = self.groups.as_slice();
+        let new = next.groups.as_slice();
+        let moved = moved_blocks(alloc, old, &self.layout, new, &next.layout)?;
+        let blocks = names_of(alloc, moved.as_slice())?;
+        Ok(Report {
+            epoch: next.epoch,
+            recut: recut(alloc, old, new)?,
+            moved: blocks.len() as u32,
+            swap: Swap::between(alloc, edit, &self.places, &next.places)?,
+            blocks,
+        })
+    }
+
+    /// Carries an edit out: the plan is then that of the new line, configured from nothing, and the
+    /// report tells what became different. Otherwise the lowest fault whose condition holds, or
+    /// `Memory` where a growth was refused; the plan is then as it was.
+    pub fn apply(&mut self, alloc: Global, edit: &Edit) -> Result<Report, EditFault>
+        ensures accepted { OnOk result (edited self.old edit.now ≡ Ok self.new) }
+        ensures report { IfOk result (Tells self.old edit.now self.new) }
+        ensures refused { IfErr result (λ fault. fault ≢ Memory → edited self.old edit.now ≡ Err fault) }
+        ensures unchanged { OnErr result (self.new ≡ self.old) }
+    {
+        let next = self.edited(alloc, edit)?;
+        let report = self.report(alloc, edit, &next)?;
+        *self = next;
+        Ok(report)
+    }
+
+    /// Carries edits out in their order, as `apply` does each, and gives their answers. The room for the
+    /// answers is taken first: after `AllocError` no edit was carried out, and the plan is as it was.
+    pub fn run(
+        &mut self,
+        alloc: Global,
+        edits: &[Edit],
+    ) -> Result<Vec<Result<Report, EditFault>>, AllocError>
+        ensures count { IfOk result (λ answers. length answers.items ≡ length edits.now) }
+        ensures answers { IfOk result (λ answers. AreAnswers self.old (zip edits.now answers.items) self.new) }
+        ensures state { IfOk result (λ answers. self.new ≡ state_after_all self.old (carried (zip edits.now answers.items))) }
+        ensures unchanged { OnErr result (self.new ≡ self.old) }
+    {
+        let mut answers = Vec::with_capacity(alloc, edits.len())?;
+        for edit in edits {
+            let answer = self.apply(alloc, edit);
+            answers.push_reserved(answer);
+        }
+        Ok(answers)
     }
 }

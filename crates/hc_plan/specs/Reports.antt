@@ -1,0 +1,49 @@
+-- What edits of a plan answer, and the states that they leave.
+use Rattle.std.specs.Prelude.{◌≡◌, ℕ, ◌≢◌, ◌==◌, not, Bool, false, List, [], ◌∷◌, filter, length, map, Result, Ok, Err}
+use Rattle.hc_records.specs.declared.edit.Edit.{Edit}
+use Rattle.hc_records.specs.declared.faults.EditFault.{EditFault}
+use Rattle.hc_records.specs.declared.faults.EditFault.TheVariants.{Memory}
+use Rattle.hc_records.specs.EditFault.{edit_fault_number}
+use Rattle.hc_records.specs.Boundaries.{recut}
+use Rattle.hc_records.specs.Edits.{edited}
+use Rattle.hc_records.specs.Line.{State, line}
+use Rattle.hc_registers.specs.Blocks.{LineBlock, moved, moved_blocks}
+use Rattle.hc_places.specs.Swap.{changed_variables, swapped}
+use Rattle.hc_places.specs.Table.{table_of}
+use Rattle.hc_plan.specs.declared.report.Report.{Report}
+
+-- a block of the line by its slave's station address and its number in the slave's order
+abbrev pub name_of : LineBlock → ℕ × ℕ
+name_of found = (found.station, found.number)
+
+-- a report tells the differences between the lines of two states, the second of which an edit made
+pub record Tells (old : State) (edit : Edit) (new : State) (report : Report) : Type 0 where
+  pub epoch : report.epoch ≡ new.epoch
+  pub recut : report.recut ≡ recut (line old) (line new)
+  pub moved : report.moved ≡ moved (line old) (line new)
+  pub blocks : report.blocks ≡ map name_of (moved_blocks (line old) (line new))
+  pub named : report.swap.edit ≡ edit
+  pub leads : swapped report.swap.change (table_of (line old)) ≡ table_of (line new)
+  pub places : length report.swap.change.rows ≡ length (changed_variables (table_of (line old)) (table_of (line new)))
+
+abbrev pub Answer : Type 0
+Answer = Result Report EditFault
+
+-- an accepted edit makes the new state and tells of it; a refused one changes nothing and names its fault, or that a growth was refused
+abbrev pub IsAnswer : State → Edit → Answer → State → Type 0
+IsAnswer old edit (Ok report) new = (edited old edit ≡ Ok new) × Tells old edit new report
+IsAnswer old edit (Err fault) new = (fault ≢ Memory → edited old edit ≡ Err fault) × (new ≡ old)
+
+-- the answers to a list of edits, each in the state that those before it left, and the state that all of them leave
+abbrev pub AreAnswers : State → List (Edit × Answer) → State → Type 0
+AreAnswers old [] new = new ≡ old
+AreAnswers old (pair ∷ pairs) new = (next : State) × IsAnswer old pair.0 pair.1 next × AreAnswers next pairs new
+
+-- a growth was refused
+abbrev pub wants_memory : Answer → Bool
+wants_memory (Ok report) = false
+wants_memory (Err fault) = edit_fault_number fault == 14
+
+-- the edits that weren't refused for want of memory
+abbrev pub carried : List (Edit × Answer) → List Edit
+carried pairs = map (λ pair. pair.0) (filter (λ pair. not (wants_memory pair.1)) pairs)

@@ -1,0 +1,36 @@
+//! What an accepted edit did to the line.
+ghost use Rattle.std.specs.Prelude.{◌≡◌, IfOk, map};
+ghost use Rattle.hc_plan.specs.Reports.{name_of};
+
+use crate::moved::LineBlock;
+use hc_places::swap::Swap;
+use hc_records::items::Items;
+use std::alloc::{AllocError, Global};
+
+/// What an accepted edit did: the differences between the line before and the line after it.
+#[derive(Debug, Drop)]
+pub struct Report {
+    /// The epoch that begins with the edit.
+    pub epoch: u32,
+    /// How many spans of touched tasks aren't settled: the datagrams that had to be cut anew.
+    pub recut: u32,
+    /// How many blocks of the new line weren't blocks with the same bytes at the same register of the
+    /// same slave in the old line.
+    pub moved: u32,
+    /// What turns the table of the old line into that of the new one.
+    pub swap: Swap,
+    /// The moved blocks, in line order and block order: each by its slave's station address and its
+    /// number in the slave's order, from 0.
+    pub blocks: Items<(u16, u8)>,
+}
+
+/// The names of blocks of the line.
+pub(crate) fn names_of(alloc: Global, blocks: &[LineBlock]) -> Result<Items<(u16, u8)>, AllocError>
+    ensures { IfOk result (λ names. names ≡ map name_of blocks.now) }
+{
+    let mut names = Vec::with_capacity(alloc, blocks.len())?;
+    for block in blocks {
+        names.push((block.station, block.number))?;
+    }
+    Ok(Items::of(names))
+}
