@@ -1,7 +1,3 @@
-pub mod Parts
-pub mod Sections
-pub mod Fronts
-pub mod Digits
 pub mod Numbered
 pub mod Arguments
 pub mod Lengths
@@ -9,3 +5,5 @@ pub mod Turns
 pub mod Openings
 pub mod Outcomes
 pub mod Grown
+pub mod VariablePlaces
+pub mod EditArguments

@@ -1,5 +1,5 @@
 -- Opening the project of a text.
-use Rattle.std.proofs.Common.{◌≡◌, ◌≢◌, ℕ, Bool, true, false, cond, List, [], ◌∷◌, map, refl, sym, ap, ◌∙◌, Ok, Err, IfOk, IfErr, Some, None}
+use Rattle.std.proofs.Common.{◌≡◌, ◌≢◌, ℕ, Bool, true, false, cond, List, refl, sym, ap, ◌∙◌, Ok, Err, IfOk, IfErr, Some, None}
 use Rattle.std.specs.Prelude.{Option, Result, option_map, IsUtf8}
 use Rattle.std.specs.Str.{is_utf8}
 use Rattle.std.proofs.lemmas.Str.{IsUtf8-from_is_utf8, is_utf8-from_IsUtf8}
@@ -9,11 +9,10 @@ use Rattle.hc_records.specs.declared.faults.EditFault.TheVariants as edit
 use Rattle.hc_records.specs.declared.faults.ProjectFault.{ProjectFault}
 use Rattle.hc_records.specs.declared.faults.ProjectFault.TheVariants.{Memory, NotToml}
 use Rattle.hc_records.specs.Edits.{crowded_task}
-use Rattle.hc_records.specs.Line.{line, opened, opened_group}
-use Rattle.hc_records.specs.Project.{lowest_fault}
+use Rattle.hc_records.specs.Line.{line, opened}
 use Rattle.hc_project.specs.Text.{project_of}
 use Rattle.hotline.specs.declared.opening.Unopened.TheVariants as unopened
-use Rattle.hotline.specs.Opening.{HoldsProject, crowded_at_opening, is_project_memory, opened_unless, project_in}
+use Rattle.hotline.specs.Opening.{crowded_at_opening, is_project_memory, opened_unless, project_in}
 
 -- a text in UTF-8 is judged by its tree
 read : (text : List ℕ) → IsUtf8 text → project_in text ≡ project_of (parse_document text)
@@ -62,12 +61,3 @@ crowded_named groups task e = named (crowded_task (line (opened groups))) groups
 pub crowded_none : (groups : List Group) → crowded_task (line (opened groups)) ≡ None → opened_unless (crowded_at_opening groups) groups ≡ Ok (opened groups)
 unfolding crowded_at_opening
 crowded_none groups e = ap (λ crowded. opened_unless crowded groups) e
-
-opened_same : (groups : List Group) → map (λ declared. declared.group) (map opened_group groups) ≡ groups
-opened_same [] = refl
-opened_same (group ∷ groups) = ap (λ rest. group ∷ rest) (opened_same groups)
-
--- the opened state of a project is one of a project
-pub opened_project : (groups : List Group) → lowest_fault groups ≡ None → HoldsProject (opened groups)
-unfolding HoldsProject
-opened_project groups kept = ap lowest_fault (opened_same groups) ∙ kept

@@ -3,9 +3,9 @@ use Rattle.std.proofs.Common.{◌≡◌, ℕ, ◌≤◌, List, [], length, cond,
 use Rattle.std.specs.Prelude.{nat_lt}
 use Rattle.std.proofs.lemmas.Bool.{le-ltb}
 use Rattle.hc_records.specs.Line.{State}
-use Rattle.hotline.specs.declared.input.TheConstants.{MOST_INPUT}
+use Rattle.hc_text.specs.declared.input.TheConstants.{MOST_INPUT}
 use Rattle.hotline.specs.declared.opening.Unopened.{Unopened}
-use Rattle.hotline.specs.Lines.{command_lines, lines_of, project_text}
+use Rattle.hc_text.specs.Lines.{command_lines, lines_of, project_text}
 use Rattle.hotline.specs.Opening.{opening_of}
 use Rattle.hotline.specs.Runs.{run}
 use Rattle.hotline.specs.Text.{outcome_of, outcome_of_lines, run_opened, unopened}

@@ -5,8 +5,8 @@ use Rattle.std.specs.Io.KnownBytes.{Appends}
 use Rattle.std.proofs.KnownBytes.{Appends-trans, Appends-nil}
 use Rattle.std.proofs.Math.Seq.{take-append_seam}
 use Rattle.hc_records.specs.Line.{State}
-use Rattle.hotline.specs.Lines.{Line}
-use Rattle.hotline.specs.Cutting.{CutsLine, lines_after}
+use Rattle.hc_text.specs.Lines.{Line}
+use Rattle.hc_text.specs.Cutting.{CutsLine, lines_after}
 use Rattle.hotline.specs.Runs.{Outcome, Reply, behind, reply_to, run}
 use Rattle.hotline.specs.Text.{EndsAs}
 use Rattle.hotline.specs.Turns.{Continues, Ends, GoesOn}

@@ -9,7 +9,7 @@ use Rattle.hc_records.specs.Image.{tasks}
 use Rattle.hc_places.specs.declared.table.Datagram.{Datagram}
 use Rattle.hc_places.specs.Table.{Table, datagram_in, part_in}
 use Rattle.hc_plan.specs.Configuration.{config}
-use Rattle.hotline.specs.Printing.{hex_address}
+use Rattle.hc_text.specs.Printing.{hex_address}
 use Rattle.hotline.specs.declared.commands.Command.{Command}
 use Rattle.hotline.specs.declared.commands.Command.TheVariants.{Layout}
 

@@ -1,11 +1,10 @@
-pub mod Lines
-pub mod Cutting
-pub mod Numbers
-pub mod Printing
 pub mod Refusals
 pub mod Layout
 pub mod Regs
 pub mod Show
+pub mod Place
+pub mod EditWords
+pub mod Edits
 pub mod Commands
 pub mod Runs
 pub mod Opening

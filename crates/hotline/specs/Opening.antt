@@ -1,5 +1,5 @@
 -- Opening the project of an input.
-use Rattle.std.specs.Prelude.{◌≡◌, ℕ, Bool, true, false, if◌then◌else◌, List, ◌++◌, map, Option, Some, None, Result, Ok, Err, codes}
+use Rattle.std.specs.Prelude.{ℕ, Bool, true, false, if◌then◌else◌, List, ◌++◌, Option, Some, None, Result, Ok, Err, codes}
 use Rattle.std.specs.Fmt.{decimal}
 use Rattle.std.specs.Str.{is_utf8}
 use Rattle.toml.specs.Parse.{parse_document}
@@ -8,7 +8,6 @@ use Rattle.hc_records.specs.declared.faults.ProjectFault.{ProjectFault}
 use Rattle.hc_records.specs.declared.faults.ProjectFault.TheVariants as fault
 use Rattle.hc_records.specs.Edits.{crowded_task}
 use Rattle.hc_records.specs.Line.{State, line, opened}
-use Rattle.hc_records.specs.Project.{lowest_fault}
 use Rattle.hc_project.specs.Text.{project_of}
 use Rattle.hotline.specs.declared.opening.Unopened.{Unopened}
 use Rattle.hotline.specs.declared.opening.Unopened.TheVariants.{Project, TooManyDatagrams, Memory}
@@ -54,7 +53,3 @@ abbrev pub in_want : Unopened → Unopened
 in_want (Project refused) = Project fault.Memory
 in_want (TooManyDatagrams task) = Memory
 in_want Memory = Memory
-
--- no fault's condition holds of the state's declared groups
-unfoldable pub HoldsProject : State → Type 0
-HoldsProject state = lowest_fault (map (λ declared. declared.group) state.groups) ≡ None

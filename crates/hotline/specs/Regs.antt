@@ -9,8 +9,8 @@ use Rattle.hc_records.specs.Line.{Member, State, line}
 use Rattle.hc_registers.specs.Blocks.{RegisterBlock}
 use Rattle.hc_registers.specs.declared.registers.TheConstants.{FMMU_BLOCKS, FMMU_BLOCK_BYTES, SYNC_MANAGER_BLOCKS, SYNC_MANAGER_BLOCK_BYTES}
 use Rattle.hc_plan.specs.Configuration.{block_at, position_of}
-use Rattle.hotline.specs.Numbers.{number_in}
-use Rattle.hotline.specs.Printing.{hex_register, spaced_bytes}
+use Rattle.hc_text.specs.Numbers.{number_in}
+use Rattle.hc_text.specs.Printing.{hex_register, spaced_bytes}
 use Rattle.hotline.specs.Refusals.{refusal_text}
 use Rattle.hotline.specs.declared.commands.Command.{Command}
 use Rattle.hotline.specs.declared.commands.Command.TheVariants.{Regs}

@@ -2,7 +2,7 @@
 use Rattle.std.specs.Prelude.{ℕ, Bool, true, false, if◌then◌else◌, List, [], ◌∷◌, ◌++◌, Option, Some, None}
 use Rattle.hc_records.specs.Line.{State}
 use Rattle.hotline.specs.declared.commands.Command.{Command}
-use Rattle.hotline.specs.Lines.{Line, words_of}
+use Rattle.hc_text.specs.Lines.{Line, words_of}
 use Rattle.hotline.specs.Refusals.{bad_command_text}
 use Rattle.hotline.specs.Commands.{command_in, left_by, printed}
 

@@ -8,8 +8,8 @@ use Rattle.hc_frames.specs.FrameText.{blank_lrw, frame_text}
 use Rattle.hc_places.specs.declared.table.Datagram.{Datagram}
 use Rattle.hc_places.specs.Table.{datagram_in}
 use Rattle.hc_plan.specs.Configuration.{config}
-use Rattle.hotline.specs.Numbers.{number_in}
-use Rattle.hotline.specs.Printing.{hex_bytes}
+use Rattle.hc_text.specs.Numbers.{number_in}
+use Rattle.hc_text.specs.Printing.{hex_bytes}
 use Rattle.hotline.specs.Refusals.{refusal_text}
 use Rattle.hotline.specs.declared.commands.Command.{Command}
 use Rattle.hotline.specs.declared.commands.Command.TheVariants.{Show}

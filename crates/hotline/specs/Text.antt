@@ -2,9 +2,9 @@
 use Rattle.std.specs.Prelude.{◌≡◌, ◌≢◌, ℕ, nat_lt, if◌then◌else◌, List, [], length, take, Option, Result, Ok, Err}
 use Rattle.std.specs.Io.KnownBytes.{Appends}
 use Rattle.hc_records.specs.Line.{State}
-use Rattle.hotline.specs.declared.input.TheConstants.{MOST_INPUT}
+use Rattle.hc_text.specs.declared.input.TheConstants.{MOST_INPUT}
 use Rattle.hotline.specs.declared.opening.Unopened.{Unopened}
-use Rattle.hotline.specs.Lines.{Line, command_lines, lines_of, project_text}
+use Rattle.hc_text.specs.Lines.{Line, command_lines, lines_of, project_text}
 use Rattle.hotline.specs.Opening.{opening_of, unopened_text}
 use Rattle.hotline.specs.Runs.{Outcome, run}
 

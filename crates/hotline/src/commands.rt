@@ -1,18 +1,20 @@
 //! The commands: the words that spell each, and what it answers. Each has a file of its own with its
 //! `parse`, from the words behind its name, and its `reply`.
-ghost use Rattle.std.specs.Prelude.{◌≡◌, ◌++◌, map, OnOk, string_bytes};
-ghost use Rattle.hotline.specs.Opening.{HoldsProject};
+ghost use Rattle.std.specs.Prelude.{◌≡◌, ◌++◌, map, IfOk, OnErr, OnOk, string_bytes};
 ghost use Rattle.hotline.specs.Commands.{command_in, left_by, printed};
 
+pub mod edits;
 mod layout;
+mod place;
 mod regs;
 mod show;
 
 use hc_plan::plan::Plan;
-use std::alloc::AllocError;
+use hc_records::edit::Edit;
+use std::alloc::{AllocError, Global};
 
 /// A command.
-#[derive(Clone, Copy, Debug, PartialEq, Eq)]
+#[derive(Debug, Drop)]
 pub enum Command {
     /// `layout`: the datagrams of every task.
     Layout,
@@ -28,35 +30,55 @@ pub enum Command {
         /// The datagram's number in the task.
         datagram: u8,
     },
+    /// `place V`: where a variable stands.
+    Place {
+        /// Its number; 0 is no variable's.
+        variable: u32,
+    },
+    /// `connect A`, `disconnect A`, `remap S A P..` or `move S A T`: an edit of the line.
+    Edit(Edit),
 }
 
 /// The command that a name and its arguments spell; none where the name is unknown, the number of
-/// arguments is another, or a number is malformed or too large for its type.
-pub fn command_in(name: &[u8], arguments: &[&[u8]]) -> Option<Command>
-    ensures { result ≡ command_in name.now (map (λ word. word.now) arguments.now) }
+/// arguments is another, or a number is malformed or too large for its type. `AllocError` where a growth
+/// was refused.
+pub fn command_in(
+    alloc: Global,
+    name: &[u8],
+    arguments: &[&[u8]],
+) -> Result<Option<Command>, AllocError>
+    ensures { IfOk result (λ command. command ≡ command_in name.now (map (λ word. word.now) arguments.now)) }
 {
     if name == b"layout".as_slice() {
-        layout::parse(arguments)
+        Ok(layout::parse(arguments))
     } else if name == b"regs".as_slice() {
-        regs::parse(arguments)
+        Ok(regs::parse(arguments))
     } else if name == b"show".as_slice() {
-        show::parse(arguments)
+        Ok(show::parse(arguments))
+    } else if name == b"place".as_slice() {
+        Ok(place::parse(arguments))
     } else {
-        None
+        edits::parse(alloc, name, arguments)
     }
 }
 
 /// Carries a command out and adds what it prints. `AllocError` where a growth was refused; the plan is
 /// then as it was.
-pub fn obey(command: Command, plan: &mut Plan, out: &mut String) -> Result<(), AllocError>
-    requires { HoldsProject plan.old }
-    ensures text { OnOk result (string_bytes out.new ≡ string_bytes out.old ++ printed plan.old command) }
-    ensures state { OnOk result (plan.new ≡ left_by plan.old command) }
-    ensures kept { HoldsProject plan.new }
+pub fn obey(
+    alloc: Global,
+    command: &Command,
+    plan: &mut Plan,
+    out: &mut String,
+) -> Result<(), AllocError>
+    ensures text { OnOk result (string_bytes out.new ≡ string_bytes out.old ++ printed plan.old command.now) }
+    ensures state { OnOk result (plan.new ≡ left_by plan.old command.now) }
+    ensures unchanged { OnErr result (plan.new ≡ plan.old) }
 {
     match command {
         Command::Layout => layout::reply(plan, out),
-        Command::Regs { station } => regs::reply(plan, station, out),
-        Command::Show { task, datagram } => show::reply(plan, task, datagram, out),
+        Command::Regs { station } => regs::reply(plan, *station, out),
+        Command::Show { task, datagram } => show::reply(plan, *task, *datagram, out),
+        Command::Place { variable } => place::reply(plan, *variable, out),
+        Command::Edit(edit) => edits::reply(alloc, edit, plan, out),
     }
 }

@@ -2,19 +2,19 @@
 //! the next line is answered.
 ghost use Rattle.std.specs.Prelude.{◌≡◌, ◌≤◌, ◌+◌, false, length, IfSome};
 ghost use Rattle.std.specs.Option.{option_copied};
-ghost use Rattle.hotline.specs.Cutting.{left_in, lines_after};
-ghost use Rattle.hotline.specs.Opening.{HoldsProject, is_memory};
+ghost use Rattle.hc_text.specs.Cutting.{left_in, lines_after};
+ghost use Rattle.hotline.specs.Opening.{is_memory};
 ghost use Rattle.hotline.specs.Runs.{reply_to, run};
 ghost use Rattle.hotline.specs.Text.{EndsAs, outcome_of, unopened};
 ghost use Rattle.hotline.specs.Turns.{Takes};
-ghost use Rattle.hotline.specs.declared.input.TheConstants.{MOST_INPUT};
+ghost use Rattle.hc_text.specs.declared.input.TheConstants.{MOST_INPUT};
 
-use crate::input::{Unread, read_all};
-use crate::lines::{split_line, split_sections};
 use crate::opening::{Unopened, memory_text, open_plan, push_unopened};
-use crate::output::write_text;
 use crate::replies::answer;
 use hc_plan::plan::Plan;
+use hc_text::input::{Unread, read_all};
+use hc_text::lines::{split_line, split_sections};
+use hc_text::output::write_text;
 use std::alloc::Global;
 use std::io::{Read, Write};
 
@@ -60,9 +60,7 @@ fn take_turn<W: Write>(
     plan: &mut Plan,
     output: &mut W,
 ) -> Turn
-    requires { HoldsProject plan.old }
-    ensures kept { HoldsProject plan.new }
-    ensures taken { result.starved ≡ false
+    ensures { result.starved ≡ false
         → Takes (W.contents output.old) (W.contents output.new) plan.new result.end (reply_to plan.old number line.now) }
 {
     let Ok(reply) = answer(alloc, line, number, plan) else {
@@ -98,8 +96,7 @@ fn run_commands<W: Write>(
     first: u32,
     output: &mut W,
 ) -> RunEnd
-    requires project { HoldsProject opened }
-    requires few { first + left_in (option_copied lines) ≤ MOST_INPUT + 2 }
+    requires { first + left_in (option_copied lines) ≤ MOST_INPUT + 2 }
     ensures { result.starved ≡ false
         → EndsAs (W.contents output.old) (W.contents output.new) result.status (run opened (lines_after first (option_copied lines.entry))) }
 {

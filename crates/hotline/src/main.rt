@@ -3,17 +3,11 @@
 
 pub mod commands;
 pub mod engine;
-pub mod input;
-pub mod lines;
-pub mod numbers;
 pub mod opening;
-pub mod output;
-pub mod printing;
 pub mod refusals;
 pub mod replies;
 #[cfg(test)]
 mod tests;
-pub mod words;
 
 use engine::run_hotline;
 use std::process::ExitCode;

@@ -1,7 +1,7 @@
 //! Opening the project of an input, or telling why it can't be opened.
 ghost use Rattle.std.specs.Prelude.{◌≡◌, ◌++◌, IfErr, IfOk, OnOk, false, string_bytes};
 ghost use Rattle.hc_records.specs.declared.faults.ProjectFault.TheVariants.{Memory};
-ghost use Rattle.hotline.specs.Opening.{HoldsProject, crowded_at_opening, in_want, is_memory, is_project_memory, opened_unless, opening_of, project_in, unopened_text};
+ghost use Rattle.hotline.specs.Opening.{crowded_at_opening, in_want, is_memory, is_project_memory, opened_unless, opening_of, project_in, unopened_text};
 
 use crate::refusals::push_project_fault;
 use hc_plan::plan::Plan;
@@ -54,10 +54,8 @@ fn project_in(alloc: Global, text: &[u8]) -> Result<Project, ProjectFault>
 /// The plan of a project at its opening.
 fn open_project(alloc: Global, project: Project) -> Result<Plan, Unopened>
     ensures opened { IfOk result (λ plan. opened_unless (crowded_at_opening project) project ≡ Ok plan) }
-    ensures kept { IfOk result HoldsProject }
     ensures refused { IfErr result (λ fault. is_memory fault ≡ false → opened_unless (crowded_at_opening project) project ≡ Err fault) }
 {
-    let _groups = project.groups();
     match Plan::new(alloc, project) {
         Ok(plan) => Ok(plan),
         Err(EditFault::TooManyDatagrams(task)) => Err(Unopened::TooManyDatagrams(task)),
@@ -69,7 +67,6 @@ fn open_project(alloc: Global, project: Project) -> Result<Plan, Unopened>
 #[tactic(auto, unfolding(crate::specs::Opening::opening_of))]
 pub fn open_plan(alloc: Global, text: &[u8]) -> Result<Plan, Unopened>
     ensures opened { IfOk result (λ plan. opening_of text.now ≡ Ok plan) }
-    ensures kept { IfOk result HoldsProject }
     ensures refused { IfErr result (λ fault. is_memory fault ≡ false → opening_of text.now ≡ Err fault) }
 {
     match project_in(alloc, text) {

@@ -1,12 +1,11 @@
 //! The reply to one command line.
-ghost use Rattle.std.specs.Prelude.{◌≡◌, IfOk, OnOk, string_bytes};
-ghost use Rattle.hotline.specs.Opening.{HoldsProject};
+ghost use Rattle.std.specs.Prelude.{◌≡◌, IfOk, OnErr, OnOk, string_bytes};
 ghost use Rattle.hotline.specs.Runs.{reply_to};
 
 use crate::commands::{command_in, obey};
 use crate::refusals::push_bad_command;
-use crate::words::split_words;
 use hc_plan::plan::Plan;
+use hc_text::words::split_words;
 use std::alloc::{AllocError, Global};
 
 /// What a line prints, and whether the run goes on behind it.
@@ -22,11 +21,10 @@ pub struct Reply {
 /// `AllocError` where a growth was refused; the plan is then as it was.
 #[tactic(auto, unfolding(crate::specs::Runs::reply_to))]
 pub fn answer(alloc: Global, line: &[u8], number: u32, plan: &mut Plan) -> Result<Reply, AllocError>
-    requires { HoldsProject plan.old }
     ensures text { IfOk result (λ reply. string_bytes reply.text ≡ (reply_to plan.old number line.now).text) }
     ensures goes_on { IfOk result (λ reply. reply.goes_on ≡ (reply_to plan.old number line.now).goes_on) }
     ensures state { OnOk result (plan.new ≡ (reply_to plan.old number line.now).state) }
-    ensures kept { HoldsProject plan.new }
+    ensures unchanged { OnErr result (plan.new ≡ plan.old) }
 {
     let words = split_words(alloc, line)?;
     let mut text = String::new(alloc);
@@ -36,9 +34,9 @@ pub fn answer(alloc: Global, line: &[u8], number: u32, plan: &mut Plan) -> Resul
             goes_on: true,
         });
     }
-    match command_in(words[0], &words[1..]) {
+    match command_in(alloc, words[0], &words[1..])? {
         Some(command) => {
-            obey(command, plan, &mut text)?;
+            obey(alloc, &command, plan, &mut text)?;
             Ok(Reply {
                 text,
                 goes_on: true,

@@ -2,6 +2,7 @@
 //! hand and by a separate model of the formats.
 mod breaks;
 mod devices;
+mod edits;
 mod refusals;
 mod runs;
 

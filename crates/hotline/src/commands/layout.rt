@@ -3,10 +3,10 @@ ghost use Rattle.std.specs.Prelude.{◌≡◌, ◌++◌, ◌<◌, map, OnOk, str
 ghost use Rattle.hotline.specs.Layout.{datagram_text, datagrams_text, layout_in, layout_text, numbered_text, part_text, table_text, task_text};
 
 use super::Command;
-use crate::printing::push_address;
 use hc_places::table::{Datagram, Places};
 use hc_plan::plan::Plan;
 use hc_records::limits::{MOST_DATAGRAMS, TASKS};
+use hc_text::printing::push_address;
 use std::alloc::AllocError;
 
 /// It has no argument.

@@ -4,8 +4,6 @@ ghost use Rattle.hc_records.specs.Line.{line};
 ghost use Rattle.hotline.specs.Regs.{block_name, block_text, blocks_text, numbered_block_text, regs_in, regs_text};
 
 use super::Command;
-use crate::numbers::double_byte_in;
-use crate::printing::{push_register, push_spaced_bytes};
 use crate::refusals::push_refusal;
 use hc_plan::plan::Plan;
 use hc_records::limits::MOST_AREAS;
@@ -13,6 +11,8 @@ use hc_registers::blocks::Block;
 use hc_registers::registers::{
     FMMU_BLOCK_BYTES, FMMU_BLOCKS, SYNC_MANAGER_BLOCK_BYTES, SYNC_MANAGER_BLOCKS,
 };
+use hc_text::numbers::double_byte_in;
+use hc_text::printing::{push_register, push_spaced_bytes};
 use std::alloc::AllocError;
 
 /// The blocks of a slave at most: two for each area.

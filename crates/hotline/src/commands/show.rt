@@ -5,18 +5,17 @@ ghost use Rattle.hc_places.specs.Table.{datagram_in};
 ghost use Rattle.hc_plan.specs.Configuration.{config};
 ghost use Rattle.hc_records.specs.Laws.{IsDatagramLength};
 ghost use Rattle.hc_records.specs.Line.{line};
-ghost use Rattle.hotline.specs.Opening.{HoldsProject};
 ghost use Rattle.hotline.specs.Show.{blank_frame_text, frame_line, frame_or_none, show_in, show_text};
 
 use super::Command;
-use crate::numbers::byte_in;
-use crate::printing::push_bytes;
 use crate::refusals::push_refusal;
 use hc_frames::building::build_blank_lrw;
 use hc_places::table::Datagram;
 use hc_plan::plan::Plan;
 use hc_records::faults::EditFault;
 use hc_records::limits::TASKS;
+use hc_text::numbers::byte_in;
+use hc_text::printing::push_bytes;
 use std::alloc::AllocError;
 
 /// The bytes of the largest frame.
@@ -41,7 +40,6 @@ pub fn parse(arguments: &[&[u8]]) -> Option<Command>
 /// over 7.
 #[tactic(auto, unfolding(crate::specs::Show::show_text))]
 pub fn reply(plan: &Plan, task: u8, number: u8, out: &mut String) -> Result<(), AllocError>
-    requires { HoldsProject plan.now }
     ensures { OnOk result (string_bytes out.new ≡ string_bytes out.old ++ show_text plan.now task number) }
 {
     if task >= TASKS {
@@ -52,7 +50,6 @@ pub fn reply(plan: &Plan, task: u8, number: u8, out: &mut String) -> Result<(), 
 
 /// The datagram of a task with a number: what is to be sent of it fits a frame.
 fn sendable_datagram(plan: &Plan, task: u8, number: u8) -> Option<Datagram>
-    requires { HoldsProject plan.now }
     ensures value { result ≡ datagram_in (config (line plan.now)).table task number }
     ensures sendable { IfSome result (λ datagram. IsDatagramLength datagram.length) }
 {

@@ -2,7 +2,7 @@
 use super::devices::{Halting, Interrupted, LineFeeds, Narrow};
 use super::{FIRST_COMMANDS, FIRST_TEXT, ONE_SLAVE, ROOM, joined};
 use crate::engine::{RunEnd, run_hotline};
-use crate::input::MOST_INPUT;
+use hc_text::input::MOST_INPUT;
 use std::alloc::AllocError;
 use std::io::ErrorKind;
 use std::test::Fail;

@@ -3,7 +3,7 @@ use super::{ONE_SLAVE, ends_as, joined, push_wide_slave};
 use std::test::Fail;
 
 /// Lines that are no command.
-const NO_COMMANDS: [&str; 33] = [
+const NO_COMMANDS: [&str; 38] = [
     "foo",
     "Layout",
     "LAYOUT",
@@ -13,7 +13,6 @@ const NO_COMMANDS: [&str; 33] = [
     "layout\t",
     "layout\r",
     "layout 1",
-    "connect 1",
     "regs",
     "regs 1 2",
     "regs x",
@@ -37,6 +36,12 @@ const NO_COMMANDS: [&str; 33] = [
     "show a 0",
     "show 0 g",
     "show 8 x",
+    "place",
+    "place 1 2",
+    "place x",
+    "place 4294967296",
+    "place 0x100000000",
+    "places 1",
 ];
 
 /// Project texts, and their faults.

@@ -58,6 +58,37 @@ fmmu 0 at 0x0600: 00 00 00 01 02 00 06 00 00 10 00 02 01 00 00 00
 const ABSENT_GROUP: &str =
     "slave = [{ station = 5 }]\ngroup = [{ alias = 100, slave = [{ station = 6 }] }]\n";
 
+/// Three PDOs, two of which are assigned, the later one first, and one in a group that is absent.
+const SOME_ASSIGNED: &str = r#"[[slave]]
+station = 1
+[[slave.area]]
+sm = 0
+dir = "out"
+phys = 0x1000
+task = 3
+assigned = [9, 7]
+[[slave.area.pdo]]
+index = 7
+entries = [[0, 3], [21, 64]]
+[[slave.area.pdo]]
+index = 8
+entries = [[22, 8]]
+[[slave.area.pdo]]
+index = 9
+entries = [[23, 1], [0, 1]]
+[[group]]
+alias = 100
+[[group.slave]]
+station = 2
+[[group.slave.area]]
+sm = 0
+dir = "in"
+phys = 0x1000
+task = 3
+assigned = [7]
+pdo = [{ index = 7, entries = [[24, 1]] }]
+"#;
+
 #[test]
 fn the_first_run(rt: HostRuntime) -> Result<(), Fail> {
     let input = joined(rt.alloc(), ONE_SLAVE, FIRST_COMMANDS)?;
@@ -144,6 +175,33 @@ refused 8 NoSuchTask
 none
 none
 epoch 0
+";
+    assert!(rt; ends_as(rt.alloc(), input.as_bytes(), 0, text)?);
+    Ok(())
+}
+
+#[test]
+fn variables_stand_in_their_areas(rt: HostRuntime) -> Result<(), Fail> {
+    let commands = "%%\nplace 1\nplace 0x2\nplace 3\nplace 0\nplace 4294967295\n";
+    let input = joined(rt.alloc(), ONE_SLAVE, commands)?;
+    let text = "var 1 task 0 datagram 0 bit 0 bits 2 dir out
+var 2 task 0 datagram 0 bit 8 bits 12 dir in
+none
+none
+none
+";
+    assert!(rt; ends_as(rt.alloc(), input.as_bytes(), 0, text)?);
+    Ok(())
+}
+
+#[test]
+fn variables_stand_behind_earlier_bits(rt: HostRuntime) -> Result<(), Fail> {
+    let commands = "%%\nplace 21\nplace 22\nplace 23\nplace 24\n";
+    let input = joined(rt.alloc(), SOME_ASSIGNED, commands)?;
+    let text = "var 21 task 3 datagram 0 bit 5 bits 64 dir out
+none
+var 23 task 3 datagram 0 bit 0 bits 1 dir out
+none
 ";
     assert!(rt; ends_as(rt.alloc(), input.as_bytes(), 0, text)?);
     Ok(())

@@ -1,17 +1,15 @@
 use Rattle.std.proofs.Common.{◌≡◌, ◌≤◌, ◌+◌, false}
 use Rattle.std.specs.Option.{option_copied}
-use Rattle.hotline.specs.Opening.{HoldsProject}
-use Rattle.hotline.specs.Cutting.{left_in, lines_after}
+use Rattle.hc_text.specs.Cutting.{left_in, lines_after}
 use Rattle.hotline.specs.Runs.{run}
 use Rattle.hotline.specs.Turns.{Continues}
-use Rattle.hotline.specs.declared.input.TheConstants.{MOST_INPUT}
+use Rattle.hc_text.specs.declared.input.TheConstants.{MOST_INPUT}
 use Rattle.hotline.proofs.engine.run_commands.Given as goal
 
 abbrev pub invariant-loop-rest : goal.invariant-loop-rest
 invariant-loop-rest g l =
     let contents = g.W.Write.contents in
     record {
-      project : HoldsProject l.plan;
       few : l.number + left_in (option_copied l.rest) ≤ MOST_INPUT + 2;
       runs : l.starved ≡ false
           → Continues (contents l.fn.output) (contents l.output) (run l.plan (lines_after l.number (option_copied l.rest))) (run l.fn.opened (lines_after l.first (option_copied l.fn.lines)));

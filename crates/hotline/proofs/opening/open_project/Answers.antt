@@ -1,13 +1,9 @@
-use Rattle.std.proofs.Common.{ap, subst, sym, ◌∙◌, Ok}
-use Rattle.hotline.specs.Opening.{HoldsProject}
-use Rattle.hotline.proofs.Openings.{crowded_named, crowded_none, opened_project}
+use Rattle.std.proofs.Common.{ap, sym, ◌∙◌, Ok}
+use Rattle.hotline.proofs.Openings.{crowded_named, crowded_none}
 use Rattle.hotline.proofs.opening.open_project.Goals as goal
 
 pub returns-in-Ok-clause-opened : goal.returns-in-Ok-clause-opened
 returns-in-Ok-clause-opened c = crowded_none c.args.project c.in-Ok.ensures.accepted ∙ ap Ok (sym c.in-Ok.ensures.state)
-
-pub returns-in-Ok-clause-kept : goal.returns-in-Ok-clause-kept
-returns-in-Ok-clause-kept c = subst HoldsProject (sym c.in-Ok.ensures.state) (opened_project c.args.project c.groups-groups.ensures.kept)
 
 pub returns-in-Err-TooManyDatagrams-clause-refused : goal.returns-in-Err-TooManyDatagrams-clause-refused
 returns-in-Err-TooManyDatagrams-clause-refused c _ =

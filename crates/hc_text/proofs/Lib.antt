@@ -1,0 +1,4 @@
+pub mod Parts
+pub mod Sections
+pub mod Fronts
+pub mod Digits

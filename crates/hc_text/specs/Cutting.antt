@@ -1,0 +1,40 @@
+-- What is left of an input or of a line while it is cut from the front.
+use Rattle.std.specs.Prelude.{◌≡◌, ℕ, suc, ◌+◌, List, [], ◌∷◌, ◌++◌, length, Option, Some, None}
+use Rattle.hc_text.specs.Lines.{Line, command_lines, lines_from, lines_of, parts_at, project_text}
+
+-- the parts of what follows, or none where nothing does
+abbrev pub parts_after : ℕ → Option (List ℕ) → List (List ℕ)
+parts_after byte None = []
+parts_after byte (Some text) = parts_at byte text
+
+-- a part, and what follows it behind a byte
+abbrev pub joined : ℕ → List ℕ → Option (List ℕ) → List ℕ
+joined byte part None = part
+joined byte part (Some text) = part ++ byte ∷ text
+
+-- how much is left to cut
+abbrev pub left_in : Option (List ℕ) → ℕ
+left_in None = 0
+left_in (Some text) = suc (length text)
+
+-- the bytes that follow
+abbrev pub bytes_after : Option (List ℕ) → List ℕ
+bytes_after None = []
+bytes_after (Some text) = text
+
+-- the lines that follow, the first of which has this number
+abbrev pub lines_after : ℕ → Option (List ℕ) → List Line
+lines_after number rest = lines_from number (parts_after 10 rest)
+
+-- the first line of an input has this text, and this follows it
+pub record CutsLine (input text : List ℕ) (rest : Option (List ℕ)) : Type 0 where
+  pub bytes : List ℕ
+  pub whole : bytes ++ bytes_after rest ≡ input
+  pub lines : (number : ℕ) → lines_from number (parts_at 10 input) ≡ record { number = number; text = text; bytes = bytes } ∷ lines_after (number + 1) rest
+
+-- the lines before what follows, the first of which has this number, were passed over: the mark isn't among them
+pub record Skips (input : List ℕ) (number : ℕ) (rest : Option (List ℕ)) : Type 0 where
+  pub front : List ℕ
+  pub whole : front ++ bytes_after rest ≡ input
+  pub project : front ++ project_text (lines_after number rest) ≡ project_text (lines_of input)
+  pub commands : command_lines (lines_after number rest) ≡ command_lines (lines_of input)

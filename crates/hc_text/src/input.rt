@@ -1,0 +1,62 @@
+//! Reading all of an input, within a limit on its bytes and on the turns of reading.
+ghost use Rattle.std.specs.Prelude.{◌≡◌, ◌≤◌, IfOk, IfSome, vec_len};
+
+use std::alloc::{AllocError, Global};
+use std::io::{ErrorKind, Read};
+
+/// The most bytes of an input: project text and commands together.
+pub const MOST_INPUT: usize = 4_194_304;
+
+/// The most turns of reading: one for each byte, and one that finds the end.
+const MOST_TURNS: usize = MOST_INPUT + 1;
+
+/// The bytes that one turn reads at most.
+const CHUNK: usize = 4096;
+
+/// Why an input was not read.
+#[derive(Clone, Copy, Debug, PartialEq, Eq)]
+pub enum Unread {
+    /// It has more bytes than `MOST_INPUT`.
+    TooLong,
+    /// The reader failed, or its end was not found within the turns.
+    Failed,
+    /// A growth was refused.
+    Memory,
+}
+
+impl From<AllocError> for Unread {
+    ghost use Rattle.std.specs.Prelude.{◌≡◌};
+    ghost use Rattle.hc_text.specs.declared.input.Unread.TheVariants.{Memory};
+
+    ghost from_gives = { λ _ fault. fault ≡ Memory };
+
+    fn from(_error: AllocError) -> Unread {
+        Unread::Memory
+    }
+}
+
+/// All that a reader has left. An interrupted turn is taken again; it counts as a turn.
+pub fn read_all<R: Read>(alloc: Global, input: &mut R) -> Result<Vec<u8>, Unread>
+    ensures bytes { IfOk result (λ bytes. IfSome (R.remaining input.old) (λ all. bytes.items ≡ all)) }
+    ensures within { IfOk result (λ bytes. vec_len bytes ≤ MOST_INPUT) }
+{
+    let mut bytes = Vec::new(alloc);
+    let mut chunk = [0u8; CHUNK];
+    for _ in 0..MOST_TURNS {
+        match input.read(&mut chunk) {
+            Ok(0) => return Ok(bytes),
+            Ok(count) => {
+                if count > MOST_INPUT - bytes.len() {
+                    return Err(Unread::TooLong);
+                }
+                bytes.extend_from_slice(&chunk[..count])?;
+            }
+            Err(error) => {
+                if error.kind() != ErrorKind::Interrupted {
+                    return Err(Unread::Failed);
+                }
+            }
+        }
+    }
+    Err(Unread::Failed)
+}

@@ -1,0 +1,98 @@
+//! The lines of an input: where its project text ends, and its command lines.
+ghost use Rattle.std.specs.Prelude.{◌≡◌, ◌≤◌, ◌+◌, ◌==◌, ◌∷◌, ℕ, length};
+ghost use Rattle.std.specs.List.{position};
+ghost use Rattle.std.specs.Option.{option_copied};
+ghost use Rattle.std.specs.Str.Lines.{strip_carriage_return};
+ghost use Rattle.hc_text.specs.Lines.{command_lines, lines_from, lines_of, parts_at, project_text, text_of};
+ghost use Rattle.hc_text.specs.Cutting.{CutsLine, joined, left_in, lines_after, parts_after};
+ghost use Rattle.hc_text.specs.declared.input.TheConstants.{MOST_INPUT};
+
+/// The line that ends the project text.
+const MARK: &[u8] = b"%%";
+
+fn find_byte(text: &[u8], byte: u8) -> Option<usize>
+    ensures { result ≡ position (λ b. b == byte) text.now }
+{
+    text.iter().position(|b| *b == byte)
+}
+
+/// What stands before the first such byte, and what follows it; none where there is no such byte.
+pub fn split_at_byte(text: &[u8], byte: u8) -> (&[u8], Option<&[u8]>)
+    ensures parts { parts_at byte text.now ≡ result.0.now ∷ parts_after byte (option_copied result.1) }
+    ensures whole { joined byte result.0.now (option_copied result.1) ≡ text.now }
+    ensures shorter { left_in (option_copied result.1) ≤ length text.now }
+{
+    match find_byte(text, byte) {
+        Some(end) => (&text[..end], Some(&text[end + 1..])),
+        None => (text, None),
+    }
+}
+
+fn strip_carriage_return(part: &[u8]) -> &[u8]
+    ensures { result.now ≡ strip_carriage_return part.now }
+{
+    if !part.is_empty() && part[part.len() - 1] == b'\r' {
+        &part[..part.len() - 1]
+    } else {
+        part
+    }
+}
+
+/// The text of a line, from its part and what follows the part's line feed.
+#[tactic(auto, using(crate::proofs::Parts::text_of_some))]
+fn text_of<'a>(part: &'a [u8], rest: Option<&[u8]>) -> &'a [u8]
+    ensures { result.now ≡ text_of part.now (parts_after 10 (option_copied rest.entry)) }
+{
+    match rest {
+        None => part,
+        Some(_) => strip_carriage_return(part),
+    }
+}
+
+/// The text of the first line, and what follows the line; none behind the last line.
+pub fn split_line(input: &[u8]) -> (&[u8], Option<&[u8]>)
+    ensures line { CutsLine input.now result.0.now (option_copied result.1) }
+    ensures shorter { left_in (option_copied result.1) ≤ length input.now }
+{
+    let (part, rest) = split_at_byte(input, b'\n');
+    (text_of(part, rest), rest)
+}
+
+/// An input cut at its mark.
+#[derive(Debug, Drop)]
+pub struct Sections<'a> {
+    /// The project text: the bytes before the mark, as they stand; all where there is no mark.
+    pub project: &'a [u8],
+    /// The lines behind the mark; none where nothing follows it.
+    pub commands: Option<&'a [u8]>,
+    /// The number of the first of them.
+    pub first: u32,
+}
+
+/// Cuts an input at its first line `%%`.
+pub fn split_sections(input: &[u8]) -> Sections<'_>
+    requires { length input.now ≤ MOST_INPUT }
+    ensures project { result.project.now ≡ project_text (lines_of input.now) }
+    ensures commands { lines_after result.first (option_copied result.commands) ≡ command_lines (lines_of input.now) }
+    ensures few { result.first + left_in (option_copied result.commands) ≤ MOST_INPUT + 2 }
+{
+    let mut number = 1u32;
+    let mut rest = Some(input);
+    while let Some(text) = rest {
+        let (line, more) = split_line(text);
+        number += 1;
+        if line == MARK {
+            return Sections {
+                project: &input[..input.len() - text.len()],
+                commands: more,
+                first: number,
+            };
+        }
+        rest = more;
+    }
+    Sections {
+        project: input,
+        commands: None,
+        first: number,
+    }
+}

@@ -1,0 +1,64 @@
+//! Numbers and bytes as they are printed. Each function adds to a text; `AllocError` where a growth was
+//! refused.
+ghost use Rattle.std.specs.Prelude.{◌≡◌, ◌++◌, OnOk, string_bytes};
+ghost use Rattle.hc_text.specs.Printing.{hex_address, hex_byte, hex_bytes, hex_register, spaced_byte, spaced_bytes};
+
+use std::alloc::AllocError;
+
+/// A byte as two lower-case hexadecimal digits.
+#[tactic(auto, using(std::proofs::lemmas::Fmt::hex_byte))]
+pub fn push_byte(byte: u8, out: &mut String) -> Result<(), AllocError>
+    ensures { OnOk result (string_bytes out.new ≡ string_bytes out.old ++ hex_byte byte) }
+{
+    write!(out, "{byte:02x}")
+}
+
+/// A register, or an address in a slave's memory, as `0x` and four digits.
+#[tactic(auto, unfolding(crate::specs::Printing::hex_register))]
+pub fn push_register(register: u16, out: &mut String) -> Result<(), AllocError>
+    ensures { OnOk result (string_bytes out.new ≡ string_bytes out.old ++ hex_register register) }
+{
+    out.push_str("0x")?;
+    push_byte((register / 256) as u8, out)?;
+    push_byte((register % 256) as u8, out)
+}
+
+/// A logical address as `0x` and eight digits.
+#[tactic(auto, unfolding(crate::specs::Printing::hex_address))]
+pub fn push_address(address: u32, out: &mut String) -> Result<(), AllocError>
+    ensures { OnOk result (string_bytes out.new ≡ string_bytes out.old ++ hex_address address) }
+{
+    out.push_str("0x")?;
+    push_byte((address / 16_777_216) as u8, out)?;
+    push_byte((address / 65_536 % 256) as u8, out)?;
+    push_byte((address / 256 % 256) as u8, out)?;
+    push_byte((address % 256) as u8, out)
+}
+
+/// The bytes of a frame, without spaces.
+pub fn push_bytes(bytes: &[u8], out: &mut String) -> Result<(), AllocError>
+    ensures { OnOk result (string_bytes out.new ≡ string_bytes out.old ++ hex_bytes bytes.now) }
+{
+    for byte in bytes {
+        push_byte(*byte, out)?;
+    }
+    Ok(())
+}
+
+/// A byte of a register block, behind a space.
+fn push_spaced_byte(byte: u8, out: &mut String) -> Result<(), AllocError>
+    ensures { OnOk result (string_bytes out.new ≡ string_bytes out.old ++ spaced_byte byte) }
+{
+    out.push_str(" ")?;
+    push_byte(byte, out)
+}
+
+/// The bytes of a register block, each behind a space.
+pub fn push_spaced_bytes(bytes: &[u8], out: &mut String) -> Result<(), AllocError>
+    ensures { OnOk result (string_bytes out.new ≡ string_bytes out.old ++ spaced_bytes bytes.now) }
+{
+    for byte in bytes {
+        push_spaced_byte(*byte, out)?;
+    }
+    Ok(())
+}

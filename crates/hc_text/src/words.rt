@@ -1,0 +1,23 @@
+//! The words of a line.
+ghost use Rattle.std.specs.Prelude.{◌≡◌, IfOk, map};
+ghost use Rattle.hc_text.specs.Lines.{words_of};
+
+use crate::lines::split_at_byte;
+use std::alloc::{AllocError, Global};
+
+/// The words of a line: what stands between its spaces and isn't empty. `AllocError` where a growth
+/// was refused.
+pub fn split_words<'a>(alloc: Global, line: &'a [u8]) -> Result<Vec<&'a [u8]>, AllocError>
+    ensures { IfOk result (λ words. map (λ word. word.now) words.items ≡ words_of line.now) }
+{
+    let mut words = Vec::new(alloc);
+    let mut rest = Some(line);
+    while let Some(text) = rest {
+        let (part, more) = split_at_byte(text, b' ');
+        if !part.is_empty() {
+            words.push(part)?;
+        }
+        rest = more;
+    }
+    Ok(words)
+}

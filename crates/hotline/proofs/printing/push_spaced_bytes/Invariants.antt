@@ -1,8 +1,0 @@
-use Rattle.std.proofs.Common.{◌≡◌, ◌++◌, take, string_bytes}
-use Rattle.std.specs.List.{flat_map}
-use Rattle.hotline.specs.Printing.{spaced_byte}
-use Rattle.hotline.proofs.printing.push_spaced_bytes.Given as goal
-
--- the bytes so far are printed
-abbrev pub invariant-loop-byte : goal.invariant-loop-byte
-invariant-loop-byte l = string_bytes l.out ≡ string_bytes l.fn.out ++ flat_map spaced_byte (take l.byte-index l.bytes)

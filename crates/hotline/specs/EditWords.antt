@@ -1,0 +1,49 @@
+-- The words of the four edits.
+use Rattle.std.specs.Prelude.{ℕ, if◌then◌else◌, List, [], ◌∷◌, Option, Some, None, option_and_then, option_map, codes}
+use Rattle.std.specs.Str.{bytes_eq}
+use Rattle.hc_records.specs.declared.edit.Edit.{Edit}
+use Rattle.hc_records.specs.declared.edit.Edit.TheVariants.{Connect, Disconnect, Remap, Move}
+use Rattle.hc_text.specs.Numbers.{number_in}
+
+-- the number of each word, where each is one of at most 65,535
+abbrev pub indexes_in : List (List ℕ) → Option (List ℕ)
+indexes_in [] = Some []
+indexes_in (word ∷ words) =
+    option_and_then (λ index. option_map (λ indexes. index ∷ indexes) (indexes_in words)) (number_in 65535 word)
+
+-- `connect` and `disconnect` have an alias
+abbrev pub connect_in : List (List ℕ) → Option Edit
+connect_in [] = None
+connect_in (alias ∷ []) = option_map Connect (number_in 65535 alias)
+connect_in (alias ∷ other ∷ words) = None
+
+abbrev pub disconnect_in : List (List ℕ) → Option Edit
+disconnect_in [] = None
+disconnect_in (alias ∷ []) = option_map Disconnect (number_in 65535 alias)
+disconnect_in (alias ∷ other ∷ words) = None
+
+-- `remap` has a station address, an area of that slave, and the indexes of any number of PDOs
+abbrev pub remap_in : List (List ℕ) → Option Edit
+remap_in [] = None
+remap_in (station ∷ []) = None
+remap_in (station ∷ area ∷ pdos) =
+    option_and_then (λ s. option_and_then (λ a. option_map (λ indexes. Remap s a indexes) (indexes_in pdos)) (number_in 255 area))
+    (number_in 65535 station)
+
+-- `move` has a station address, an area of that slave, and a task
+abbrev pub move_in : List (List ℕ) → Option Edit
+move_in [] = None
+move_in (station ∷ []) = None
+move_in (station ∷ area ∷ []) = None
+move_in (station ∷ area ∷ task ∷ []) =
+    option_and_then (λ s. option_and_then (λ a. option_map (λ t. Move s a t) (number_in 255 task)) (number_in 255 area))
+    (number_in 65535 station)
+move_in (station ∷ area ∷ task ∷ other ∷ words) = None
+
+-- the edit that a name and its arguments spell
+abbrev pub edit_in : List ℕ → List (List ℕ) → Option Edit
+edit_in name arguments =
+    if bytes_eq name (codes "connect") then connect_in arguments
+    else (if bytes_eq name (codes "disconnect") then disconnect_in arguments
+    else (if bytes_eq name (codes "remap") then remap_in arguments
+    else (if bytes_eq name (codes "move") then move_in arguments else None)))

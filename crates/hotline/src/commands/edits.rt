@@ -1,0 +1,161 @@
+//! The four edits: `connect A`, `disconnect A`, `remap S A P..` and `move S A T`.
+ghost use Rattle.std.specs.Prelude.{◌≡◌, ◌++◌, IfOk, map, option_map, OnErr, OnOk, string_bytes};
+ghost use Rattle.hc_records.specs.Edits.{state_after};
+ghost use Rattle.hotline.specs.declared.commands.Command.TheVariants as command;
+ghost use Rattle.hotline.specs.Edits.{edit_text, report_text};
+ghost use Rattle.hotline.specs.EditWords.{connect_in, disconnect_in, edit_in, indexes_in, move_in, remap_in};
+
+use super::Command;
+use crate::refusals::push_refusal;
+use hc_plan::plan::Plan;
+use hc_plan::report::Report;
+use hc_records::edit::Edit;
+use hc_records::faults::EditFault;
+use hc_records::items::Items;
+use hc_text::numbers::{byte_in, double_byte_in};
+use std::alloc::{AllocError, Global};
+
+/// The edit that a name and its arguments spell; none where the name is no edit's, where that edit has
+/// another number of arguments, or where a number is malformed or its type doesn't hold it: aliases,
+/// station addresses and PDO indexes are at most 65,535, areas and tasks 255. `AllocError` where a
+/// growth was refused.
+pub fn parse(alloc: Global, name: &[u8], arguments: &[&[u8]]) -> Result<Option<Command>, AllocError>
+    ensures { IfOk result (λ spelt. spelt ≡ option_map command.Edit (edit_in name.now (map (λ word. word.now) arguments.now))) }
+{
+    match edit_of(alloc, name, arguments)? {
+        Some(edit) => Ok(Some(Command::Edit(edit))),
+        None => Ok(None),
+    }
+}
+
+/// Carries an edit out and adds what became different, or why it is refused: the plan is then in the
+/// state that the edit leaves. `AllocError` where a growth was refused; the plan is then as it was. The
+/// line is made before the plan is replaced, so a growth refused for it leaves the plan, too.
+#[tactic(auto, unfolding(crate::specs::Edits::edit_text))]
+pub fn reply(
+    alloc: Global,
+    edit: &Edit,
+    plan: &mut Plan,
+    out: &mut String,
+) -> Result<(), AllocError>
+    ensures text { OnOk result (string_bytes out.new ≡ string_bytes out.old ++ edit_text plan.old edit.now) }
+    ensures state { OnOk result (plan.new ≡ state_after plan.old edit.now) }
+    ensures unchanged { OnErr result (plan.new ≡ plan.old) }
+{
+    match plan.edited(alloc, edit) {
+        Ok(next) => {
+            let report = plan.report(alloc, edit, &next)?;
+            push_report(&report, out)?;
+            *plan = next;
+            Ok(())
+        }
+        Err(EditFault::Memory) => Err(AllocError),
+        Err(fault) => push_refusal(fault, out),
+    }
+}
+
+/// Adds the line of an accepted edit, as `epoch 1 recut 1 moved 4`.
+#[tactic(auto, unfolding(crate::specs::Edits::report_text))]
+fn push_report(report: &Report, out: &mut String) -> Result<(), AllocError>
+    ensures { OnOk result (string_bytes out.new ≡ string_bytes out.old ++ report_text report.now.epoch report.now.recut report.now.moved) }
+{
+    let epoch = report.epoch;
+    let recut = report.recut;
+    let moved = report.moved;
+    write!(out, "epoch {epoch} recut {recut} moved {moved}\n")
+}
+
+fn edit_of(alloc: Global, name: &[u8], arguments: &[&[u8]]) -> Result<Option<Edit>, AllocError>
+    ensures { IfOk result (λ edit. edit ≡ edit_in name.now (map (λ word. word.now) arguments.now)) }
+{
+    if name == b"connect".as_slice() {
+        Ok(connect_of(arguments))
+    } else if name == b"disconnect".as_slice() {
+        Ok(disconnect_of(arguments))
+    } else if name == b"remap".as_slice() {
+        remap_of(alloc, arguments)
+    } else if name == b"move".as_slice() {
+        Ok(move_of(arguments))
+    } else {
+        Ok(None)
+    }
+}
+
+fn connect_of(arguments: &[&[u8]]) -> Option<Edit>
+    ensures { result ≡ connect_in (map (λ word. word.now) arguments.now) }
+{
+    match arguments {
+        [alias] => match double_byte_in(alias) {
+            Some(alias) => Some(Edit::Connect(alias)),
+            None => None,
+        },
+        [] => None,
+        [_, _, ..] => None,
+    }
+}
+
+fn disconnect_of(arguments: &[&[u8]]) -> Option<Edit>
+    ensures { result ≡ disconnect_in (map (λ word. word.now) arguments.now) }
+{
+    match arguments {
+        [alias] => match double_byte_in(alias) {
+            Some(alias) => Some(Edit::Disconnect(alias)),
+            None => None,
+        },
+        [] => None,
+        [_, _, ..] => None,
+    }
+}
+
+fn remap_of(alloc: Global, arguments: &[&[u8]]) -> Result<Option<Edit>, AllocError>
+    ensures { IfOk result (λ edit. edit ≡ remap_in (map (λ word. word.now) arguments.now)) }
+{
+    match arguments {
+        [station, area, pdos @ ..] => match (double_byte_in(station), byte_in(area)) {
+            (Some(station), Some(area)) => match indexes_of(alloc, pdos)? {
+                Some(pdos) => Ok(Some(Edit::Remap {
+                    station,
+                    area,
+                    pdos,
+                })),
+                None => Ok(None),
+            },
+            _ => Ok(None),
+        },
+        [] => Ok(None),
+        [_] => Ok(None),
+    }
+}
+
+/// The number of each word, where each is one of at most 65,535.
+fn indexes_of(alloc: Global, words: &[&[u8]]) -> Result<Option<Items<u16>>, AllocError>
+    ensures { IfOk result (λ indexes. indexes ≡ indexes_in (map (λ word. word.now) words.now)) }
+{
+    let mut indexes = Vec::with_capacity(alloc, words.len())?;
+    for word in words {
+        match double_byte_in(word) {
+            Some(index) => indexes.push(index)?,
+            None => return Ok(None),
+        }
+    }
+    Ok(Some(Items::of(indexes)))
+}
+
+fn move_of(arguments: &[&[u8]]) -> Option<Edit>
+    ensures { result ≡ move_in (map (λ word. word.now) arguments.now) }
+{
+    match arguments {
+        [station, area, task] => match (double_byte_in(station), byte_in(area), byte_in(task)) {
+            (Some(station), Some(area), Some(task)) => Some(Edit::Move {
+                station,
+                area,
+                task,
+            }),
+            _ => None,
+        },
+        [] => None,
+        [_] => None,
+        [_, _] => None,
+        [_, _, _, _, ..] => None,
+    }
+}
