@@ -80,6 +80,7 @@ sweep hc_rings tests::a_buffer_begins_anew
 sweep hc_rings tests::four_buffers_go_round
 sweep hc_rings tests::a_dropped_sender_leaves_its_posts
 sweep hc_rings tests::frames_go_in_order
+sweep hotline tests::edits::a_group_comes_and_goes
 sweep_program
 echo "$passed passed, $failed failed"
 [ "$failed" -eq 0 ]

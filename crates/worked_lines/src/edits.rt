@@ -1,0 +1,206 @@
+//! What edits of worked lines answer, and what the plan is after them.
+use crate::texts::{datagram, plan_of};
+use hc_places::table::{Datagram, Place};
+use hc_plan::plan::Plan;
+use hc_plan::report::Report;
+use hc_records::edit::Edit;
+use hc_records::faults::EditFault;
+use hc_records::items::Items;
+use hc_records::records::{Dir, VarId};
+use std::alloc::{AllocError, Global};
+use std::test::Fail;
+
+/// A slave with an output area of 2 bits and an input area of 12 bits, in the mandatory group.
+const ONE_SLAVE: &str = r#"
+slave = [
+  { station = 1001, area = [
+    { sm = 2, dir = "out", phys = 0x1100, task = 0, assigned = [0x1600], pdo = [{ index = 0x1600, entries = [[1, 2]] }] },
+    { sm = 3, dir = "in", phys = 0x1180, task = 0, assigned = [0x1a00], pdo = [{ index = 0x1a00, entries = [[2, 12]] }] },
+  ] },
+]
+"#;
+
+/// The same slave in a group of its own.
+const ONE_GROUP: &str = r#"
+group = [
+  { alias = 100, slave = [
+    { station = 1001, area = [
+      { sm = 2, dir = "out", phys = 0x1100, task = 0, assigned = [0x1600], pdo = [{ index = 0x1600, entries = [[1, 2]] }] },
+      { sm = 3, dir = "in", phys = 0x1180, task = 0, assigned = [0x1a00], pdo = [{ index = 0x1a00, entries = [[2, 12]] }] },
+    ] },
+  ] },
+]
+"#;
+
+/// The same group with nothing assigned.
+const EMPTY_GROUP: &str = r#"
+group = [
+  { alias = 100, slave = [
+    { station = 1001, area = [
+      { sm = 2, dir = "out", phys = 0x1100, task = 0, assigned = [], pdo = [{ index = 0x1600, entries = [[1, 2]] }] },
+      { sm = 3, dir = "in", phys = 0x1180, task = 0, assigned = [], pdo = [{ index = 0x1a00, entries = [[2, 12]] }] },
+    ] },
+  ] },
+]
+"#;
+
+/// A slave with an input area of two PDOs of 4 bits.
+const TWO_PDOS: &str = r#"
+slave = [
+  { station = 1001, area = [
+    { sm = 3, dir = "in", phys = 0x1000, task = 0, assigned = [0x1a00, 0x1a01], pdo = [
+      { index = 0x1a00, entries = [[2, 4]] },
+      { index = 0x1a01, entries = [[3, 4]] },
+    ] },
+  ] },
+]
+"#;
+
+/// Epoch, unsettled spans, moved blocks and moved variables of a report.
+fn told(report: &Report) -> [usize; 4] {
+    [
+        report.epoch as usize,
+        report.recut as usize,
+        report.moved as usize,
+        report.swap.places(),
+    ]
+}
+
+/// What an edit tells.
+fn applied(plan: &mut Plan, alloc: Global, edit: Edit) -> Result<[usize; 4], EditFault> {
+    let report = plan.apply(alloc, &edit)?;
+    Ok(told(&report))
+}
+
+/// The edit that assigns these PDOs to an area of the slave with station 1001.
+fn remap(alloc: Global, area: u8, pdos: &[u16]) -> Result<Edit, AllocError> {
+    Ok(Edit::Remap {
+        station: 1001,
+        area,
+        pdos: Items::of(Vec::from_slice(alloc, pdos)?),
+    })
+}
+
+/// The length and the expected counter of a datagram of task 0, 0 and 0 for none.
+fn seen(plan: &Plan, number: u8) -> (u16, u16) {
+    match datagram(plan, number) {
+        Some(found) => (found.length, found.expected),
+        None => (0, 0),
+    }
+}
+
+/// The faults that a list of edits of one group gets, none for an accepted one.
+fn faults(answers: Vec<Result<Report, EditFault>>) -> Result<Vec<Option<EditFault>>, AllocError> {
+    let mut found = Vec::new(*answers.allocator());
+    for answer in answers {
+        found.push(answer.err())?;
+    }
+    Ok(found)
+}
+
+#[test]
+fn a_list_of_edits_is_answered_in_its_order(rt: HostRuntime) -> Result<(), Fail> {
+    let mut plan = plan_of(rt.alloc(), ONE_GROUP)?;
+    let edits = [
+        Edit::Connect(100),
+        Edit::Connect(100),
+        Edit::Disconnect(100),
+        Edit::Disconnect(100),
+        Edit::Disconnect(0),
+        Edit::Connect(0),
+        Edit::Connect(7),
+    ];
+    let answers = plan.run(rt.alloc(), &edits)?;
+    assert_eq!(rt; answers.len(), 7);
+    let first = answers[0].as_ref().ok().ok_or("accepted")?;
+    assert_eq!(rt; told(first), [1, 1, 4, 2]);
+    let third = answers[2].as_ref().ok().ok_or("accepted")?;
+    assert_eq!(rt; told(third), [2, 1, 0, 2]);
+    let refused = faults(answers)?;
+    assert_eq!(rt;
+        refused.as_slice(),
+        [
+            None,
+            Some(EditFault::AlreadyPresent),
+            None,
+            Some(EditFault::NotPresent),
+            Some(EditFault::Mandatory),
+            Some(EditFault::AlreadyPresent),
+            Some(EditFault::UnknownAlias),
+        ]
+        .as_slice()
+    );
+    assert_eq!(rt; plan.epoch(), 2);
+    Ok(())
+}
+
+#[test]
+fn an_edit_that_changes_no_width_begins_an_epoch(rt: HostRuntime) -> Result<(), Fail> {
+    let mut plan = plan_of(rt.alloc(), ONE_SLAVE)?;
+    let edit = remap(rt.alloc(), 1, &[0x1a00])?;
+    for epoch in 1..4 {
+        let report = plan.apply(rt.alloc(), &edit)?;
+        assert_eq!(rt; told(&report), [epoch, 0, 0, 0]);
+    }
+    Ok(())
+}
+
+#[test]
+fn an_area_moves_to_another_task(rt: HostRuntime) -> Result<(), Fail> {
+    let mut plan = plan_of(rt.alloc(), ONE_SLAVE)?;
+    let edit = Edit::Move {
+        station: 1001,
+        area: 0,
+        task: 1,
+    };
+    assert_eq!(rt; applied(&mut plan, rt.alloc(), edit)?, [1, 2, 2, 2]);
+    assert_eq!(rt; seen(&plan, 0), (2, 1));
+    let moved = Datagram {
+        address: 0x0200_0000,
+        length: 1,
+        expected: 2,
+        offset: 0,
+    };
+    assert_eq!(rt; plan.places().datagram(1, 0), Some(moved));
+    Ok(())
+}
+
+#[test]
+fn pdos_in_another_order_move_variables_alone(rt: HostRuntime) -> Result<(), Fail> {
+    let mut plan = plan_of(rt.alloc(), TWO_PDOS)?;
+    let edit = remap(rt.alloc(), 0, &[0x1a01, 0x1a00])?;
+    assert_eq!(rt; applied(&mut plan, rt.alloc(), edit)?, [1, 0, 0, 2]);
+    let first = Place {
+        task: 0,
+        datagram: 0,
+        bit: 0,
+        bits: 4,
+        dir: Dir::In,
+    };
+    let third = VarId::new(3).ok_or("a name")?;
+    assert_eq!(rt; plan.places().place(third), Some(first));
+    Ok(())
+}
+
+#[test]
+fn areas_without_bits_touch_no_task(rt: HostRuntime) -> Result<(), Fail> {
+    let mut plan = plan_of(rt.alloc(), EMPTY_GROUP)?;
+    assert_eq!(rt;
+        applied(&mut plan, rt.alloc(), Edit::Connect(100))?,
+        [1, 0, 4, 0]
+    );
+    Ok(())
+}
+
+#[test]
+fn an_absent_group_keeps_its_assignments(rt: HostRuntime) -> Result<(), Fail> {
+    let mut plan = plan_of(rt.alloc(), ONE_GROUP)?;
+    applied(&mut plan, rt.alloc(), Edit::Connect(100))?;
+    let edit = remap(rt.alloc(), 1, &[])?;
+    applied(&mut plan, rt.alloc(), edit)?;
+    applied(&mut plan, rt.alloc(), Edit::Disconnect(100))?;
+    assert_eq!(rt; seen(&plan, 0), (0, 0));
+    applied(&mut plan, rt.alloc(), Edit::Connect(100))?;
+    assert_eq!(rt; seen(&plan, 0), (1, 2));
+    Ok(())
+}
