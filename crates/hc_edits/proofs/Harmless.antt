@@ -5,7 +5,6 @@ use Rattle.std.specs.List.{list_any}
 use Rattle.std.specs.Option.{option_map_or}
 use Rattle.std.proofs.lemmas.Bool.{ltb-false, or_from, or_parts}
 use Rattle.std.proofs.lemmas.Bool.Decides.{nat_tests}
-use Rattle.std.proofs.lemmas.List.Elements.{All-nil, All-cons}
 use Rattle.hc_records.specs.declared.limits.TheConstants.{LAST_SYNC_MANAGER, MEMORY_END, MEMORY_START, MOST_PDOS, TASKS}
 use Rattle.hc_records.specs.declared.records.Area.{Area}
 use Rattle.hc_records.specs.declared.records.Declared.{Declared}
@@ -16,6 +15,7 @@ use Rattle.hc_records.specs.declared.faults.EditFault.TheVariants.{UnknownStatio
 use Rattle.hc_records.specs.Lists.{has_repeat, lowest, some_pair}
 use Rattle.hc_records.specs.Edits.{area_at, has_unknown, is_declared_station, is_too_big, slave_at}
 use Rattle.hc_records.specs.Project.{area_outside, has_unknown_pdo, is_outside, is_wide, pdo_outside, reach, same_index}
+use Rattle.hc_records.proofs.Projects.{none-holds}
 use Rattle.hc_edits.specs.Edits.{area_change, own_fault, state_of}
 use Rattle.hc_edits.proofs.Repeats.{no-longer}
 
@@ -113,18 +113,6 @@ move-harmless area station index task low = record {
   offered = λ offered. offered;
   narrow = λ narrow. narrow;
 }
-
--- where there is no lowest fault, none of the conditions holds
-
-none-first : {F : Type 0} (judged : Bool) (fault : F) (rest : List (Bool × F)) → (if judged then Some fault else lowest rest) ≡ None → (judged ≡ false) × (lowest rest ≡ None)
-none-first true fault rest none = cc
-none-first false fault rest none = (refl, none)
-
-pub none-holds : {F : Type 0} (faults : List (Bool × F)) → lowest faults ≡ None → All (λ judged. judged.0 ≡ false) faults
-none-holds [] none = All-nil (λ judged. judged.0 ≡ false)
-none-holds (judged ∷ rest) none =
-    let both = none-first judged.0 judged.1 rest none in
-    All-cons (λ judged. judged.0 ≡ false) judged rest both.0 (none-holds rest both.1)
 
 -- the area that an edit without a fault judges
 pub record IsJudged (groups : List Declared) (station index : ℕ) (edit : Edit) : Type 0 where

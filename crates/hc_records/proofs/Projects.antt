@@ -14,7 +14,7 @@ none-first true fault rest none = cc
 none-first false fault rest none = (refl, none)
 
 -- where there is no lowest fault, none of the conditions holds
-none-holds : {F : Type 0} (faults : List (Bool × F)) → lowest faults ≡ None → All (λ judged. judged.0 ≡ false) faults
+pub none-holds : {F : Type 0} (faults : List (Bool × F)) → lowest faults ≡ None → All (λ judged. judged.0 ≡ false) faults
 none-holds [] none = All-nil (λ judged. judged.0 ≡ false)
 none-holds (judged ∷ rest) none =
     let both = none-first judged.0 judged.1 rest none in

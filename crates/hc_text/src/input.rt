@@ -1,5 +1,6 @@
 //! Reading all of an input, within a limit on its bytes and on the turns of reading.
-ghost use Rattle.std.specs.Prelude.{◌≡◌, ◌≤◌, IfOk, IfSome, vec_len};
+ghost use Rattle.std.specs.Prelude.{◌≡◌, ◌≤◌, ◌<◌, IfErr, IfOk, IfSome, length, vec_len};
+ghost use Rattle.hc_text.specs.declared.input.Unread.TheVariants.{TooLong};
 
 use std::alloc::{AllocError, Global};
 use std::io::{ErrorKind, Read};
@@ -18,7 +19,7 @@ const CHUNK: usize = 4096;
 pub enum Unread {
     /// It has more bytes than `MOST_INPUT`.
     TooLong,
-    /// The reader failed, or its end was not found within the turns.
+    /// The reader failed for another cause than an interruption, or its end was not found within the turns.
     Failed,
     /// A growth was refused.
     Memory,
@@ -35,10 +36,15 @@ impl From<AllocError> for Unread {
     }
 }
 
-/// All that a reader has left. An interrupted turn is taken again; it counts as a turn.
+/// All that a reader has left, at most `MOST_INPUT` bytes. It takes at most `MOST_INPUT` + 1 turns, whatever
+/// the reader does; an interrupted turn is taken again and counts as one. `Unread::TooLong` where more
+/// bytes came, `Unread::Failed` where a read failed or the turns ended before the input did, and
+/// `Unread::Memory` where a growth was refused. After a refusal the reader stands behind what was read of
+/// it, which is lost.
 pub fn read_all<R: Read>(alloc: Global, input: &mut R) -> Result<Vec<u8>, Unread>
     ensures bytes { IfOk result (λ bytes. IfSome (R.remaining input.old) (λ all. bytes.items ≡ all)) }
     ensures within { IfOk result (λ bytes. vec_len bytes ≤ MOST_INPUT) }
+    ensures too_long { IfErr result (λ fault. fault ≡ TooLong → IfSome (R.remaining input.old) (λ all. MOST_INPUT < length all)) }
 {
     let mut bytes = Vec::new(alloc);
     let mut chunk = [0u8; CHUNK];

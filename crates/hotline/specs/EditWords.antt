@@ -12,15 +12,10 @@ indexes_in (word ∷ words) =
     option_and_then (λ index. option_map (λ indexes. index ∷ indexes) (indexes_in words)) (number_in 65535 word)
 
 -- `connect` and `disconnect` have an alias
-abbrev pub connect_in : List (List ℕ) → Option Edit
-connect_in [] = None
-connect_in (alias ∷ []) = option_map Connect (number_in 65535 alias)
-connect_in (alias ∷ other ∷ words) = None
-
-abbrev pub disconnect_in : List (List ℕ) → Option Edit
-disconnect_in [] = None
-disconnect_in (alias ∷ []) = option_map Disconnect (number_in 65535 alias)
-disconnect_in (alias ∷ other ∷ words) = None
+abbrev pub alias_in : List (List ℕ) → Option ℕ
+alias_in [] = None
+alias_in (alias ∷ []) = number_in 65535 alias
+alias_in (alias ∷ other ∷ words) = None
 
 -- `remap` has a station address, an area of that slave, and the indexes of any number of PDOs
 abbrev pub remap_in : List (List ℕ) → Option Edit
@@ -43,7 +38,7 @@ move_in (station ∷ area ∷ task ∷ other ∷ words) = None
 -- the edit that a name and its arguments spell
 abbrev pub edit_in : List ℕ → List (List ℕ) → Option Edit
 edit_in name arguments =
-    if bytes_eq name (codes "connect") then connect_in arguments
-    else (if bytes_eq name (codes "disconnect") then disconnect_in arguments
+    if bytes_eq name (codes "connect") then option_map Connect (alias_in arguments)
+    else (if bytes_eq name (codes "disconnect") then option_map Disconnect (alias_in arguments)
     else (if bytes_eq name (codes "remap") then remap_in arguments
     else (if bytes_eq name (codes "move") then move_in arguments else None)))

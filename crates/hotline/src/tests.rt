@@ -5,6 +5,7 @@ mod devices;
 mod edits;
 mod refusals;
 mod runs;
+mod wide_lines;
 
 use crate::engine::{RunEnd, run_hotline};
 use std::alloc::{AllocError, Global};
@@ -107,20 +108,50 @@ fn joined(alloc: Global, project: &str, commands: &str) -> Result<String, AllocE
     Ok(input)
 }
 
-/// Adds a slave with one output area of so many bits, at most 12,288, in task 0.
-fn push_wide_slave(text: &mut String, station: u32, bits: u32) -> Result<(), AllocError> {
-    write!(text, "[[slave]]\nstation = {station}\n")?;
-    text.push_str("[[slave.area]]\nsm = 0\ndir = 'out'\nphys = 0x1000\ntask = 0\n")?;
-    text.push_str("assigned = [1, 2, 3]\npdo = [")?;
-    let mut left = bits;
-    for index in 1..=3u32 {
-        let part = left.min(64 * 64);
+/// An output area of task 0, without its PDOs.
+const OUTPUTS: &str = "sm = 0\ndir = 'out'\nphys = 0x1000\ntask = 0\n";
+
+/// An input area of task 0, without its PDOs.
+const INPUTS: &str = "sm = 1\ndir = 'in'\nphys = 0x1800\ntask = 0\n";
+
+/// Adds a slave to an array of tables, as `slave` or `group.slave`.
+fn push_slave(text: &mut String, table: &str, station: u32) -> Result<(), AllocError> {
+    write!(text, "[[{table}]]\nstation = {station}\n")
+}
+
+/// Adds an area to the last slave of an array of tables: the indexes that it has assigned, and the
+/// index and the bits of each PDO that it offers, at most 4,096.
+fn push_area(
+    text: &mut String,
+    table: &str,
+    head: &str,
+    assigned: &str,
+    offered: &[(u32, u32)],
+) -> Result<(), AllocError> {
+    write!(
+        text,
+        "[[{table}.area]]\n{head}assigned = {assigned}\npdo = ["
+    )?;
+    for (index, bits) in offered {
         write!(text, "{{ index = {index}, entries = [")?;
-        push_entries(text, part)?;
+        push_entries(text, *bits)?;
         text.push_str("] }, ")?;
-        left -= part;
     }
     text.push_str("]\n")
+}
+
+/// Adds an area of so many bits, at most 12,288, to the last slave of an array of tables.
+fn push_wide_area(text: &mut String, table: &str, head: &str, bits: u32) -> Result<(), AllocError> {
+    let first = bits.min(4096);
+    let second = (bits - first).min(4096);
+    let offered = [(1, first), (2, second), (3, bits - first - second)];
+    push_area(text, table, head, "[1, 2, 3]", &offered)
+}
+
+/// Adds a mandatory slave with one output area of so many bits, at most 12,288, in task 0.
+fn push_wide_slave(text: &mut String, station: u32, bits: u32) -> Result<(), AllocError> {
+    push_slave(text, "slave", station)?;
+    push_wide_area(text, "slave", OUTPUTS, bits)
 }
 
 /// Adds at most 64 gaps that have so many bits together.

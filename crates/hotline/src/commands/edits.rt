@@ -3,7 +3,7 @@ ghost use Rattle.std.specs.Prelude.{◌≡◌, ◌++◌, IfOk, map, option_map, 
 ghost use Rattle.hc_records.specs.Edits.{state_after};
 ghost use Rattle.hotline.specs.declared.commands.Command.TheVariants as command;
 ghost use Rattle.hotline.specs.Edits.{edit_text, report_text};
-ghost use Rattle.hotline.specs.EditWords.{connect_in, disconnect_in, edit_in, indexes_in, move_in, remap_in};
+ghost use Rattle.hotline.specs.EditWords.{alias_in, edit_in, indexes_in, move_in, remap_in};
 
 use super::Command;
 use crate::refusals::push_refusal;
@@ -69,9 +69,9 @@ fn edit_of(alloc: Global, name: &[u8], arguments: &[&[u8]]) -> Result<Option<Edi
     ensures { IfOk result (λ edit. edit ≡ edit_in name.now (map (λ word. word.now) arguments.now)) }
 {
     if name == b"connect".as_slice() {
-        Ok(connect_of(arguments))
+        Ok(alias_of(arguments).map(Edit::Connect))
     } else if name == b"disconnect".as_slice() {
-        Ok(disconnect_of(arguments))
+        Ok(alias_of(arguments).map(Edit::Disconnect))
     } else if name == b"remap".as_slice() {
         remap_of(alloc, arguments)
     } else if name == b"move".as_slice() {
@@ -81,27 +81,12 @@ fn edit_of(alloc: Global, name: &[u8], arguments: &[&[u8]]) -> Result<Option<Edi
     }
 }
 
-fn connect_of(arguments: &[&[u8]]) -> Option<Edit>
-    ensures { result ≡ connect_in (map (λ word. word.now) arguments.now) }
+/// The one argument as an alias.
+fn alias_of(arguments: &[&[u8]]) -> Option<u16>
+    ensures { result ≡ alias_in (map (λ word. word.now) arguments.now) }
 {
     match arguments {
-        [alias] => match double_byte_in(alias) {
-            Some(alias) => Some(Edit::Connect(alias)),
-            None => None,
-        },
-        [] => None,
-        [_, _, ..] => None,
-    }
-}
-
-fn disconnect_of(arguments: &[&[u8]]) -> Option<Edit>
-    ensures { result ≡ disconnect_in (map (λ word. word.now) arguments.now) }
-{
-    match arguments {
-        [alias] => match double_byte_in(alias) {
-            Some(alias) => Some(Edit::Disconnect(alias)),
-            None => None,
-        },
+        [alias] => double_byte_in(alias),
         [] => None,
         [_, _, ..] => None,
     }
