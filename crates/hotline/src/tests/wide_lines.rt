@@ -7,11 +7,11 @@ use std::test::Fail;
 
 /// Adds a group with an alias, with one output area in each of its slaves: its station address, and its
 /// bytes.
-fn push_group(text: &mut String, alias: u32, slaves: &[(u32, u32)]) -> Result<(), AllocError> {
+fn push_group(text: &mut String, alias: u32, slaves: &[(u32, u16)]) -> Result<(), AllocError> {
     write!(text, "[[group]]\nalias = {alias}\n")?;
     for (station, bytes) in slaves {
         push_slave(text, "group.slave", *station)?;
-        push_wide_area(text, "group.slave", OUTPUTS, 8 * *bytes)?;
+        push_wide_area(text, "group.slave", OUTPUTS, 8 * u32::from(*bytes))?;
     }
     Ok(())
 }
@@ -86,10 +86,11 @@ fmmu 0 at 0x0600: e8 03 00 01 2c 01 00 07 00 10 00 02 01 00 00 00
 }
 
 /// Adds a slave of a group with an output and an input area of so many bytes.
-fn push_both_ways(text: &mut String, station: u32, bytes: u32) -> Result<(), AllocError> {
+fn push_both_ways(text: &mut String, station: u32, bytes: u16) -> Result<(), AllocError> {
+    let bits = 8 * u32::from(bytes);
     push_slave(text, "group.slave", station)?;
-    push_wide_area(text, "group.slave", OUTPUTS, 8 * bytes)?;
-    push_wide_area(text, "group.slave", INPUTS, 8 * bytes)
+    push_wide_area(text, "group.slave", OUTPUTS, bits)?;
+    push_wide_area(text, "group.slave", INPUTS, bits)
 }
 
 /// A group of one slave with outputs and inputs, and one of three slaves, of which the first has inputs.
