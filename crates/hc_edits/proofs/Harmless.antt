@@ -1,6 +1,6 @@
 -- An area that an edit changes without a fault stays in its ranges, with offered PDOs, and no wider than a datagram.
-use Rattle.std.proofs.Common.{◌≡◌, ℕ, ◌≤◌, Bool, true, false, not, if◌then◌else◌, List, [], ◌∷◌, Option, Some, None, length, refl, arith}
-use Rattle.std.specs.Prelude.{All, ◌+◌, ◌-◌, ◌||◌, is_none, nat_lt}
+use Rattle.std.proofs.Common.{◌≡◌, ℕ, ◌≤◌, Bool, true, false, not, List, [], ◌∷◌, Option, Some, None, length, refl, arith}
+use Rattle.std.specs.Prelude.{◌+◌, ◌-◌, ◌||◌, is_none, nat_lt}
 use Rattle.std.specs.List.{list_any}
 use Rattle.std.specs.Option.{option_map_or}
 use Rattle.std.proofs.lemmas.Bool.{ltb-false, or_from, or_parts}
@@ -8,7 +8,6 @@ use Rattle.std.proofs.lemmas.Bool.Decides.{nat_tests}
 use Rattle.hc_records.specs.declared.limits.TheConstants.{LAST_SYNC_MANAGER, MEMORY_END, MEMORY_START, MOST_PDOS, TASKS}
 use Rattle.hc_records.specs.declared.records.Area.{Area}
 use Rattle.hc_records.specs.declared.records.Declared.{Declared}
-use Rattle.hc_records.specs.declared.edit.Edit.{Edit}
 use Rattle.hc_records.specs.declared.edit.Edit.TheVariants.{Remap, Move}
 use Rattle.hc_records.specs.declared.faults.EditFault.{EditFault}
 use Rattle.hc_records.specs.declared.faults.EditFault.TheVariants.{UnknownStation, Absent, NoSuchArea, NoSuchTask, UnknownPdo, RepeatedPdo, AreaTooBig, Memory}
@@ -16,8 +15,15 @@ use Rattle.hc_records.specs.Lists.{has_repeat, lowest, some_pair}
 use Rattle.hc_records.specs.Edits.{area_at, has_unknown, is_declared_station, is_too_big, slave_at}
 use Rattle.hc_records.specs.Project.{area_outside, has_unknown_pdo, is_outside, is_wide, pdo_outside, reach, same_index}
 use Rattle.hc_records.proofs.Projects.{none-holds}
-use Rattle.hc_edits.specs.Edits.{area_change, own_fault, state_of}
+use Rattle.hc_edits.specs.Edits.{own_fault, state_of}
 use Rattle.hc_edits.proofs.Repeats.{no-longer}
+
+-- an area with PDOs assigned, and one in a task
+abbrev pub with_pdos : List ℕ → Area → Area
+with_pdos pdos area = record area { assigned = pdos }
+
+abbrev pub in_task : ℕ → Area → Area
+in_task task area = record area { task = task }
 
 -- a change of an area brings no condition about
 pub record IsHarmless (change : Area → Area) (area : Area) : Type 0 where
@@ -77,12 +83,12 @@ record IsAssignable (area : Area) (pdos : List ℕ) : Type 0 where
   once : has_repeat pdos ≡ false
   narrow : is_too_big pdos area ≡ false
 
-remap-harmless : (area : Area) (station index : ℕ) (pdos : List ℕ) → IsAssignable area pdos → IsHarmless (area_change (Remap station index pdos)) area
-remap-harmless area station index pdos is = record {
+pdos-harmless : (area : Area) (pdos : List ℕ) → IsAssignable area pdos → IsHarmless (with_pdos pdos) area
+pdos-harmless area pdos is = record {
   inside = λ inside.
       let parts = inside-parts area inside in
       let most : length pdos ≤ length area.offered = no-longer (λ pdo. pdo.index) pdos area.offered is.once is.known in
-      inside-from (area_change (Remap station index pdos) area) (record {
+      inside-from (with_pdos pdos area) (record {
         manager = parts.manager;
         start = parts.start;
         task = parts.task;
@@ -97,11 +103,11 @@ remap-harmless area station index pdos is = record {
   narrow = λ narrow. is.narrow;
 }
 
-move-harmless : (area : Area) (station index task : ℕ) → not (nat_lt task TASKS) ≡ false → IsHarmless (area_change (Move station index task)) area
-move-harmless area station index task low = record {
+task-harmless : (area : Area) (task : ℕ) → not (nat_lt task TASKS) ≡ false → IsHarmless (in_task task) area
+task-harmless area task low = record {
   inside = λ inside.
       let parts = inside-parts area inside in
-      inside-from (area_change (Move station index task) area) (record {
+      inside-from (in_task task area) (record {
         manager = parts.manager;
         start = parts.start;
         task = low;
@@ -115,10 +121,10 @@ move-harmless area station index task low = record {
 }
 
 -- the area that an edit without a fault judges
-pub record IsJudged (groups : List Declared) (station index : ℕ) (edit : Edit) : Type 0 where
+pub record IsJudged (groups : List Declared) (station index : ℕ) (change : Area → Area) : Type 0 where
   pub area : Area
   pub found : area_at (state_of groups) station index ≡ Some area
-  pub harmless : IsHarmless (area_change edit) area
+  pub harmless : IsHarmless change area
 
 abbrev remap_faults : Bool → Bool → Option Area → List ℕ → List (Bool × EditFault)
 remap_faults unknown absent found pdos =
@@ -131,7 +137,7 @@ remap_faults unknown absent found pdos =
     ∷ []
 
 judged-remap : (found : Option Area) (unknown absent : Bool) (groups : List Declared) (station index : ℕ) (pdos : List ℕ) → area_at (state_of groups) station index ≡ found →
-    lowest (remap_faults unknown absent found pdos) ≡ None → IsJudged groups station index (Remap station index pdos)
+    lowest (remap_faults unknown absent found pdos) ≡ None → IsJudged groups station index (with_pdos pdos)
 judged-remap None unknown absent groups station index pdos is none =
     let some : true ≡ false = none-holds (remap_faults unknown absent None pdos) none 2 (false, Memory) (omega arith) in
     cc
@@ -140,14 +146,14 @@ judged-remap (Some area) unknown absent groups station index pdos is none =
     record {
       area = area;
       found = is;
-      harmless = remap-harmless area station index pdos (record {
+      harmless = pdos-harmless area pdos (record {
         known = holds 3 (false, Memory) (omega arith);
         once = holds 4 (false, Memory) (omega arith);
         narrow = holds 5 (false, Memory) (omega arith);
       });
     }
 
-pub remap-judged : (groups : List Declared) (station index : ℕ) (pdos : List ℕ) → own_fault groups (Remap station index pdos) ≡ None → IsJudged groups station index (Remap station index pdos)
+pub remap-judged : (groups : List Declared) (station index : ℕ) (pdos : List ℕ) → own_fault groups (Remap station index pdos) ≡ None → IsJudged groups station index (with_pdos pdos)
 remap-judged groups station index pdos none =
     let state = state_of groups in
     judged-remap (area_at state station index) (not (is_declared_station state station)) (is_none (slave_at state station)) groups station index pdos refl none
@@ -161,17 +167,17 @@ move_faults unknown absent found task =
     ∷ []
 
 judged-move : (found : Option Area) (unknown absent : Bool) (groups : List Declared) (station index task : ℕ) → area_at (state_of groups) station index ≡ found →
-    lowest (move_faults unknown absent found task) ≡ None → IsJudged groups station index (Move station index task)
+    lowest (move_faults unknown absent found task) ≡ None → IsJudged groups station index (in_task task)
 judged-move None unknown absent groups station index task is none =
     let some : true ≡ false = none-holds (move_faults unknown absent None task) none 2 (false, Memory) (omega arith) in
     cc
 judged-move (Some area) unknown absent groups station index task is none = record {
   area = area;
   found = is;
-  harmless = move-harmless area station index task (none-holds (move_faults unknown absent (Some area) task) none 3 (false, Memory) (omega arith));
+  harmless = task-harmless area task (none-holds (move_faults unknown absent (Some area) task) none 3 (false, Memory) (omega arith));
 }
 
-pub move-judged : (groups : List Declared) (station index task : ℕ) → own_fault groups (Move station index task) ≡ None → IsJudged groups station index (Move station index task)
+pub move-judged : (groups : List Declared) (station index task : ℕ) → own_fault groups (Move station index task) ≡ None → IsJudged groups station index (in_task task)
 move-judged groups station index task none =
     let state = state_of groups in
     judged-move (area_at state station index) (not (is_declared_station state station)) (is_none (slave_at state station)) groups station index task refl none

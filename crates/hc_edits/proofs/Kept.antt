@@ -18,35 +18,27 @@ use Rattle.hc_records.specs.Lists.{changed_at, has_repeat, lowest, some_pair}
 use Rattle.hc_records.specs.Edits.{groups_after, with_area, with_slaves}
 use Rattle.hc_records.specs.Project.{area_names, has_outside, has_overlap, has_repeated_alias, has_repeated_station, has_repeated_variable, has_unknown_pdo, is_bare, is_misplaced, is_wide, lowest_fault, pdo_names, project_faults, reach, repeats_sync_manager, slave_names, slave_outside, slaves_of, some_area, some_slave}
 use Rattle.hc_records.proofs.Projects.{none-holds}
-use Rattle.hc_edits.specs.Edits.{area_change, groups_of, own_fault}
-use Rattle.hc_edits.proofs.Harmless.{IsHarmless, IsJudged, move-judged, remap-judged}
+use Rattle.hc_edits.specs.Edits.{groups_of, own_fault}
+use Rattle.hc_edits.proofs.Harmless.{IsHarmless, IsJudged, in_task, move-judged, remap-judged, with_pdos}
 use Rattle.hc_edits.proofs.Same.{any-same, changed-same, flat-same, groups-with_presence, groups-with_slaves, map-same, on_group, slaves-on_group, some-slave, with-same}
 use Rattle.hc_edits.proofs.Stations.{HasArea, all-have}
 use Rattle.hc_edits.proofs.Unharmed.{Spares, areas-spared, none-after, slave-spared}
 
--- what an edit leaves of an area
-
-manager-same : (edit : Edit) (area : Area) → (area_change edit area).sm ≡ area.sm
-manager-same (Connect alias) area = refl
-manager-same (Disconnect alias) area = refl
-manager-same (Remap station index pdos) area = refl
-manager-same (Move station index task) area = refl
-
-offered-same : (edit : Edit) (area : Area) → (area_change edit area).offered ≡ area.offered
-offered-same (Connect alias) area = refl
-offered-same (Disconnect alias) area = refl
-offered-same (Remap station index pdos) area = refl
-offered-same (Move station index task) area = refl
-
 -- the memory that an area may take: its first byte, and how many
-abbrev memory : Area → ℕ × ℕ
-memory area = (area.phys, reach area)
+abbrev memory_of : Area → ℕ × ℕ
+memory_of area = (area.phys, reach area)
 
-memory-same : (edit : Edit) (area : Area) → memory (area_change edit area) ≡ memory area
-memory-same (Connect alias) area = refl
-memory-same (Disconnect alias) area = refl
-memory-same (Remap station index pdos) area = refl
-memory-same (Move station index task) area = refl
+-- what a change of areas leaves of each
+record Leaves (change : Area → Area) : Type 0 where
+  manager : (area : Area) → (change area).sm ≡ area.sm
+  offered : (area : Area) → (change area).offered ≡ area.offered
+  memory : (area : Area) → memory_of (change area) ≡ memory_of area
+
+pdos-leave : (pdos : List ℕ) → Leaves (with_pdos pdos)
+pdos-leave pdos = record { manager = λ area. refl; offered = λ area. refl; memory = λ area. refl }
+
+task-leaves : (task : ℕ) → Leaves (in_task task)
+task-leaves task = record { manager = λ area. refl; offered = λ area. refl; memory = λ area. refl }
 
 -- pairs that are told by keys
 
@@ -70,28 +62,28 @@ pairs-changed related key index change same xs =
 abbrev memories_overlap : ℕ × ℕ → ℕ × ℕ → Bool
 memories_overlap a b = nat_lt 0 a.1 && nat_lt 0 b.1 && nat_lt a.0 (b.0 + b.1) && nat_lt b.0 (a.0 + a.1)
 
-managers-same : (edit : Edit) (station index : ℕ) (slave : Slave) → repeats_sync_manager (with_area station index (area_change edit) slave) ≡ repeats_sync_manager slave
-managers-same edit station index =
-    with-same repeats_sync_manager station index (area_change edit)
-    (λ slave. pairs-changed (λ a b. b == a) (λ (area : Area). area.sm) index (area_change edit) (manager-same edit) slave.areas)
+managers-same : (change : Area → Area) (leaves : Leaves change) (station index : ℕ) (slave : Slave) → repeats_sync_manager (with_area station index change slave) ≡ repeats_sync_manager slave
+managers-same change leaves station index =
+    with-same repeats_sync_manager station index change
+    (λ slave. pairs-changed (λ a b. b == a) (λ (area : Area). area.sm) index change leaves.manager slave.areas)
 
-overlaps-same : (edit : Edit) (station index : ℕ) (slave : Slave) → has_overlap (with_area station index (area_change edit) slave) ≡ has_overlap slave
-overlaps-same edit station index =
-    with-same has_overlap station index (area_change edit)
-    (λ slave. pairs-changed memories_overlap memory index (area_change edit) (memory-same edit) slave.areas)
+overlaps-same : (change : Area → Area) (leaves : Leaves change) (station index : ℕ) (slave : Slave) → has_overlap (with_area station index change slave) ≡ has_overlap slave
+overlaps-same change leaves station index =
+    with-same has_overlap station index change
+    (λ slave. pairs-changed memories_overlap memory_of index change leaves.memory slave.areas)
 
 names-by : (areas : List Area) → area_names areas ≡ flat_map pdo_names (map (λ area. area.offered) areas)
 names-by areas = sym (flat_map-map pdo_names (λ (area : Area). area.offered) areas)
 
-names-same : (edit : Edit) (station index : ℕ) (slave : Slave) → area_names (with_area station index (area_change edit) slave).areas ≡ area_names slave.areas
-names-same edit station index =
-    with-same (λ slave. area_names slave.areas) station index (area_change edit)
-    (λ slave. names-by (changed_at index (area_change edit) slave.areas)
-    ∙ ap (flat_map pdo_names) (changed-same (λ (area : Area). area.offered) index (area_change edit) (offered-same edit) slave.areas)
+names-same : (change : Area → Area) (leaves : Leaves change) (station index : ℕ) (slave : Slave) → area_names (with_area station index change slave).areas ≡ area_names slave.areas
+names-same change leaves station index =
+    with-same (λ slave. area_names slave.areas) station index change
+    (λ slave. names-by (changed_at index change slave.areas)
+    ∙ ap (flat_map pdo_names) (changed-same (λ (area : Area). area.offered) index change leaves.offered slave.areas)
     ∙ sym (names-by slave.areas))
 
-stations-same : (edit : Edit) (station index : ℕ) (slave : Slave) → (with_area station index (area_change edit) slave).station ≡ slave.station
-stations-same edit station index = with-same (λ slave. slave.station) station index (area_change edit) (λ slave. refl)
+stations-same : (change : Area → Area) (station index : ℕ) (slave : Slave) → (with_area station index change slave).station ≡ slave.station
+stations-same change station index = with-same (λ slave. slave.station) station index change (λ slave. refl)
 
 some-same : (test : Slave → Bool) (change : Slave → Slave) (groups : List Group) → ((slave : Slave) → test (change slave) ≡ test slave) →
     some_slave test (map (on_group change) groups) ≡ some_slave test groups
@@ -145,43 +137,43 @@ faults_of a b c d e f g h =
 none-of : (a b c d e f g h : Bool) → a ≡ false → b ≡ false → c ≡ false → d ≡ false → e ≡ false → f ≡ false → g ≡ false → h ≡ false → lowest (faults_of a b c d e f g h) ≡ None
 none-of a b c d e f g h is_a is_b is_c is_d is_e is_f is_g is_h = rw (is_a, is_b, is_c, is_d, is_e, is_f, is_g, is_h) refl
 
-area-kept : (edit : Edit) (station index : ℕ) (area : Area) (groups : List Group) → lowest_fault groups ≡ None → IsHarmless (area_change edit) area →
-    All (HasArea station index area) (slaves_of groups) → lowest_fault (map (on_group (with_area station index (area_change edit))) groups) ≡ None
-area-kept edit station index area groups none harmless has =
-    let change = with_area station index (area_change edit) in
-    let after = map (on_group change) groups in
+area-kept : (change : Area → Area) (leaves : Leaves change) (station index : ℕ) (area : Area) (groups : List Group) → lowest_fault groups ≡ None → IsHarmless change area →
+    All (HasArea station index area) (slaves_of groups) → lowest_fault (map (on_group (with_area station index change)) groups) ≡ None
+area-kept change leaves station index area groups none harmless has =
+    let on_slave = with_area station index change in
+    let after = map (on_group on_slave) groups in
     let slaves = slaves_of groups in
     let holds = none-holds (project_faults groups) none in
-    let stations = ap (λ (all : List Slave). has_repeat (map (λ (s : Slave). s.station) all)) (slaves-on_group change groups)
-    ∙ ap has_repeat (map-same (λ (s : Slave). s.station) change (stations-same edit station index) slaves) in
-    let names = ap (λ (all : List Slave). has_repeat (slave_names all)) (slaves-on_group change groups)
-    ∙ ap has_repeat (flat-same (λ (s : Slave). area_names s.areas) change (names-same edit station index) slaves) in
-    let spares : (test : Area → Bool) → Spares test (area_change edit) area → All (Spares (λ (s : Slave). list_any test s.areas) change) slaves =
-    λ test spared i d within. areas-spared test station index (area_change edit) area (slice_index_or slaves i d) spared (has i d within) in
+    let stations = ap (λ (all : List Slave). has_repeat (map (λ (s : Slave). s.station) all)) (slaves-on_group on_slave groups)
+    ∙ ap has_repeat (map-same (λ (s : Slave). s.station) on_slave (stations-same change station index) slaves) in
+    let names = ap (λ (all : List Slave). has_repeat (slave_names all)) (slaves-on_group on_slave groups)
+    ∙ ap has_repeat (flat-same (λ (s : Slave). area_names s.areas) on_slave (names-same change leaves station index) slaves) in
+    let spares : (test : Area → Bool) → Spares test change area → All (Spares (λ (s : Slave). list_any test s.areas) on_slave) slaves =
+    λ test spared i d within. areas-spared test station index change area (slice_index_or slaves i d) spared (has i d within) in
     none-of (has_outside after) (has_repeated_alias after) (has_repeated_station after) (some_slave repeats_sync_manager after) (some_slave has_overlap after)
     (has_repeated_variable after) (some_area has_unknown_pdo after) (some_area is_wide after)
-    (outside-kept change groups (holds 0 (false, OutOfRange) (omega arith))
-    (λ i d within. slave-spared station index (area_change edit) area (slice_index_or slaves i d) harmless.inside (has i d within)))
-    (ap has_repeat (map-same (λ (g : Group). g.alias) (on_group change) (λ g. refl) groups) ∙ holds 1 (false, OutOfRange) (omega arith))
+    (outside-kept on_slave groups (holds 0 (false, OutOfRange) (omega arith))
+    (λ i d within. slave-spared station index change area (slice_index_or slaves i d) harmless.inside (has i d within)))
+    (ap has_repeat (map-same (λ (g : Group). g.alias) (on_group on_slave) (λ g. refl) groups) ∙ holds 1 (false, OutOfRange) (omega arith))
     (stations ∙ holds 2 (false, OutOfRange) (omega arith))
-    (some-same repeats_sync_manager change groups (managers-same edit station index) ∙ holds 3 (false, OutOfRange) (omega arith))
-    (some-same has_overlap change groups (overlaps-same edit station index) ∙ holds 4 (false, OutOfRange) (omega arith))
+    (some-same repeats_sync_manager on_slave groups (managers-same change leaves station index) ∙ holds 3 (false, OutOfRange) (omega arith))
+    (some-same has_overlap on_slave groups (overlaps-same change leaves station index) ∙ holds 4 (false, OutOfRange) (omega arith))
     (names ∙ holds 5 (false, OutOfRange) (omega arith))
-    (some-spared (λ (s : Slave). list_any has_unknown_pdo s.areas) change groups (holds 6 (false, OutOfRange) (omega arith)) (spares has_unknown_pdo harmless.offered))
-    (some-spared (λ (s : Slave). list_any is_wide s.areas) change groups (holds 7 (false, OutOfRange) (omega arith)) (spares is_wide harmless.narrow))
+    (some-spared (λ (s : Slave). list_any has_unknown_pdo s.areas) on_slave groups (holds 6 (false, OutOfRange) (omega arith)) (spares has_unknown_pdo harmless.offered))
+    (some-spared (λ (s : Slave). list_any is_wide s.areas) on_slave groups (holds 7 (false, OutOfRange) (omega arith)) (spares is_wide harmless.narrow))
 
-judged-kept : (groups : List Declared) (station index : ℕ) (edit : Edit) → lowest_fault (groups_of groups) ≡ None → IsJudged groups station index edit →
-    lowest_fault (groups_of (map (with_slaves (with_area station index (area_change edit))) groups)) ≡ None
-judged-kept groups station index edit none judged =
+judged-kept : (groups : List Declared) (station index : ℕ) (change : Area → Area) (leaves : Leaves change) → lowest_fault (groups_of groups) ≡ None → IsJudged groups station index change →
+    lowest_fault (groups_of (map (with_slaves (with_area station index change)) groups)) ≡ None
+judged-kept groups station index change leaves none judged =
     let once : has_repeated_station (groups_of groups) ≡ false = none-holds (project_faults (groups_of groups)) none 2 (false, OutOfRange) (omega arith) in
-    ap lowest_fault (groups-with_slaves (with_area station index (area_change edit)) groups)
-    ∙ area-kept edit station index judged.area (groups_of groups) none judged.harmless (all-have groups station index judged.area once judged.found)
+    ap lowest_fault (groups-with_slaves (with_area station index change) groups)
+    ∙ area-kept change leaves station index judged.area (groups_of groups) none judged.harmless (all-have groups station index judged.area once judged.found)
 
 pub project-kept : (groups : List Declared) (edit : Edit) → lowest_fault (groups_of groups) ≡ None → own_fault groups edit ≡ None → lowest_fault (groups_of (groups_after groups edit)) ≡ None
 project-kept groups (Connect alias) none own = ap lowest_fault (groups-with_presence alias true groups) ∙ none
 project-kept groups (Disconnect alias) none own = ap lowest_fault (groups-with_presence alias false groups) ∙ none
-project-kept groups (Remap station index pdos) none own = judged-kept groups station index (Remap station index pdos) none (remap-judged groups station index pdos own)
-project-kept groups (Move station index task) none own = judged-kept groups station index (Move station index task) none (move-judged groups station index task own)
+project-kept groups (Remap station index pdos) none own = judged-kept groups station index (with_pdos pdos) (pdos-leave pdos) none (remap-judged groups station index pdos own)
+project-kept groups (Move station index task) none own = judged-kept groups station index (in_task task) (task-leaves task) none (move-judged groups station index task own)
 
 -- so do those that a call gives
 pub result-kept : {E : Type 0} (result : Result (List Declared) E) (groups : List Declared) (edit : Edit) → IfOk result (λ after. after ≡ groups_after groups edit) →

@@ -4,12 +4,13 @@ use Rattle.hc_records.specs.declared.records.Area.{Area}
 use Rattle.hc_records.specs.declared.records.Group.{Group}
 use Rattle.hc_records.specs.declared.records.Declared.{Declared}
 use Rattle.hc_records.specs.declared.edit.Edit.{Edit}
-use Rattle.hc_records.specs.declared.edit.Edit.TheVariants.{Connect, Disconnect, Remap, Move}
 use Rattle.hc_records.specs.declared.faults.EditFault.{EditFault}
 use Rattle.hc_records.specs.declared.faults.EditFault.TheVariants.{UnknownPdo, RepeatedPdo, AreaTooBig}
 use Rattle.hc_records.specs.Line.{State}
 use Rattle.hc_records.specs.Lists.{has_repeat, lowest}
 use Rattle.hc_records.specs.Edits.{has_unknown, is_too_big, own_faults}
+use Rattle.hc_edits.specs.declared.areas.AreaChange.{AreaChange}
+use Rattle.hc_edits.specs.declared.areas.AreaChange.TheVariants.{Pdos, Task}
 
 -- a state of declared groups; an edit's own faults are the same in every epoch
 abbrev pub state_of : List Declared → State
@@ -24,12 +25,10 @@ abbrev pub assigning_faults : Area → List ℕ → List (Bool × EditFault)
 assigning_faults area pdos =
     (has_unknown pdos area, UnknownPdo) ∷ (has_repeat pdos, RepeatedPdo) ∷ (is_too_big pdos area, AreaTooBig) ∷ []
 
--- what an edit changes in its area
-abbrev pub area_change : Edit → Area → Area
-area_change (Connect alias) area = area
-area_change (Disconnect alias) area = area
-area_change (Remap station index pdos) area = record area { assigned = pdos }
-area_change (Move station index task) area = record area { task = task }
+-- what a change makes of an area
+abbrev pub changed : AreaChange → Area → Area
+changed (Pdos pdos) area = record area { assigned = pdos.now }
+changed (Task task) area = record area { task = task }
 
 -- the groups of declared groups, as a project has them
 abbrev pub groups_of : List Declared → List Group

@@ -2,12 +2,31 @@
 ghost use Rattle.std.specs.Prelude.{◌≡◌, IfOk, if◌then◌else◌, map};
 ghost use Rattle.hc_records.specs.Edits.{with_area};
 ghost use Rattle.hc_records.specs.Lists.{changed_at};
-ghost use Rattle.hc_edits.specs.Edits.{area_change};
+ghost use Rattle.hc_edits.specs.Edits.{changed};
 
-use hc_records::edit::Edit;
 use hc_records::items::{Copied, Items};
 use hc_records::records::{Area, Slave};
 use std::alloc::{AllocError, Global};
+
+/// What an edit changes in its area.
+#[derive(Drop)]
+pub enum AreaChange<'a> {
+    /// These PDOs are assigned, in this order.
+    Pdos(&'a Items<u16>),
+    /// It stands in this task, 0 to 7.
+    Task(u8),
+}
+
+/// Which area an edit changes, and how.
+#[derive(Drop)]
+pub struct AreaEdit<'a> {
+    /// The station address of its slave.
+    pub station: u16,
+    /// Its place in the slave's record, from 0.
+    pub area: u8,
+    /// What changes in it.
+    pub change: AreaChange<'a>,
+}
 
 /// A copy of an area with these PDOs assigned.
 fn reassigned(alloc: Global, area: &Area, pdos: &Items<u16>) -> Result<Area, AllocError>
@@ -32,78 +51,68 @@ fn moved(alloc: Global, area: &Area, task: u8) -> Result<Area, AllocError>
     Ok(after)
 }
 
-/// The area of an edit, as the edit leaves it.
-fn changed_area(alloc: Global, area: &Area, edit: &Edit) -> Result<Area, AllocError>
-    ensures { IfOk result (λ after. after ≡ area_change edit.now area.now) }
+/// A copy of an area with a change.
+fn changed(alloc: Global, area: &Area, change: &AreaChange) -> Result<Area, AllocError>
+    ensures { IfOk result (λ after. after ≡ changed change.now area.now) }
 {
-    match edit {
-        Edit::Connect(_) => area.copied(alloc),
-        Edit::Disconnect(_) => area.copied(alloc),
-        Edit::Remap { pdos, .. } => reassigned(alloc, area, pdos),
-        Edit::Move { task, .. } => moved(alloc, area, *task),
+    match change {
+        AreaChange::Pdos(pdos) => reassigned(alloc, area, pdos),
+        AreaChange::Task(task) => moved(alloc, area, *task),
     }
 }
 
-/// The area at an index, changed where the index is the one of the edit.
-fn area_after(alloc: Global, area: &Area, is_changed: bool, edit: &Edit) -> Result<Area, AllocError>
-    ensures { IfOk result (λ after. after ≡ (if is_changed then area_change edit.now area.now else area.now)) }
+/// A copy of an area, changed where it is the one of the edit.
+fn area_after(
+    alloc: Global,
+    area: &Area,
+    is_changed: bool,
+    change: &AreaChange,
+) -> Result<Area, AllocError>
+    ensures { IfOk result (λ after. after ≡ (if is_changed then changed change.now area.now else area.now)) }
 {
     if is_changed {
-        changed_area(alloc, area, edit)
+        changed(alloc, area, change)
     } else {
         area.copied(alloc)
     }
 }
 
-/// The areas of a slave with the one at an index changed, all as they were where there is none.
-fn areas_after(
-    alloc: Global,
-    areas: &[Area],
-    index: u8,
-    edit: &Edit,
-) -> Result<Items<Area>, AllocError>
-    ensures { IfOk result (λ after. after ≡ changed_at index (area_change edit.now) areas.now) }
+/// The areas of a slave with the one of the edit changed, all as they were where there is none.
+fn areas_after(alloc: Global, areas: &[Area], edit: &AreaEdit) -> Result<Items<Area>, AllocError>
+    ensures { IfOk result (λ after. after ≡ changed_at edit.now.area (changed edit.now.change) areas.now) }
 {
     let mut after = Items::new(alloc);
     for i in 0..areas.len() {
-        let is_changed = i == usize::from(index);
-        after.push(area_after(alloc, &areas[i], is_changed, edit)?)?;
+        let is_changed = i == usize::from(edit.area);
+        after.push(area_after(alloc, &areas[i], is_changed, &edit.change)?)?;
     }
     Ok(after)
 }
 
-/// A slave, with an area changed where it has the station address.
-fn slave_after(
-    alloc: Global,
-    slave: &Slave,
-    station: u16,
-    index: u8,
-    edit: &Edit,
-) -> Result<Slave, AllocError>
-    ensures { IfOk result (λ after. after ≡ with_area station index (area_change edit.now) slave.now) }
+/// A slave, with an area changed where it has the edit's station address.
+fn slave_after(alloc: Global, slave: &Slave, edit: &AreaEdit) -> Result<Slave, AllocError>
+    ensures { IfOk result (λ after. after ≡ with_area edit.now.station edit.now.area (changed edit.now.change) slave.now) }
 {
-    if slave.station != station {
+    if slave.station != edit.station {
         return slave.copied(alloc);
     }
     Ok(Slave {
         station: slave.station,
-        areas: areas_after(alloc, slave.areas.as_slice(), index, edit)?,
+        areas: areas_after(alloc, slave.areas.as_slice(), edit)?,
     })
 }
 
-/// Slaves, with an area changed in each that has the station address.
+/// Slaves, with an area changed in each that has the edit's station address.
 pub fn slaves_after(
     alloc: Global,
     slaves: &[Slave],
-    station: u16,
-    index: u8,
-    edit: &Edit,
+    edit: &AreaEdit,
 ) -> Result<Items<Slave>, AllocError>
-    ensures { IfOk result (λ after. after ≡ map (with_area station index (area_change edit.now)) slaves.now) }
+    ensures { IfOk result (λ after. after ≡ map (with_area edit.now.station edit.now.area (changed edit.now.change)) slaves.now) }
 {
     let mut after = Items::new(alloc);
     for slave in slaves {
-        after.push(slave_after(alloc, slave, station, index, edit)?)?;
+        after.push(slave_after(alloc, slave, edit)?)?;
     }
     Ok(after)
 }

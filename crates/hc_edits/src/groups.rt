@@ -2,9 +2,9 @@
 ghost use Rattle.std.specs.Prelude.{◌≡◌, IfOk, None, map};
 ghost use Rattle.hc_records.specs.Edits.{groups_after, with_area, with_presence, with_slaves};
 ghost use Rattle.hc_records.specs.Project.{lowest_fault};
-ghost use Rattle.hc_edits.specs.Edits.{area_change, groups_of, own_fault};
+ghost use Rattle.hc_edits.specs.Edits.{changed, groups_of, own_fault};
 
-use crate::areas::slaves_after;
+use crate::areas::{AreaChange, AreaEdit, slaves_after};
 use hc_records::edit::Edit;
 use hc_records::items::{Copied, Items};
 use hc_records::records::{Declared, Group};
@@ -46,19 +46,17 @@ fn with_presence(
     Ok(after)
 }
 
-/// The groups with an area changed in each slave that has the station address.
+/// The groups with an area changed in each slave that has the edit's station address.
 fn with_area(
     alloc: Global,
     groups: &[Declared],
-    station: u16,
-    area: u8,
-    edit: &Edit,
+    edit: &AreaEdit,
 ) -> Result<Items<Declared>, AllocError>
-    ensures { IfOk result (λ after. after ≡ map (with_slaves (with_area station area (area_change edit.now))) groups.now) }
+    ensures { IfOk result (λ after. after ≡ map (with_slaves (with_area edit.now.station edit.now.area (changed edit.now.change))) groups.now) }
 {
     let mut after = Items::new(alloc);
     for declared in groups {
-        let slaves = slaves_after(alloc, declared.group.slaves.as_slice(), station, area, edit)?;
+        let slaves = slaves_after(alloc, declared.group.slaves.as_slice(), edit)?;
         let group = Group {
             alias: declared.group.alias,
             slaves,
@@ -86,7 +84,29 @@ pub fn groups_after(
     match edit {
         Edit::Connect(alias) => with_presence(alloc, groups, *alias, true),
         Edit::Disconnect(alias) => with_presence(alloc, groups, *alias, false),
-        Edit::Remap { station, area, .. } => with_area(alloc, groups, *station, *area, edit),
-        Edit::Move { station, area, .. } => with_area(alloc, groups, *station, *area, edit),
+        Edit::Remap {
+            station,
+            area,
+            pdos,
+        } => {
+            let area_edit = AreaEdit {
+                station: *station,
+                area: *area,
+                change: AreaChange::Pdos(pdos),
+            };
+            with_area(alloc, groups, &area_edit)
+        }
+        Edit::Move {
+            station,
+            area,
+            task,
+        } => {
+            let area_edit = AreaEdit {
+                station: *station,
+                area: *area,
+                change: AreaChange::Task(*task),
+            };
+            with_area(alloc, groups, &area_edit)
+        }
     }
 }

@@ -12,16 +12,14 @@ returns-in-Disconnect-clause-kept c =
 
 pub returns-in-Remap : goal.returns-in-Remap
 returns-in-Remap c =
-    let value = rw c.in-Remap.is at c.with_area.ensures in
     rw c.in-Remap.is (record {
-      value = value;
-      kept = result-kept c.with_area.result c.args.groups.now (Remap c.in-Remap.station c.in-Remap.area c.in-Remap.pdos) value;
+      value = c.with_area.ensures;
+      kept = result-kept c.with_area.result c.args.groups.now (Remap c.in-Remap.station c.in-Remap.area c.in-Remap.pdos) c.with_area.ensures;
     })
 
 pub returns-in-Move : goal.returns-in-Move
 returns-in-Move c =
-    let value = rw c.in-Move.is at c.with_area-in-Move.ensures in
     rw c.in-Move.is (record {
-      value = value;
-      kept = result-kept c.with_area-in-Move.result c.args.groups.now (Move c.in-Move.station c.in-Move.area c.in-Move.task) value;
+      value = c.with_area-in-Move.ensures;
+      kept = result-kept c.with_area-in-Move.result c.args.groups.now (Move c.in-Move.station c.in-Move.area c.in-Move.task) c.with_area-in-Move.ensures;
     })
