@@ -1,5 +1,5 @@
 //! Runs that edit the line.
-use super::{ONE_SLAVE, ends_as, joined, push_wide_slave};
+use super::{INPUTS, ONE_SLAVE, OUTPUTS, ends_as, joined, push_area, push_slave, push_wide_slave};
 use std::test::Fail;
 
 /// No mandatory slave, and one slave with an output and an input area in a group.
@@ -146,6 +146,19 @@ var 3 task 0 datagram 0 bit 0 bits 4 dir in
 var 2 task 0 datagram 0 bit 4 bits 4 dir in
 ";
     let input = joined(rt.alloc(), TWO_PDOS, commands)?;
+    assert!(rt; ends_as(rt.alloc(), input.as_bytes(), 0, text)?);
+    Ok(())
+}
+
+#[test]
+fn blocks_of_a_group_without_bits_are_new(rt: HostRuntime) -> Result<(), Fail> {
+    let mut input = String::new(rt.alloc());
+    input.push_str("[[group]]\nalias = 100\n")?;
+    push_slave(&mut input, "group.slave", 1001)?;
+    push_area(&mut input, "group.slave", OUTPUTS, "[]", &[(1, 2)])?;
+    push_area(&mut input, "group.slave", INPUTS, "[]", &[(2, 12)])?;
+    input.push_str("%%\nconnect 100\nlayout\n")?;
+    let text = "epoch 1 recut 0 moved 4\nepoch 1\n";
     assert!(rt; ends_as(rt.alloc(), input.as_bytes(), 0, text)?);
     Ok(())
 }
