@@ -2,7 +2,6 @@
 use Rattle.std.proofs.Common.{◌≡◌, ℕ, ◌+◌, ◌==◌, ◌<◌, ◌≤◌, Bool, true, false, cond, not, ◌&&◌, ◌||◌, List, [], ◌∷◌, ◌++◌, length, drop, refl, sym, ap, subst, ◌∙◌, arith}
 use Rattle.std.specs.Prelude.{◌≢◌, All, Option, Some, None, filter, find, slice_get}
 use Rattle.std.specs.List.{flat_map, list_any}
-use Rattle.std.specs.Str.{bytes_eq}
 use Rattle.std.proofs.Math.Bool.{and-false, or-false}
 use Rattle.std.proofs.lemmas.Bool.{eq-eqb, eqb-false, eqb-true, or_parts}
 use Rattle.std.proofs.lemmas.List.Elements.{All-head, All-tail, All-weaker, filter-append}
@@ -12,23 +11,23 @@ use Rattle.hc_records.specs.declared.records.Declared.{Declared}
 use Rattle.hc_records.specs.Line.{Member, is_at, line_from}
 use Rattle.hc_records.specs.Lists.{has_repeat}
 use Rattle.hc_records.specs.Packing.{Placed}
-use Rattle.hc_registers.specs.Blocks.{LineBlock, RegisterBlock, line_blocks, member_blocks, moved_blocks, same_block, slave_blocks}
+use Rattle.hc_registers.specs.Blocks.{LineBlock, RegisterBlock, line_blocks, member_blocks, moved_blocks, numbered, same_block, same_bytes, slave_blocks}
 use Rattle.hc_plan.specs.Blocks.{IsLaidOut, IsMappedSlave, slave_blocks_in}
-use Rattle.hc_plan.specs.Moved.{has_block_in, moved_in, moved_of, numbered, same_bytes}
+use Rattle.hc_plan.specs.Moved.{has_block_in, moved_in, moved_of}
 use Rattle.hc_plan.proofs.LineBlocks.{drop-met, drop-past, laid-out-all, length-slave_blocks, slave_blocks-line}
 use Rattle.hc_plan.proofs.Stations.{IsAbsent, project-distinct, stations}
 
 -- a block is one of a slave's where the station address is that slave's and it has the block
 
-spread : (at register bytes rest more : Bool) → more ≡ (at && rest) → ((at && register && bytes) || more) ≡ (at && ((register && bytes) || rest))
-spread true register bytes rest more is = ap (λ (b : Bool). (register && bytes) || b) is
-spread false register bytes rest more is = is
+spread : (at same rest more : Bool) → more ≡ (at && rest) → ((at && same) || more) ≡ (at && (same || rest))
+spread true same rest more is = ap (λ (b : Bool). same || b) is
+spread false same rest more is = is
 
 own-any : (found : LineBlock) (station first : ℕ) (blocks : List RegisterBlock)
     → list_any (same_block found) (numbered station first blocks) ≡ ((found.station == station) && list_any (same_bytes found.block) blocks)
 own-any found station first [] = sym (and-false (found.station == station))
 own-any found station first (block ∷ blocks) =
-    spread (found.station == station) (found.block.register == block.register) (bytes_eq found.block.bytes block.bytes) (list_any (same_bytes found.block) blocks)
+    spread (found.station == station) (same_bytes found.block block) (list_any (same_bytes found.block) blocks)
     (list_any (same_block found) (numbered station (first + 1) blocks)) (own-any found station (first + 1) blocks)
 
 abbrev IsOf : List (List Placed) → ℕ → RegisterBlock → Member → Bool

@@ -4,9 +4,9 @@ ghost use Rattle.std.specs.Prelude.{◌≡◌, [], ◌∷◌, ◌++◌, All, IfO
 ghost use Rattle.std.specs.List.{flat_map, list_any};
 ghost use Rattle.std.specs.Option.{ForSome};
 ghost use Rattle.hc_records.specs.Line.{line_from};
-ghost use Rattle.hc_registers.specs.Blocks.{moved_blocks};
+ghost use Rattle.hc_registers.specs.Blocks.{moved_blocks, numbered, same_bytes};
 ghost use Rattle.hc_plan.specs.Blocks.{IsLaidOut, IsMappedSlave, slave_blocks_in};
-ghost use Rattle.hc_plan.specs.Moved.{has_block_in, moved_in, moved_of, numbered, same_bytes};
+ghost use Rattle.hc_plan.specs.Moved.{has_block_in, moved_in, moved_of};
 
 use crate::blocks::block_of;
 use hc_places::layout::Layout;

@@ -108,18 +108,24 @@ pub record LineBlock : Type 0 where
   pub number : ℕ
   pub block : RegisterBlock
 
+-- a slave's blocks from a number on, as blocks of the line
+abbrev pub numbered : ℕ → ℕ → List RegisterBlock → List LineBlock
+numbered station first blocks = map (λ e. record { station = station; number = e.0; block = e.1 }) (enumerate_from first blocks)
+
 abbrev pub member_blocks : List Member → Member → List LineBlock
-member_blocks line member =
-    map (λ e. record { station = member.slave.station; number = e.0; block = e.1 }) (enumerate_from 0 (slave_blocks line member))
+member_blocks line member = numbered member.slave.station 0 (slave_blocks line member)
 
 -- the blocks of a line, in line order and block order
 abbrev pub line_blocks : List Member → List LineBlock
 line_blocks line = flat_map (member_blocks line) line
 
+-- two blocks have the same bytes at the same register
+abbrev pub same_bytes : RegisterBlock → RegisterBlock → Bool
+same_bytes a b = (a.register == b.register) && bytes_eq a.bytes b.bytes
+
 -- the same bytes at the same register of the same slave
 abbrev pub same_block : LineBlock → LineBlock → Bool
-same_block a b =
-    (a.station == b.station) && (a.block.register == b.block.register) && bytes_eq a.block.bytes b.block.bytes
+same_block a b = (a.station == b.station) && same_bytes a.block b.block
 
 -- the blocks of the new line that weren't blocks of the old one
 abbrev pub moved_blocks : List Member → List Member → List LineBlock
