@@ -10,6 +10,7 @@ pub mod Pairs
 pub mod Ranks
 pub mod Recuts
 pub mod Sorted
+pub mod Spread
 pub mod Tables
 pub mod Totals
 pub mod Walked

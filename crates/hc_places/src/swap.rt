@@ -175,11 +175,17 @@ impl Swap {
         &self.edit
     }
 
-    /// How many variables stand elsewhere, appear or go.
-    pub fn places(&self) -> usize
+    /// How many variables stand elsewhere, appear or go: each once, so there are no more of them than
+    /// numbers of variables, 4,294,967,295.
+    pub fn places(&self) -> u32
         ensures { result ≡ changed_places self.now }
     {
-        self.rows.len()
+        let rows = self.rows.as_slice();
+        let (Some(first), Some(last)) = (rows.first(), rows.last()) else {
+            return 0;
+        };
+        prove!(rows.len() <= 1 + (last.0.number() - first.0.number()) as usize);
+        rows.len() as u32
     }
 }
 

@@ -208,7 +208,7 @@ fn swapped(
     edit: Edit,
     old: &Places,
     new: &Places,
-) -> Result<(usize, Places), AllocError> {
+) -> Result<(u32, Places), AllocError> {
     let swap = Swap::between(alloc, &edit, old, new)?;
     let mut places = old.copied(alloc)?;
     places.swap(alloc, &swap)?;

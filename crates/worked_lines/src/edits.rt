@@ -62,7 +62,7 @@ fn told(report: &Report) -> [usize; 4] {
         report.epoch as usize,
         report.recut as usize,
         report.moved as usize,
-        report.swap.places(),
+        report.swap.places() as usize,
     ]
 }
 
