@@ -1,4 +1,4 @@
-use Rattle.std.proofs.Common.{◌≡◌, ◌+◌, ◌∙◌, ◌∷◌, [], ◌++◌, List, length, length-append, sym, subst, ap, ℕ, arith}
+use Rattle.std.proofs.Common.{◌+◌, ◌∙◌, ◌∷◌, [], List, length, length-append, sym, subst, ap, ℕ, arith}
 use Rattle.std.specs.List.{zip}
 use Rattle.hc_plan.specs.Reports.{Answer}
 use Rattle.hc_plan.proofs.Answering.{Goes, answer-of, follows, goes-all, goes-on}
