@@ -8,7 +8,6 @@ use Rattle.std.proofs.lemmas.List.{append_assoc, append-nil}
 use Rattle.hc_records.specs.declared.edit.Edit.{Edit}
 use Rattle.hc_records.specs.declared.faults.EditFault.{EditFault}
 use Rattle.hc_records.specs.declared.faults.EditFault.TheVariants.{Memory}
-use Rattle.hc_records.specs.EditFault.{edit_fault_number}
 use Rattle.hc_records.specs.Edits.{edited, state_after, state_after_all}
 use Rattle.hc_records.specs.Line.{State}
 use Rattle.hc_plan.specs.Reports.{Answer, AreAnswers, IsAnswer, Tells, carried, wants_memory}
@@ -35,13 +34,13 @@ goes-on old now next edits index edit answers answer within at is goes =
     (goes (answer ∷ rest) new (subst (λ (list : List Edit). AreAnswers now (zip list (answer ∷ rest)) new) (sym here) (next, is, left)))
 
 -- an edit's answer leaves the state that its definition gives, unless a growth was refused
-unsaid : (fault : EditFault) → (edit_fault_number fault == 14) ≡ false → fault ≢ Memory
-unsaid fault other = λ is. let memory : (edit_fault_number fault == 14) ≡ true = ap (λ (f : EditFault). edit_fault_number f == 14) is in cc
+unsaid : (fault : EditFault) → wants_memory (Err fault) ≡ false → fault ≢ Memory
+unsaid fault other = λ is. let memory : wants_memory (Err fault) ≡ true = ap (λ (f : EditFault). wants_memory (Err f)) is in cc
 
 abbrev after_one : State → Edit → Bool → State
 after_one old edit wants = if wants then old else state_after old edit
 
-refused : (old next : State) (edit : Edit) (fault : EditFault) (wants : Bool) → (edit_fault_number fault == 14) ≡ wants
+refused : (old next : State) (edit : Edit) (fault : EditFault) (wants : Bool) → wants_memory (Err fault) ≡ wants
     → (fault ≢ Memory → edited old edit ≡ Err fault) → next ≡ old → next ≡ after_one old edit wants
 refused old next edit fault true is says same = same
 refused old next edit fault false is says same =
@@ -49,7 +48,7 @@ refused old next edit fault false is says same =
 
 left-by : (old next : State) (edit : Edit) (answer : Answer) → IsAnswer old edit answer next → next ≡ after_one old edit (wants_memory answer)
 left-by old next edit (Ok report) is = sym (ap (λ (r : Result State EditFault). result_unwrap_or r old) is.0)
-left-by old next edit (Err fault) is = refused old next edit fault (edit_fault_number fault == 14) refl is.0 is.1
+left-by old next edit (Err fault) is = refused old next edit fault (wants_memory (Err fault)) refl is.0 is.1
 
 -- whether an edit is among those that were carried
 taken : (pair : Edit × Answer) (pairs : List (Edit × Answer)) (wants : Bool) → wants_memory pair.1 ≡ wants

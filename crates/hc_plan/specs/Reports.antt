@@ -1,9 +1,8 @@
 -- What edits of a plan answer, and the states that they leave.
-use Rattle.std.specs.Prelude.{◌≡◌, ℕ, ◌≢◌, ◌==◌, not, Bool, false, List, [], ◌∷◌, filter, length, map, Result, Ok, Err}
+use Rattle.std.specs.Prelude.{◌≡◌, ℕ, ◌≢◌, not, Bool, true, false, List, [], ◌∷◌, filter, length, map, Result, Ok, Err}
 use Rattle.hc_records.specs.declared.edit.Edit.{Edit}
 use Rattle.hc_records.specs.declared.faults.EditFault.{EditFault}
 use Rattle.hc_records.specs.declared.faults.EditFault.TheVariants.{Memory}
-use Rattle.hc_records.specs.EditFault.{edit_fault_number}
 use Rattle.hc_records.specs.Boundaries.{recut}
 use Rattle.hc_records.specs.Edits.{edited}
 use Rattle.hc_records.specs.Line.{State, line}
@@ -41,8 +40,8 @@ AreAnswers old (pair ∷ pairs) new = (next : State) × IsAnswer old pair.0 pair
 
 -- a growth was refused
 abbrev pub wants_memory : Answer → Bool
-wants_memory (Ok report) = false
-wants_memory (Err fault) = edit_fault_number fault == 14
+wants_memory (Err Memory) = true
+wants_memory _ = false
 
 -- the edits that weren't refused for want of memory
 abbrev pub carried : List (Edit × Answer) → List Edit
