@@ -8,13 +8,14 @@ use Rattle.hc_records.specs.declared.records.Dir.{Dir}
 use Rattle.hc_records.specs.declared.records.Dir.TheVariants.{Out, In}
 use Rattle.hc_records.specs.Keys.{same_dir}
 use Rattle.hc_records.specs.Image.{VariablePlace}
+use Rattle.hc_records.proofs.KeyOrder.{same_dir-refl}
 use Rattle.hc_places.specs.Table.{Row, RowsAscend, Table, TaskTable}
 use Rattle.hc_places.specs.Swap.{Change, ChangedRow, ChangesAscend, merged, new_row, same_found, same_place, swapped, with_changed}
 use Rattle.hc_places.specs.Walk.{changes, merges, walked}
 use Rattle.hc_places.proofs.Walked.{AreAbove, AreOf, Keeps, above-cons, ascends-above, ascends-rest, by-order, none-of, of-heads, one-of, walked-above, walked-both, walked-first, walked-second, walked-up}
 
 -- places that are the same are equal
-same-dirs : (a b : Dir) → same_dir a b ≡ true → a ≡ b
+pub same-dirs : (a b : Dir) → same_dir a b ≡ true → a ≡ b
 same-dirs Out Out same = refl
 same-dirs Out In same = cc
 same-dirs In Out same = cc
@@ -39,17 +40,13 @@ places-equal a b same =
     let dir = same-dirs a.dir b.dir four.1 in
     made-same a.task b.task a.datagram b.datagram a.bit b.bit a.bits b.bits a.dir b.dir task datagram bit bits dir
 
-dirs-same : (dir : Dir) → same_dir dir dir ≡ true
-dirs-same Out = refl
-dirs-same In = refl
-
 place-same : (a : VariablePlace) → same_place a a ≡ true
 place-same a =
     and_from ((a.task == a.task) && (a.datagram == a.datagram) && (a.bit == a.bit) && (a.bits == a.bits)) (same_dir a.dir a.dir)
     (and_from ((a.task == a.task) && (a.datagram == a.datagram) && (a.bit == a.bit)) (a.bits == a.bits)
     (and_from ((a.task == a.task) && (a.datagram == a.datagram)) (a.bit == a.bit)
     (and_from (a.task == a.task) (a.datagram == a.datagram) (eq-eqb a.task a.task refl) (eq-eqb a.datagram a.datagram refl)) (eq-eqb a.bit a.bit refl))
-    (eq-eqb a.bits a.bits refl)) (dirs-same a.dir)
+    (eq-eqb a.bits a.bits refl)) (same_dir-refl a.dir)
 
 -- and so are answers for a variable
 pub found-equal : (a b : Option VariablePlace) → same_found a b ≡ true → a ≡ b

@@ -1,5 +1,5 @@
 -- The answers to a list of edits, one after another.
-use Rattle.std.proofs.Common.{◌≡◌, ◌≢◌, ◌∙◌, ◌+◌, ◌<◌, ◌≤◌, ◌==◌, ℕ, suc, Bool, true, false, List, [], ◌∷◌, ◌++◌, length, drop, refl, sym, ap, subst, arith, drop-cons, if◌then◌else◌}
+use Rattle.std.proofs.Common.{◌≡◌, ◌≢◌, ◌∙◌, ◌+◌, ◌<◌, ◌≤◌, ℕ, suc, Bool, true, false, List, [], ◌∷◌, ◌++◌, length, drop, refl, sym, ap, subst, arith, drop-cons, if◌then◌else◌}
 use Rattle.std.specs.Prelude.{Ok, Err, IfErr, IfOk, OnErr, OnOk, Result, filter, get_or, map, not}
 use Rattle.std.specs.List.{zip}
 use Rattle.std.specs.Result.{result_unwrap_or}

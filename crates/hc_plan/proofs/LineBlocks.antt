@@ -4,6 +4,7 @@ use Rattle.std.proofs.lemmas.List.{length-map}
 use Rattle.std.specs.Prelude.{All, Bool, Option, Some, None, filter, find, not, option_and_then, option_map, slice_get, slice_index_or, sum_by}
 use Rattle.std.specs.List.{enumerate_from, flat_map, list_any}
 use Rattle.std.proofs.lemmas.List.Filters.{length-filter_both}
+use Rattle.std.proofs.lemmas.List.FromFn.{length-enumerate_from}
 use Rattle.std.proofs.lemmas.Option.{get_or_from_slice_get, slice_get-get_or, slice_get-map, slice_get_within}
 use Rattle.std.proofs.lemmas.List.Elements.{All-head, All-tail}
 use Rattle.hc_records.specs.declared.records.Area.{Area}
@@ -16,9 +17,10 @@ use Rattle.hc_records.proofs.Walks.{get-back, get-front, length-line}
 use Rattle.hc_registers.specs.declared.fmmu.Mapping.{Mapping}
 use Rattle.hc_registers.specs.Blocks.{LineBlock, RegisterBlock, area_blocks, line_blocks, member_blocks, moved_blocks, same_block, slave_blocks, sync_manager_block, fmmu_block, mapping_at, mapping_of}
 use Rattle.hc_places.specs.Layout.{placed_in}
+use Rattle.hc_places.proofs.Found.{find-holds}
 use Rattle.hc_plan.specs.Blocks.{IsLaidOut, IsMappedSlave, area_blocks_in, fmmu_block_in, mapping_in, slave_blocks_in}
 use Rattle.hc_plan.specs.Configuration.{at_station, block_at, line_block_at}
-use Rattle.hc_plan.proofs.Mapped.{found-has, placed-in-line, slave-mapped}
+use Rattle.hc_plan.proofs.Mapped.{placed-in-line, slave-mapped}
 use Rattle.hc_plan.proofs.Numbered.{get-numbered-from-0, numbered-get}
 
 flat_map-same : {X Y : Type 0} (f g : X → List Y) (xs : List X) → All (λ x. f x ≡ g x) xs → flat_map f xs ≡ flat_map g xs
@@ -36,7 +38,7 @@ laid-out-all groups layout laid j d inside =
 
 pub found-mapped : (groups : List Declared) (layout : List (List Placed)) (station : ℕ) (member : Member) → IsLaidOut groups layout
     → find (is_at station) (line_from 1 groups) ≡ Some member → IsMappedSlave layout member
-found-mapped groups layout station member laid found = (found-has (IsMappedSlave layout) (is_at station) (line_from 1 groups) member (laid-out-all groups layout laid) found).0
+found-mapped groups layout station member laid found = (find-holds (IsMappedSlave layout) (is_at station) (line_from 1 groups) member found (laid-out-all groups layout laid)).0
 
 pub nth-mapped : (groups : List Declared) (layout : List (List Placed)) (n : ℕ) (member : Member) → IsLaidOut groups layout
     → slice_get (line_from 1 groups) n ≡ Some member → IsMappedSlave layout member
@@ -61,23 +63,19 @@ length-pairs : {X Y : Type 0} (f g : X → Y) (xs : List X) → length (flat_map
 length-pairs f g [] = refl
 length-pairs f g (x ∷ xs) = let rest = length-pairs f g xs in omega (arith, rest)
 
-length-enumerated : {X : Type 0} (first : ℕ) (xs : List X) → length (enumerate_from first xs) ≡ length xs
-length-enumerated first [] = refl
-length-enumerated first (x ∷ xs) = ap suc (length-enumerated (first + 1) xs)
-
 -- a slave has two blocks for each area
 pub length-slave_blocks : (layout : List (List Placed)) (member : Member) → length (slave_blocks_in layout member) ≡ 2 * length member.slave.areas
 length-slave_blocks layout member =
     length-pairs (λ (e : ℕ × Area). sync_manager_block e.1) (fmmu_block_in layout member.rank) (enumerate_from 0 member.slave.areas)
-    ∙ ap (λ (n : ℕ). 2 * n) (length-enumerated 0 member.slave.areas)
+    ∙ ap (λ (n : ℕ). 2 * n) (length-enumerate_from 0 member.slave.areas)
 
 pub length-member_blocks : (members : List Member) (member : Member) → length (member_blocks members member) ≡ 2 * length member.slave.areas
 length-member_blocks members member =
     length-map (enumerate_from 0 (slave_blocks members member)) (λ e. record { station = member.slave.station; number = e.0; block = e.1 })
-    ∙ length-enumerated 0 (slave_blocks members member)
+    ∙ length-enumerate_from 0 (slave_blocks members member)
     ∙ length-pairs (λ (e : ℕ × Area). sync_manager_block e.1)
     (λ (e : ℕ × Area). fmmu_block e.0 e.1 (mapping_of members e.1.task (record { dir = e.1.dir; rank = member.rank; area = e.0 }))) (enumerate_from 0 member.slave.areas)
-    ∙ ap (λ (n : ℕ). 2 * n) (length-enumerated 0 member.slave.areas)
+    ∙ ap (λ (n : ℕ). 2 * n) (length-enumerate_from 0 member.slave.areas)
 
 -- a list from an element on
 pub drop-met : {X : Type 0} (xs : List X) (position : ℕ) (x : X) → slice_get xs position ≡ Some x → drop position xs ≡ x ∷ drop (position + 1) xs

@@ -3,11 +3,10 @@ use Rattle.std.proofs.Common.{◌≡◌, ℕ, zero, suc, ◌+◌, ◌<◌, ◌�
 use Rattle.std.specs.Prelude.{All, AllPairs, Option, Some, None, find, map, nat_lt, option_and_then, option_map, slice_get, slice_index_or}
 use Rattle.std.specs.List.{enumerate_from}
 use Rattle.std.proofs.lemmas.Bool.{and_parts, cases_order, eqb-true, ltb-false}
-use Rattle.std.proofs.lemmas.List.Elements.{All-cons, All-head, All-nil, All-tail}
+use Rattle.std.proofs.lemmas.List.Elements.{All-cons, All-nil}
 use Rattle.std.proofs.lemmas.Option.{get_or_from_slice_get, slice_get-get_or, slice_get-map, slice_get_within}
 use Rattle.hc_records.specs.declared.limits.TheConstants.{MOST_AREA_BITS, MOST_DATAGRAMS, TASKS}
 use Rattle.hc_records.specs.declared.records.Dir.{Dir}
-use Rattle.hc_records.specs.declared.records.Dir.TheVariants.{Out, In}
 use Rattle.hc_records.specs.declared.records.Area.{Area}
 use Rattle.hc_records.specs.declared.records.Declared.{Declared}
 use Rattle.hc_records.specs.declared.keys.Key.{Key}
@@ -31,22 +30,10 @@ use Rattle.hc_records.proofs.Tasks.{task-list-all}
 use Rattle.hc_registers.specs.declared.fmmu.Mapping.{Mapping}
 use Rattle.hc_registers.specs.Blocks.{IsMappable, mapping_at}
 use Rattle.hc_places.specs.Layout.{layout_of, placed_in}
+use Rattle.hc_places.proofs.Found.{find-holds}
+use Rattle.hc_places.proofs.Merged.{same-dirs}
 use Rattle.hc_plan.specs.Blocks.{IsMappedArea, IsMappedSlave}
 use Rattle.hc_plan.proofs.Numbered.{numbered-get}
-
--- what a test finds passes it, and has what every element has
-
-found-first : {X : Type 0} (P : X → Type 0) (test : X → Bool) (b : Bool) (y x : X) (rest : Option X) → test y ≡ b → P y
-    → (rest ≡ Some x → P x × (test x ≡ true)) → cond b (Some y) rest ≡ Some x → P x × (test x ≡ true)
-found-first P test true y x rest is holds later found =
-    let same : y ≡ x = cc in
-    (subst P same holds, ap test (sym same) ∙ is)
-found-first P test false y x rest is holds later found = later found
-
-pub found-has : {X : Type 0} (P : X → Type 0) (test : X → Bool) (xs : List X) (x : X) → All P xs → find test xs ≡ Some x → P x × (test x ≡ true)
-found-has P test [] x all found = cc
-found-has P test (y ∷ ys) x all found =
-    found-first P test (test y) y x (find test ys) refl (All-head P y ys all) (found-has P test ys x (All-tail P y ys all)) found
 
 -- two slaves of a line with one rank are one
 
@@ -145,17 +132,11 @@ places-stand groups task project uncrowded below i d under =
       early = omega (arith, behind, count);
     }
 
-same_dir-is : (a b : Dir) → same_dir a b ≡ true → a ≡ b
-same_dir-is Out Out same = refl
-same_dir-is Out In same = cc
-same_dir-is In Out same = cc
-same_dir-is In In same = refl
-
 same_key-is : (a b : Key) → same_key a b ≡ true → a ≡ b
 same_key-is a b same =
     let parts = and_parts (same_dir a.dir b.dir && (a.rank == b.rank)) (a.area == b.area) same in
     let front = and_parts (same_dir a.dir b.dir) (a.rank == b.rank) parts.0 in
-    let dir = same_dir-is a.dir b.dir front.0 in
+    let dir = same-dirs a.dir b.dir front.0 in
     let rank = eqb-true a.rank b.rank front.1 in
     let area = eqb-true a.area b.area parts.1 in
     ap (λ (d : Dir). record { dir = d; rank = a.rank; area = a.area }) dir
@@ -196,8 +177,8 @@ area-mapped groups j member index area project uncrowded at found inside =
       mapped = λ mapping is.
           mapped-from (placed_in (layout_of members) area.task key) (mapping_at area.task) mapping (IsMappable area)
           (λ placed has.
-          let stands = found-has (StandsWell members) (λ (p : Placed). same_key p.key key) (task_places area.task members) placed (places-stand groups area.task project uncrowded inside.task)
-          (sym (placed-in-line members area.task key inside.task) ∙ has) in
+          let stands = find-holds (StandsWell members) (λ (p : Placed). same_key p.key key) (task_places area.task members) placed
+          (sym (placed-in-line members area.task key inside.task) ∙ has) (places-stand groups area.task project uncrowded inside.task) in
           area-mappable members j member index area placed inside.task at found stands.0 (same_key-is placed.key key stands.1))
           is;
     }

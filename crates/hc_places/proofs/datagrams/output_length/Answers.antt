@@ -17,7 +17,7 @@ number-few : (areas : List Placed) (area : Placed) → find (λ area. same_dir a
 number-few areas area found few =
     let number = find-holds (λ area. area.datagram + 1 ≤ datagram_count areas) (λ area. same_dir area.key.dir In) areas area found
     (greatest-all (λ area. area.datagram + 1) 0 areas) in
-    omega (arith, number)
+    omega (arith, number.0)
 
 pub datagram_offset-requires-clause-few : goal.datagram_offset-requires-clause-few
 datagram_offset-requires-clause-few c =
@@ -28,7 +28,7 @@ overflow_add-result c =
     let areas = c.args.areas.now in
     let found = sym c.first_input.ensures ∙ c.in-Some.is in
     let inside = find-holds LiesInside (λ area. same_dir area.key.dir In) areas c.in-Some.area found c.requires.sendable.inside in
-    omega (arith, inside, number-few areas c.in-Some.area found c.requires.sendable.few)
+    omega (arith, inside.0, number-few areas c.in-Some.area found c.requires.sendable.few)
 
 -- and its first byte is one of the image
 first-byte-low : (areas : List Placed) (area : Placed) → find (λ area. same_dir area.key.dir In) areas ≡ Some area → first_byte areas area ≤ image_length areas
@@ -36,8 +36,8 @@ first-byte-low areas area found =
     let ends = find-holds (EndsInDatagram areas) (λ area. same_dir area.key.dir In) areas area found (ends-in-datagram areas) in
     let number = find-holds (λ area. area.datagram + 1 ≤ datagram_count areas) (λ area. same_dir area.key.dir In) areas area found
     (greatest-all (λ area. area.datagram + 1) 0 areas) in
-    let next : datagram_offset areas (suc area.datagram) ≤ image_length areas = offset-le areas (suc area.datagram) (datagram_count areas) (omega (arith, number)) in
-    omega (arith, ends, next)
+    let next : datagram_offset areas (suc area.datagram) ≤ image_length areas = offset-le areas (suc area.datagram) (datagram_count areas) (omega (arith, number.0)) in
+    omega (arith, ends.0, next)
 
 pub returns-in-Some-clause-low : goal.returns-in-Some-clause-low
 returns-in-Some-clause-low c =
