@@ -184,6 +184,7 @@ impl Swap {
         let (Some(first), Some(last)) = (rows.first(), rows.last()) else {
             return 0;
         };
+        // the rows ascend, so their first and last number bound how many there are
         prove!(rows.len() <= 1 + (last.0.number() - first.0.number()) as usize);
         rows.len() as u32
     }
