@@ -7,6 +7,10 @@ mod drawn;
 #[cfg(test)]
 mod edits;
 #[cfg(test)]
+mod equal;
+#[cfg(test)]
 mod layouts;
+#[cfg(test)]
+mod records;
 #[cfg(test)]
 mod texts;

@@ -3,6 +3,7 @@ use hc_places::table::Datagram;
 use hc_plan::plan::Plan;
 use hc_project::read_project;
 use hc_records::faults::{EditFault, ProjectFault};
+use hc_records::project::Project;
 use std::alloc::{AllocError, Global};
 use thiserror::Error;
 
@@ -20,9 +21,9 @@ pub enum Refused {
     Opening(EditFault),
 }
 
-/// The plan of a project text.
-pub fn plan_of(alloc: Global, text: &str) -> Result<Plan, Refused> {
-    let project = match read_project(alloc, text.as_bytes()) {
+/// The plan of a project at its opening.
+pub fn opened(alloc: Global, project: Result<Project, ProjectFault>) -> Result<Plan, Refused> {
+    let project = match project {
         Ok(project) => project,
         Err(fault) => return Err(Refused::Project(fault)),
     };
@@ -30,6 +31,11 @@ pub fn plan_of(alloc: Global, text: &str) -> Result<Plan, Refused> {
         Ok(plan) => Ok(plan),
         Err(fault) => Err(Refused::Opening(fault)),
     }
+}
+
+/// The plan of a project text.
+pub fn plan_of(alloc: Global, text: &str) -> Result<Plan, Refused> {
+    opened(alloc, read_project(alloc, text.as_bytes()))
 }
 
 /// The datagram of task 0 with a number, as the plan's table has it.
