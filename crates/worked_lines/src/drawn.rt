@@ -1,7 +1,7 @@
 //! Five hundred edits drawn from a fixed seed on 24 slaves. After each, accepted or refused, everything
 //! that the plan answers equals what a plan answers that is made anew of the present slaves, all of them
 //! mandatory: no edit has a part in that one.
-use crate::equal::{has_same_blocks, has_same_places, has_same_slave, has_same_tasks};
+use crate::equal::{has_same_blocks, has_same_slave, is_same_table};
 use crate::records::{Drawn, LISTS, Records, VARIABLES, put};
 use crate::texts::{Refused, opened};
 use hc_plan::plan::Plan;
@@ -92,8 +92,7 @@ fn has_same_slaves(one: &Plan, other: &Plan) -> bool {
 
 /// Whether two plans answer the same.
 fn is_same_plan(one: &Plan, other: &Plan) -> bool {
-    has_same_tasks(one, other)
-        && has_same_places(one, other, VARIABLES + 1)
+    is_same_table(one.places(), other.places(), VARIABLES + 1)
         && has_same_blocks(one, other)
         && has_same_slaves(one, other)
 }

@@ -1,6 +1,7 @@
 //! What edits of worked lines answer, and what the plan is after them.
-use crate::texts::{datagram, plan_of};
-use hc_places::table::{Datagram, Place};
+use crate::equal::is_same_table;
+use crate::texts::{Refused, plan_of, seen};
+use hc_places::table::{Datagram, Place, Places};
 use hc_plan::plan::Plan;
 use hc_plan::report::Report;
 use hc_records::edit::Edit;
@@ -56,6 +57,16 @@ slave = [
 ]
 "#;
 
+/// The plan of the slave in the mandatory group.
+fn one_slave(alloc: Global) -> Result<Plan, Refused> {
+    plan_of(alloc, ONE_SLAVE)
+}
+
+/// The plan of the slave in a group of its own.
+fn one_group(alloc: Global) -> Result<Plan, Refused> {
+    plan_of(alloc, ONE_GROUP)
+}
+
 /// Epoch, unsettled spans, moved blocks and moved variables of a report.
 fn told(report: &Report) -> [usize; 4] {
     [
@@ -81,14 +92,6 @@ fn remap(alloc: Global, area: u8, pdos: &[u16]) -> Result<Edit, AllocError> {
     })
 }
 
-/// The length and the expected counter of a datagram of task 0, 0 and 0 for none.
-fn seen(plan: &Plan, number: u8) -> (u16, u16) {
-    match datagram(plan, number) {
-        Some(found) => (found.length, found.expected),
-        None => (0, 0),
-    }
-}
-
 /// The faults that a list of edits of one group gets, none for an accepted one.
 fn faults(answers: Vec<Result<Report, EditFault>>) -> Result<Vec<Option<EditFault>>, AllocError> {
     let mut found = Vec::new(*answers.allocator());
@@ -100,7 +103,7 @@ fn faults(answers: Vec<Result<Report, EditFault>>) -> Result<Vec<Option<EditFaul
 
 #[test]
 fn a_list_of_edits_is_answered_in_its_order(rt: HostRuntime) -> Result<(), Fail> {
-    let mut plan = plan_of(rt.alloc(), ONE_GROUP)?;
+    let mut plan = one_group(rt.alloc())?;
     let edits = [
         Edit::Connect(100),
         Edit::Connect(100),
@@ -136,7 +139,7 @@ fn a_list_of_edits_is_answered_in_its_order(rt: HostRuntime) -> Result<(), Fail>
 
 #[test]
 fn an_edit_that_changes_no_width_begins_an_epoch(rt: HostRuntime) -> Result<(), Fail> {
-    let mut plan = plan_of(rt.alloc(), ONE_SLAVE)?;
+    let mut plan = one_slave(rt.alloc())?;
     let edit = remap(rt.alloc(), 1, &[0x1a00])?;
     for epoch in 1..4 {
         let report = plan.apply(rt.alloc(), &edit)?;
@@ -147,7 +150,7 @@ fn an_edit_that_changes_no_width_begins_an_epoch(rt: HostRuntime) -> Result<(), 
 
 #[test]
 fn an_area_moves_to_another_task(rt: HostRuntime) -> Result<(), Fail> {
-    let mut plan = plan_of(rt.alloc(), ONE_SLAVE)?;
+    let mut plan = one_slave(rt.alloc())?;
     let edit = Edit::Move {
         station: 1001,
         area: 0,
@@ -194,7 +197,7 @@ fn areas_without_bits_touch_no_task(rt: HostRuntime) -> Result<(), Fail> {
 
 #[test]
 fn an_absent_group_keeps_its_assignments(rt: HostRuntime) -> Result<(), Fail> {
-    let mut plan = plan_of(rt.alloc(), ONE_GROUP)?;
+    let mut plan = one_group(rt.alloc())?;
     applied(&mut plan, rt.alloc(), Edit::Connect(100))?;
     let edit = remap(rt.alloc(), 1, &[])?;
     applied(&mut plan, rt.alloc(), edit)?;
@@ -202,5 +205,49 @@ fn an_absent_group_keeps_its_assignments(rt: HostRuntime) -> Result<(), Fail> {
     assert_eq!(rt; seen(&plan, 0), (0, 0));
     applied(&mut plan, rt.alloc(), Edit::Connect(100))?;
     assert_eq!(rt; seen(&plan, 0), (1, 2));
+    Ok(())
+}
+
+/// Whether a plan has these bytes in the block at a number of the order of the slave with station 1001.
+fn has_bytes(plan: &Plan, number: u8, bytes: &[u8]) -> bool {
+    match plan.block(1001, number) {
+        Some(block) => block.bytes() == bytes,
+        None => false,
+    }
+}
+
+#[test]
+fn an_area_without_pdos_has_no_mapping(rt: HostRuntime) -> Result<(), Fail> {
+    let mut plan = one_slave(rt.alloc())?;
+    let edit = remap(rt.alloc(), 1, &[])?;
+    assert_eq!(rt; applied(&mut plan, rt.alloc(), edit)?, [1, 1, 2, 1]);
+    assert!(rt; has_bytes(&plan, 2, &[0x80, 0x11, 0, 0, 0x20, 0, 0, 0]));
+    assert!(rt; has_bytes(&plan, 3, &[0; 16]));
+    assert_eq!(rt; seen(&plan, 0), (1, 2));
+    Ok(())
+}
+
+/// Carries an edit out, and gives the table that was there before with the edit's swap.
+fn swapped(plan: &mut Plan, alloc: Global, edit: Edit) -> Result<Places, EditFault> {
+    let mut table = plan.places().copied(alloc)?;
+    let report = plan.apply(alloc, &edit)?;
+    table.swap(alloc, &report.swap)?;
+    Ok(table)
+}
+
+#[test]
+fn a_swapped_table_is_the_new_one(rt: HostRuntime) -> Result<(), Fail> {
+    let mut plan = one_group(rt.alloc())?;
+    let table = swapped(&mut plan, rt.alloc(), Edit::Connect(100))?;
+    assert!(rt; is_same_table(&table, plan.places(), 3));
+    let input = Place {
+        task: 0,
+        datagram: 0,
+        bit: 8,
+        bits: 12,
+        dir: Dir::In,
+    };
+    let second = VarId::new(2).ok_or("a name")?;
+    assert_eq!(rt; table.place(second), Some(input));
     Ok(())
 }

@@ -1,23 +1,24 @@
 //! Whether two plans answer the same.
+use hc_places::table::Places;
 use hc_plan::plan::Plan;
 use hc_records::records::VarId;
 use hc_registers::blocks::Block;
 
-/// Whether two plans have the same part of a task's image, and the same first 17 datagrams of it.
-fn has_same_task(one: &Plan, other: &Plan, task: u8) -> bool {
-    if one.places().part(task) != other.places().part(task) {
+/// Whether two tables have the same part of a task's image, and the same first 17 datagrams of it.
+fn has_same_task(one: &Places, other: &Places, task: u8) -> bool {
+    if one.part(task) != other.part(task) {
         return false;
     }
     for number in 0..17 {
-        if one.places().datagram(task, number) != other.places().datagram(task, number) {
+        if one.datagram(task, number) != other.datagram(task, number) {
             return false;
         }
     }
     true
 }
 
-/// Whether two plans have the same parts and datagrams of every task.
-pub fn has_same_tasks(one: &Plan, other: &Plan) -> bool {
+/// Whether two tables have the same parts and datagrams of every task.
+fn has_same_tasks(one: &Places, other: &Places) -> bool {
     for task in 0..8 {
         if !has_same_task(one, other, task) {
             return false;
@@ -26,16 +27,22 @@ pub fn has_same_tasks(one: &Plan, other: &Plan) -> bool {
     true
 }
 
-/// Whether two plans have the same places of the variables from 1 to a last one.
-pub fn has_same_places(one: &Plan, other: &Plan, last: u32) -> bool {
+/// Whether two tables have the same places of the variables from 1 to a last one.
+fn has_same_places(one: &Places, other: &Places, last: u32) -> bool {
     for number in 1..=last {
         if let Some(variable) = VarId::new(number) {
-            if one.places().place(variable) != other.places().place(variable) {
+            if one.place(variable) != other.place(variable) {
                 return false;
             }
         }
     }
     true
+}
+
+/// Whether two tables have the same parts and datagrams, and the same places of the variables from 1
+/// to a last one.
+pub fn is_same_table(one: &Places, other: &Places, last: u32) -> bool {
+    has_same_tasks(one, other) && has_same_places(one, other, last)
 }
 
 /// Whether two blocks have the same bytes at the same register.

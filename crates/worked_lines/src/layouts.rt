@@ -1,7 +1,6 @@
 //! What the plans of worked lines answer at their opening: datagrams, parts, blocks and places.
-use crate::texts::{Refused, datagram, full_text, line_text, plan_of};
+use crate::texts::{Refused, datagram, full_text, line_text, plan_of, seen};
 use hc_places::table::{Datagram, Place};
-use hc_plan::plan::Plan;
 use hc_records::faults::EditFault;
 use hc_records::records::{Dir, VarId};
 use std::test::Fail;
@@ -108,14 +107,6 @@ fn one_bit_more_begins_a_datagram(rt: HostRuntime) -> Result<(), Fail> {
     assert_eq!(rt; datagram(&plan, 1), Some(second));
     assert_eq!(rt; plan.places().part(0), (1487, 0));
     Ok(())
-}
-
-/// The length and the expected counter of a datagram of task 0, 0 and 0 for none.
-fn seen(plan: &Plan, number: u8) -> (u16, u16) {
-    match datagram(plan, number) {
-        Some(found) => (found.length, found.expected),
-        None => (0, 0),
-    }
 }
 
 #[test]

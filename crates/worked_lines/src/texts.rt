@@ -43,6 +43,14 @@ pub fn datagram(plan: &Plan, number: u8) -> Option<Datagram> {
     plan.places().datagram(0, number)
 }
 
+/// The length and the expected counter of a datagram of task 0, 0 and 0 for none.
+pub fn seen(plan: &Plan, number: u8) -> (u16, u16) {
+    match datagram(plan, number) {
+        Some(found) => (found.length, found.expected),
+        None => (0, 0),
+    }
+}
+
 /// Adds entries without variables that have so many bits together.
 fn add_entries(text: &mut String, bits: u32) -> Result<(), AllocError> {
     for _ in 0..bits / 64 {
