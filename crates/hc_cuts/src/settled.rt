@@ -12,13 +12,6 @@ ghost use Rattle.hc_cuts.specs.Firsts.{first_keys};
 use hc_records::keys::Key;
 use hc_records::records::Dir;
 
-/// Whether two keys are the same.
-fn is_same(a: Key, b: Key) -> bool
-    ensures { result ≡ same_key a b }
-{
-    a == b
-}
-
 /// Whether a key has a direction.
 fn has_dir(key: Key, dir: Dir) -> bool
     ensures { result ≡ same_dir key.dir dir }
@@ -30,14 +23,14 @@ fn has_dir(key: Key, dir: Dir) -> bool
 fn is_within(a: Key, b: Key) -> bool
     ensures { result ≡ is_within a b }
 {
-    a.is_before(b) || is_same(a, b)
+    a.is_before(b) || a.is_same(b)
 }
 
 /// Whether a key is among others.
 fn is_among(key: Key, keys: &[Key]) -> bool
     ensures { result ≡ list_any (same_key key) keys.now }
 {
-    keys.iter().any(|other| is_same(key, *other))
+    keys.iter().any(|other| key.is_same(*other))
 }
 
 /// How many areas of a task's list stand before a key.
@@ -54,7 +47,7 @@ fn find_area(list: &[(Key, u16)], key: Key) -> Option<(Key, u16)>
     ensures { result ≡ find (λ area. same_key area.0 key) list.now }
 {
     let area = *list.get(count_before(list, key))?;
-    if is_same(area.0, key) {
+    if area.0.is_same(key) {
         Some(area)
     } else {
         None
@@ -169,7 +162,7 @@ fn later(starts: &[Key]) -> &[Key]
 fn is_boundary(key: Key, later: &[Key]) -> bool
     ensures { result ≡ list_any (same_key key) (START ∷ (later.now ++ END ∷ [])) }
 {
-    is_same(key, Key::START) || is_among(key, later) || is_same(key, Key::END)
+    key.is_same(Key::START) || is_among(key, later) || key.is_same(Key::END)
 }
 
 /// What decides whether a span of the new list is settled: the keys at which old datagrams behind the

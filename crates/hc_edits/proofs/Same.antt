@@ -11,7 +11,7 @@ use Rattle.hc_records.specs.declared.records.Declared.{Declared}
 use Rattle.hc_records.specs.Lists.{changed_at}
 use Rattle.hc_records.specs.Edits.{with_area, with_presence, with_slaves}
 use Rattle.hc_records.specs.Project.{slaves_of, some_slave}
-use Rattle.hc_edits.specs.Edits.{groups_of}
+use Rattle.hc_records.specs.Line.{groups_of}
 
 -- lists whose elements are changed, by what isn't
 

@@ -1,7 +1,6 @@
 -- What an edit asks of declared groups by itself, and what it changes in an area.
 use Rattle.std.specs.Prelude.{ℕ, Bool, List, [], ◌∷◌, Option, map}
 use Rattle.hc_records.specs.declared.records.Area.{Area}
-use Rattle.hc_records.specs.declared.records.Group.{Group}
 use Rattle.hc_records.specs.declared.records.Declared.{Declared}
 use Rattle.hc_records.specs.declared.edit.Edit.{Edit}
 use Rattle.hc_records.specs.declared.faults.EditFault.{EditFault}
@@ -29,7 +28,3 @@ assigning_faults area pdos =
 abbrev pub changed : AreaChange → Area → Area
 changed (Pdos pdos) area = record area { assigned = pdos.now }
 changed (Task task) area = record area { task = task }
-
--- the groups of declared groups, as a project has them
-abbrev pub groups_of : List Declared → List Group
-groups_of groups = map (λ declared. declared.group) groups

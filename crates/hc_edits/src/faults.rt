@@ -62,7 +62,7 @@ fn area_of<'a>(groups: &'a [Declared], station: u16, area: u8) -> Result<&'a Are
     ensures free { IfOk result (λ found. lowest (area_faults (state_of groups.now) station area) ≡ None) }
     ensures refused { IfErr result (λ fault. lowest (area_faults (state_of groups.now) station area) ≡ Some fault) }
 {
-    if !line::is_declared(groups, station) {
+    if !line::is_declared_station(groups, station) {
         return Err(EditFault::UnknownStation);
     }
     let Some(member) = line::member_at(groups, station) else {

@@ -2,7 +2,8 @@
 ghost use Rattle.std.specs.Prelude.{◌≡◌, IfOk, None, map};
 ghost use Rattle.hc_records.specs.Edits.{groups_after, with_area, with_presence, with_slaves};
 ghost use Rattle.hc_records.specs.Project.{lowest_fault};
-ghost use Rattle.hc_edits.specs.Edits.{changed, groups_of, own_fault};
+ghost use Rattle.hc_records.specs.Line.{groups_of};
+ghost use Rattle.hc_edits.specs.Edits.{changed, own_fault};
 
 use crate::areas::{AreaChange, AreaEdit, slaves_after};
 use hc_records::edit::Edit;

@@ -1,7 +1,7 @@
 //! Every own fault, and every edit, of a small line.
 ghost use Rattle.std.specs.Prelude.{◌≡◌, IfOk, None};
 ghost use Rattle.hc_records.specs.Project.{lowest_fault};
-ghost use Rattle.hc_edits.specs.Edits.{groups_of};
+ghost use Rattle.hc_records.specs.Line.{groups_of};
 
 use crate::faults::own_fault;
 use crate::groups::groups_after;

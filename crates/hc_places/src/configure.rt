@@ -4,7 +4,7 @@ ghost use Rattle.std.specs.List.{flat_map};
 ghost use Rattle.hc_records.specs.Edits.{crowded_task};
 ghost use Rattle.hc_records.specs.Image.{datagram_count, task_variables, tasks};
 ghost use Rattle.hc_records.specs.Laws.{IsPackable};
-ghost use Rattle.hc_records.specs.Line.{line_from};
+ghost use Rattle.hc_records.specs.Line.{groups_of, line_from};
 ghost use Rattle.hc_records.specs.Project.{lowest_fault};
 ghost use Rattle.hc_records.specs.Packing.{opening, packed};
 ghost use Rattle.hc_records.specs.TaskList.{keyed};
@@ -130,7 +130,7 @@ fn draft_line(alloc: Global, line: &[Member]) -> Result<Draft, EditFault>
 /// The groups are those of a project: no fault's condition holds. Otherwise `TooManyDatagrams` with
 /// the lowest task that needs more than 16, or `Memory` where a growth was refused.
 pub fn configure(alloc: Global, groups: &[Declared]) -> Result<Configured, EditFault>
-    requires { lowest_fault (map (λ declared. declared.group) groups.now) ≡ None }
+    requires { lowest_fault (groups_of groups.now) ≡ None }
     ensures layout { IfOk result (λ configured. configured.layout ≡ layout_of (line_from 1 groups.now)) }
     ensures places { IfOk result (λ configured. configured.places ≡ table_of (line_from 1 groups.now)) }
     ensures accepted { OnOk result (crowded_task (line_from 1 groups.now) ≡ None) }

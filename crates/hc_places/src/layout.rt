@@ -27,13 +27,6 @@ impl Model for Layout {
     ghost invariant = { λ layout. All AreInOrder layout.tasks };
 }
 
-/// Whether two keys are the same.
-fn is_same(a: Key, b: Key) -> bool
-    ensures { result ≡ same_key a b }
-{
-    a == b
-}
-
 /// How many areas of a task stand before a key.
 fn count_before(areas: &[Placed], key: Key) -> usize
     requires { AreInOrder areas.now }
@@ -48,7 +41,7 @@ fn find_area(areas: &[Placed], key: Key) -> Option<Placed>
     ensures { result ≡ find (λ area. same_key area.key key) areas.now }
 {
     let area = *areas.get(count_before(areas, key))?;
-    if is_same(area.key(), key) {
+    if area.key().is_same(key) {
         Some(area)
     } else {
         None

@@ -5,7 +5,7 @@ ghost use Rattle.hc_records.specs.Boundaries.{recut};
 ghost use Rattle.hc_records.specs.Edits.{crowded_task};
 ghost use Rattle.hc_records.specs.Image.{datagram_count};
 ghost use Rattle.hc_records.specs.Laws.{IsPackable};
-ghost use Rattle.hc_records.specs.Line.{line_from};
+ghost use Rattle.hc_records.specs.Line.{groups_of, line_from};
 ghost use Rattle.hc_records.specs.Packing.{opening, packed};
 ghost use Rattle.hc_records.specs.Project.{lowest_fault};
 ghost use Rattle.hc_records.specs.declared.limits.TheConstants.{MOST_DATAGRAMS};
@@ -117,8 +117,8 @@ fn recut_line(alloc: Global, old: &[Member], new: &[Member]) -> Result<u32, Allo
 /// are the groups of a project, and no task of either line needs more than 16 datagrams. `AllocError`
 /// where a growth was refused.
 pub fn recut(alloc: Global, old: &[Declared], new: &[Declared]) -> Result<u32, AllocError>
-    requires old { lowest_fault (map (λ declared. declared.group) old.now) ≡ None }
-    requires new { lowest_fault (map (λ declared. declared.group) new.now) ≡ None }
+    requires old { lowest_fault (groups_of old.now) ≡ None }
+    requires new { lowest_fault (groups_of new.now) ≡ None }
     requires old_uncrowded { crowded_task (line_from 1 old.now) ≡ None }
     requires new_uncrowded { crowded_task (line_from 1 new.now) ≡ None }
     ensures { IfOk result (λ count. count ≡ recut (line_from 1 old.now) (line_from 1 new.now)) }

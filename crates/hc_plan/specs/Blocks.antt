@@ -6,7 +6,7 @@ use Rattle.hc_records.specs.declared.limits.TheConstants.{LAST_SYNC_MANAGER, MOS
 use Rattle.hc_records.specs.declared.records.Area.{Area}
 use Rattle.hc_records.specs.declared.records.Declared.{Declared}
 use Rattle.hc_records.specs.Area.{width}
-use Rattle.hc_records.specs.Line.{Member, line_from}
+use Rattle.hc_records.specs.Line.{Member, groups_of, line_from}
 use Rattle.hc_records.specs.Packing.{Placed}
 use Rattle.hc_records.specs.Edits.{crowded_task}
 use Rattle.hc_records.specs.Project.{lowest_fault}
@@ -34,7 +34,7 @@ slave_blocks_in layout member = flat_map (area_blocks_in layout member.rank) (en
 
 -- a layout is that of the line of a project's groups, in which no task is crowded
 pub record IsLaidOut (groups : List Declared) (layout : List (List Placed)) : Type 0 where
-  pub project : lowest_fault (map (λ declared. declared.group) groups) ≡ None
+  pub project : lowest_fault (groups_of groups) ≡ None
   pub uncrowded : crowded_task (line_from 1 groups) ≡ None
   pub stands : layout ≡ layout_of (line_from 1 groups)
 

@@ -16,7 +16,7 @@ use hc_records::edit::Edit;
 use hc_records::faults::EditFault;
 use hc_records::items::Items;
 use hc_records::limits::LAST_EPOCH;
-use hc_records::line::{is_declared, member_index, nth_member};
+use hc_records::line::{is_declared_station, member_index, nth_member};
 use hc_records::project::Project;
 use hc_records::records::{Declared, Group};
 use hc_registers::blocks::Block;
@@ -62,7 +62,7 @@ impl Plan {
     ghost use Rattle.hc_records.specs.declared.faults.EditFault.TheVariants.{Memory};
     ghost use Rattle.std.specs.List.{zip};
     ghost use Rattle.hc_records.specs.Edits.{crowded_task, edited, state_after_all};
-    ghost use Rattle.hc_records.specs.Line.{line, opened};
+    ghost use Rattle.hc_records.specs.Line.{groups_of, line, opened};
     ghost use Rattle.hc_records.specs.Project.{lowest_fault};
     ghost use Rattle.hc_places.specs.Layout.{NamesCrowded};
     ghost use Rattle.hc_plan.specs.Configuration.{block_at, config, line_block_at, position_of, station_at};
@@ -97,7 +97,7 @@ impl Plan {
     /// holds of the declared groups, so each datagram fits a frame.
     pub fn places(&self) -> &Places
         ensures table { result.now ≡ (config (line self.now)).table }
-        ensures kept { lowest_fault (map (λ declared. declared.group) self.now.groups) ≡ None }
+        ensures kept { lowest_fault (groups_of self.now.groups) ≡ None }
     {
         &self.places
     }
@@ -143,7 +143,7 @@ impl Plan {
         let groups = self.groups.as_slice();
         match member_index(groups, station) {
             Some(index) => Ok(index as u32),
-            None if is_declared(groups, station) => Err(EditFault::Absent),
+            None if is_declared_station(groups, station) => Err(EditFault::Absent),
             None => Err(EditFault::UnknownStation),
         }
     }

@@ -4,16 +4,15 @@ use Rattle.std.specs.Prelude.{All, None, map, nat_lt, sum_by, not, slice_index_o
 use Rattle.std.specs.List.{list_any}
 use Rattle.std.proofs.lemmas.Bool.{ltb-false, ltb-true}
 use Rattle.std.proofs.lemmas.List.Sums.{sum_by-cons}
-use Rattle.hc_records.specs.declared.limits.TheConstants.{LAST_SYNC_MANAGER, MEMORY_END, MEMORY_START, MOST_AREA_BITS, MOST_AREAS, MOST_PDOS, MOST_SLAVES, TASKS}
+use Rattle.hc_records.specs.declared.limits.TheConstants.{LAST_SYNC_MANAGER, MEMORY_END, MEMORY_START, MOST_AREA_BITS, MOST_AREAS, MOST_PDOS, TASKS}
 use Rattle.hc_records.specs.declared.records.Area.{Area}
 use Rattle.hc_records.specs.declared.records.Slave.{Slave}
-use Rattle.hc_records.specs.declared.records.Group.{Group}
 use Rattle.hc_records.specs.declared.records.Declared.{Declared}
 use Rattle.hc_records.specs.Area.{width}
-use Rattle.hc_records.specs.Line.{IsCounted, line_from}
+use Rattle.hc_records.specs.Line.{IsCounted, groups_of, line_from}
 use Rattle.hc_records.specs.Project.{area_outside, is_outside, is_wide, lowest_fault, pdo_outside, reach, slave_outside, slaves_of}
 use Rattle.hc_records.proofs.Lists.{All-from_none, All-unmap}
-use Rattle.hc_records.proofs.Lines.{declared_slaves, line-slaves, line-within}
+use Rattle.hc_records.proofs.Lines.{declared_slaves, line-slaves}
 use Rattle.hc_records.proofs.Projects.{project-few, project-narrow, project-slaves}
 
 -- an area in its ranges
@@ -77,9 +76,6 @@ any_wide slave = list_any is_wide slave.areas
 
 group-inside : (slaves : List Slave) → list_any slave_outside slaves ≡ false → list_any any_wide slaves ≡ false → All IsSlaveInside slaves
 group-inside slaves inside narrow i d below = slave-inside (slice_index_or slaves i d) (All-from_none slave_outside slaves inside i d below) (All-from_none any_wide slaves narrow i d below)
-
-abbrev groups_of : List Declared → List Group
-groups_of groups = map (λ declared. declared.group) groups
 
 -- every slave of the line of a project's groups is inside its ranges
 pub line-inside : (groups : List Declared) → lowest_fault (map (λ declared. declared.group) groups) ≡ None → All (λ member. IsSlaveInside member.slave) (line_from 1 groups)

@@ -6,7 +6,7 @@ use Rattle.hc_records.specs.declared.records.Dir.TheVariants.{Out, In}
 use Rattle.hc_records.specs.declared.keys.Key.{Key}
 use Rattle.hc_records.specs.declared.keys.TheConstants.Key.{START, END}
 use Rattle.hc_records.specs.Keys.{is_before}
-use Rattle.hc_records.specs.Line.{State, line}
+use Rattle.hc_records.specs.Line.{State, groups_of, line}
 use Rattle.hc_records.specs.TaskList.{Keyed, task_list}
 use Rattle.hc_records.specs.Packing.{Front, Placed, opening, fits, placed_at, behind, packed}
 use Rattle.hc_records.specs.Image.{datagram_count, datagram_length, datagram_offset, output_length}
@@ -21,7 +21,7 @@ pub record IsPackable (area : Keyed) : Type 0 where
 -- in a project, every area of every task's list of every line is packable
 abbrev pub ProjectsArePackable : Type 0
 ProjectsArePackable =
-    (state : State) (task : ℕ) → lowest_fault (map (λ declared. declared.group) state.groups) ≡ None
+    (state : State) (task : ℕ) → lowest_fault (groups_of state.groups) ≡ None
     → All IsPackable (task_list task (line state))
 
 -- the places of a list are those of its areas, in its order
@@ -74,7 +74,7 @@ KeysLieAboveStart = (state : State) (task : ℕ) → All (λ area. IsTrue (is_be
 -- in a project each also lies below END
 abbrev pub KeysLieBelowEnd : Type 0
 KeysLieBelowEnd =
-    (state : State) (task : ℕ) → lowest_fault (map (λ declared. declared.group) state.groups) ≡ None
+    (state : State) (task : ℕ) → lowest_fault (groups_of state.groups) ≡ None
     → All (λ area. IsTrue (is_before area.0 END)) (task_list task (line state))
 
 -- a list that fits one datagram

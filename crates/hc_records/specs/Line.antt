@@ -17,6 +17,10 @@ opened_group group = record { group = group; present = group.alias == 0 }
 abbrev pub opened : List Group → State
 opened groups = record { groups = map opened_group groups; epoch = 0 }
 
+-- the groups of declared groups, as a project has them
+abbrev pub groups_of : List Declared → List Group
+groups_of groups = map (λ declared. declared.group) groups
+
 -- a slave of the line: its rank among all declared slaves, counted from 1, and its record
 pub record Member : Type 0 where
   pub rank : ℕ

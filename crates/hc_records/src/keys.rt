@@ -1,6 +1,6 @@
 //! Keys of areas, in the order of a task's list.
 ghost use Rattle.std.specs.Prelude.{◌≡◌};
-ghost use Rattle.hc_records.specs.Keys.{is_before};
+ghost use Rattle.hc_records.specs.Keys.{is_before, same_key};
 
 use crate::records::Dir;
 
@@ -36,6 +36,13 @@ impl Key {
         ensures { result ≡ is_before self other }
     {
         self < other
+    }
+
+    /// Whether this key is another.
+    pub fn is_same(self, other: Key) -> bool
+        ensures { result ≡ same_key self other }
+    {
+        self == other
     }
 }
 

@@ -151,7 +151,7 @@ fn has_station(slaves: &[Slave], station: u16) -> bool
 }
 
 /// Whether a slave with a station address is declared, present or not. It takes no memory.
-pub fn is_declared(groups: &[Declared], station: u16) -> bool
+pub fn is_declared_station(groups: &[Declared], station: u16) -> bool
     ensures { result ≡ list_any (λ declared. has_station station declared.group.slaves) groups.now }
 {
     groups.iter().any(|declared| has_station(declared.group.slaves.as_slice(), station))

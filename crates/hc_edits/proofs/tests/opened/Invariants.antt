@@ -1,5 +1,5 @@
 use Rattle.std.proofs.Common.{◌≡◌, ◌++◌, drop}
-use Rattle.hc_edits.specs.Edits.{groups_of}
+use Rattle.hc_records.specs.Line.{groups_of}
 use Rattle.hc_edits.proofs.tests.opened.Given as goal
 
 abbrev pub invariant-loop-group : goal.invariant-loop-group
