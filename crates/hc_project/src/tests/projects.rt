@@ -64,7 +64,7 @@ const EMPTY: [&str; 5] = [
 const TOOL_CHANGER: &str = r#"# A machine with a tool changer and a docking place.
 #
 # Always there: a coupler, two axes and the machine's own inputs and outputs.
-# Tools of the changer, one at a time or none: a gripper (alias 100), a screwdriver (alias 101).
+# Tools of the changer, one at a time or none: a gripper (alias 100), a screwdriver (alias 101), a touch probe (alias 102).
 # At the docking place: a feeder module (alias 200).
 #
 # Task 0 is the motion task, task 1 carries what may be slower.
@@ -224,6 +224,21 @@ pdo = [
 ]
 
 [[group]]
+name = "touch probe"
+alias = 102
+
+[[group.slave]]
+station = 2201
+
+[[group.slave.area]]
+sm = 3
+dir = "in"
+phys = 0x1180
+task = 0
+assigned = [0x1a00]
+pdo = [{ index = 0x1a00, entries = [[221, 1], [222, 1], [0, 6]] }] # touched, ready
+
+[[group]]
 name = "feeder module"
 alias = 200
 
@@ -291,6 +306,10 @@ group 101
     area sm 3 in phys 0x1180 task 1 assigned 0x1a01
       pdo 0x1a00 entries 214:16
       pdo 0x1a01 entries 215:12 0:4
+group 102
+  slave 2201
+    area sm 3 in phys 0x1180 task 0 assigned 0x1a00
+      pdo 0x1a00 entries 221:1 222:1 0:6
 group 200
   slave 3001
   slave 3002
@@ -325,7 +344,7 @@ fn texts_with_every_field(rt: HostRuntime) -> Result<(), Fail> {
 #[test]
 fn project_or_memory(rt: HostRuntime) {
     match read_project(rt.alloc(), TOOL_CHANGER.as_bytes()) {
-        Ok(project) => assert_eq!(rt; project.groups().len(), 4),
+        Ok(project) => assert_eq!(rt; project.groups().len(), 5),
         Err(fault) => assert_eq!(rt; fault, ProjectFault::Memory),
     }
 }
