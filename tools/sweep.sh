@@ -9,6 +9,11 @@ gcc -O2 -Wall -shared -fPIC -o "$scratch/refuse.so" tools/refuse_growth.c -ldl |
 passed=0
 failed=0
 
+# Whether a growth was refused in the last run.
+has_refused() {
+    grep -q '^refused growth$' "$scratch/errors"
+}
+
 # refuse_each LABEL JUDGE INPUT COMMAND..: runs a command with its first growth refused, then its second, until a run
 # meets no refusal. What it wrote stands in `said`, its errors in `errors`; `JUDGE STATUS` says whether it ended well.
 refuse_each() {
@@ -16,7 +21,7 @@ refuse_each() {
     shift 3
     number=0
     : >"$scratch/errors"
-    while [ "$number" -eq 0 ] || grep -q '^refused growth$' "$scratch/errors"; do
+    while [ "$number" -eq 0 ] || has_refused; do
         number=$((number + 1))
         timeout 60 env REFUSE_GROWTH=$number LD_PRELOAD="$scratch/refuse.so" "$@" <"$input" >"$scratch/said" 2>"$scratch/errors"
         status=$?
@@ -53,7 +58,7 @@ opening_ended_well() {
 # `layout`, 4 of `regs` and 1 of `show`.
 first_run_ended_well() {
     [ "$1" -eq 0 ] || { opening_ended_well "$1"; return; }
-    cmp -s "$scratch/said" crates/hotline/stdout && return 0
+    has_refused || { cmp -s "$scratch/said" crates/hotline/stdout; return; }
     for lines in 1,3 4,7 8,8; do
         sed "${lines}c refused 14 Memory" crates/hotline/stdout | cmp -s - "$scratch/said" && return 0
     done
@@ -64,7 +69,7 @@ first_run_ended_well() {
 # edit the next layout is the one before it; behind an accepted one it is of the next epoch.
 edits_ended_well() {
     [ "$1" -eq 0 ] || { opening_ended_well "$1"; return; }
-    cmp -s "$scratch/said" examples/two_groups.out && return 0
+    has_refused || { cmp -s "$scratch/said" examples/two_groups.out; return; }
     awk '
         /^refused 14 Memory$/ { wants++ }
         /^(epoch|refused) / { answer[++answers] = $0; next }

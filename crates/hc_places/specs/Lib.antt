@@ -1,7 +1,7 @@
 pub mod Layout
 pub mod Parts
 pub mod Recut
-pub mod Rows
+pub mod WorkedLines
 pub mod Swap
 pub mod Table
 pub mod Walk

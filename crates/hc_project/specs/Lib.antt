@@ -4,4 +4,4 @@ pub mod Arrays
 pub mod Levels
 pub mod Text
 pub mod Laws
-pub mod Rows
+pub mod WorkedTexts

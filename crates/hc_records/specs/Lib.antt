@@ -12,5 +12,5 @@ pub mod Boundaries
 pub mod Lists
 pub mod Edits
 pub mod Project
-pub mod Rows
+pub mod WorkedLines
 pub mod Laws

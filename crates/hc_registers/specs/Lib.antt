@@ -2,4 +2,4 @@ pub mod Blocks
 pub mod Counting
 pub mod Fields
 pub mod Laws
-pub mod Rows
+pub mod WorkedBlocks

@@ -1,5 +1,5 @@
-//! Whole runs over memory, and over readers and writers that fail. Expected texts were worked out by
-//! hand and by a separate model of the formats.
+//! Whole runs over memory, and over readers and writers that fail. Expected texts were worked out
+//! from the rules, not taken from a run.
 mod breaks;
 mod devices;
 mod edits;
