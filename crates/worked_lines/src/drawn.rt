@@ -1,7 +1,7 @@
 //! Five hundred edits drawn from a fixed seed on 24 slaves. After each, accepted or refused, everything
 //! that the plan answers equals what a plan answers that is made anew of the present slaves, all of them
 //! mandatory: no edit has a part in that one.
-use crate::equal::{has_same_blocks, has_same_slave, is_same_table};
+use crate::equal::{has_same_blocks, has_same_order, has_same_slave, is_same_table};
 use crate::records::{Drawn, LISTS, Records, VARIABLES, put};
 use crate::texts::{Refused, opened};
 use hc_plan::plan::Plan;
@@ -80,7 +80,8 @@ fn fault_of(alloc: Global, records: &Records, drawn: Drawn) -> Result<Option<Edi
     }
 }
 
-/// Whether two plans have the same blocks of the slaves with the station addresses from 101 to 125.
+/// Whether two plans have the same positions and blocks of the slaves with the station addresses from
+/// 101 to 125.
 fn has_same_slaves(one: &Plan, other: &Plan) -> bool {
     for station in 101..126 {
         if !has_same_slave(one, other, station) {
@@ -93,6 +94,7 @@ fn has_same_slaves(one: &Plan, other: &Plan) -> bool {
 /// Whether two plans answer the same.
 fn is_same_plan(one: &Plan, other: &Plan) -> bool {
     is_same_table(one.places(), other.places(), VARIABLES + 1)
+        && has_same_order(one, other)
         && has_same_blocks(one, other)
         && has_same_slaves(one, other)
 }

@@ -168,6 +168,25 @@ fn an_area_moves_to_another_task(rt: HostRuntime) -> Result<(), Fail> {
     Ok(())
 }
 
+/// The blocks that an edit moves, by station address and number.
+fn moved(plan: &mut Plan, alloc: Global, edit: Edit) -> Result<Vec<(u16, u8)>, EditFault> {
+    let report = plan.apply(alloc, &edit)?;
+    Ok(report.blocks.into_vec())
+}
+
+#[test]
+fn a_report_names_the_blocks_that_moved(rt: HostRuntime) -> Result<(), Fail> {
+    let mut plan = one_slave(rt.alloc())?;
+    let edit = Edit::Move {
+        station: 1001,
+        area: 0,
+        task: 1,
+    };
+    let blocks = moved(&mut plan, rt.alloc(), edit)?;
+    assert_eq!(rt; blocks.as_slice(), [(1001, 1), (1001, 3)].as_slice());
+    Ok(())
+}
+
 #[test]
 fn pdos_in_another_order_move_variables_alone(rt: HostRuntime) -> Result<(), Fail> {
     let mut plan = plan_of(rt.alloc(), TWO_PDOS)?;

@@ -79,8 +79,22 @@ fn has_same_block(one: &Plan, other: &Plan, station: u16, number: u8) -> bool {
     }
 }
 
-/// Whether two plans have the same first 5 blocks of the slave with a station address.
+/// Whether two plans have the same station address at each of the first 25 positions of the line.
+pub fn has_same_order(one: &Plan, other: &Plan) -> bool {
+    for position in 0..25 {
+        if one.station(position) != other.station(position) {
+            return false;
+        }
+    }
+    true
+}
+
+/// Whether two plans have the slave with a station address at the same position, if it has one, with the
+/// same first 5 blocks.
 pub fn has_same_slave(one: &Plan, other: &Plan, station: u16) -> bool {
+    if one.position(station).ok() != other.position(station).ok() {
+        return false;
+    }
     for number in 0..5 {
         if !has_same_block(one, other, station, number) {
             return false;
