@@ -16,7 +16,7 @@ use Rattle.hc_places.proofs.Walked.{AreAbove, above-cons, ascends-above, ascends
 
 -- the definitions, of rows in place of tables
 
-abbrev place_of : List Row → ℕ → Option VariablePlace
+abbrev pub place_of : List Row → ℕ → Option VariablePlace
 place_of rows variable = option_map (λ row. row.1) (find (λ row. row.0 == variable) rows)
 
 abbrev differs : List Row → List Row → ℕ → Bool
@@ -56,7 +56,7 @@ place-past row rows variable less = ap (option_map (λ (row : Row). row.1)) (con
 place-here : (row : Row) (rows : List Row) (variable : ℕ) → row.0 ≡ variable → place_of (row ∷ rows) variable ≡ Some row.1
 place-here row rows variable same = ap (option_map (λ (row : Row). row.1)) (cond-true _ _ _ (eq-eqb row.0 variable same))
 
-place-none : (rows : List Row) (variable : ℕ) → AreAbove variable rows → place_of rows variable ≡ None
+pub place-none : (rows : List Row) (variable : ℕ) → AreAbove variable rows → place_of rows variable ≡ None
 place-none [] variable above = refl
 place-none (row ∷ rows) variable above =
     ap (option_map (λ (row : Row). row.1)) (cond-false _ _ _ (above-apart row.0 variable (All-head (λ (r : Row). variable < r.0) row rows above)))

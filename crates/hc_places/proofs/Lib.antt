@@ -11,6 +11,7 @@ pub mod Ranks
 pub mod Recuts
 pub mod Sorted
 pub mod Spread
+pub mod Swapped
 pub mod Tables
 pub mod Totals
 pub mod Walked

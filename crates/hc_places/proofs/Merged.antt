@@ -64,7 +64,7 @@ found-same a b same = rw (← same) (found-itself a)
 
 -- what a walk of rows, or of changes and rows, adds
 
-of-option : (number : ℕ) (place : Option VariablePlace) → AreOf number (new_row (number, place))
+pub of-option : (number : ℕ) (place : Option VariablePlace) → AreOf number (new_row (number, place))
 of-option number None = none-of number
 of-option number (Some place) = one-of number place
 
@@ -103,7 +103,7 @@ lower-not-below : (a b : ℕ) → a < b → nat_lt b a ≡ false
 lower-not-below a b less = grind (arith, nat_tests)
 
 -- a changed variable below all rows has its new row in front
-front : (changed : ChangedRow) (rows : List Row) → AreAbove changed.0 rows → with_changed changed rows ≡ new_row changed ++ rows
+pub front : (changed : ChangedRow) (rows : List Row) → AreAbove changed.0 rows → with_changed changed rows ≡ new_row changed ++ rows
 front changed [] above = sym (append-nil (new_row changed))
 front changed (row ∷ rows) above =
     let less = All-head (λ (r : Row). changed.0 < r.0) row rows above in
@@ -113,7 +113,7 @@ same-not-below : (a b : ℕ) → a ≡ b → nat_lt a b ≡ false
 same-not-below a b same = grind (arith, nat_tests)
 
 -- a changed variable has its new row in place of its old one
-in-place : (changed : ChangedRow) (row : Row) (rows : List Row) → row.0 ≡ changed.0 → with_changed changed (row ∷ rows) ≡ new_row changed ++ rows
+pub in-place : (changed : ChangedRow) (row : Row) (rows : List Row) → row.0 ≡ changed.0 → with_changed changed (row ∷ rows) ≡ new_row changed ++ rows
 in-place changed row rows same =
     cond-false _ _ _ (same-not-below row.0 changed.0 same) ∙ ap (λ (l : List Row). new_row changed ++ l) (cond-true _ _ _ (eq-eqb row.0 changed.0 same))
 

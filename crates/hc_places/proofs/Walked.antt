@@ -82,11 +82,11 @@ pub record Keeps {X Y Z : Type 0} (gives : Gives X Y (ℕ × Z)) : Type 0 where
   pub second : (y : ℕ × Y) → AreOf y.0 (gives.second y)
   pub both : (x : ℕ × X) (y : ℕ × Y) → x.0 ≡ y.0 → AreOf y.0 (gives.both x y)
 
-piece-above : {Z : Type 0} (low number : ℕ) (piece rest : List (ℕ × Z)) → AreOf number piece → low < number → AreAbove low rest → AreAbove low (piece ++ rest)
+pub piece-above : {Z : Type 0} (low number : ℕ) (piece rest : List (ℕ × Z)) → AreOf number piece → low < number → AreAbove low rest → AreAbove low (piece ++ rest)
 piece-above {Z} low number piece rest of below above =
     All-append (λ (z : ℕ × Z). low < z.0) piece rest (All-weaker (λ (z : ℕ × Z). z.0 ≡ number) (λ (z : ℕ × Z). low < z.0) (λ z same. omega arith) piece of.numbers) above
 
-piece-ascends : {Z : Type 0} (number : ℕ) (piece rest : List (ℕ × Z)) → AreOf number piece → AreAbove number rest → Ascends rest → Ascends (piece ++ rest)
+pub piece-ascends : {Z : Type 0} (number : ℕ) (piece rest : List (ℕ × Z)) → AreOf number piece → AreAbove number rest → Ascends rest → Ascends (piece ++ rest)
 piece-ascends {Z} number piece rest of above ascends =
     AllPairs-append (λ (a b : ℕ × Z). a.0 < b.0) piece rest of.ascends ascends
     (All-weaker (λ (z : ℕ × Z). z.0 ≡ number) (λ (z : ℕ × Z). AreAbove z.0 rest)

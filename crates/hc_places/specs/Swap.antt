@@ -1,5 +1,5 @@
 -- What turns the table of one epoch into that of the next.
-use Rattle.std.specs.Prelude.{ℕ, ◌==◌, ◌&&◌, not, nat_lt, Bool, true, false, if◌then◌else◌, List, [], ◌∷◌, ◌++◌, AllPairs, IsTrue, ◌<◌, ◌≡◌, ◌≢◌, ◌↔◌, filter, length, map, Option, Some, None}
+use Rattle.std.specs.Prelude.{ℕ, ◌==◌, ◌&&◌, not, nat_lt, Bool, true, false, if◌then◌else◌, List, [], ◌∷◌, ◌++◌, AllPairs, IsTrue, ◌<◌, ◌≡◌, ◌≢◌, ◌↔◌, filter, length, map, Option, Some, None, option_map, unwrap_or, find}
 use Rattle.std.specs.Option.{option_map_or}
 use Rattle.std.specs.List.{list_any}
 use Rattle.hc_records.specs.declared.edit.Edit.{Edit}
@@ -90,3 +90,21 @@ ChangedVariablesDiffer =
 abbrev pub ChangedVariablesStandOnce : Type 0
 ChangedVariablesStandOnce =
     (old new : Table) → RowsAscend old.variables → RowsAscend new.variables → AllPairs (λ a b. a ≢ b) (changed_variables old new)
+
+-- what a change says of a variable: its new place or none, and nothing where it isn't among the change's rows
+abbrev pub said_of : Change → ℕ → Option (Option VariablePlace)
+said_of change variable = option_map (λ changed. changed.1) (find (λ changed. changed.0 == variable) change.rows)
+
+-- in the table that a change leads to, a variable stands where the change says, and where it stood if the change says nothing
+abbrev pub SwapsMoveTheirVariables : Type 0
+SwapsMoveTheirVariables =
+    (change : Change) (table : Table) → RowsAscend table.variables → (variable : ℕ)
+    → place_in (swapped change table) variable ≡ unwrap_or (said_of change variable) (place_in table variable)
+
+-- its rows ascend again
+abbrev pub SwapsKeepTheOrder : Type 0
+SwapsKeepTheOrder = (change : Change) (table : Table) → RowsAscend table.variables → RowsAscend (swapped change table).variables
+
+-- and its tasks are the change's
+abbrev pub SwapsReplaceTheTasks : Type 0
+SwapsReplaceTheTasks = (change : Change) (table : Table) → (swapped change table).tasks ≡ change.tasks

@@ -1,6 +1,6 @@
 //! What follows from the definitions of the table: each function does nothing, and its contract is a
 //! law. Nobody calls it.
-ghost use Rattle.hc_places.specs.Swap.{ChangedVariablesDiffer, ChangedVariablesStandOnce, SameIsEqual};
+ghost use Rattle.hc_places.specs.Swap.{ChangedVariablesDiffer, ChangedVariablesStandOnce, SameIsEqual, SwapsKeepTheOrder, SwapsMoveTheirVariables, SwapsReplaceTheTasks};
 ghost use Rattle.hc_places.specs.Table.{TablesHavePlaces};
 
 /// In the table of a line each variable has its place in the line, and one without a place there has
@@ -24,4 +24,22 @@ pub fn changed_variables_differ()
 /// Where two tables have each variable once, each of their changed variables is counted once.
 pub fn changed_variables_stand_once()
     ensures { ChangedVariablesStandOnce }
+{}
+
+/// In the table that a swap leads to, from any table that has each variable once, a variable that the
+/// swap names stands where the swap says, or nowhere where it says so; every other variable stands
+/// where it stood.
+pub fn swaps_move_their_variables()
+    ensures { SwapsMoveTheirVariables }
+{}
+
+/// The table that a swap leads to, from one that has each variable once, in the order of their numbers,
+/// has them so again.
+pub fn swaps_keep_the_order()
+    ensures { SwapsKeepTheOrder }
+{}
+
+/// The tasks of the table that a swap leads to are the swap's, whatever the table had.
+pub fn swaps_replace_the_tasks()
+    ensures { SwapsReplaceTheTasks }
 {}
