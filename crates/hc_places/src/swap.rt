@@ -149,7 +149,8 @@ impl Swap {
     ghost use Rattle.std.specs.Prelude.{◌≡◌, IfOk, length};
     ghost use Rattle.hc_places.specs.Swap.{changed_places, changed_variables, swapped};
 
-    /// What leads from one table to another, for the edit that asks for it. `AllocError` where a
+    /// What leads from one table to another, for the edit that asks for it. That the edit leads from the
+    /// one table to the other isn't checked: the swap names whatever edit is given. `AllocError` where a
     /// growth was refused.
     pub fn between(
         alloc: Global,

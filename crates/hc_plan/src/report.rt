@@ -12,7 +12,7 @@ use std::alloc::{AllocError, Global};
 pub struct Report {
     /// The epoch that begins with the edit.
     pub epoch: u32,
-    /// How many spans of touched tasks aren't settled: the datagrams that had to be cut anew.
+    /// How many spans of touched tasks aren't settled; an emptied task counts one.
     pub recut: u32,
     /// How many blocks of the new line weren't blocks with the same bytes at the same register of the
     /// same slave in the old line.
