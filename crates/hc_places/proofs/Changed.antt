@@ -53,7 +53,7 @@ above-apart a b less = grind (arith, nat_tests)
 place-past : (row : Row) (rows : List Row) (variable : ℕ) → row.0 < variable → place_of (row ∷ rows) variable ≡ place_of rows variable
 place-past row rows variable less = ap (option_map (λ (row : Row). row.1)) (cond-false _ _ _ (lower-apart row.0 variable less))
 
-place-here : (row : Row) (rows : List Row) (variable : ℕ) → row.0 ≡ variable → place_of (row ∷ rows) variable ≡ Some row.1
+pub place-here : (row : Row) (rows : List Row) (variable : ℕ) → row.0 ≡ variable → place_of (row ∷ rows) variable ≡ Some row.1
 place-here row rows variable same = ap (option_map (λ (row : Row). row.1)) (cond-true _ _ _ (eq-eqb row.0 variable same))
 
 pub place-none : (rows : List Row) (variable : ℕ) → AreAbove variable rows → place_of rows variable ≡ None

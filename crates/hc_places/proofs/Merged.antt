@@ -203,9 +203,6 @@ walked-merged others rows =
     (λ row rows rest changes old. ap (λ (l : List Row). row ∷ l) (rest changes (ascends-rest row rows old)))
     merges-both rows others
 
-pub merged-ascends : (others : List ChangedRow) (rows : List Row) → ChangesAscend others → RowsAscend rows → RowsAscend (merged others rows)
-merged-ascends others rows changes old = rw (← (walked-merged others rows changes old)) (walked-up merges merges-keep rows others changes old)
-
 -- so of tables
 
 abbrev change_of : List TaskTable → List ChangedRow → Change

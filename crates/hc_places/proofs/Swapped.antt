@@ -1,4 +1,4 @@
--- Where the variables of a table stand once some of them are changed.
+-- Where the variables of a table stand once some of them are changed, and that their places tell a table.
 use Rattle.std.proofs.Common.{◌≡◌, ◌∙◌, ap, ℕ, ◌<◌, Bool, true, false, cond, List, [], ◌∷◌, ◌++◌, refl, sym, arith}
 use Rattle.std.specs.Prelude.{Option, Some, None, find, option_map, unwrap_or, ◌==◌}
 use Rattle.std.proofs.lemmas.Bool.{cond-true, eqb-true}
@@ -6,11 +6,11 @@ use Rattle.std.proofs.lemmas.Bool.Decides.{nat_tests}
 use Rattle.std.proofs.lemmas.List.Elements.{All-cons, All-head, All-nil, All-tail}
 use Rattle.std.proofs.lemmas.List.Kept.{AllPairs-cons}
 use Rattle.hc_records.specs.Image.{VariablePlace}
-use Rattle.hc_places.specs.Table.{Row, RowsAscend}
+use Rattle.hc_places.specs.Table.{Row, RowsAscend, Table, TaskTable}
 use Rattle.hc_places.specs.Swap.{ChangedRow, merged, new_row, with_changed}
-use Rattle.hc_places.proofs.Changed.{place-none, place_of}
+use Rattle.hc_places.proofs.Changed.{place-here, place-none, place_of}
 use Rattle.hc_places.proofs.Merged.{front, in-place, of-option}
-use Rattle.hc_places.proofs.Walked.{AreAbove, above-cons, ascends-above, ascends-rest, by-order, piece-above, piece-ascends}
+use Rattle.hc_places.proofs.Walked.{AreAbove, above-cons, ascends-above, ascends-rest, by-order, of-heads, piece-above, piece-ascends}
 
 -- rows with one variable changed stay above a lower number, and in order
 
@@ -126,3 +126,60 @@ place-merged (changed ∷ others) rows variable ascends =
     place-with changed (merged others rows) variable (merged-rows-ascend others rows ascends)
     ∙ ap (λ (found : Option VariablePlace). cond (changed.0 == variable) changed.1 found) (place-merged others rows variable ascends)
     ∙ said-first (changed.0 == variable) changed (find (λ (c : ChangedRow). c.0 == variable) others) (place_of rows variable)
+
+-- rows in order are told by the places that they give
+
+abbrev SamePlaces : List Row → List Row → Type 0
+SamePlaces xs ys = (variable : ℕ) → place_of xs variable ≡ place_of ys variable
+
+abbrev Told : List Row → List Row → Type 0
+Told xs ys = RowsAscend xs → RowsAscend ys → SamePlaces xs ys → xs ≡ ys
+
+row-stands : {P : Type 0} (row : Row) (rows others : List Row) → AreAbove row.0 others → place_of (row ∷ rows) row.0 ≡ place_of others row.0 → P
+row-stands row rows others above same =
+    let never : Some row.1 ≡ None = sym (place-here row rows row.0 refl) ∙ same ∙ place-none others row.0 above in
+    cc
+
+-- what two answers behind one row are, where the row hides them and where it doesn't
+rest-by : (test : Bool) (x : VariablePlace) (found other : Option VariablePlace) → (test ≡ true → found ≡ other) → cond test (Some x) found ≡ cond test (Some x) other → found ≡ other
+rest-by true x found other here all = here refl
+rest-by false x found other here all = all
+
+rest-places : (x : Row) (xs : List Row) (y : Row) (ys : List Row) → x ≡ y → AreAbove x.0 xs → AreAbove x.0 ys → SamePlaces (x ∷ xs) (y ∷ ys) → SamePlaces xs ys
+rest-places x xs y ys heads first second same variable =
+    rest-by (x.0 == variable) x.1 (place_of xs variable) (place_of ys variable)
+    (λ is. rw (← (eqb-true x.0 variable is)) (place-none xs x.0 first ∙ sym (place-none ys x.0 second)))
+    (sym (place-of-cons x xs variable) ∙ same variable ∙ ap (λ (row : Row). place_of (row ∷ ys) variable) (sym heads) ∙ place-of-cons x ys variable)
+
+some-same : (a b : VariablePlace) → Some a ≡ Some b → a ≡ b
+some-same a b same = cc
+
+row-same : (x y : Row) → x.0 ≡ y.0 → x.1 ≡ y.1 → x ≡ y
+row-same x y number place = rw (number, place) refl
+
+told-both : (x : Row) (xs : List Row) (y : Row) (ys : List Row) → Told xs (y ∷ ys) → Told (x ∷ xs) ys → Told xs ys → Told (x ∷ xs) (y ∷ ys)
+told-both x xs y ys first second both up down same =
+    let xs-above = ascends-above x xs up in
+    let ys-above = ascends-above y ys down in
+    by-order x.0 y.0
+    (λ below less. row-stands x xs (y ∷ ys) (above-cons x.0 y ys less ys-above) (same x.0))
+    (λ not_less above less. row-stands y ys (x ∷ xs) (above-cons y.0 x xs less xs-above) (sym (same y.0)))
+    (λ not_less neither number.
+    let place : x.1 ≡ y.1 = some-same x.1 y.1 (sym (place-here x xs x.0 refl) ∙ same x.0 ∙ place-here y ys x.0 (sym number)) in
+    let heads = row-same x y number place in
+    let rest = both (ascends-rest x xs up) (ascends-rest y ys down) (rest-places x xs y ys heads xs-above (rw number ys-above) same) in
+    ap (λ (row : Row). row ∷ xs) heads ∙ ap (λ (l : List Row). y ∷ l) rest)
+
+rows-told : (xs ys : List Row) → Told xs ys
+rows-told xs ys =
+    of-heads Told (λ up down same. refl)
+    (λ x xs rest up down same. row-stands x xs [] (All-nil (λ (r : Row). x.0 < r.0)) (same x.0))
+    (λ y ys rest up down same. row-stands y ys [] (All-nil (λ (r : Row). y.0 < r.0)) (sym (same y.0)))
+    told-both ys xs
+
+abbrev table_with : List TaskTable → List Row → Table
+table_with tasks rows = record { tasks = tasks; variables = rows }
+
+pub tables-told : (a b : Table) → RowsAscend a.variables → RowsAscend b.variables → a.tasks ≡ b.tasks → SamePlaces a.variables b.variables → a ≡ b
+tables-told a b up down tasks same =
+    ap (λ (l : List TaskTable). table_with l a.variables) tasks ∙ ap (table_with b.tasks) (rows-told a.variables b.variables up down same)

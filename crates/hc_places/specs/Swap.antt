@@ -108,3 +108,8 @@ SwapsKeepTheOrder = (change : Change) (table : Table) → RowsAscend table.varia
 -- and its tasks are the change's
 abbrev pub SwapsReplaceTheTasks : Type 0
 SwapsReplaceTheTasks = (change : Change) (table : Table) → (swapped change table).tasks ≡ change.tasks
+
+-- tables whose rows ascend are told apart by their tasks and by what they answer for variables
+abbrev pub PlacesTellTables : Type 0
+PlacesTellTables =
+    (a b : Table) → RowsAscend a.variables → RowsAscend b.variables → a.tasks ≡ b.tasks → ((variable : ℕ) → place_in a variable ≡ place_in b variable) → a ≡ b

@@ -1,6 +1,6 @@
 //! What follows from the definitions of the table: each function does nothing, and its contract is a
 //! law. Nobody calls it.
-ghost use Rattle.hc_places.specs.Swap.{ChangedVariablesDiffer, ChangedVariablesStandOnce, SameIsEqual, SwapsKeepTheOrder, SwapsMoveTheirVariables, SwapsReplaceTheTasks};
+ghost use Rattle.hc_places.specs.Swap.{ChangedVariablesDiffer, ChangedVariablesStandOnce, PlacesTellTables, SameIsEqual, SwapsKeepTheOrder, SwapsMoveTheirVariables, SwapsReplaceTheTasks};
 ghost use Rattle.hc_places.specs.Table.{TablesHavePlaces};
 
 /// In the table of a line each variable has its place in the line, and one without a place there has
@@ -42,4 +42,11 @@ pub fn swaps_keep_the_order()
 /// The tasks of the table that a swap leads to are the swap's, whatever the table had.
 pub fn swaps_replace_the_tasks()
     ensures { SwapsReplaceTheTasks }
+{}
+
+/// Two tables that each have every variable once, in the order of their numbers, are equal where their
+/// tasks are equal and each variable has the same place, or none, in both: so the three laws above
+/// leave one table that a swap can lead to.
+pub fn places_tell_tables()
+    ensures { PlacesTellTables }
 {}

@@ -2,7 +2,8 @@ use Rattle.std.proofs.Common.{◌≡◌, ◌∙◌, ap}
 use Rattle.hc_places.specs.Table.{RowsAscend, Table}
 use Rattle.hc_places.specs.Swap.{ChangesAscend, Swap, merged}
 use Rattle.hc_places.specs.Walk.{merges, walked}
-use Rattle.hc_places.proofs.Merged.{change-merges, merged-ascends, walked-merged}
+use Rattle.hc_places.proofs.Merged.{change-merges, walked-merged}
+use Rattle.hc_places.proofs.Swapped.{merged-rows-ascend}
 use Rattle.hc_places.proofs.table.Places.swap.Goals as goal
 
 pub invariant_of-self : goal.invariant_of-self
@@ -12,7 +13,7 @@ invariant_of-self c =
     let made = c.in_ok-variables.ensures in
     let is : c.in_ok-variables.variables.items ≡ walked merges c.self.inside.variables.items c.swap.inside.rows.items = cc in
     let all = is ∙ walked-merged _ _ c.swap.invariant c.self.invariant in
-    let up : RowsAscend (merged c.swap.inside.rows.items c.self.inside.variables.items) = merged-ascends _ _ c.swap.invariant c.self.invariant in
+    let up : RowsAscend (merged c.swap.inside.rows.items c.self.inside.variables.items) = merged-rows-ascend c.swap.inside.rows.items c.self.inside.variables.items c.self.invariant in
     rw all up
 
 pub returns-clause-swapped : goal.returns-clause-swapped
