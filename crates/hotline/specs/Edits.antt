@@ -9,7 +9,7 @@ use Rattle.hc_records.specs.Line.{State, line}
 use Rattle.hc_registers.specs.Blocks.{moved}
 use Rattle.hotline.specs.Refusals.{refusal_text}
 
--- the line of an accepted edit: the epoch that it begins, the datagrams cut anew, and the moved blocks
+-- the line of an accepted edit: the epoch that it begins, the spans recut, and the moved blocks
 unfoldable pub report_text : ℕ → ℕ → ℕ → List ℕ
 report_text epoch recut moved =
     codes "epoch "
