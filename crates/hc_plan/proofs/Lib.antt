@@ -1,6 +1,7 @@
 pub mod Answering
 pub mod Editing
 pub mod Compared
+pub mod Configured
 pub mod LineBlocks
 pub mod Mapped
 pub mod Numbered

@@ -1,4 +1,5 @@
 pub mod Blocks
 pub mod Configuration
+pub mod Laws
 pub mod Reports
 pub mod Moved

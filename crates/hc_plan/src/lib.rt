@@ -3,6 +3,7 @@
 #![tactic(auto)]
 
 mod blocks;
+pub mod laws;
 mod moved;
 pub mod plan;
 pub mod report;
