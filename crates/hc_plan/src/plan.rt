@@ -170,9 +170,10 @@ impl Plan {
         })
     }
 
-    /// What the edit did that made the next plan of this one: their differences, and the edit's name.
-    /// `AllocError` where a growth was refused.
+    /// What an edit did that made the next plan of this one, as `edited` gives it: their differences, and
+    /// the edit's name. `AllocError` where a growth was refused.
     pub fn report(&self, alloc: Global, edit: &Edit, next: &Plan) -> Result<Report, AllocError>
+        requires { edited self.now edit.now ≡ Ok next.now }
         ensures { IfOk result (Tells self.now edit.now next.now) }
     {
         let old = self.groups.as_slice();
