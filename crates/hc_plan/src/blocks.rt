@@ -58,7 +58,7 @@ pub(crate) fn block_of(layout: &Layout, member: &Member<'_>, number: u8) -> Opti
 }
 
 /// The block with a number, from 0, in the order of the slave with a station address.
-pub fn block_at(groups: &[Declared], layout: &Layout, station: u16, number: u8) -> Option<Block>
+pub(crate) fn block_at(groups: &[Declared], layout: &Layout, station: u16, number: u8) -> Option<Block>
     requires { IsLaidOut groups.now layout.now }
     ensures { result ≡ block_at (line_from 1 groups.now) station number }
 {
@@ -77,7 +77,7 @@ fn own_blocks(member: &Member<'_>) -> u32
 }
 
 /// The number of blocks of the line.
-pub fn count_blocks(groups: &[Declared], layout: &Layout) -> u32
+pub(crate) fn count_blocks(groups: &[Declared], layout: &Layout) -> u32
     requires { IsLaidOut groups.now layout.now }
     ensures { result ≡ length (line_blocks (line_from 1 groups.now)) }
 {
@@ -101,7 +101,7 @@ fn with_station(station: u16, block: Option<Block>) -> Option<(u16, Block)>
 }
 
 /// The block with a number, from 0, in line and block order, with its slave's station address.
-pub fn nth_block(groups: &[Declared], layout: &Layout, n: u32) -> Option<(u16, Block)>
+pub(crate) fn nth_block(groups: &[Declared], layout: &Layout, n: u32) -> Option<(u16, Block)>
     requires { IsLaidOut groups.now layout.now }
     ensures { result ≡ line_block_at (line_from 1 groups.now) n }
 {

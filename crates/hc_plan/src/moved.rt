@@ -18,13 +18,13 @@ use std::marker::Model;
 
 /// A block of the line.
 #[derive(Debug, Drop)]
-pub struct LineBlock {
+pub(crate) struct LineBlock {
     /// The station address of its slave.
-    pub station: u16,
+    pub(crate) station: u16,
     /// Its number in the slave's order, from 0 to 15.
-    pub number: u8,
+    pub(crate) number: u8,
     /// The register and the bytes.
-    pub block: Block,
+    pub(crate) block: Block,
 }
 
 impl Model for LineBlock {
@@ -133,7 +133,7 @@ fn moved_in_line(
 /// The blocks of the new line, in line and block order, that weren't blocks of the old one: no block
 /// of the slave with that station address had the same bytes at the same register, or the slave wasn't
 /// in the old line. Each line's groups have their layout. `AllocError` where a growth was refused.
-pub fn moved_blocks(
+pub(crate) fn moved_blocks(
     alloc: Global,
     old_groups: &[Declared],
     old_layout: &Layout,
