@@ -58,7 +58,12 @@ pub(crate) fn block_of(layout: &Layout, member: &Member<'_>, number: u8) -> Opti
 }
 
 /// The block with a number, from 0, in the order of the slave with a station address.
-pub(crate) fn block_at(groups: &[Declared], layout: &Layout, station: u16, number: u8) -> Option<Block>
+pub(crate) fn block_at(
+    groups: &[Declared],
+    layout: &Layout,
+    station: u16,
+    number: u8,
+) -> Option<Block>
     requires { IsLaidOut groups.now layout.now }
     ensures { result ≡ block_at (line_from 1 groups.now) station number }
 {

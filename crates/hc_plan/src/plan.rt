@@ -111,7 +111,8 @@ impl Plan {
         block_at(self.groups.as_slice(), &self.layout, station, number)
     }
 
-    /// The number of blocks of the present line.
+    /// The number of blocks of the present line, at most 32,768: 16 for each of 2,048 slaves. It takes no
+    /// memory.
     pub fn blocks(&self) -> u32
         ensures { result ≡ length (config (line self.now)).blocks }
     {
