@@ -1,7 +1,9 @@
 -- One turn of a run: a line is answered, and its reply is written.
 use Rattle.std.specs.Prelude.{◌≡◌, ◌≢◌, ℕ, true, false, List, ◌++◌, take, Option, Some, None}
 use Rattle.std.specs.Io.KnownBytes.{Appends}
+use Rattle.hc_records.specs.declared.faults.EditFault.TheVariants.{Memory}
 use Rattle.hc_records.specs.Line.{State}
+use Rattle.hotline.specs.Refusals.{refusal_text}
 use Rattle.hotline.specs.Runs.{Outcome, Reply}
 
 -- the run goes on behind the reply, in the state that it leaves
@@ -18,6 +20,11 @@ pub record Ends (old new : Option (List ℕ)) (status : ℕ) (reply : Reply) : T
 abbrev pub Takes : Option (List ℕ) → Option (List ℕ) → State → Option ℕ → Reply → Type 0
 Takes old new state None reply = GoesOn old new state reply
 Takes old new state (Some status) reply = Ends old new status reply
+
+-- a growth was refused for the line: its refusal is written and the run goes on, or the run ends with status 4 behind a front of the refusal
+abbrev pub Starves : Option (List ℕ) → Option (List ℕ) → Option ℕ → Type 0
+Starves old new None = Appends old new (refusal_text Memory)
+Starves old new (Some status) = (status ≡ 4) × (n : ℕ) × Appends old new (take n (refusal_text Memory))
 
 -- some bytes were written, and with those that are left to write they are all
 pub record Writes (old new : Option (List ℕ)) (left all : List ℕ) : Type 0 where

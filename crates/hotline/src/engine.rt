@@ -1,15 +1,16 @@
 //! The run: reads all input, opens the project, answers each command line, and writes each reply before
 //! the next line is answered.
-ghost use Rattle.std.specs.Prelude.{◌≡◌, ◌≤◌, ◌+◌, false, length, IfSome};
+ghost use Rattle.std.specs.Prelude.{◌≡◌, ◌≤◌, ◌+◌, false, true, length, IfSome};
 ghost use Rattle.std.specs.Option.{option_copied};
 ghost use Rattle.hc_text.specs.Cutting.{left_in, lines_after};
 ghost use Rattle.hotline.specs.Opening.{is_memory};
 ghost use Rattle.hotline.specs.Runs.{reply_to, run};
 ghost use Rattle.hotline.specs.Text.{EndsAs, outcome_of, unopened};
-ghost use Rattle.hotline.specs.Turns.{Takes};
+ghost use Rattle.hotline.specs.Turns.{Starves, Takes};
 ghost use Rattle.hc_text.specs.declared.input.TheConstants.{MOST_INPUT};
 
 use crate::opening::{Unopened, memory_text, open_plan, push_unopened};
+use crate::refusals::memory_refusal;
 use crate::replies::answer;
 use hc_plan::plan::Plan;
 use hc_text::input::{Unread, read_all};
@@ -30,9 +31,6 @@ const UNOPENED: u8 = 3;
 /// The exit status where the input isn't read or a write failed.
 const BROKEN: u8 = 4;
 
-/// What a command prints for which a growth was refused.
-const MEMORY_REFUSAL: &[u8] = b"refused 14 Memory\n";
-
 /// How a run ended.
 #[derive(Clone, Copy, Debug, PartialEq, Eq)]
 pub struct RunEnd {
@@ -52,7 +50,7 @@ struct Turn {
     starved: bool,
 }
 
-/// Answers a line and writes its reply.
+/// Answers a line and writes its reply, or the refusal `Memory` where a growth was refused.
 fn take_turn<W: Write>(
     alloc: Global,
     line: &[u8],
@@ -60,11 +58,13 @@ fn take_turn<W: Write>(
     plan: &mut Plan,
     output: &mut W,
 ) -> Turn
-    ensures { result.starved ≡ false
+    ensures answered { result.starved ≡ false
         → Takes (W.contents output.old) (W.contents output.new) plan.new result.end (reply_to plan.old number line.now) }
+    ensures refused { result.starved ≡ true → Starves (W.contents output.old) (W.contents output.new) result.end }
+    ensures unchanged { result.starved ≡ true → plan.new ≡ plan.old }
 {
     let Ok(reply) = answer(alloc, line, number, plan) else {
-        let end = match write_text(output, MEMORY_REFUSAL) {
+        let end = match write_text(output, memory_refusal()) {
             Ok(()) => None,
             Err(_) => Some(BROKEN),
         };

@@ -1,5 +1,6 @@
 //! Faults as they are printed.
 ghost use Rattle.std.specs.Prelude.{◌≡◌, ◌++◌, OnOk, string_bytes};
+ghost use Rattle.hc_records.specs.declared.faults.EditFault.TheVariants.{Memory};
 ghost use Rattle.hotline.specs.Refusals.{bad_command_text, edit_fault_name, project_fault_name, project_fault_text, project_fault_words, refusal_text};
 
 use hc_records::faults::{EditFault, ProjectFault};
@@ -72,6 +73,14 @@ pub fn push_refusal(fault: EditFault, out: &mut String) -> Result<(), AllocError
     write!(out, "refused {number} ")?;
     push_edit_fault_name(fault, out)?;
     out.push_str("\n")
+}
+
+/// The line of a command for which a growth was refused: it is there without another growth.
+#[tactic(auto, unfolding(crate::specs::Refusals::refusal_text))]
+pub fn memory_refusal() -> &'static [u8]
+    ensures { result.now ≡ refusal_text Memory }
+{
+    b"refused 14 Memory\n"
 }
 
 /// The line about a line that is no command, as `line 9: bad command`.

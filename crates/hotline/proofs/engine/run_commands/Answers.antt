@@ -21,7 +21,7 @@ loop-rest-preserved g c =
       few = omega (arith, c.split_line.ensures.shorter);
       runs = λ unstarved.
           let (before, now) = or_parts _ _ unstarved in
-          let turn = subst (λ end. Takes (g.W.Write.contents c.loop-rest.output) (g.W.Write.contents c.take_turn-turn.new.output) c.take_turn-turn.new.plan end (reply_to plan number c.split_line.result.0.now)) c.in_default-end.is (c.take_turn-turn.ensures now) in
+          let turn = subst (λ end. Takes (g.W.Write.contents c.loop-rest.output) (g.W.Write.contents c.take_turn-turn.new.output) c.take_turn-turn.new.plan end (reply_to plan number c.split_line.result.0.now)) c.in_default-end.is (c.take_turn-turn.ensures.answered now) in
           continues _ _ _ _ _ (reply_to plan number c.split_line.result.0.now) c.take_turn-turn.new.plan (λ state. run state (lines_after (number + 1) rest)) (c.loop-rest.invariant.runs before) left turn;
     }
 
@@ -32,7 +32,7 @@ returns-in-Some-end g c unstarved =
     let rest = option_copied c.split_line.result.1 in
     let left = ap (λ o. run plan (lines_after number (option_copied o))) c.in-Some.is ∙ run_cut plan number c.in-Some.text.now c.split_line.result.0.now rest c.split_line.ensures.line in
     let (before, now) = or_parts _ _ unstarved in
-    let turn = subst (λ end. Takes (g.W.Write.contents c.loop-rest.output) (g.W.Write.contents c.take_turn-turn.new.output) c.take_turn-turn.new.plan end (reply_to plan number c.split_line.result.0.now)) c.in-Some-end.is (c.take_turn-turn.ensures now) in
+    let turn = subst (λ end. Takes (g.W.Write.contents c.loop-rest.output) (g.W.Write.contents c.take_turn-turn.new.output) c.take_turn-turn.new.plan end (reply_to plan number c.split_line.result.0.now)) c.in-Some-end.is (c.take_turn-turn.ensures.answered now) in
     ends _ _ _ _ _ (run (reply_to plan number c.split_line.result.0.now).state (lines_after (number + 1) rest)) (reply_to plan number c.split_line.result.0.now) _ (c.loop-rest.invariant.runs before) left turn
 
 pub returns : goal.returns

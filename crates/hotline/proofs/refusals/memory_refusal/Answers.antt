@@ -1,0 +1,13 @@
+use Rattle.std.proofs.Common.{◌≡◌, ◌++◌, ap, sym, lit<}
+use Rattle.std.specs.Prelude.{codes}
+use Rattle.std.specs.Fmt.{decimal}
+use Rattle.std.proofs.lemmas.Fmt.{decimal-digits_of}
+use Rattle.hotline.specs.Refusals.{refusal_text}
+use Rattle.hotline.proofs.refusals.memory_refusal.Goals as goal
+
+fourteen : decimal 14 ≡ codes "14"
+fourteen = decimal-digits_of 14 (lit< tt) (lit< tt)
+
+pub returns : goal.returns
+unfolding refusal_text
+returns c = ap (λ number. codes "refused " ++ (number ++ codes " " ++ codes "Memory" ++ codes "\n")) (sym fourteen)
