@@ -1,5 +1,6 @@
 //! Runs that print what their commands ask for.
 use super::{FIRST_COMMANDS, FIRST_TEXT, ONE_SLAVE, ends_as, joined, push_wide_slave};
+use std::alloc::AllocError;
 use std::test::Fail;
 
 /// Two slaves whose areas of 3 bits share bytes.
@@ -138,6 +139,14 @@ fn without_a_mark_nothing_is_printed(rt: HostRuntime) -> Result<(), Fail> {
     Ok(())
 }
 
+/// Adds so many bytes of a frame that are 0.
+fn push_zeros(text: &mut String, bytes: u32) -> Result<(), AllocError> {
+    for _ in 0..bytes {
+        text.push_str("00")?;
+    }
+    Ok(())
+}
+
 #[test]
 fn a_full_datagram_and_one_more(rt: HostRuntime) -> Result<(), Fail> {
     let mut input = String::new(rt.alloc());
@@ -150,13 +159,9 @@ fn a_full_datagram_and_one_more(rt: HostRuntime) -> Result<(), Fail> {
     text.push_str("datagram 0 address 0x01000000 length 1486 expected 4\n")?;
     text.push_str("datagram 1 address 0x01000800 length 1 expected 2\n")?;
     text.push_str("frame 0: ffffffffffff02000000000088a4da150c0000000001ce05")?;
-    for _ in 0..1490 {
-        text.push_str("00")?;
-    }
+    push_zeros(&mut text, 1490)?;
     text.push_str("\nframe 0: ffffffffffff02000000000088a40d100c00000800010100")?;
-    for _ in 0..36 {
-        text.push_str("00")?;
-    }
+    push_zeros(&mut text, 36)?;
     text.push_str("\n")?;
     assert!(rt; ends_as(rt.alloc(), input.as_bytes(), 0, text.as_str())?);
     Ok(())
