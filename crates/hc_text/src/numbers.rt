@@ -45,7 +45,8 @@ fn digits_number(digits: &[u8], base: u64, most: u64) -> Option<u64>
     Some(number)
 }
 
-/// The number of a word, where it is at most `most`; none where the word spells no number.
+/// The number of a word, where it is at most `most`; none where the word spells no number or a larger
+/// one.
 pub fn number_in(word: &[u8], most: u64) -> Option<u64>
     ensures { result ≡ number_in most word.now }
 {
@@ -55,7 +56,7 @@ pub fn number_in(word: &[u8], most: u64) -> Option<u64>
     }
 }
 
-/// The number of a word, 0 to 255.
+/// The number of a word, 0 to 255; none where the word spells no number or a larger one.
 pub fn byte_in(word: &[u8]) -> Option<u8>
     ensures { result ≡ number_in 255 word.now }
 {
@@ -65,7 +66,7 @@ pub fn byte_in(word: &[u8]) -> Option<u8>
     }
 }
 
-/// The number of a word, 0 to 65,535.
+/// The number of a word, 0 to 65,535; none where the word spells no number or a larger one.
 pub fn double_byte_in(word: &[u8]) -> Option<u16>
     ensures { result ≡ number_in 65535 word.now }
 {
@@ -75,7 +76,7 @@ pub fn double_byte_in(word: &[u8]) -> Option<u16>
     }
 }
 
-/// The number of a word, 0 to 4,294,967,295.
+/// The number of a word, 0 to 4,294,967,295; none where the word spells no number or a larger one.
 pub fn quadruple_byte_in(word: &[u8]) -> Option<u32>
     ensures { result ≡ number_in 4294967295 word.now }
 {

@@ -3,7 +3,7 @@
 ghost use Rattle.std.specs.Prelude.{◌≡◌, ◌++◌, map, IfOk, OnErr, OnOk, string_bytes};
 ghost use Rattle.hotline.specs.Commands.{command_in, left_by, printed};
 
-pub mod edits;
+mod edits;
 mod layout;
 mod place;
 mod regs;
@@ -63,7 +63,7 @@ pub fn command_in(
 }
 
 /// Carries a command out and adds what it prints. `AllocError` where a growth was refused; the plan is
-/// then as it was.
+/// then as it was, and `out` may have a front of what would have been printed.
 pub fn obey(
     alloc: Global,
     command: &Command,

@@ -75,7 +75,8 @@ pub fn open_plan(alloc: Global, text: &[u8]) -> Result<Plan, Unopened>
     }
 }
 
-/// Adds the line of a project that isn't opened, as `open fault 1 TooManyDatagrams 0`.
+/// Adds the line of a project that isn't opened, as `open fault 1 TooManyDatagrams 0`. `AllocError` where
+/// a growth was refused; `out` may then have a front of the line.
 #[tactic(auto, unfolding(crate::specs::Opening::unopened_text))]
 pub fn push_unopened(unopened: Unopened, out: &mut String) -> Result<(), AllocError>
     ensures { OnOk result (string_bytes out.new ≡ string_bytes out.old ++ unopened_text unopened) }

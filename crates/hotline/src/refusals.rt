@@ -24,7 +24,8 @@ fn push_project_fault_name(fault: ProjectFault, out: &mut String) -> Result<(), 
     }
 }
 
-/// The line of a project's fault, as `project fault 3 OutOfRange`.
+/// Adds the line of a project's fault, as `project fault 3 OutOfRange`. `AllocError` where a growth was
+/// refused; `out` may then have a front of the line.
 pub fn push_project_fault(fault: ProjectFault, out: &mut String) -> Result<(), AllocError>
     ensures { OnOk result (string_bytes out.new ≡ string_bytes out.old ++ project_fault_text fault) }
 {
@@ -32,7 +33,7 @@ pub fn push_project_fault(fault: ProjectFault, out: &mut String) -> Result<(), A
     push_project_fault_words(fault, out)
 }
 
-/// The fault's number and name, and the end of the line.
+/// Adds the fault's number and name, and the end of the line.
 #[tactic(auto, unfolding(crate::specs::Refusals::project_fault_words))]
 fn push_project_fault_words(fault: ProjectFault, out: &mut String) -> Result<(), AllocError>
     ensures { OnOk result (string_bytes out.new ≡ string_bytes out.old ++ project_fault_words fault) }
@@ -64,7 +65,8 @@ fn push_edit_fault_name(fault: EditFault, out: &mut String) -> Result<(), AllocE
     }
 }
 
-/// The line of a refused command, as `refused 12 TooManyDatagrams 0`.
+/// Adds the line of a refused command, as `refused 12 TooManyDatagrams 0`. `AllocError` where a growth
+/// was refused; `out` may then have a front of the line.
 #[tactic(auto, unfolding(crate::specs::Refusals::refusal_text))]
 pub fn push_refusal(fault: EditFault, out: &mut String) -> Result<(), AllocError>
     ensures { OnOk result (string_bytes out.new ≡ string_bytes out.old ++ refusal_text fault) }
@@ -83,7 +85,8 @@ pub fn memory_refusal() -> &'static [u8]
     b"refused 14 Memory\n"
 }
 
-/// The line about a line that is no command, as `line 9: bad command`.
+/// Adds the line about a line that is no command, as `line 9: bad command`. `AllocError` where a growth
+/// was refused; `out` may then have a front of the line.
 #[tactic(auto, unfolding(crate::specs::Refusals::bad_command_text))]
 pub fn push_bad_command(number: u32, out: &mut String) -> Result<(), AllocError>
     ensures { OnOk result (string_bytes out.new ≡ string_bytes out.old ++ bad_command_text number) }

@@ -29,8 +29,9 @@ pub fn parse(alloc: Global, name: &[u8], arguments: &[&[u8]]) -> Result<Option<C
 }
 
 /// Carries an edit out and adds what became different, or why it is refused: the plan is then in the
-/// state that the edit leaves. `AllocError` where a growth was refused; the plan is then as it was. The
-/// line is made before the plan is replaced, so a growth refused for it leaves the plan, too.
+/// state that the edit leaves. `AllocError` where a growth was refused; the plan is then as it was, and
+/// `out` may have a front of the line. The line is made before the plan is replaced, so a growth refused
+/// for it leaves the plan, too.
 #[tactic(auto, unfolding(crate::specs::Edits::edit_text))]
 pub fn reply(
     alloc: Global,

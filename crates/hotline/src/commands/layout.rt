@@ -9,7 +9,7 @@ use hc_records::limits::{MOST_DATAGRAMS, TASKS};
 use hc_text::printing::push_address;
 use std::alloc::AllocError;
 
-/// It has no argument.
+/// It has no argument; none where there is one.
 pub fn parse(arguments: &[&[u8]]) -> Option<Command>
     ensures { result ≡ layout_in (map (λ word. word.now) arguments.now) }
 {
@@ -20,7 +20,8 @@ pub fn parse(arguments: &[&[u8]]) -> Option<Command>
     }
 }
 
-/// Adds the epoch, and the datagrams of each task that has one.
+/// Adds the epoch, and the datagrams of each task that has one. `AllocError` where a growth was refused;
+/// `out` may then have a front of them.
 #[tactic(auto, unfolding(crate::specs::Layout::layout_text))]
 pub fn reply(plan: &Plan, out: &mut String) -> Result<(), AllocError>
     ensures { OnOk result (string_bytes out.new ≡ string_bytes out.old ++ layout_text plan.now) }

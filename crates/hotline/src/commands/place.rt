@@ -10,7 +10,8 @@ use hc_records::records::{Dir, VarId};
 use hc_text::numbers::quadruple_byte_in;
 use std::alloc::AllocError;
 
-/// Its argument is the number of a variable.
+/// Its argument is the number of a variable, at most 4,294,967,295; none where it is another, or where
+/// there isn't one argument.
 pub fn parse(arguments: &[&[u8]]) -> Option<Command>
     ensures { result ≡ place_in (map (λ word. word.now) arguments.now) }
 {
@@ -25,7 +26,8 @@ pub fn parse(arguments: &[&[u8]]) -> Option<Command>
 }
 
 /// Adds where the variable with a number stands, or `none` where the line has no place for it; 0 is
-/// no variable's number.
+/// no variable's number. `AllocError` where a growth was refused; `out` may then have a front of the
+/// line.
 #[tactic(auto, unfolding(crate::specs::Place::place_text))]
 pub fn reply(plan: &Plan, number: u32, out: &mut String) -> Result<(), AllocError>
     ensures { OnOk result (string_bytes out.new ≡ string_bytes out.old ++ place_text plan.now number) }

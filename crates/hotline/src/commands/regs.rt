@@ -18,7 +18,8 @@ use std::alloc::AllocError;
 /// The blocks of a slave at most: two for each area.
 const MOST_BLOCKS: u8 = 2 * MOST_AREAS as u8;
 
-/// Its argument is a station address.
+/// Its argument is a station address, at most 65,535; none where it is another, or where there isn't
+/// one argument.
 pub fn parse(arguments: &[&[u8]]) -> Option<Command>
     ensures { result ≡ regs_in (map (λ word. word.now) arguments.now) }
 {
@@ -32,7 +33,8 @@ pub fn parse(arguments: &[&[u8]]) -> Option<Command>
     }
 }
 
-/// Adds the blocks of the slave of the line with the station address, or why there is none.
+/// Adds the blocks of the slave of the line with the station address, or why there is none. `AllocError`
+/// where a growth was refused; `out` may then have a front of them.
 #[tactic(auto, unfolding(crate::specs::Regs::regs_text))]
 pub fn reply(plan: &Plan, station: u16, out: &mut String) -> Result<(), AllocError>
     ensures { OnOk result (string_bytes out.new ≡ string_bytes out.old ++ regs_text plan.now station) }

@@ -21,7 +21,8 @@ use std::alloc::AllocError;
 /// The bytes of the largest frame.
 const LARGEST_FRAME: usize = 1514;
 
-/// Its arguments are a task and the number of a datagram.
+/// Its arguments are a task and the number of a datagram, each at most 255; none where one is another,
+/// or where there aren't two arguments.
 pub fn parse(arguments: &[&[u8]]) -> Option<Command>
     ensures { result ≡ show_in (map (λ word. word.now) arguments.now) }
 {
@@ -37,7 +38,7 @@ pub fn parse(arguments: &[&[u8]]) -> Option<Command>
 }
 
 /// Adds the frame of a datagram, `none` where the task has no such datagram, or the refusal of a task
-/// over 7.
+/// over 7. `AllocError` where a growth was refused; `out` may then have a front of the line.
 #[tactic(auto, unfolding(crate::specs::Show::show_text))]
 pub fn reply(plan: &Plan, task: u8, number: u8, out: &mut String) -> Result<(), AllocError>
     ensures { OnOk result (string_bytes out.new ≡ string_bytes out.old ++ show_text plan.now task number) }
