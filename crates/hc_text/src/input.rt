@@ -4,6 +4,7 @@ ghost use Rattle.hc_text.specs.declared.input.Unread.TheVariants.{TooLong};
 
 use std::alloc::{AllocError, Global};
 use std::io::{ErrorKind, Read};
+use thiserror::Error;
 
 /// The most bytes of an input: project text and commands together.
 pub const MOST_INPUT: usize = 4_194_304;
@@ -15,13 +16,16 @@ const MOST_TURNS: usize = MOST_INPUT + 1;
 const CHUNK: usize = 4096;
 
 /// Why an input was not read.
-#[derive(Clone, Copy, Debug, PartialEq, Eq)]
+#[derive(Clone, Copy, Debug, PartialEq, Eq, Error)]
 pub enum Unread {
     /// It has more bytes than `MOST_INPUT`.
+    #[error("the input is too long")]
     TooLong,
     /// The reader failed for another cause than an interruption, or its end was not found within the turns.
+    #[error("the input cannot be read")]
     Failed,
     /// A growth was refused.
+    #[error("out of memory")]
     Memory,
 }
 

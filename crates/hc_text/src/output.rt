@@ -3,9 +3,11 @@ ghost use Rattle.std.specs.Prelude.{ℕ, take, OnErr, OnOk};
 ghost use Rattle.std.specs.Io.KnownBytes.{Appends};
 
 use std::io::Write;
+use thiserror::Error;
 
 /// A write failed, or took nothing.
-#[derive(Clone, Copy, Debug, PartialEq, Eq)]
+#[derive(Clone, Copy, Debug, PartialEq, Eq, Error)]
+#[error("the output cannot be written")]
 pub struct WriteFailed;
 
 /// Writes all of a text. Where a write fails or takes nothing, a front of the text was written.

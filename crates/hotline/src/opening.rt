@@ -9,15 +9,19 @@ use hc_project::read_project;
 use hc_records::faults::{EditFault, ProjectFault};
 use hc_records::project::Project;
 use std::alloc::{AllocError, Global};
+use thiserror::Error;
 
 /// Why a project isn't opened.
-#[derive(Clone, Copy, Debug, PartialEq, Eq)]
+#[derive(Clone, Copy, Debug, PartialEq, Eq, Error)]
 pub enum Unopened {
     /// The text is no project.
+    #[error("{0}")]
     Project(ProjectFault),
     /// A task of the opening line needs more than 16 datagrams: the lowest such task.
+    #[error("task {0} needs too many datagrams")]
     TooManyDatagrams(u8),
     /// A growth was refused while the plan was made.
+    #[error("out of memory")]
     Memory,
 }
 
