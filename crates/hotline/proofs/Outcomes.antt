@@ -1,6 +1,6 @@
--- The outcome of an input, from where its project opens.
-use Rattle.std.proofs.Common.{◌≡◌, ℕ, ◌≤◌, List, [], length, cond, false, ap, ◌∙◌, Ok, Err}
-use Rattle.std.specs.Prelude.{nat_lt}
+-- The outcome of an input, from where its project opens, and of what a reader had left.
+use Rattle.std.proofs.Common.{◌≡◌, ℕ, ◌≤◌, List, [], length, cond, false, ap, subst, ◌∙◌, Ok, Err, Some, None}
+use Rattle.std.specs.Prelude.{nat_lt, IfSome, Option}
 use Rattle.std.proofs.lemmas.Bool.{le-ltb}
 use Rattle.hc_records.specs.Line.{State}
 use Rattle.hc_text.specs.declared.input.TheConstants.{MOST_INPUT}
@@ -27,3 +27,8 @@ pub unopened_outcome : (input : List ℕ) (fault : Unopened) → length input �
     → outcome_of input ≡ unopened fault
 unfolding outcome_of_lines
 unopened_outcome input fault within opens = lines_outcome input within ∙ ap (λ opening. run_opened opening (command_lines (lines_of input))) opens
+
+-- what holds of the bytes that were read holds of what the reader had left, where that is known
+pub of_known : (remaining : Option (List ℕ)) (Holds : List ℕ → Type 0) (bytes read : List ℕ) → IfSome remaining (λ all. bytes ≡ all) → read ≡ bytes → Holds read → IfSome remaining Holds
+of_known None Holds bytes read same is holds = tt
+of_known (Some all) Holds bytes read same is holds = subst Holds (is ∙ same) holds
