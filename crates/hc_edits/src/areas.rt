@@ -13,7 +13,7 @@ use std::alloc::{AllocError, Global};
 pub enum AreaChange<'a> {
     /// These PDOs are assigned, in this order.
     Pdos(&'a Items<u16>),
-    /// It stands in this task, 0 to 7.
+    /// It stands in this task.
     Task(u8),
 }
 
