@@ -8,7 +8,7 @@ use Rattle.std.proofs.lemmas.List.Kept.{AllPairs-cons}
 use Rattle.hc_records.specs.Keys.{is_before}
 use Rattle.hc_records.specs.TaskList.{Keyed}
 use Rattle.hc_records.specs.Laws.{Ascends}
-use Rattle.hc_records.proofs.Lists.{AllPairs-nil}
+use Rattle.hc_records.proofs.lemmas.Lists.{AllPairs-nil}
 
 abbrev Precedes : Keyed → Keyed → Type 0
 Precedes a b = IsTrue (is_before a.0 b.0)

@@ -9,8 +9,8 @@ use Rattle.hc_records.specs.Packing.{Front, Placed, opening, fits, placed_at, be
 use Rattle.hc_records.specs.Image.{datagram_count}
 use Rattle.hc_records.specs.Boundaries.{later_keys}
 use Rattle.hc_records.specs.Laws.{IsPackable, cuts_from}
-use Rattle.hc_records.proofs.Cuts.{later_keys-cuts, count-later_keys}
-use Rattle.hc_records.proofs.Lengths.{opening-fits}
+use Rattle.hc_records.proofs.lemmas.Cuts.{later_keys-cuts, count-later_keys}
+use Rattle.hc_records.proofs.lemmas.Lengths.{opening-fits}
 use Rattle.hc_cuts.specs.Firsts.{first_keys}
 
 first_by : (fitting : Bool) (rest : List Key) (key : Key) → fitting ≡ true → (if fitting then rest else key ∷ rest) ≡ rest

@@ -1,5 +1,4 @@
 pub mod Ascending
 pub mod Firsts
-pub mod Found
 pub mod Hulls
-pub mod Order
+pub mod lemmas

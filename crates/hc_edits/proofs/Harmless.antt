@@ -14,7 +14,7 @@ use Rattle.hc_records.specs.declared.faults.EditFault.TheVariants.{UnknownStatio
 use Rattle.hc_records.specs.Lists.{has_repeat, lowest, some_pair}
 use Rattle.hc_records.specs.Edits.{area_at, has_unknown, is_declared_station, is_too_big, slave_at}
 use Rattle.hc_records.specs.Project.{area_outside, has_unknown_pdo, is_outside, is_wide, pdo_outside, reach, same_index}
-use Rattle.hc_records.proofs.Projects.{none-holds}
+use Rattle.hc_records.proofs.lemmas.Projects.{none-holds}
 use Rattle.hc_edits.specs.Edits.{own_fault, state_of}
 use Rattle.hc_edits.proofs.Repeats.{no-longer}
 

@@ -17,7 +17,7 @@ use Rattle.hc_records.specs.declared.faults.ProjectFault.TheVariants.{OutOfRange
 use Rattle.hc_records.specs.Lists.{changed_at, has_repeat, lowest, some_pair}
 use Rattle.hc_records.specs.Edits.{groups_after, with_area, with_slaves}
 use Rattle.hc_records.specs.Project.{area_names, has_outside, has_overlap, has_repeated_alias, has_repeated_station, has_repeated_variable, has_unknown_pdo, is_bare, is_misplaced, is_wide, lowest_fault, pdo_names, project_faults, reach, repeats_sync_manager, slave_names, slave_outside, slaves_of, some_area, some_slave}
-use Rattle.hc_records.proofs.Projects.{none-holds}
+use Rattle.hc_records.proofs.lemmas.Projects.{none-holds}
 use Rattle.hc_records.specs.Line.{groups_of}
 use Rattle.hc_edits.specs.Edits.{own_fault}
 use Rattle.hc_edits.proofs.Harmless.{IsHarmless, IsJudged, in_task, move-judged, remap-judged, with_pdos}

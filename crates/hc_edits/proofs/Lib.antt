@@ -1,8 +1,8 @@
 pub mod Changed
 pub mod Harmless
 pub mod Kept
-pub mod Refusals
 pub mod Repeats
 pub mod Same
 pub mod Stations
 pub mod Unharmed
+pub mod lemmas

@@ -10,8 +10,8 @@ use Rattle.hc_records.specs.declared.records.Declared.{Declared}
 use Rattle.hc_records.specs.Lists.{has_repeat}
 use Rattle.hc_records.specs.Line.{Member, is_at, line_from}
 use Rattle.hc_records.specs.Edits.{area_at}
-use Rattle.hc_records.proofs.Lists.{All-append_left, All-append_right, All-from_none, All-unmap}
-use Rattle.hc_records.proofs.Lines.{declared_slaves, line-slaves}
+use Rattle.hc_records.proofs.lemmas.Lists.{All-append_left, All-append_right, All-from_none, All-unmap}
+use Rattle.hc_records.proofs.lemmas.Lines.{declared_slaves, line-slaves}
 use Rattle.hc_edits.specs.Edits.{state_of}
 
 -- a slave is the only one of a list with its station address

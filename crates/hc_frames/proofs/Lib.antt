@@ -1,6 +1,6 @@
 pub mod Filling
 pub mod Lent
-pub mod Opening
 pub mod Results
 pub mod Spelled
 pub mod Steps
+pub mod lemmas

@@ -4,7 +4,7 @@ use Rattle.std.specs.Prelude.{All, Option, Some, None, filter, find, map, not, o
 use Rattle.std.specs.Option.{option_map_or}
 use Rattle.std.specs.List.{list_any}
 use Rattle.std.proofs.lemmas.List.Kept.{AllPairs-filter}
-use Rattle.hc_records.proofs.Lists.{AllPairs-append, AllPairs-map, AllPairs-weaker}
+use Rattle.hc_records.proofs.lemmas.Lists.{AllPairs-append, AllPairs-map, AllPairs-weaker}
 use Rattle.std.proofs.lemmas.Bool.{cond-true, cond-false, eq-eqb, eqb-true, or_right}
 use Rattle.std.proofs.lemmas.Bool.Decides.{nat_tests}
 use Rattle.std.proofs.lemmas.List.Elements.{All-append, All-filter, All-head, All-map, All-nil, All-tail, All-weaker, filter-append, All-cons, filter_passes}

@@ -6,12 +6,12 @@ use Rattle.hc_records.specs.declared.records.Declared.{Declared}
 use Rattle.hc_records.specs.declared.records.Slave.{Slave}
 use Rattle.hc_records.specs.Line.{Member, State, line_from, members_from, present_slaves}
 use Rattle.hc_records.specs.Project.{lowest_fault}
-use Rattle.hc_records.proofs.Ascending.{keys-ascend}
-use Rattle.hc_records.proofs.Lines.{declared_slaves, line-ascends}
-use Rattle.hc_records.proofs.Packable.{project-packable}
-use Rattle.hc_records.proofs.Projects.{project-few}
-use Rattle.hc_records.proofs.Slaves.{IsSlaveInside, line-inside}
-use Rattle.hc_records.proofs.Walks.{length-members_from}
+use Rattle.hc_records.proofs.lemmas.Ascending.{keys-ascend}
+use Rattle.hc_records.proofs.lemmas.Lines.{declared_slaves, line-ascends}
+use Rattle.hc_records.proofs.lemmas.Packable.{project-packable}
+use Rattle.hc_records.proofs.lemmas.Projects.{project-few}
+use Rattle.hc_records.proofs.lemmas.Slaves.{IsSlaveInside, line-inside}
+use Rattle.hc_records.proofs.lemmas.Walks.{length-members_from}
 use Rattle.hc_places.specs.Parts.{IsConfigurable, IsListable}
 use Rattle.hc_places.proofs.Ranks.{counted-expected}
 

@@ -2,16 +2,14 @@ pub mod Changed
 pub mod Configurable
 pub mod Crowded
 pub mod Entries
-pub mod Found
-pub mod Merged
 pub mod Once
 pub mod Order
 pub mod Pairs
 pub mod Ranks
 pub mod Recuts
-pub mod Sorted
 pub mod Spread
 pub mod Swapped
 pub mod Tables
 pub mod Totals
 pub mod Walked
+pub mod lemmas

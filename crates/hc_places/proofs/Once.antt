@@ -21,10 +21,10 @@ use Rattle.hc_records.specs.TaskList.{Listed, belongs, slave_areas, task_areas}
 use Rattle.hc_records.specs.Packing.{Placed}
 use Rattle.hc_records.specs.Image.{area_variables, task_places, task_variables, tasks, variables_from}
 use Rattle.hc_records.specs.Project.{area_names, entry_names, has_unknown_pdo, lowest_fault, pdo_names, same_index, slave_names, slaves_of, some_area}
-use Rattle.hc_records.proofs.Lines.{declared_slaves}
-use Rattle.hc_records.proofs.Lists.{All-flat_map, All-from_none}
-use Rattle.hc_records.proofs.Projects.{project-assigned, project-names}
-use Rattle.hc_records.proofs.Tasks.{listed}
+use Rattle.hc_records.proofs.lemmas.Lines.{declared_slaves}
+use Rattle.hc_records.proofs.lemmas.Lists.{All-flat_map, All-from_none}
+use Rattle.hc_records.proofs.lemmas.Projects.{project-assigned, project-names}
+use Rattle.hc_records.proofs.lemmas.Tasks.{listed}
 use Rattle.hc_places.specs.Table.{Row}
 use Rattle.hc_places.specs.Parts.{row_at}
 use Rattle.hc_places.proofs.Totals.{total, total-append, total-enumerate, total-filter, total-flat_map, total-less, total-map, total-plus, total-same, total-swap, total-within, total-zero, total-zip}

@@ -6,8 +6,8 @@ use Rattle.std.proofs.lemmas.Bool.Decides.{nat_tests}
 use Rattle.hc_records.specs.declared.keys.Key.{Key}
 use Rattle.hc_records.specs.Keys.{same_key, is_before}
 use Rattle.hc_records.specs.Packing.{Placed}
-use Rattle.hc_cuts.proofs.Found.{kept, find-reached}
-use Rattle.hc_cuts.proofs.Order.{keys-parted, find-key}
+use Rattle.hc_cuts.proofs.lemmas.Found.{kept, find-reached}
+use Rattle.hc_cuts.proofs.lemmas.Order.{keys-parted, find-key}
 use Rattle.hc_places.specs.Layout.{AreInOrder}
 use Rattle.hc_places.specs.Table.{Row}
 

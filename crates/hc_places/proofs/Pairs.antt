@@ -6,8 +6,8 @@ use Rattle.hc_records.specs.Area.{width}
 use Rattle.hc_records.specs.TaskList.{Keyed, Listed, keyed}
 use Rattle.hc_records.specs.Packing.{Placed}
 use Rattle.hc_records.specs.Image.{datagram_count}
-use Rattle.hc_records.proofs.Greatest.{greatest-all}
-use Rattle.hc_records.proofs.Packed.{area_of}
+use Rattle.hc_records.proofs.lemmas.Greatest.{greatest-all}
+use Rattle.hc_records.proofs.lemmas.Packed.{area_of}
 use Rattle.hc_places.specs.Parts.{AreSendable}
 
 head-same : {X : Type 0} (x y : X) (xs ys : List X) → x ∷ xs ≡ y ∷ ys → x ≡ y

@@ -12,11 +12,11 @@ use Rattle.hc_records.specs.TaskList.{Keyed, belongs, keyed, task_list}
 use Rattle.hc_records.specs.Packing.{Placed, opening, packed}
 use Rattle.hc_records.specs.Image.{counter_share, expected_counter, inside, task_places}
 use Rattle.hc_records.specs.Laws.{Ascends}
-use Rattle.hc_records.proofs.Lists.{All-unmap, AllPairs-head, AllPairs-map, AllPairs-nil, AllPairs-tail}
-use Rattle.hc_records.proofs.Lines.{RanksBelow}
-use Rattle.hc_records.proofs.Packed.{area_of, packed-areas}
-use Rattle.hc_records.proofs.Tasks.{listed, task-list-all}
-use Rattle.hc_registers.proofs.Counting.{ascending-counted}
+use Rattle.hc_records.proofs.lemmas.Lists.{All-unmap, AllPairs-head, AllPairs-map, AllPairs-nil, AllPairs-tail}
+use Rattle.hc_records.proofs.lemmas.Lines.{RanksBelow}
+use Rattle.hc_records.proofs.lemmas.Packed.{area_of, packed-areas}
+use Rattle.hc_records.proofs.lemmas.Tasks.{listed, task-list-all}
+use Rattle.hc_registers.proofs.lemmas.Counting.{ascending-counted}
 use Rattle.hc_places.specs.Layout.{AreInOrder}
 use Rattle.hc_places.specs.Parts.{counted_inside, keys_inside}
 

@@ -15,8 +15,8 @@ use Rattle.hc_records.specs.Line.{Member}
 use Rattle.hc_records.specs.TaskList.{belongs, slave_areas, task_areas, task_list}
 use Rattle.hc_records.specs.Packing.{opening}
 use Rattle.hc_records.specs.Image.{datagram_count, datagram_length, datagram_offset, logical_address, task_places}
-use Rattle.hc_records.proofs.Inside.{packed-inside}
-use Rattle.hc_records.proofs.Tasks.{listed}
+use Rattle.hc_records.proofs.lemmas.Inside.{packed-inside}
+use Rattle.hc_records.proofs.lemmas.Tasks.{listed}
 use Rattle.hc_places.specs.declared.table.Datagram.{Datagram}
 use Rattle.hc_places.specs.Table.{datagram_of, task_table}
 use Rattle.hc_places.specs.Parts.{AreSendable, IsConfigurable, IsListable, datagram_at, table_at}

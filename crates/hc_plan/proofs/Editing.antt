@@ -10,7 +10,7 @@ use Rattle.hc_records.specs.Edits.{changed, crowded_task, edited, groups_after, 
 use Rattle.hc_records.specs.Line.{State, line}
 use Rattle.hc_records.specs.Lists.{lowest}
 use Rattle.hc_edits.specs.Edits.{own_fault}
-use Rattle.hc_edits.proofs.Refusals.{line-decides, line_faults}
+use Rattle.hc_edits.proofs.lemmas.Refusals.{line-decides, line_faults}
 
 -- an edit's own fault, judged over a slice of the groups
 pub judged : (slice groups : List Declared) (edit : Edit) (found : Option EditFault) → slice ≡ groups → found ≡ own_fault slice edit

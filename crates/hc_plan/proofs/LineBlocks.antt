@@ -12,12 +12,12 @@ use Rattle.hc_records.specs.declared.records.Declared.{Declared}
 use Rattle.hc_records.specs.declared.keys.Key.{Key}
 use Rattle.hc_records.specs.Line.{Member, is_at, line_from}
 use Rattle.hc_records.specs.Packing.{Placed}
-use Rattle.hc_records.proofs.Slaves.{project-counted}
-use Rattle.hc_records.proofs.Walks.{get-back, get-front, length-line}
+use Rattle.hc_records.proofs.lemmas.Slaves.{project-counted}
+use Rattle.hc_records.proofs.lemmas.Walks.{get-back, get-front, length-line}
 use Rattle.hc_registers.specs.declared.fmmu.Mapping.{Mapping}
 use Rattle.hc_registers.specs.Blocks.{LineBlock, RegisterBlock, area_blocks, line_blocks, member_blocks, moved_blocks, same_block, slave_blocks, sync_manager_block, fmmu_block, mapping_at, mapping_of}
 use Rattle.hc_places.specs.Layout.{placed_in}
-use Rattle.hc_places.proofs.Found.{find-holds}
+use Rattle.hc_places.proofs.lemmas.Found.{find-holds}
 use Rattle.hc_plan.specs.Blocks.{IsLaidOut, IsMappedSlave, area_blocks_in, fmmu_block_in, mapping_in, slave_blocks_in}
 use Rattle.hc_plan.specs.Configuration.{at_station, block_at, line_block_at}
 use Rattle.hc_plan.proofs.Mapped.{placed-in-line, slave-mapped}

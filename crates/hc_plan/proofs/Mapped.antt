@@ -19,19 +19,19 @@ use Rattle.hc_records.specs.Image.{datagram_count, task_places, tasks}
 use Rattle.hc_records.specs.Edits.{crowded_task}
 use Rattle.hc_records.specs.Project.{lowest_fault}
 use Rattle.hc_records.specs.Laws.{IsPackable, LiesInside}
-use Rattle.hc_records.proofs.Greatest.{greatest-all}
-use Rattle.hc_records.proofs.Inside.{packed-inside}
-use Rattle.hc_records.proofs.Lines.{RanksBelow, line-ascends}
-use Rattle.hc_records.proofs.Lists.{All-unmap}
-use Rattle.hc_records.proofs.Packable.{project-packable}
-use Rattle.hc_records.proofs.Packed.{area_of, packed-areas}
-use Rattle.hc_records.proofs.Slaves.{IsAreaInside, IsSlaveInside, line-inside}
-use Rattle.hc_records.proofs.Tasks.{task-list-all}
+use Rattle.hc_records.proofs.lemmas.Greatest.{greatest-all}
+use Rattle.hc_records.proofs.lemmas.Inside.{packed-inside}
+use Rattle.hc_records.proofs.lemmas.Lines.{RanksBelow, line-ascends}
+use Rattle.hc_records.proofs.lemmas.Lists.{All-unmap}
+use Rattle.hc_records.proofs.lemmas.Packable.{project-packable}
+use Rattle.hc_records.proofs.lemmas.Packed.{area_of, packed-areas}
+use Rattle.hc_records.proofs.lemmas.Slaves.{IsAreaInside, IsSlaveInside, line-inside}
+use Rattle.hc_records.proofs.lemmas.Tasks.{task-list-all}
 use Rattle.hc_registers.specs.declared.fmmu.Mapping.{Mapping}
 use Rattle.hc_registers.specs.Blocks.{IsMappable, mapping_at}
 use Rattle.hc_places.specs.Layout.{layout_of, placed_in}
-use Rattle.hc_places.proofs.Found.{find-holds}
-use Rattle.hc_places.proofs.Merged.{same-dirs}
+use Rattle.hc_places.proofs.lemmas.Found.{find-holds}
+use Rattle.hc_places.proofs.lemmas.Merged.{same-dirs}
 use Rattle.hc_plan.specs.Blocks.{IsMappedArea, IsMappedSlave}
 use Rattle.hc_plan.proofs.Numbered.{numbered-get}
 

@@ -7,7 +7,7 @@ use Rattle.hc_records.specs.Keys.{is_turn}
 use Rattle.hc_records.specs.TaskList.{Keyed}
 use Rattle.hc_records.specs.Packing.{Front, next_byte, fits, placed_at, behind, packed}
 use Rattle.hc_records.specs.Laws.{BeginsByte}
-use Rattle.hc_records.proofs.Packed.{place}
+use Rattle.hc_records.proofs.lemmas.Packed.{place}
 
 -- the border at or behind a bit is a multiple of 8
 begins_at : (wide turn : Bool) (bits bit : ℕ) → nat_le 8 bits ≡ wide → 8 ≤ bits → (if wide || turn then next_byte bit else bit) % 8 ≡ 0

@@ -7,11 +7,11 @@ use Rattle.hc_records.specs.Packing.{Front, Placed, opening, fits, placed_at, be
 use Rattle.hc_records.specs.Image.{datagram_count}
 use Rattle.hc_records.specs.Boundaries.{begins_later}
 use Rattle.hc_records.specs.Laws.{IsPackable, front_after, raised}
-use Rattle.hc_records.proofs.Packed.{place, packed-append}
+use Rattle.hc_records.proofs.lemmas.Packed.{place, packed-append}
 use Rattle.hc_records.proofs.Counts.{count-front_after}
-use Rattle.hc_records.proofs.Cuts.{IsBegun, front_after-IsBegun, fitting-begins}
-use Rattle.hc_records.proofs.Lengths.{opening-beginning, opening-fits}
-use Rattle.hc_records.proofs.Lists.{All-append_left, All-append_right}
+use Rattle.hc_records.proofs.lemmas.Cuts.{IsBegun, front_after-IsBegun, fitting-begins}
+use Rattle.hc_records.proofs.lemmas.Lengths.{opening-beginning, opening-fits}
+use Rattle.hc_records.proofs.lemmas.Lists.{All-append_left, All-append_right}
 
 -- a front with so many more datagrams before it
 abbrev raised_front : ℕ → Front → Front

@@ -7,7 +7,7 @@ use Rattle.hc_records.specs.Keys.{is_turn}
 use Rattle.hc_records.specs.TaskList.{Keyed}
 use Rattle.hc_records.specs.Packing.{Front, Placed, next_byte, beginning, fits, placed_at, behind, packed}
 use Rattle.hc_records.specs.Laws.{StandsBefore}
-use Rattle.hc_records.proofs.Packed.{place}
+use Rattle.hc_records.proofs.lemmas.Packed.{place}
 
 begins_by : (aligned : Bool) (bit : ℕ) → bit ≤ (if aligned then next_byte bit else bit)
 begins_by true bit = omega arith

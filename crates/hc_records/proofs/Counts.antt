@@ -5,8 +5,8 @@ use Rattle.hc_records.specs.TaskList.{Keyed}
 use Rattle.hc_records.specs.Packing.{Front, Placed, opening, fits, placed_at, behind, packed}
 use Rattle.hc_records.specs.Image.{datagram_count}
 use Rattle.hc_records.specs.Laws.{front_after}
-use Rattle.hc_records.proofs.Greatest.{greatest}
-use Rattle.hc_records.proofs.Packed.{place}
+use Rattle.hc_records.proofs.lemmas.Greatest.{greatest}
+use Rattle.hc_records.proofs.lemmas.Packed.{place}
 
 -- behind a datagram's number
 abbrev number_behind : Placed → ℕ

@@ -8,7 +8,7 @@ use Rattle.hc_records.specs.declared.keys.Key.{Key}
 use Rattle.hc_records.specs.Keys.{same_key}
 use Rattle.hc_records.specs.TaskList.{Keyed}
 use Rattle.hc_records.specs.Boundaries.{Interval, boundaries, is_touched, touched, width_in, is_settled, unsettled_spans}
-use Rattle.hc_records.proofs.KeyOrder.{same_key-refl}
+use Rattle.hc_records.proofs.lemmas.KeyOrder.{same_key-refl}
 
 -- a test that no element passes keeps none
 filter_none : {X : Type 0} (test : X → Bool) (xs : List X) → ((x : X) → test x ≡ false) → filter test xs ≡ []

@@ -12,7 +12,7 @@ use Rattle.hc_records.specs.Keys.{same_dir, same_key, is_before, is_within}
 use Rattle.hc_records.specs.TaskList.{Keyed}
 use Rattle.hc_records.specs.Boundaries.{Interval, later_keys, boundaries, is_touched, touched, widened, hull, meets_hull, is_settled, unsettled_spans}
 use Rattle.hc_records.specs.Laws.{LiesBetween}
-use Rattle.hc_records.proofs.KeyOrder.{same_dir-refl, within-trans, within-total, within-from_before, within-refl}
+use Rattle.hc_records.proofs.lemmas.KeyOrder.{same_dir-refl, within-trans, within-total, within-from_before, within-refl}
 
 -- a key lies in an interval
 record IsIn (key : Key) (interval : Interval) : Type 0 where

@@ -8,8 +8,8 @@ use Rattle.hc_records.specs.TaskList.{Keyed}
 use Rattle.hc_records.specs.Packing.{Front, opening, fits, placed_at, behind}
 use Rattle.hc_records.specs.Boundaries.{later_keys, width_in}
 use Rattle.hc_records.specs.Laws.{IsPackable, cuts_from}
-use Rattle.hc_records.proofs.KeyOrder.{same_key-refl}
-use Rattle.hc_records.proofs.Cuts.{later_keys-cuts}
+use Rattle.hc_records.proofs.lemmas.KeyOrder.{same_key-refl}
+use Rattle.hc_records.proofs.lemmas.Cuts.{later_keys-cuts}
 
 -- the area's own width where it has the key, and else that of the areas behind it
 width_in-cons : (same : Bool) (area : Keyed) (areas : List Keyed) (key : Key) → same_key area.0 key ≡ same → 0 < area.1 →

@@ -12,11 +12,11 @@ use Rattle.hc_records.specs.Laws.{IsDatagramLength}
 use Rattle.hc_records.specs.Line.{State, line}
 use Rattle.hc_records.specs.Project.{lowest_fault}
 use Rattle.hc_records.specs.TaskList.{task_list}
-use Rattle.hc_records.proofs.Lengths.{length-sendable}
-use Rattle.hc_records.proofs.Packable.{project-packable}
+use Rattle.hc_records.proofs.lemmas.Lengths.{length-sendable}
+use Rattle.hc_records.proofs.lemmas.Packable.{project-packable}
 use Rattle.hc_frames.specs.FrameText.{blank_lrw, datagram_text, frame_head, frame_text, padding}
 use Rattle.hc_frames.specs.Sizes.{frame_size}
-use Rattle.hc_frames.proofs.Opening.{blank_length}
+use Rattle.hc_frames.proofs.lemmas.Opening.{blank_length}
 use Rattle.hc_places.specs.declared.table.Datagram.{Datagram}
 use Rattle.hc_places.specs.Table.{TaskTable, datagram_in, datagram_of, task_table}
 use Rattle.hc_plan.specs.Configuration.{config}

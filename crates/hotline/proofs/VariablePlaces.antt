@@ -6,7 +6,7 @@ use Rattle.hc_records.specs.Image.{task_variables, tasks, variable_place}
 use Rattle.hc_records.specs.Line.{Member}
 use Rattle.hc_records.specs.Variables.{variable_of}
 use Rattle.hc_places.specs.Table.{Row, place_in, table_of}
-use Rattle.hc_places.proofs.Sorted.{find-by_number}
+use Rattle.hc_places.proofs.lemmas.Sorted.{find-by_number}
 use Rattle.hotline.specs.Place.{numbered_place}
 
 pub variable_found : (line : List Member) (number variable : ℕ) → Some variable ≡ variable_of number → place_in (table_of line) variable ≡ numbered_place number line

@@ -1,7 +1,7 @@
 use Rattle.std.proofs.Common.{◌≤◌, length, arith}
 use Rattle.hc_records.specs.Packing.{opening, packed}
 use Rattle.hc_records.specs.Image.{datagram_count}
-use Rattle.hc_records.proofs.Least.{packing-least}
+use Rattle.hc_records.proofs.lemmas.Least.{packing-least}
 use Rattle.hc_cuts.proofs.laws.crowded_has_no_cut.Goals as goal
 
 pub returns : goal.returns

@@ -1,7 +1,7 @@
 use Rattle.std.proofs.Common.{rules, tests}
 use Rattle.std.proofs.lemmas.List.Sorted.{IsPartitionPoint-from_clause}
 use Rattle.hc_records.specs.Keys.{is_before}
-use Rattle.hc_cuts.proofs.Order.{keys-parted}
+use Rattle.hc_cuts.proofs.lemmas.Order.{keys-parted}
 use Rattle.hc_cuts.proofs.settled.count_before.Goals as goal
 
 pub returns : goal.returns

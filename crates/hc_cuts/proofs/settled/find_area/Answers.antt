@@ -2,7 +2,7 @@ use Rattle.std.proofs.Common.{sym, ◌∙◌, refl, arith}
 use Rattle.std.specs.Prelude.{Some, None}
 use Rattle.std.proofs.lemmas.Option.{gets}
 use Rattle.std.proofs.lemmas.Grind.{common_steps}
-use Rattle.hc_cuts.proofs.Order.{find-key}
+use Rattle.hc_cuts.proofs.lemmas.Order.{find-key}
 use Rattle.hc_cuts.proofs.settled.find_area.Goals as goal
 
 pub returns-in_err-area : goal.returns-in_err-area

@@ -1,4 +1,4 @@
-use Rattle.hc_records.proofs.Slaves.{project-counted}
+use Rattle.hc_records.proofs.lemmas.Slaves.{project-counted}
 use Rattle.hc_edits.proofs.tests.edited.Goals as goal
 
 pub own_fault-requires : goal.own_fault-requires

@@ -2,7 +2,7 @@ use Rattle.std.proofs.Common.{◌≡◌, ◌++◌, drop}
 use Rattle.std.specs.Prelude.{filter, map}
 use Rattle.std.specs.List.{enumerate_from}
 use Rattle.hc_records.specs.TaskList.{belongs, slave_areas}
-use Rattle.hc_records.proofs.Tasks.{listed}
+use Rattle.hc_records.proofs.lemmas.Tasks.{listed}
 use Rattle.hc_places.proofs.areas.add_slave_areas.Given as goal
 
 -- the areas so far, and those of what is left, are all

@@ -4,11 +4,11 @@ use Rattle.std.proofs.lemmas.List.Elements.{All-map, All-same}
 use Rattle.hc_records.specs.Image.{task_places, task_variables, tasks}
 use Rattle.hc_records.specs.TaskList.{task_list}
 use Rattle.hc_records.specs.Line.{Member, line_from}
-use Rattle.hc_records.proofs.Slaves.{project-counted}
+use Rattle.hc_records.proofs.lemmas.Slaves.{project-counted}
 use Rattle.hc_places.specs.Layout.{AreInOrder, layout_of}
 use Rattle.hc_places.proofs.Configurable.{project-configurable}
 use Rattle.hc_places.proofs.Ranks.{places-in-order}
-use Rattle.hc_places.proofs.Sorted.{rows-ascend}
+use Rattle.hc_places.proofs.lemmas.Sorted.{rows-ascend}
 use Rattle.hc_places.proofs.configure.configure.Goals as goal
 
 pub line_of-requires : goal.line_of-requires

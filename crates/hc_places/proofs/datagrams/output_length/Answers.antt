@@ -6,9 +6,9 @@ use Rattle.hc_records.specs.Keys.{same_dir}
 use Rattle.hc_records.specs.Packing.{Placed}
 use Rattle.hc_records.specs.Image.{datagram_count, datagram_offset, first_byte, image_length}
 use Rattle.hc_records.specs.Laws.{LiesInside}
-use Rattle.hc_records.proofs.Greatest.{greatest-all}
-use Rattle.hc_records.proofs.Parts.{EndsInDatagram, ends-in-datagram, offset-le}
-use Rattle.hc_places.proofs.Found.{find-holds}
+use Rattle.hc_records.proofs.lemmas.Greatest.{greatest-all}
+use Rattle.hc_records.proofs.lemmas.Parts.{EndsInDatagram, ends-in-datagram, offset-le}
+use Rattle.hc_places.proofs.lemmas.Found.{find-holds}
 use Rattle.hc_places.proofs.datagrams.output_length.Goals as goal
 
 -- the first input stands in one of the datagrams

@@ -3,7 +3,7 @@ use Rattle.std.specs.Prelude.{option_map}
 use Rattle.std.specs.List.{flat_map}
 use Rattle.hc_records.specs.Image.{task_variables, tasks}
 use Rattle.hc_places.specs.Table.{Row}
-use Rattle.hc_places.proofs.Sorted.{find-by_number}
+use Rattle.hc_places.proofs.lemmas.Sorted.{find-by_number}
 use Rattle.hc_places.proofs.laws.tables_have_places.Goals as goal
 
 pub returns : goal.returns

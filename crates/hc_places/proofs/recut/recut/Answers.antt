@@ -1,5 +1,5 @@
 use Rattle.std.proofs.Common.{◌∙◌}
-use Rattle.hc_records.proofs.Slaves.{project-counted}
+use Rattle.hc_records.proofs.lemmas.Slaves.{project-counted}
 use Rattle.hc_places.proofs.Configurable.{project-configurable}
 use Rattle.hc_places.proofs.recut.recut.Goals as goal
 

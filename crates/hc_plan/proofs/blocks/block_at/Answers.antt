@@ -1,5 +1,5 @@
 use Rattle.std.proofs.Common.{◌∙◌, sym}
-use Rattle.hc_records.proofs.Slaves.{project-counted}
+use Rattle.hc_records.proofs.lemmas.Slaves.{project-counted}
 use Rattle.hc_plan.proofs.LineBlocks.{found-block, found-mapped}
 use Rattle.hc_plan.proofs.blocks.block_at.Goals as goal
 

@@ -2,7 +2,7 @@ use Rattle.std.proofs.Common.{◌≡◌, ◌≤◌, ◌<◌, ◌+◌, ◌-◌, �
 use Rattle.std.specs.List.{flat_map}
 use Rattle.hc_records.specs.Line.{Member, line_from}
 use Rattle.hc_registers.specs.Blocks.{member_blocks}
-use Rattle.hc_records.proofs.Slaves.{project-counted}
+use Rattle.hc_records.proofs.lemmas.Slaves.{project-counted}
 use Rattle.hc_plan.proofs.LineBlocks.{Met, drop-past, met-count, met-early, met-mapped, nth-mapped}
 use Rattle.hc_plan.proofs.blocks.count_blocks.Goals as goal
 

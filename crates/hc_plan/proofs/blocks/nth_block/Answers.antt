@@ -4,7 +4,7 @@ use Rattle.std.specs.List.{flat_map}
 use Rattle.hc_records.specs.declared.records.Slave.{Slave}
 use Rattle.hc_records.specs.Line.{Member, line_from}
 use Rattle.hc_registers.specs.Blocks.{LineBlock, member_blocks}
-use Rattle.hc_records.proofs.Slaves.{project-counted}
+use Rattle.hc_records.proofs.lemmas.Slaves.{project-counted}
 use Rattle.hc_plan.specs.Configuration.{at_station}
 use Rattle.hc_plan.proofs.LineBlocks.{Met, drop-past, met-behind, met-early, met-here, nth-mapped}
 use Rattle.hc_plan.proofs.blocks.nth_block.Goals as goal

@@ -4,7 +4,7 @@ use Rattle.std.specs.List.{flat_map}
 use Rattle.std.proofs.lemmas.Option.{slice_get-get_or}
 use Rattle.hc_records.specs.declared.records.Slave.{Slave}
 use Rattle.hc_records.specs.Line.{Member, is_at, line_from}
-use Rattle.hc_records.proofs.Slaves.{project-counted}
+use Rattle.hc_records.proofs.lemmas.Slaves.{project-counted}
 use Rattle.hc_registers.specs.Blocks.{LineBlock, numbered}
 use Rattle.hc_plan.specs.Moved.{moved_in, moved_of}
 use Rattle.hc_plan.specs.Blocks.{slave_blocks_in}

@@ -1,5 +1,5 @@
 use Rattle.hc_records.specs.Packing.{opening}
-use Rattle.hc_records.proofs.Inside.{packed-inside}
+use Rattle.hc_records.proofs.lemmas.Inside.{packed-inside}
 use Rattle.hc_records.proofs.laws.areas_lie_inside.Goals as goal
 
 pub returns : goal.returns

@@ -1,4 +1,4 @@
-use Rattle.hc_records.proofs.Lengths.{length-sendable}
+use Rattle.hc_records.proofs.lemmas.Lengths.{length-sendable}
 use Rattle.hc_records.proofs.laws.datagrams_are_sendable.Goals as goal
 
 pub returns : goal.returns

@@ -1,4 +1,4 @@
-use Rattle.hc_records.proofs.Ascending.{keys-above-start}
+use Rattle.hc_records.proofs.lemmas.Ascending.{keys-above-start}
 use Rattle.hc_records.proofs.laws.keys_lie_above_start.Goals as goal
 
 pub returns : goal.returns

@@ -1,4 +1,4 @@
-use Rattle.hc_records.proofs.Least.{packing-least}
+use Rattle.hc_records.proofs.lemmas.Least.{packing-least}
 use Rattle.hc_records.proofs.laws.packing_is_least.Goals as goal
 
 pub returns : goal.returns

@@ -1,7 +1,7 @@
 use Rattle.std.proofs.Common.{◌∙◌, sym, ap}
 use Rattle.std.specs.Prelude.{option_and_then, slice_get}
 use Rattle.hc_records.specs.Line.{is_at, line_from}
-use Rattle.hc_records.proofs.Walks.{find-position, position-first}
+use Rattle.hc_records.proofs.lemmas.Walks.{find-position, position-first}
 use Rattle.hc_records.proofs.line.member_at.Goals as goal
 
 pub returns-in-Some : goal.returns-in-Some

@@ -3,7 +3,7 @@ use Rattle.std.specs.Prelude.{sum_by}
 use Rattle.std.specs.List.{position_from}
 use Rattle.hc_records.specs.declared.records.Declared.{Declared}
 use Rattle.hc_records.specs.Line.{is_at, line_from}
-use Rattle.hc_records.proofs.Walks.{Met, index-here, index-behind, met-counts, met-steps, position-first}
+use Rattle.hc_records.proofs.lemmas.Walks.{Met, index-here, index-behind, met-counts, met-steps, position-first}
 use Rattle.hc_records.proofs.line.member_index.Goals as goal
 
 pub loop-declared-init : goal.loop-declared-init

@@ -1,7 +1,7 @@
 use Rattle.std.proofs.Common.{◌+◌, ◌∙◌, length, drop, sym, refl, arith}
 use Rattle.std.proofs.lemmas.Grind.{common_steps}
 use Rattle.hc_records.specs.Line.{line_from}
-use Rattle.hc_records.proofs.Walks.{met-steps, nth-here, nth-behind}
+use Rattle.hc_records.proofs.lemmas.Walks.{met-steps, nth-here, nth-behind}
 use Rattle.hc_records.proofs.line.nth_member.Goals as goal
 
 pub returns-then-left-slaves : goal.returns-then-left-slaves

@@ -28,7 +28,7 @@ use types.Match.{live}
 use types.Run.{first, branches, skips, exec, returns_within}
 use types.Tokens.{name_done}
 use Rattle.hc_frames.proofs.Lent.{part_lent, lends_part}
-use Rattle.hc_frames.proofs.Opening.{frame_rest, frame_opens, head_cut}
+use Rattle.hc_frames.proofs.lemmas.Opening.{frame_rest, frame_opens, head_cut}
 use Rattle.hc_frames.proofs.Results.{makes_ok, makes_err, says_three}
 use Rattle.hc_frames.specs.FrameText.{frame_text, frame_head, blank_lrw}
 use Rattle.hc_frames.specs.Sizes.{ShareFrame, datagrams_size, frame_bytes}

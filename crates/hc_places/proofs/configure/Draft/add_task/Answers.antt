@@ -2,7 +2,7 @@ use Rattle.std.proofs.Common.{◌∙◌, ap, sym}
 use Rattle.std.specs.Prelude.{map}
 use Rattle.hc_records.specs.TaskList.{keyed}
 use Rattle.hc_records.specs.Packing.{opening, packed}
-use Rattle.hc_records.proofs.Packed.{packed-areas}
+use Rattle.hc_records.proofs.lemmas.Packed.{packed-areas}
 use Rattle.hc_places.proofs.Tables.{areas-few, places-sendable}
 use Rattle.hc_places.proofs.configure.Draft.add_task.Goals as goal
 

@@ -4,7 +4,7 @@ use Rattle.hc_records.specs.declared.limits.TheConstants.{MOST_AREA_BITS}
 use Rattle.hc_records.specs.Area.{width}
 use Rattle.hc_records.specs.Laws.{IsPackable}
 use Rattle.hc_records.specs.TaskList.{Listed, keyed, task_areas}
-use Rattle.hc_records.proofs.Lists.{All-unmap}
+use Rattle.hc_records.proofs.lemmas.Lists.{All-unmap}
 use Rattle.hc_places.proofs.recut.Folded.of.Goals as goal
 
 pub keyed_areas-requires : goal.keyed_areas-requires

@@ -10,8 +10,8 @@ use Rattle.hc_records.specs.Line.{IsCounted, State, line_from}
 use Rattle.hc_records.specs.Project.{lowest_fault}
 use Rattle.hc_places.specs.Layout.{layout_of}
 use Rattle.hc_places.specs.Table.{table_of}
-use Rattle.hc_records.proofs.Slaves.{project-counted}
-use Rattle.hc_edits.proofs.Refusals.{own-refuses}
+use Rattle.hc_records.proofs.lemmas.Slaves.{project-counted}
+use Rattle.hc_edits.proofs.lemmas.Refusals.{own-refuses}
 use Rattle.hc_plan.proofs.Editing.{accepted, after, crowded-refused, judged, spent-refused}
 use Rattle.hc_plan.proofs.plan.Plan.edited.Goals as goal
 

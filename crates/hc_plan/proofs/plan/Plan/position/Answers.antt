@@ -1,6 +1,6 @@
 use Rattle.std.proofs.Common.{sym, subst}
 use Rattle.hc_records.specs.Line.{IsCounted}
-use Rattle.hc_records.proofs.Slaves.{project-counted}
+use Rattle.hc_records.proofs.lemmas.Slaves.{project-counted}
 use Rattle.hc_plan.proofs.plan.Plan.position.Goals as goal
 
 pub member_index-requires : goal.member_index-requires

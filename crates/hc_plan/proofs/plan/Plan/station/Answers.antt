@@ -1,6 +1,6 @@
 use Rattle.std.proofs.Common.{sym, subst}
 use Rattle.hc_records.specs.Line.{IsCounted}
-use Rattle.hc_records.proofs.Slaves.{project-counted}
+use Rattle.hc_records.proofs.lemmas.Slaves.{project-counted}
 use Rattle.hc_plan.proofs.plan.Plan.station.Goals as goal
 
 pub nth_member-requires : goal.nth_member-requires

@@ -25,7 +25,7 @@ use types.Kit.{updating, now, by, fpack, feq_i, fpick, fsplit3, feq_l, flt_l}
 use types.Match.{live}
 use types.Run.{first, branches, skips, exec, returns_within}
 use types.Tokens.{name_done}
-use Rattle.hc_frames.proofs.Opening.{none_left, some_left, first_fits, first_text, open_rest}
+use Rattle.hc_frames.proofs.lemmas.Opening.{none_left, some_left, first_fits, first_text, open_rest}
 use Rattle.hc_frames.proofs.Lent.{part_lent, lends_part, both_through}
 use Rattle.hc_frames.proofs.Spelled.{datagram_cut}
 use Rattle.hc_frames.specs.FrameText.{datagram_head, datagram_text, lrw}

@@ -11,8 +11,8 @@ use Rattle.hc_records.specs.TaskList.{Keyed}
 use Rattle.hc_records.specs.Packing.{Front, opening, next_byte, beginning, fits, placed_at, behind, packed}
 use Rattle.hc_records.specs.Image.{datagram_count}
 use Rattle.hc_records.specs.Laws.{FitsOneDatagram, front_after, cuts_from}
-use Rattle.hc_records.proofs.Packed.{place}
-use Rattle.hc_records.proofs.Cuts.{count-cuts}
+use Rattle.hc_records.proofs.lemmas.Packed.{place}
+use Rattle.hc_records.proofs.lemmas.Cuts.{count-cuts}
 
 -- how many more datagrams begin
 abbrev cut_count : Front → List Keyed → ℕ

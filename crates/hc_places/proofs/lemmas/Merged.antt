@@ -8,7 +8,7 @@ use Rattle.hc_records.specs.declared.records.Dir.{Dir}
 use Rattle.hc_records.specs.declared.records.Dir.TheVariants.{Out, In}
 use Rattle.hc_records.specs.Keys.{same_dir}
 use Rattle.hc_records.specs.Image.{VariablePlace}
-use Rattle.hc_records.proofs.KeyOrder.{same_dir-refl}
+use Rattle.hc_records.proofs.lemmas.KeyOrder.{same_dir-refl}
 use Rattle.hc_places.specs.Table.{Row, RowsAscend, Table, TaskTable}
 use Rattle.hc_places.specs.Swap.{Change, ChangedRow, ChangesAscend, merged, new_row, same_found, same_place, swapped, with_changed}
 use Rattle.hc_places.specs.Walk.{changes, merges, walked}

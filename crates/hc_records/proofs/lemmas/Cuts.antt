@@ -9,7 +9,7 @@ use Rattle.hc_records.specs.Packing.{Front, Placed, opening, beginning, fits, pl
 use Rattle.hc_records.specs.Image.{datagram_count}
 use Rattle.hc_records.specs.Boundaries.{begins_later, later_keys}
 use Rattle.hc_records.specs.Laws.{IsPackable, front_after, cuts_from}
-use Rattle.hc_records.proofs.Packed.{place}
+use Rattle.hc_records.proofs.lemmas.Packed.{place}
 use Rattle.hc_records.proofs.Apart.{beginning-behind}
 use Rattle.hc_records.proofs.Counts.{count-front_after}
 

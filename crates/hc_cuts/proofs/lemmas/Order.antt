@@ -8,7 +8,7 @@ use Rattle.hc_records.specs.declared.records.Dir.{Dir}
 use Rattle.hc_records.specs.declared.records.Dir.TheVariants.{Out, In}
 use Rattle.hc_records.specs.declared.keys.Key.{Key}
 use Rattle.hc_records.specs.Keys.{same_key, is_before}
-use Rattle.hc_cuts.proofs.Found.{kept, find-reached}
+use Rattle.hc_cuts.proofs.lemmas.Found.{kept, find-reached}
 
 abbrev is_below : ℕ → ℕ → ℕ → ℕ → Bool
 is_below r a s b = nat_lt r s || ((r == s) && nat_lt a b)

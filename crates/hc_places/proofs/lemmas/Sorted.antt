@@ -7,7 +7,7 @@ use Rattle.std.proofs.lemmas.List.Elements.{All-nil, All-cons, All-head, All-tai
 use Rattle.std.specs.List.Sorted.{ties, IsNonDecreasingBy, IsStableByKey}
 use Rattle.hc_records.specs.declared.records.Dir.TheVariants.{Out}
 use Rattle.std.proofs.lemmas.List.Kept.{AllPairs-cons}
-use Rattle.hc_records.proofs.Lists.{AllPairs-nil}
+use Rattle.hc_records.proofs.lemmas.Lists.{AllPairs-nil}
 use Rattle.hc_places.specs.Table.{Row, RowsAscend, by_number, put}
 use Rattle.hc_records.specs.declared.records.Declared.{Declared}
 use Rattle.hc_records.specs.Image.{task_variables, tasks}

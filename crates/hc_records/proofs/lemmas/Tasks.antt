@@ -8,7 +8,7 @@ use Rattle.hc_records.specs.declared.records.Dir.TheVariants.{Out, In}
 use Rattle.hc_records.specs.declared.records.Area.{Area}
 use Rattle.hc_records.specs.Line.{Member}
 use Rattle.hc_records.specs.TaskList.{Keyed, Listed, belongs, keyed, slave_areas, task_areas, task_list}
-use Rattle.hc_records.proofs.Lists.{All-flat_map, All-passing}
+use Rattle.hc_records.proofs.lemmas.Lists.{All-flat_map, All-passing}
 
 -- an area of a slave with its number in the slave's record, listed
 abbrev pub listed : Dir → ℕ → ℕ × Area → Listed

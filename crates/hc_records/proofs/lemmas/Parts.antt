@@ -12,11 +12,11 @@ use Rattle.hc_records.specs.TaskList.{Keyed}
 use Rattle.hc_records.specs.Packing.{Front, Placed, opening, fits, placed_at, behind, packed}
 use Rattle.hc_records.specs.Image.{inside, end_of, datagram_count, datagram_length, datagram_offset, first_byte, image_length, output_length}
 use Rattle.hc_records.specs.Laws.{StandsBefore, Ascends, image_bit, KeepsToItsPart}
-use Rattle.hc_records.proofs.Lists.{All-from_filter, All-unmap, AllPairs-head, AllPairs-tail, AllPairs-across, AllPairs-append_right}
-use Rattle.hc_records.proofs.Greatest.{greatest-all}
-use Rattle.hc_records.proofs.Packed.{place, area_of, packed-areas}
+use Rattle.hc_records.proofs.lemmas.Lists.{All-from_filter, All-unmap, AllPairs-head, AllPairs-tail, AllPairs-across, AllPairs-append_right}
+use Rattle.hc_records.proofs.lemmas.Greatest.{greatest-all}
+use Rattle.hc_records.proofs.lemmas.Packed.{place, area_of, packed-areas}
 use Rattle.hc_records.proofs.Apart.{packed-apart}
-use Rattle.hc_records.proofs.Lengths.{bit_behind}
+use Rattle.hc_records.proofs.lemmas.Lengths.{bit_behind}
 
 -- a later datagram begins behind an earlier one
 offset-rises : (areas : List Placed) (more datagram : ℕ) → datagram_offset areas datagram ≤ datagram_offset areas (more + datagram)

@@ -7,7 +7,7 @@ use Rattle.hc_records.specs.declared.limits.TheConstants.{MOST_AREA_BITS}
 use Rattle.hc_records.specs.TaskList.{Keyed}
 use Rattle.hc_records.specs.Packing.{Front, beginning, fits, placed_at, behind, packed}
 use Rattle.hc_records.specs.Laws.{IsPackable, LiesInside}
-use Rattle.hc_records.proofs.Packed.{place}
+use Rattle.hc_records.proofs.lemmas.Packed.{place}
 
 place-inside : (fitting : Bool) (front : Front) (area : Keyed) → fits front area ≡ fitting → area.1 ≤ MOST_AREA_BITS → LiesInside (place fitting front area)
 place-inside true front area test narrow = leb-true (beginning front area + area.1) MOST_AREA_BITS test

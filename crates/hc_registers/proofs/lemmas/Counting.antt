@@ -12,7 +12,7 @@ use Rattle.hc_records.specs.declared.records.Dir.TheVariants.{Out, In}
 use Rattle.hc_records.specs.declared.keys.Key.{Key}
 use Rattle.hc_records.specs.Keys.{is_before, same_dir}
 use Rattle.hc_records.specs.Image.{counter_share, is_of}
-use Rattle.hc_records.proofs.Lists.{AllPairs-head, AllPairs-tail}
+use Rattle.hc_records.proofs.lemmas.Lists.{AllPairs-head, AllPairs-tail}
 use Rattle.hc_registers.specs.Counting.{weight, counted_from}
 
 -- what the area with a key adds, before the areas of other keys: nothing where one of them is of its slave and direction

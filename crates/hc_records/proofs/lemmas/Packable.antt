@@ -15,10 +15,10 @@ use Rattle.hc_records.specs.Line.{State, line}
 use Rattle.hc_records.specs.TaskList.{belongs, keyed, task_list}
 use Rattle.hc_records.specs.Project.{is_wide, lowest_fault}
 use Rattle.hc_records.specs.Laws.{IsPackable}
-use Rattle.hc_records.proofs.Lists.{All-from_none, All-unmap, All-enumerate_from}
-use Rattle.hc_records.proofs.Lines.{line-slaves}
-use Rattle.hc_records.proofs.Tasks.{listed, task-list-all}
-use Rattle.hc_records.proofs.Projects.{project-narrow}
+use Rattle.hc_records.proofs.lemmas.Lists.{All-from_none, All-unmap, All-enumerate_from}
+use Rattle.hc_records.proofs.lemmas.Lines.{line-slaves}
+use Rattle.hc_records.proofs.lemmas.Tasks.{listed, task-list-all}
+use Rattle.hc_records.proofs.lemmas.Projects.{project-narrow}
 
 -- an area that belongs to a task has a width
 belongs-width : (task : ℕ) (dir : Dir) (area : Area) → belongs task dir area ≡ true → 0 < width area

@@ -7,7 +7,7 @@ use Rattle.hc_records.specs.declared.records.Slave.{Slave}
 use Rattle.hc_records.specs.declared.records.Declared.{Declared}
 use Rattle.hc_records.specs.Line.{Member, members_from, line_from, present_slaves}
 use Rattle.hc_records.specs.Project.{slaves_of}
-use Rattle.hc_records.proofs.Lists.{All-enumerate_from, All-numbers, AllPairs-nil, AllPairs-append, AllPairs-map, AllPairs-numbers}
+use Rattle.hc_records.proofs.lemmas.Lists.{All-enumerate_from, All-numbers, AllPairs-nil, AllPairs-append, AllPairs-map, AllPairs-numbers}
 
 -- a rank from a first one on, below an end
 abbrev pub RankWithin : ℕ → ℕ → Member → Type 0

@@ -12,9 +12,9 @@ use Rattle.hc_records.specs.declared.keys.TheConstants.Key.{START, END}
 use Rattle.hc_records.specs.Keys.{is_before}
 use Rattle.hc_records.specs.Line.{Member, State, line}
 use Rattle.hc_records.specs.TaskList.{Listed, belongs, keyed, slave_areas, task_areas, task_list}
-use Rattle.hc_records.proofs.Lists.{All-flat_map, AllPairs-append, AllPairs-map, AllPairs-flat_map, AllPairs-numbers, AllPairs-weaker}
-use Rattle.hc_records.proofs.Lines.{RankWithin, RanksBelow, declared_slaves, line-within, line-ascends}
-use Rattle.hc_records.proofs.Tasks.{listed, slave-areas-all, task-list-all}
+use Rattle.hc_records.proofs.lemmas.Lists.{All-flat_map, AllPairs-append, AllPairs-map, AllPairs-flat_map, AllPairs-numbers, AllPairs-weaker}
+use Rattle.hc_records.proofs.lemmas.Lines.{RankWithin, RanksBelow, declared_slaves, line-within, line-ascends}
+use Rattle.hc_records.proofs.lemmas.Tasks.{listed, slave-areas-all, task-list-all}
 
 -- what holds wherever an area is
 every : {X : Type 0} (P : X → Type 0) (xs : List X) → ((x : X) → P x) → All P xs

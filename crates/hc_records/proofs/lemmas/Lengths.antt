@@ -9,9 +9,9 @@ use Rattle.hc_records.specs.TaskList.{Keyed}
 use Rattle.hc_records.specs.Packing.{Front, Placed, opening, next_byte, beginning, fits, placed_at, behind, packed}
 use Rattle.hc_records.specs.Image.{inside, end_of, datagram_count, datagram_length}
 use Rattle.hc_records.specs.Laws.{IsPackable, LiesInside, IsDatagramLength, front_after}
-use Rattle.hc_records.proofs.Greatest.{greatest, greatest-first, greatest-most}
-use Rattle.hc_records.proofs.Packed.{place}
-use Rattle.hc_records.proofs.Inside.{packed-inside}
+use Rattle.hc_records.proofs.lemmas.Greatest.{greatest, greatest-first, greatest-most}
+use Rattle.hc_records.proofs.lemmas.Packed.{place}
+use Rattle.hc_records.proofs.lemmas.Inside.{packed-inside}
 use Rattle.hc_records.proofs.Counts.{count-front_after}
 
 -- the first bit behind an area

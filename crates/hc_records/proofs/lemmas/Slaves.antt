@@ -11,9 +11,9 @@ use Rattle.hc_records.specs.declared.records.Declared.{Declared}
 use Rattle.hc_records.specs.Area.{width}
 use Rattle.hc_records.specs.Line.{IsCounted, groups_of, line_from}
 use Rattle.hc_records.specs.Project.{area_outside, is_outside, is_wide, lowest_fault, pdo_outside, reach, slave_outside, slaves_of}
-use Rattle.hc_records.proofs.Lists.{All-from_none, All-unmap}
-use Rattle.hc_records.proofs.Lines.{declared_slaves, line-slaves}
-use Rattle.hc_records.proofs.Projects.{project-few, project-narrow, project-slaves}
+use Rattle.hc_records.proofs.lemmas.Lists.{All-from_none, All-unmap}
+use Rattle.hc_records.proofs.lemmas.Lines.{declared_slaves, line-slaves}
+use Rattle.hc_records.proofs.lemmas.Projects.{project-few, project-narrow, project-slaves}
 
 -- an area in its ranges
 pub record IsAreaInside (area : Area) : Type 0 where

@@ -1,0 +1,4 @@
+-- What the crates above cite, a file a subject.
+pub mod Found
+pub mod Merged
+pub mod Sorted
