@@ -1,5 +1,6 @@
 //! The line of a state: the slaves of the groups that are present, in declared order.
 ghost use Rattle.std.specs.Prelude.{◌≡◌, ◌+◌, ◌<◌, ◌≤◌, ◌++◌, IfOk, IfSome, OnOk, find, length, position, slice_get};
+ghost use Rattle.std.specs.Iterator.{YieldsFirst, item_count};
 ghost use Rattle.std.specs.List.{list_any, position_from};
 ghost use Rattle.hc_records.specs.Edits.{has_station};
 ghost use Rattle.hc_records.specs.Line.{IsCounted, has_address, is_at, line_from, members_from, present_slaves};
@@ -41,33 +42,75 @@ impl<'a> Member<'a> {
     }
 }
 
-/// The slaves that a declared group has in the line: all of its own, or none.
-fn present_slaves(declared: &Declared) -> &[Slave]
-    ensures { result.now ≡ present_slaves declared.now }
+/// The slaves of the line that a walk has not reached yet, in declared order. Contracts see it as
+/// the list of them.
+#[derive(Debug, Drop)]
+pub struct LineMembers<'a> {
+    // the slaves that are left of the group that the walk has reached
+    slaves: &'a [Slave],
+    // the rank of the first of them, or of the first slave behind them
+    rank: usize,
+    // the groups behind it
+    groups: &'a [Declared],
+}
+
+impl<'a> Model for LineMembers<'a> {
+    ghost use Rattle.std.specs.Prelude.{◌+◌, ◌≤◌, ◌++◌, List, length, sum_by};
+    ghost use Rattle.hc_records.specs.Line.{Member, line_from, members_from};
+
+    ghost Value = { List Member };
+
+    ghost view = { λ left. members_from left.rank left.slaves.now ++ line_from (left.rank + length left.slaves.now) left.groups.now };
+
+    ghost invariant = { λ left. left.rank + length left.slaves.now + sum_by (λ declared. length declared.group.slaves) left.groups.now ≤ 65535 };
+}
+
+/// The slaves of the line, in declared order, one by one. The walk takes no memory, and each step
+/// the time of one slave and of the groups passed.
+pub fn members(groups: &[Declared]) -> LineMembers<'_>
+    requires { IsCounted groups.now }
+    ensures value { result ≡ line_from 1 groups.now }
+    ensures few { length result < 65535 }
 {
-    if declared.present {
-        declared.group.slaves.as_slice()
-    } else {
-        &[]
+    LineMembers {
+        slaves: &[],
+        rank: 1,
+        groups,
     }
 }
 
-/// Adds the slaves of a present group, the first of which has a rank.
-fn add_members<'a>(
-    line: &mut Vec<Member<'a>>,
-    rank: usize,
-    slaves: &'a [Slave],
-) -> Result<(), AllocError>
-    requires { rank + length slaves.now ≤ 65535 }
-    ensures { OnOk result (line.new.items ≡ line.old.items ++ members_from rank slaves.now) }
-{
-    for i in 0..slaves.len() {
-        line.push(Member {
-            rank: (rank + i) as u16,
-            slave: &slaves[i],
-        })?;
+impl<'a> Iterator for LineMembers<'a> {
+    type Item = Member<'a>;
+
+    ghost next_gives = { YieldsFirst (λ left. left) };
+
+    ghost remaining = { item_count (λ left. left) };
+
+    fn next(&mut self) -> Option<Member<'a>> {
+        while self.slaves.is_empty() {
+            let (declared, behind) = self.groups.split_first()?;
+            if declared.present {
+                self.slaves = declared.group.slaves.as_slice();
+            } else {
+                self.rank += declared.group.slaves.len();
+            }
+            self.groups = behind;
+        }
+        let (slave, behind) = self.slaves.split_first()?;
+        let rank = self.rank as u16;
+        self.slaves = behind;
+        self.rank += 1;
+        Some(Member { rank, slave })
     }
-    Ok(())
+}
+
+/// How many slaves the line has.
+pub fn slave_count(groups: &[Declared]) -> usize
+    requires { IsCounted groups.now }
+    ensures value { result ≡ length (line_from 1 groups.now) }
+    ensures few { result < 65535 }
+{
+    members(groups).count()
 }
 
 /// The slaves of the present groups, in declared order, each with its rank among all declared slaves. `AllocError` where a growth was refused.
@@ -76,10 +119,8 @@ pub fn line_of<'a>(alloc: Global, groups: &'a [Declared]) -> Result<Vec<Member<'
     ensures { IfOk result (λ line. line.items ≡ line_from 1 groups.now) }
 {
     let mut line = Vec::new(alloc);
-    let mut rank = 1;
-    for declared in groups {
-        add_members(&mut line, rank, present_slaves(declared))?;
-        rank += declared.group.slaves.len();
+    for member in members(groups) {
+        line.push(member)?;
     }
     Ok(line)
 }
@@ -90,28 +131,7 @@ pub fn nth_member<'a>(groups: &'a [Declared], index: usize) -> Option<Member<'a>
     requires { IsCounted groups.now }
     ensures { result ≡ slice_get (line_from 1 groups.now) index }
 {
-    let mut rank = 1;
-    let mut left = index;
-    for declared in groups {
-        let slaves = present_slaves(declared);
-        if left < slaves.len() {
-            return Some(Member {
-                rank: (rank + left) as u16,
-                slave: &slaves[left],
-            });
-        }
-        left -= slaves.len();
-        rank += declared.group.slaves.len();
-    }
-    None
-}
-
-/// The index of the first slave with a station address.
-fn station_index(slaves: &[Slave], station: u16) -> Option<usize>
-    ensures value { result ≡ position_from (has_address station) 0 slaves.now }
-    ensures low { IfSome result (λ index. index < length slaves.now) }
-{
-    slaves.iter().position(|slave| slave.station == station)
+    members(groups).nth(index)
 }
 
 /// The index in the line of the slave with a station address, counted from 0; none where none is
@@ -121,13 +141,12 @@ pub fn member_index(groups: &[Declared], station: u16) -> Option<usize>
     ensures value { result ≡ position (is_at station) (line_from 1 groups.now) }
     ensures low { IfSome result (λ index. index < 65535) }
 {
-    let mut before = 0;
-    for declared in groups {
-        let slaves = present_slaves(declared);
-        if let Some(index) = station_index(slaves, station) {
-            return Some(before + index);
+    let mut index = 0;
+    for member in members(groups) {
+        if member.slave.station == station {
+            return Some(index);
         }
-        before += slaves.len();
+        index += 1;
     }
     None
 }
@@ -137,10 +156,12 @@ pub fn member_at<'a>(groups: &'a [Declared], station: u16) -> Option<Member<'a>>
     requires { IsCounted groups.now }
     ensures { result ≡ find (is_at station) (line_from 1 groups.now) }
 {
-    match member_index(groups, station) {
-        Some(index) => nth_member(groups, index),
-        None => None,
+    for member in members(groups) {
+        if member.slave.station == station {
+            return Some(member);
+        }
     }
+    None
 }
 
 /// Whether a slave has a station address.

@@ -1,11 +1,6 @@
-use Rattle.std.proofs.Common.{◌≡◌, ◌+◌, ◌++◌, drop, length}
-use Rattle.std.specs.Prelude.{sum_by}
+use Rattle.std.proofs.Common.{◌≡◌, ◌++◌}
 use Rattle.hc_records.specs.Line.{line_from}
-use Rattle.hc_records.specs.declared.records.Declared.{Declared}
 use Rattle.hc_records.proofs.line.line_of.Given as goal
 
-abbrev pub invariant-loop-declared : goal.invariant-loop-declared
-invariant-loop-declared l =
-    (l.line.items ++ line_from l.rank (drop l.declared-index l.groups) ≡ line_from 1 l.groups)
-    × (l.rank + sum_by (λ (d : Declared). length d.group.slaves) (drop l.declared-index l.groups)
-    ≡ 1 + sum_by (λ (d : Declared). length d.group.slaves) l.groups)
+abbrev pub invariant-loop-member : goal.invariant-loop-member
+invariant-loop-member l = l.line.items ++ l.member-iterator ≡ line_from 1 l.groups
