@@ -12,5 +12,6 @@ pub mod Boundaries
 pub mod Lists
 pub mod Edits
 pub mod Project
+pub mod Limits
 pub mod WorkedLines
 pub mod Laws

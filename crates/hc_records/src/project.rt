@@ -1,5 +1,6 @@
 //! A project: declared groups in which every value is in its range and every name stands once.
 ghost use Rattle.std.specs.Prelude.{◌≡◌, ◌≢◌, None, Some, IfErr, IfOk, OnOk};
+ghost use Rattle.hc_records.specs.Limits.{IsProjectInside};
 ghost use Rattle.hc_records.specs.Project.{lowest_fault};
 ghost use Rattle.hc_records.specs.declared.faults.ProjectFault.TheVariants.{Memory};
 
@@ -46,6 +47,7 @@ impl Project {
     pub fn groups(&self) -> &[Group]
         ensures value { result.now ≡ self.now }
         ensures kept { lowest_fault self.now ≡ None }
+        ensures inside { IsProjectInside self.now }
     {
         self.groups.as_slice()
     }

@@ -2,12 +2,13 @@
 use Rattle.std.proofs.Common.{◌≡◌, ℕ, ◌+◌, ◌<◌, ◌≤◌, Bool, true, false, List, [], ◌∷◌, length, arith, length-append, if◌then◌else◌}
 use Rattle.std.specs.Prelude.{All, AllPairs, map}
 use Rattle.std.specs.List.{enumerate_from}
-use Rattle.std.proofs.lemmas.List.Elements.{All-nil, All-head, All-tail, All-append, All-weaker, All-map}
+use Rattle.std.proofs.lemmas.List.Elements.{All-nil, All-cons, All-head, All-tail, All-append, All-weaker, All-map}
 use Rattle.hc_records.specs.declared.records.Slave.{Slave}
 use Rattle.hc_records.specs.declared.records.Declared.{Declared}
 use Rattle.hc_records.specs.Line.{Member, members_from, line_from, present_slaves}
 use Rattle.hc_records.specs.Project.{slaves_of}
-use Rattle.hc_records.proofs.lemmas.Lists.{All-enumerate_from, All-numbers, AllPairs-nil, AllPairs-append, AllPairs-map, AllPairs-numbers}
+use Rattle.std.proofs.lemmas.List.Kept.{AllPairs-cons}
+use Rattle.hc_records.proofs.lemmas.Lists.{All-append_left, All-append_right, All-enumerate_from, All-numbers, AllPairs-nil, AllPairs-append, AllPairs-append_left, AllPairs-append_right, AllPairs-between, AllPairs-head, AllPairs-map, AllPairs-numbers, AllPairs-tail}
 
 -- a rank from a first one on, below an end
 abbrev pub RankWithin : ℕ → ℕ → Member → Type 0
@@ -63,6 +64,18 @@ line-ascends rank (declared ∷ groups) =
     (λ first before. All-weaker (RankWithin next (next + length (declared_slaves groups))) (RanksBelow first) (λ second behind. omega arith) (line_from next groups) (line-within next groups))
     (members_from rank slaves) (members-within rank slaves)))
 
+-- what holds of all declared slaves holds of each group's
+pub each-group : (P : Slave → Type 0) (groups : List Declared) → All P (declared_slaves groups) → All (λ declared. All P declared.group.slaves) groups
+each-group P [] all = All-nil (λ declared. All P declared.group.slaves)
+each-group P (declared ∷ groups) all =
+    All-cons (λ declared. All P declared.group.slaves) declared groups
+    (All-append_left P declared.group.slaves (declared_slaves groups) all)
+    (each-group P groups (All-append_right P declared.group.slaves (declared_slaves groups) all))
+
+-- what holds of slaves holds of them as members of the line
+members-all : (P : Slave → Type 0) (rank : ℕ) (slaves : List Slave) → All P slaves → All (λ member. P member.slave) (members_from rank slaves)
+members-all P rank slaves all = All-map (λ member. P member.slave) ranked (enumerate_from rank slaves) (All-enumerate_from P rank slaves all)
+
 -- what holds of each declared slave holds of each slave of the line
 pub line-slaves : (P : Slave → Type 0) (rank : ℕ) (groups : List Declared) → All (λ declared. All P declared.group.slaves) groups → All (λ member. P member.slave) (line_from rank groups)
 line-slaves P rank [] all = All-nil (λ member. P member.slave)
@@ -71,5 +84,28 @@ line-slaves P rank (declared ∷ groups) all =
     let next = rank + length slaves in
     All-append (λ member. P member.slave) (members_from rank (present_slaves declared)) (line_from next groups)
     (present-all (λ member. P member.slave) declared.present rank slaves
-    (All-map (λ member. P member.slave) ranked (enumerate_from rank slaves) (All-enumerate_from P rank slaves (All-head (λ declared. All P declared.group.slaves) declared groups all))))
+    (members-all P rank slaves (All-head (λ declared. All P declared.group.slaves) declared groups all)))
     (line-slaves P next groups (All-tail (λ declared. All P declared.group.slaves) declared groups all))
+
+-- and what holds of each two of them
+members-pairs : (R : Slave → Slave → Type 0) (rank : ℕ) (slaves : List Slave) → AllPairs R slaves → AllPairs (λ a b. R a.slave b.slave) (members_from rank slaves)
+members-pairs R rank [] pairs = AllPairs-nil (λ a b. R a.slave b.slave)
+members-pairs R rank (slave ∷ slaves) pairs =
+    AllPairs-cons (λ a b. R a.slave b.slave) (record { rank = rank; slave = slave }) (members_from (rank + 1) slaves)
+    (members-all (R slave) (rank + 1) slaves (AllPairs-head R slave slaves pairs))
+    (members-pairs R (rank + 1) slaves (AllPairs-tail R slave slaves pairs))
+
+pub line-pairs : (R : Slave → Slave → Type 0) (rank : ℕ) (groups : List Declared) → AllPairs R (declared_slaves groups) → AllPairs (λ a b. R a.slave b.slave) (line_from rank groups)
+line-pairs R rank [] pairs = AllPairs-nil (λ a b. R a.slave b.slave)
+line-pairs R rank (declared ∷ groups) pairs =
+    let slaves = declared.group.slaves in
+    let next = rank + length slaves in
+    let behind = line_from next groups in
+    AllPairs-append (λ a b. R a.slave b.slave) (members_from rank (present_slaves declared)) behind
+    (present-pairs (λ a b. R a.slave b.slave) declared.present rank slaves (members-pairs R rank slaves (AllPairs-append_left R slaves (declared_slaves groups) pairs)))
+    (line-pairs R next groups (AllPairs-append_right R slaves (declared_slaves groups) pairs))
+    (present-all (λ a. All (λ b. R a.slave b.slave) behind) declared.present rank slaves
+    (members-all (λ slave. All (λ b. R slave b.slave) behind) rank slaves
+    (All-weaker (λ slave. All (R slave) (declared_slaves groups)) (λ slave. All (λ b. R slave b.slave) behind)
+    (λ slave all. line-slaves (R slave) next groups (each-group (R slave) groups all)) slaves
+    (AllPairs-between R slaves (declared_slaves groups) pairs))))

@@ -1,10 +1,11 @@
 -- What holds of the elements, or of each element and each later one, of lists that are joined, mapped, numbered or taken apart.
-use Rattle.std.proofs.Common.{◌≡◌, ℕ, ◌+◌, ◌<◌, ◌≤◌, suc, Bool, true, false, cond, List, [], ◌∷◌, ◌++◌, length, arith}
-use Rattle.std.specs.Prelude.{All, AllPairs, filter, map}
+use Rattle.std.proofs.Common.{◌≡◌, ℕ, ◌+◌, ◌<◌, ◌≤◌, suc, Bool, true, false, cond, List, [], ◌∷◌, ◌++◌, length, arith, sym}
+use Rattle.std.specs.Prelude.{All, AllPairs, filter, map, ◌==◌, ◌≢◌}
 use Rattle.std.specs.List.{enumerate_from, flat_map, list_any}
-use Rattle.std.proofs.lemmas.Bool.{or_parts}
+use Rattle.std.proofs.lemmas.Bool.{eqb-false, or_parts}
 use Rattle.std.proofs.lemmas.List.Elements.{All-nil, All-cons, All-head, All-tail, All-append, All-weaker, All-filter, All-map, filter_passes}
 use Rattle.std.proofs.lemmas.List.Kept.{AllPairs-cons}
+use Rattle.hc_records.specs.Lists.{has_repeat, some_pair}
 
 pub All-append_left : {X : Type 0} (P : X → Type 0) (xs ys : List X) → All P (xs ++ ys) → All P xs
 All-append_left P [] ys all = All-nil P
@@ -109,3 +110,34 @@ AllPairs-numbers number (x ∷ xs) =
     AllPairs-cons (λ a b. a.0 < b.0) (number, x) (enumerate_from (number + 1) xs)
     (All-weaker (λ e. (number + 1 ≤ e.0) × (e.0 < number + 1 + length xs)) (λ e. number < e.0) (λ e within. omega arith) (enumerate_from (number + 1) xs) (All-numbers (number + 1) xs))
     (AllPairs-numbers (number + 1) xs)
+
+pub AllPairs-append_left : {X : Type 0} (R : X → X → Type 0) (xs ys : List X) → AllPairs R (xs ++ ys) → AllPairs R xs
+AllPairs-append_left R [] ys pairs = AllPairs-nil R
+AllPairs-append_left R (x ∷ xs) ys pairs =
+    AllPairs-cons R x xs (All-append_left (R x) xs ys (AllPairs-head R x (xs ++ ys) pairs)) (AllPairs-append_left R xs ys (AllPairs-tail R x (xs ++ ys) pairs))
+
+-- each element of the first list with each of the second
+pub AllPairs-between : {X : Type 0} (R : X → X → Type 0) (xs ys : List X) → AllPairs R (xs ++ ys) → All (λ x. All (R x) ys) xs
+AllPairs-between R [] ys pairs = All-nil (λ x. All (R x) ys)
+AllPairs-between R (x ∷ xs) ys pairs =
+    All-cons (λ x. All (R x) ys) x xs (All-append_right (R x) xs ys (AllPairs-head R x (xs ++ ys) pairs))
+    (AllPairs-between R xs ys (AllPairs-tail R x (xs ++ ys) pairs))
+
+pub AllPairs-unmap : {X Y : Type 0} (R : Y → Y → Type 0) (f : X → Y) (xs : List X) → AllPairs R (map f xs) → AllPairs (λ x y. R (f x) (f y)) xs
+AllPairs-unmap R f [] pairs = AllPairs-nil (λ x y. R (f x) (f y))
+AllPairs-unmap R f (x ∷ xs) pairs =
+    AllPairs-cons (λ x y. R (f x) (f y)) x xs (All-unmap (R (f x)) f xs (AllPairs-head R (f x) (map f xs) pairs))
+    (AllPairs-unmap R f xs (AllPairs-tail R (f x) (map f xs) pairs))
+
+-- no two elements are so related
+pub AllPairs-from_none : {X : Type 0} (related : X → X → Bool) (xs : List X) → some_pair related xs ≡ false → AllPairs (λ x y. related x y ≡ false) xs
+AllPairs-from_none related [] none = AllPairs-nil (λ x y. related x y ≡ false)
+AllPairs-from_none related (x ∷ xs) none =
+    let parts = or_parts (list_any (related x) xs) (some_pair related xs) none in
+    AllPairs-cons (λ x y. related x y ≡ false) x xs (All-from_none (related x) xs parts.0) (AllPairs-from_none related xs parts.1)
+
+-- numbers of which none stands twice differ
+pub AllPairs-from_once : (xs : List ℕ) → has_repeat xs ≡ false → AllPairs (λ x y. x ≢ y) xs
+AllPairs-from_once xs once =
+    AllPairs-weaker (λ x y. (y == x) ≡ false) (λ x y. x ≢ y) (λ x y differ same. eqb-false y x differ (sym same)) xs
+    (AllPairs-from_none (λ x y. y == x) xs once)
