@@ -1,4 +1,5 @@
 -- What the crates above cite, a file a subject.
+pub mod Addresses
 pub mod Ascending
 pub mod Cuts
 pub mod Greatest
@@ -13,5 +14,7 @@ pub mod Packed
 pub mod Parts
 pub mod Projects
 pub mod Slaves
+pub mod Stations
 pub mod Tasks
+pub mod Tiles
 pub mod Walks

@@ -14,3 +14,6 @@ pub mod Edits
 pub mod Project
 pub mod WorkedLines
 pub mod Laws
+pub mod ImageLaws
+pub mod AddressLaws
+pub mod ProjectLaws

@@ -1,6 +1,9 @@
 //! What follows from the definitions of `specs/`, so that a reader can trust them: each function here
 //! does nothing, and its contract is a law that holds of every list, line or project. Nobody calls it.
 ghost use Rattle.hc_records.specs.Laws.{ProjectsArePackable, PlacesKeepTheList, AreasLieInside, WideAreasBeginBytes, DatagramsAreSendable, AreasShareNoBit, KeysAscend, KeysLieAboveStart, KeysLieBelowEnd, PackingIsLeast, CutsStandAlone, BoundariesAreCuts, DatagramsAreSpans, BoundariesHaveWidth, UntouchedIsSettled, OutputsComeFirst, TouchedCountsOnce};
+ghost use Rattle.hc_records.specs.ImageLaws.{DatagramsTileTheImage, ImagesAreShort};
+ghost use Rattle.hc_records.specs.AddressLaws.{AddressesHaveOneDatagram};
+ghost use Rattle.hc_records.specs.ProjectLaws.{RanksAreCounted, StationsAreDistinct};
 
 /// In a project each area of a task's list has 1 to 11,888 bits, so that a datagram can carry it,
 /// whichever groups are present.
@@ -104,4 +107,33 @@ pub fn outputs_come_first()
 /// settled. The keys of both lists lie between `Key::START` and `Key::END`.
 pub fn touched_counts_once()
     ensures { TouchedCountsOnce }
+{}
+
+/// The datagrams of a task lie end to end in its process data image: the first begins at byte 0, each
+/// next one begins where the one before it ends (offsets and lengths in bytes), and the last one ends
+/// where outputs and inputs together end.
+pub fn datagrams_tile_the_image()
+    ensures { DatagramsTileTheImage }
+{}
+
+/// Where each area of a list has 1 to 11,888 bits, and the task at most 16 datagrams, its process data
+/// image has at most 23,776 bytes: 16 times 1,486.
+pub fn images_are_short()
+    ensures { ImagesAreShort }
+{}
+
+/// In the line of a project whose tasks have at most 16 datagrams each, a logical address belongs to at
+/// most one data byte range: two datagrams of the line, of one task or of two, share none.
+pub fn addresses_have_one_datagram()
+    ensures { AddressesHaveOneDatagram }
+{}
+
+/// In a project, which declares at most 2,048 slaves, each declared slave has a rank that fits 16 bits.
+pub fn ranks_are_counted()
+    ensures { RanksAreCounted }
+{}
+
+/// No two slaves of a project's line have one station address, whichever groups are present.
+pub fn stations_are_distinct()
+    ensures { StationsAreDistinct }
 {}
