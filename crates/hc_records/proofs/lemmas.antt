@@ -2,6 +2,7 @@
 pub mod Addresses
 pub mod Ascending
 pub mod Cuts
+pub mod Finds
 pub mod Greatest
 pub mod Inside
 pub mod KeyOrder
@@ -17,4 +18,6 @@ pub mod Slaves
 pub mod Stations
 pub mod Tasks
 pub mod Tiles
+pub mod VariableBits
+pub mod Variables
 pub mod Walks

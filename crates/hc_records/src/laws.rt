@@ -1,7 +1,7 @@
 //! What follows from the definitions of `specs/`, so that a reader can trust them: each function here
 //! does nothing, and its contract is a law that holds of every list, line or project. Nobody calls it.
 ghost use Rattle.hc_records.specs.Laws.{ProjectsArePackable, PlacesKeepTheList, AreasLieInside, WideAreasBeginBytes, DatagramsAreSendable, AreasShareNoBit, KeysAscend, KeysLieAboveStart, KeysLieBelowEnd, PackingIsLeast, CutsStandAlone, BoundariesAreCuts, DatagramsAreSpans, BoundariesHaveWidth, UntouchedIsSettled, OutputsComeFirst, TouchedCountsOnce};
-ghost use Rattle.hc_records.specs.ImageLaws.{DatagramsTileTheImage, ImagesAreShort};
+ghost use Rattle.hc_records.specs.ImageLaws.{DatagramsTileTheImage, ImagesAreShort, VariablesLieInDatagrams, VariablesShareNoBit, VariablesStandInTheirParts};
 ghost use Rattle.hc_records.specs.AddressLaws.{AddressesHaveOneDatagram};
 ghost use Rattle.hc_records.specs.ProjectLaws.{RanksAreCounted, StationsAreDistinct};
 
@@ -136,4 +136,22 @@ pub fn ranks_are_counted()
 /// No two slaves of a project's line have one station address, whichever groups are present.
 pub fn stations_are_distinct()
     ensures { StationsAreDistinct }
+{}
+
+/// In the line of a project each variable that has a place has 1 to 64 bits, all of them within the bytes
+/// of one datagram of its task, which is one of the tasks 0 to 7 and has that datagram.
+pub fn variables_lie_in_datagrams()
+    ensures { VariablesLieInDatagrams }
+{}
+
+/// Two variables of a line share no bit: of two in one datagram of a task, one ends at or before the bit
+/// at which the other begins.
+pub fn variables_share_no_bit()
+    ensures { VariablesShareNoBit }
+{}
+
+/// Output variables lie in front of the output length of their task's process data image (in bytes), and
+/// input variables at or behind it. Bits of the image are counted from 0.
+pub fn variables_stand_in_their_parts()
+    ensures { VariablesStandInTheirParts }
 {}

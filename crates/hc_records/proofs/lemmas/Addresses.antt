@@ -10,31 +10,9 @@ use Rattle.hc_records.specs.Image.{datagram_count, datagram_length, logical_addr
 use Rattle.hc_records.specs.Edits.{crowded_task}
 use Rattle.hc_records.specs.Project.{lowest_fault}
 use Rattle.hc_records.specs.AddressLaws.{HasAddress, IsDatagram}
+use Rattle.hc_records.proofs.lemmas.Finds.{each-task, found-none}
 use Rattle.hc_records.proofs.lemmas.Lengths.{length-sendable}
 use Rattle.hc_records.proofs.lemmas.Packable.{project-packable}
-
--- where nothing is found, no element passes
-none-by : {X : Type 0} (passes : Bool) (x : X) (rest : Option X) → (if passes then Some x else rest) ≡ None → (passes ≡ false) × (rest ≡ None)
-none-by true x rest none = cc
-none-by false x rest none = (refl, none)
-
-pub found-none : {X : Type 0} (test : X → Bool) (xs : List X) → find test xs ≡ None → All (λ x. test x ≡ false) xs
-found-none test [] none = All-nil (λ x. test x ≡ false)
-found-none test (x ∷ xs) none =
-    let parts = none-by (test x) x (find test xs) none in
-    All-cons (λ x. test x ≡ false) x xs parts.0 (found-none test xs parts.1)
-
--- what holds of each of the eight tasks
-pub each-task : (P : ℕ → Type 0) → All P tasks → (task : ℕ) → task < TASKS → P task
-each-task P all zero low = all 0 0 (omega arith)
-each-task P all (suc zero) low = all 1 0 (omega arith)
-each-task P all (suc (suc zero)) low = all 2 0 (omega arith)
-each-task P all (suc (suc (suc zero))) low = all 3 0 (omega arith)
-each-task P all (suc (suc (suc (suc zero)))) low = all 4 0 (omega arith)
-each-task P all (suc (suc (suc (suc (suc zero))))) low = all 5 0 (omega arith)
-each-task P all (suc (suc (suc (suc (suc (suc zero)))))) low = all 6 0 (omega arith)
-each-task P all (suc (suc (suc (suc (suc (suc (suc zero))))))) low = all 7 0 (omega arith)
-each-task P all (suc (suc (suc (suc (suc (suc (suc (suc task)))))))) low = absurd (omega arith)
 
 -- where no task is crowded, each has at most 16 datagrams
 pub uncrowded-few : (line : List Member) (task : ℕ) → crowded_task line ≡ None → task < TASKS → datagram_count (task_places task line) ≤ MOST_DATAGRAMS

@@ -11,6 +11,7 @@ use Rattle.hc_records.specs.Packing.{Placed, opening, packed}
 use Rattle.hc_records.specs.Image.{datagram_count, datagram_length, datagram_offset, first_byte, image_length, input_length, output_length}
 use Rattle.hc_records.specs.Laws.{IsPackable}
 use Rattle.hc_records.specs.ImageLaws.{TilesImage}
+use Rattle.hc_records.proofs.lemmas.Finds.{found-all}
 use Rattle.hc_records.proofs.lemmas.Greatest.{greatest-all}
 use Rattle.hc_records.proofs.lemmas.Lengths.{length-sendable}
 use Rattle.hc_records.proofs.lemmas.Parts.{ends-in-datagram, offset-le}
@@ -18,17 +19,6 @@ use Rattle.hc_records.proofs.lemmas.Parts.{ends-in-datagram, offset-le}
 -- the offset of a datagram is that of the one before it and its length
 pub offset-next : (areas : List Placed) (datagram : ℕ) → datagram_offset areas (datagram + 1) ≡ datagram_offset areas datagram + datagram_length areas datagram
 offset-next areas datagram = let next : datagram + 1 ≡ suc datagram = omega arith in rw next refl
-
--- what holds of each element holds of one that is found
-found-by : {X : Type 0} (P : X → Type 0) (passes : Bool) (x : X) (rest : Option X) (found : X) → P x → (rest ≡ Some found → P found) →
-    (if passes then Some x else rest) ≡ Some found → P found
-found-by P true x rest found here later is = let same : x ≡ found = cc in rw (← same) here
-found-by P false x rest found here later is = later is
-
-pub found-all : {X : Type 0} (P : X → Type 0) (test : X → Bool) (xs : List X) (found : X) → All P xs → find test xs ≡ Some found → P found
-found-all P test [] found all is = cc
-found-all P test (x ∷ xs) found all is =
-    found-by P (test x) x (find test xs) found (All-head P x xs all) (λ rest. found-all P test xs found (All-tail P x xs all) rest) is
 
 -- each area begins within the image
 begins-inside : (areas : List Placed) → All (λ area. first_byte areas area ≤ image_length areas) areas
