@@ -2,6 +2,7 @@
 pub mod Addresses
 pub mod Ascending
 pub mod Cuts
+pub mod Entries
 pub mod Finds
 pub mod Greatest
 pub mod Inside
@@ -19,5 +20,6 @@ pub mod Stations
 pub mod Tasks
 pub mod Tiles
 pub mod VariableBits
+pub mod VariablePlaces
 pub mod Variables
 pub mod Walks
