@@ -15,6 +15,7 @@ pub mod Packable
 pub mod Packed
 pub mod Parts
 pub mod Projects
+pub mod Reaches
 pub mod Slaves
 pub mod Stations
 pub mod Tasks

@@ -3,7 +3,7 @@
 ghost use Rattle.hc_records.specs.Laws.{ProjectsArePackable, PlacesKeepTheList, AreasLieInside, WideAreasBeginBytes, DatagramsAreSendable, AreasShareNoBit, KeysAscend, KeysLieAboveStart, KeysLieBelowEnd, PackingIsLeast, CutsStandAlone, BoundariesAreCuts, DatagramsAreSpans, BoundariesHaveWidth, UntouchedIsSettled, OutputsComeFirst, TouchedCountsOnce};
 ghost use Rattle.hc_records.specs.ImageLaws.{DatagramsTileTheImage, ImagesAreShort, VariablesLieInDatagrams, VariablesShareNoBit, VariablesStandInTheirParts};
 ghost use Rattle.hc_records.specs.AddressLaws.{AddressesHaveOneDatagram};
-ghost use Rattle.hc_records.specs.ProjectLaws.{RanksAreCounted, StationsAreDistinct};
+ghost use Rattle.hc_records.specs.ProjectLaws.{RanksAreCounted, ReachesHoldWidths, ReachesShareNoByte, StationsAreDistinct};
 
 /// In a project each area of a task's list has 1 to 11,888 bits, so that a datagram can carry it,
 /// whichever groups are present.
@@ -154,4 +154,16 @@ pub fn variables_share_no_bit()
 /// input variables at or behind it. Bits of the image are counted from 0.
 pub fn variables_stand_in_their_parts()
     ensures { VariablesStandInTheirParts }
+{}
+
+/// In a project the bytes of its slave's memory that an area may take (its reach) hold the bits of its
+/// assigned PDOs.
+pub fn reaches_hold_widths()
+    ensures { ReachesHoldWidths }
+{}
+
+/// In a project the areas of a slave take bytes of its memory from 0x1000 to 0x2FFF alone, by their
+/// reach, and no byte is taken by two of them.
+pub fn reaches_share_no_byte()
+    ensures { ReachesShareNoByte }
 {}
