@@ -1,6 +1,9 @@
 -- What the crates above cite, a file a subject.
+pub mod Addresses
 pub mod Ascending
 pub mod Cuts
+pub mod Entries
+pub mod Finds
 pub mod Greatest
 pub mod Inside
 pub mod KeyOrder
@@ -13,6 +16,12 @@ pub mod Packable
 pub mod Packed
 pub mod Parts
 pub mod Projects
+pub mod Reaches
 pub mod Slaves
+pub mod Stations
 pub mod Tasks
+pub mod Tiles
+pub mod VariableBits
+pub mod VariablePlaces
+pub mod Variables
 pub mod Walks

@@ -15,3 +15,6 @@ pub mod Project
 pub mod Limits
 pub mod WorkedLines
 pub mod Laws
+pub mod ImageLaws
+pub mod AddressLaws
+pub mod ProjectLaws

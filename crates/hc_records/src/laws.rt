@@ -1,6 +1,9 @@
 //! What follows from the definitions of `specs/`, so that a reader can trust them: each function here
 //! does nothing, and its contract is a law that holds of every list, line or project. Nobody calls it.
 ghost use Rattle.hc_records.specs.Laws.{ProjectsArePackable, PlacesKeepTheList, AreasLieInside, WideAreasBeginBytes, DatagramsAreSendable, AreasShareNoBit, KeysAscend, KeysLieAboveStart, KeysLieBelowEnd, PackingIsLeast, CutsStandAlone, BoundariesAreCuts, DatagramsAreSpans, BoundariesHaveWidth, UntouchedIsSettled, OutputsComeFirst, TouchedCountsOnce};
+ghost use Rattle.hc_records.specs.ImageLaws.{DatagramsTileTheImage, ImagesAreShort, VariablesLieInDatagrams, VariablesShareNoBit, VariablesStandInTheirParts};
+ghost use Rattle.hc_records.specs.AddressLaws.{AddressesHaveOneDatagram};
+ghost use Rattle.hc_records.specs.ProjectLaws.{RanksAreCounted, ReachesHoldWidths, ReachesShareNoByte, StationsAreDistinct};
 
 /// In a project each area of a task's list has 1 to 11,888 bits, so that a datagram can carry it,
 /// whichever groups are present.
@@ -104,4 +107,63 @@ pub fn outputs_come_first()
 /// settled. The keys of both lists lie between `Key::START` and `Key::END`.
 pub fn touched_counts_once()
     ensures { TouchedCountsOnce }
+{}
+
+/// The datagrams of a task lie end to end in its process data image: the first begins at byte 0, each
+/// next one begins where the one before it ends (offsets and lengths in bytes), and the last one ends
+/// where outputs and inputs together end.
+pub fn datagrams_tile_the_image()
+    ensures { DatagramsTileTheImage }
+{}
+
+/// Where each area of a list has 1 to 11,888 bits, and the task at most 16 datagrams, its process data
+/// image has at most 23,776 bytes: 16 times 1,486.
+pub fn images_are_short()
+    ensures { ImagesAreShort }
+{}
+
+/// In the line of a project whose tasks have at most 16 datagrams each, a logical address belongs to at
+/// most one data byte range: two datagrams of the line, of one task or of two, share none.
+pub fn addresses_have_one_datagram()
+    ensures { AddressesHaveOneDatagram }
+{}
+
+/// In a project, which declares at most 2,048 slaves, each declared slave has a rank that fits 16 bits.
+pub fn ranks_are_counted()
+    ensures { RanksAreCounted }
+{}
+
+/// No two slaves of a project's line have one station address, whichever groups are present.
+pub fn stations_are_distinct()
+    ensures { StationsAreDistinct }
+{}
+
+/// In the line of a project each variable that has a place has 1 to 64 bits, all of them within the bytes
+/// of one datagram of its task, which is one of the tasks 0 to 7 and has that datagram.
+pub fn variables_lie_in_datagrams()
+    ensures { VariablesLieInDatagrams }
+{}
+
+/// Two variables of a line share no bit: of two in one datagram of a task, one ends at or before the bit
+/// at which the other begins.
+pub fn variables_share_no_bit()
+    ensures { VariablesShareNoBit }
+{}
+
+/// Output variables lie in front of the output length of their task's process data image (in bytes), and
+/// input variables at or behind it. Bits of the image are counted from 0.
+pub fn variables_stand_in_their_parts()
+    ensures { VariablesStandInTheirParts }
+{}
+
+/// In a project the bytes of its slave's memory that an area may take (its reach) hold the bits of its
+/// assigned PDOs.
+pub fn reaches_hold_widths()
+    ensures { ReachesHoldWidths }
+{}
+
+/// In a project the areas of a slave take bytes of its memory from 0x1000 to 0x2FFF alone, by their
+/// reach, and no byte is taken by two of them.
+pub fn reaches_share_no_byte()
+    ensures { ReachesShareNoByte }
 {}
