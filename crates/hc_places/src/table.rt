@@ -3,6 +3,7 @@ ghost use Rattle.std.specs.Prelude.{◌≡◌, ◌==◌, false, find, nat_lt, On
 ghost use Rattle.std.specs.List.Sorted.{IsNonDecreasingBy, IsPartitionPoint};
 ghost use Rattle.hc_places.specs.Table.{by_number};
 
+use crate::datagram_variables::DatagramVariables;
 use arrayvec::ArrayVec;
 use hc_records::items::{Copied, Items};
 use hc_records::records::{Dir, VarId};
@@ -121,8 +122,9 @@ fn find_place(rows: &[(VarId, Place)], variable: VarId) -> Option<Place>
 }
 
 impl Places {
-    ghost use Rattle.std.specs.Prelude.{◌≡◌, IfOk};
-    ghost use Rattle.hc_places.specs.Table.{RowsAscend, by_number, datagram_in, part_in, place_in};
+    ghost use Rattle.std.specs.Prelude.{◌≡◌, ◌≤◌, IfOk, length};
+    ghost use Rattle.hc_records.specs.declared.limits.TheConstants.{MOST_DATAGRAMS};
+    ghost use Rattle.hc_places.specs.Table.{RowsAscend, by_number, datagram_in, datagrams_in, part_in, place_in, variables_in};
 
     /// The table of tasks and of rows in any order, which are sorted; no variable has two. `AllocError` where the sort's
     /// memory was refused.
@@ -143,6 +145,38 @@ impl Places {
         ensures { result ≡ place_in self.now variable }
     {
         find_place(self.variables.as_slice(), variable)
+    }
+
+    /// All variables of the line with their places, in the order of their numbers.
+    pub fn variables(&self) -> &[(VarId, Place)]
+        ensures rows { result.now ≡ self.now.variables }
+        ensures ascends { RowsAscend self.now.variables }
+    {
+        self.variables.as_slice()
+    }
+
+    /// The variables of one datagram of a task with their places, in the order of their numbers; none
+    /// where there is no such datagram. The walk passes every variable of the line once.
+    pub fn datagram_variables(&self, task: u8, number: u8) -> DatagramVariables<'_>
+        ensures { result ≡ variables_in self.now task number }
+    {
+        DatagramVariables {
+            rows: self.variables.as_slice(),
+            task,
+            number,
+        }
+    }
+
+    /// The datagrams of a task in the order of their numbers, at most 16; none where there is no such
+    /// task.
+    pub fn datagrams(&self, task: u8) -> &[Datagram]
+        ensures datagrams { result.now ≡ datagrams_in self.now task }
+        ensures few { length result.now ≤ MOST_DATAGRAMS }
+    {
+        match self.tasks.as_slice().get(usize::from(task)) {
+            Some(task) => task.datagrams.as_slice(),
+            None => &[],
+        }
     }
 
     /// The datagram of a task with a number; none where the task has fewer, or there is no such task.
