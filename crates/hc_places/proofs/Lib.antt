@@ -7,6 +7,7 @@ pub mod Order
 pub mod Pairs
 pub mod Ranks
 pub mod Recuts
+pub mod Said
 pub mod Spread
 pub mod Swapped
 pub mod Tables
