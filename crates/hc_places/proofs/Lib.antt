@@ -7,9 +7,12 @@ pub mod Order
 pub mod Pairs
 pub mod Ranks
 pub mod Recuts
+pub mod Said
+pub mod Sendable
 pub mod Spread
 pub mod Swapped
 pub mod Tables
 pub mod Totals
 pub mod Walked
+pub mod Widths
 pub mod lemmas

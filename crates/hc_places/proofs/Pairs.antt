@@ -1,7 +1,7 @@
 -- The areas of a task beside their places.
-use Rattle.std.proofs.Common.{◌≡◌, ℕ, zero, suc, ◌+◌, ◌<◌, ◌≤◌, List, [], ◌∷◌, length, get_or, ap, arith}
-use Rattle.std.specs.Prelude.{map}
-use Rattle.hc_records.specs.declared.limits.TheConstants.{MOST_AREA_BITS}
+use Rattle.std.proofs.Common.{◌≡◌, ℕ, zero, suc, ◌+◌, ◌<◌, ◌≤◌, List, [], ◌∷◌, length, get_or, ap, subst, sym, arith}
+use Rattle.std.specs.Prelude.{All, map}
+use Rattle.hc_records.specs.declared.limits.TheConstants.{MOST_AREA_BITS, MOST_DATAGRAMS}
 use Rattle.hc_records.specs.Area.{width}
 use Rattle.hc_records.specs.TaskList.{Keyed, Listed, keyed}
 use Rattle.hc_records.specs.Packing.{Placed}
@@ -9,6 +9,7 @@ use Rattle.hc_records.specs.Image.{datagram_count}
 use Rattle.hc_records.proofs.lemmas.Greatest.{greatest-all}
 use Rattle.hc_records.proofs.lemmas.Packed.{area_of}
 use Rattle.hc_places.specs.Parts.{AreSendable}
+use Rattle.hc_places.specs.Ranges.{OffersBits}
 
 head-same : {X : Type 0} (x y : X) (xs ys : List X) → x ∷ xs ≡ y ∷ ys → x ≡ y
 head-same x y xs ys same = cc
@@ -35,13 +36,14 @@ pair-within (area ∷ areas) (place ∷ places) (suc i) same within =
 
 -- an area that is met beside its place lies in one of the datagrams
 pub record MeetsPlace (listed : Listed) (placed : Placed) : Type 0 where
-  pub few : placed.datagram < 256
+  pub few : placed.datagram < MOST_DATAGRAMS
   pub inside : placed.bit + width listed.area ≤ MOST_AREA_BITS
+  pub offers : OffersBits listed.area
 
-pub pair-meets : (areas : List Listed) (places : List Placed) (i : ℕ) (listed : Listed) (placed : Placed) → AreSendable places
+pub pair-meets : (areas : List Listed) (places : List Placed) (i : ℕ) (listed : Listed) (placed : Placed) → AreSendable places → All (λ (l : Listed). OffersBits l.area) areas
     → map area_of places ≡ map keyed areas → i < length areas
     → listed ≡ get_or areas i listed → placed ≡ get_or places i placed → MeetsPlace listed placed
-pair-meets areas places i listed placed sendable same within is stands =
+pair-meets areas places i listed placed sendable offers same within is stands =
     let inside = pair-within areas places i same within in
     let number : (get_or places i placed).datagram + 1 ≤ datagram_count places = greatest-all (λ area. area.datagram + 1) 0 places i placed inside in
     let lies = sendable.inside i placed inside in
@@ -50,4 +52,8 @@ pair-meets areas places i listed placed sendable same within is stands =
     let number' : placed.datagram ≡ (get_or places i placed).datagram = ap (λ (p : Placed). p.datagram) stands in
     let bit' : placed.bit ≡ (get_or places i placed).bit = ap (λ (p : Placed). p.bit) stands in
     let width' : width listed.area ≡ width (get_or areas i listed).area = ap (λ (l : Listed). width l.area) is in
-    record { few = omega arith; inside = omega (arith, lies) }
+    record {
+      few = omega arith;
+      inside = omega (arith, lies);
+      offers = subst (λ (l : Listed). OffersBits l.area) (sym is) (offers i listed within);
+    }

@@ -57,7 +57,7 @@ behind-row : (here : Bool) (row : Row) (found : Option Row) → option_map (λ (
 behind-row true row found = refl
 behind-row false row found = refl
 
-place-of-cons : (row : Row) (rows : List Row) (variable : ℕ) → place_of (row ∷ rows) variable ≡ cond (row.0 == variable) (Some row.1) (place_of rows variable)
+pub place-of-cons : (row : Row) (rows : List Row) (variable : ℕ) → place_of (row ∷ rows) variable ≡ cond (row.0 == variable) (Some row.1) (place_of rows variable)
 place-of-cons row rows variable = behind-row (row.0 == variable) row (find (λ (r : Row). r.0 == variable) rows)
 
 gone-by : (here : Bool) (found : Option VariablePlace) → (here ≡ true → found ≡ None) → found ≡ cond here None found

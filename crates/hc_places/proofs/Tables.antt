@@ -16,6 +16,7 @@ use Rattle.hc_records.specs.TaskList.{belongs, slave_areas, task_areas, task_lis
 use Rattle.hc_records.specs.Packing.{opening}
 use Rattle.hc_records.specs.Image.{datagram_count, datagram_length, datagram_offset, logical_address, task_places}
 use Rattle.hc_records.proofs.lemmas.Inside.{packed-inside}
+use Rattle.hc_records.proofs.lemmas.Lengths.{length-sendable}
 use Rattle.hc_records.proofs.lemmas.Tasks.{listed}
 use Rattle.hc_places.specs.declared.table.Datagram.{Datagram}
 use Rattle.hc_places.specs.Table.{datagram_of, task_table}
@@ -27,6 +28,7 @@ pub places-sendable : (task : ℕ) (line : List Member) → IsConfigurable line 
 places-sendable task line configurable few = record {
   few = few;
   inside = packed-inside opening (task_list task line) (configurable.packable task);
+  lengths = λ d within. length-sendable (task_list task line) d (configurable.packable task) within;
   counted = λ d.
       let same = configurable.counted task d in
       let low = expected-low task d line in

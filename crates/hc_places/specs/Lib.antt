@@ -1,5 +1,6 @@
 pub mod Layout
 pub mod Parts
+pub mod Ranges
 pub mod Recut
 pub mod WorkedLines
 pub mod Swap

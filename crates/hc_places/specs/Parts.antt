@@ -11,9 +11,10 @@ use Rattle.hc_records.specs.Line.{Member}
 use Rattle.hc_records.specs.TaskList.{task_list}
 use Rattle.hc_records.specs.Packing.{Placed}
 use Rattle.hc_records.specs.Image.{datagram_count, datagram_length, datagram_offset, expected_counter, input_length, inside, logical_address, output_length, task_places}
-use Rattle.hc_records.specs.Laws.{Ascends, IsPackable, LiesInside}
+use Rattle.hc_records.specs.Laws.{Ascends, IsDatagramLength, IsPackable, LiesInside}
 use Rattle.hc_registers.specs.Counting.{counted_from}
 use Rattle.hc_places.specs.declared.table.Datagram.{Datagram}
+use Rattle.hc_places.specs.Ranges.{OffersBits}
 use Rattle.hc_places.specs.Table.{Row, TaskTable}
 
 -- the keys of the areas that lie in a datagram
@@ -47,10 +48,11 @@ abbrev pub row_at : ℕ → ℕ → Dir → ℕ × (ℕ × ℕ) → Row
 row_at task datagram dir found =
     (found.0, record { task = task; datagram = datagram; bit = found.1.0; bits = found.1.1; dir = dir })
 
--- places whose datagrams can be sent: at most 16, none of which is too long or counts too many slaves
+-- places whose datagrams can be sent: at most 16, none of which is empty, too long or counts too many slaves
 pub record AreSendable (areas : List Placed) : Type 0 where
   pub few : datagram_count areas ≤ MOST_DATAGRAMS
   pub inside : All LiesInside areas
+  pub lengths : (d : ℕ) → d < datagram_count areas → IsDatagramLength (datagram_length areas d)
   pub counted : (d : ℕ) → counted_inside d areas < 65536
 
 -- a fault other than want of memory names a task that needs more than 16 datagrams
@@ -58,10 +60,11 @@ pub record IsRefusal (task : ℕ) (areas : List Placed) (fault : EditFault) : Ty
   pub names : fault ≢ Memory → fault ≡ TooManyDatagrams task
   pub crowded : fault ≢ Memory → MOST_DATAGRAMS < datagram_count areas
 
--- a slave's areas are few, and none is wider than a datagram
+-- a slave's areas are few, none is wider than a datagram, and their entries have 1 to 64 bits
 pub record IsListable (member : Member) : Type 0 where
   pub few : length member.slave.areas ≤ MOST_AREAS
   pub narrow : All (λ area. width area ≤ MOST_AREA_BITS) member.slave.areas
+  pub offers : All OffersBits member.slave.areas
 
 -- what holds of the line of a project's groups
 pub record IsConfigurable (line : List Member) : Type 0 where

@@ -68,6 +68,18 @@ abbrev pub changed_variables : Table → Table → List ℕ
 changed_variables old new =
     filter (λ variable. not (same_found (place_in old variable) (place_in new variable))) (variables_of_both old new)
 
+-- the new place of a variable, or that it has none, where that isn't its old one
+abbrev pub new_place : Option VariablePlace → Option VariablePlace → Option (Option VariablePlace)
+new_place old new = if same_found old new then None else Some new
+
+-- what a change says of a variable: its new place or none, and nothing where it isn't among the change's rows
+abbrev pub said_of : Change → ℕ → Option (Option VariablePlace)
+said_of change variable = option_map (λ changed. changed.1) (find (λ changed. changed.0 == variable) change.rows)
+
+-- between two tables a change says of each variable whose place differs its new place or none, and nothing of any other
+abbrev pub SaysWhatDiffers : Table → Table → Change → Type 0
+SaysWhatDiffers old new change = (variable : ℕ) → said_of change variable ≡ new_place (place_in old variable) (place_in new variable)
+
 -- how many variables a swap changes
 abbrev pub changed_places : Swap → ℕ
 changed_places swap = length swap.change.rows
@@ -90,10 +102,6 @@ ChangedVariablesDiffer =
 abbrev pub ChangedVariablesStandOnce : Type 0
 ChangedVariablesStandOnce =
     (old new : Table) → RowsAscend old.variables → RowsAscend new.variables → AllPairs (λ a b. a ≢ b) (changed_variables old new)
-
--- what a change says of a variable: its new place or none, and nothing where it isn't among the change's rows
-abbrev pub said_of : Change → ℕ → Option (Option VariablePlace)
-said_of change variable = option_map (λ changed. changed.1) (find (λ changed. changed.0 == variable) change.rows)
 
 -- in the table that a change leads to, a variable stands where the change says, and where it stood if the change says nothing
 abbrev pub SwapsMoveTheirVariables : Type 0

@@ -1,5 +1,5 @@
 -- The table of a line: the datagrams and the parts of its tasks, and the places of its variables.
-use Rattle.std.specs.Prelude.{◌≡◌, ℕ, ◌<◌, ◌==◌, nat_lt, if◌then◌else◌, List, [], ◌∷◌, AllPairs, map, find, slice_get, option_and_then, option_map, Option}
+use Rattle.std.specs.Prelude.{◌≡◌, ℕ, ◌<◌, ◌==◌, ◌&&◌, Bool, nat_lt, if◌then◌else◌, List, [], ◌∷◌, AllPairs, map, filter, find, slice_get, option_and_then, option_map, Option}
 use Rattle.std.specs.Option.{option_map_or}
 use Rattle.std.specs.List.{flat_map, range_with_len}
 use Rattle.hc_records.specs.Line.{Member}
@@ -63,6 +63,21 @@ place_in table variable = option_map (λ row. row.1) (find (λ row. row.0 == var
 
 abbrev pub datagram_in : Table → ℕ → ℕ → Option Datagram
 datagram_in table task d = option_and_then (λ found. slice_get found.datagrams d) (slice_get table.tasks task)
+
+-- the datagrams of a task, in the order of their numbers
+abbrev pub datagrams_in : Table → ℕ → List Datagram
+datagrams_in table task = option_map_or (λ found. found.datagrams) (slice_get table.tasks task) []
+
+-- a place lies in a datagram of a task
+abbrev pub stands_in_datagram : ℕ → ℕ → VariablePlace → Bool
+stands_in_datagram task d place = (place.task == task) && (place.datagram == d)
+
+-- the rows of a datagram's variables, in their order
+abbrev pub of_datagram : ℕ → ℕ → List Row → List Row
+of_datagram task d rows = filter (λ row. stands_in_datagram task d row.1) rows
+
+abbrev pub variables_in : Table → ℕ → ℕ → List Row
+variables_in table task d = of_datagram task d table.variables
 
 -- the bytes of the outputs, and of the inputs, of a task's image
 abbrev pub part_in : Table → ℕ → ℕ × ℕ

@@ -61,12 +61,13 @@ struct Draft {
 }
 
 impl Draft {
-    ghost use Rattle.std.specs.Prelude.{◌≡◌, ◌<◌, ◌≤◌, ◌++◌, [], ◌∷◌, IfErr, OnOk, map};
+    ghost use Rattle.std.specs.Prelude.{◌≡◌, ◌<◌, ◌≤◌, ◌++◌, [], ◌∷◌, All, IfErr, OnOk, map};
     ghost use Rattle.std.specs.List.{flat_map, zip};
     ghost use Rattle.hc_records.specs.Image.{area_variables, datagram_count, task_places, task_variables};
     ghost use Rattle.hc_records.specs.TaskList.{keyed};
     ghost use Rattle.hc_records.specs.declared.limits.TheConstants.{MOST_DATAGRAMS, TASKS};
     ghost use Rattle.hc_places.specs.Parts.{AreSendable, IsConfigurable, IsRefusal, table_at};
+    ghost use Rattle.hc_places.specs.Ranges.{OffersBits};
     ghost use Rattle.hc_places.specs.Table.{task_table};
 
     /// Adds a task whose areas have these places.
@@ -78,6 +79,7 @@ impl Draft {
     ) -> Result<(), AllocError>
         requires task { task < TASKS }
         requires sendable { AreSendable places.items }
+        requires offers { All (λ listed. OffersBits listed.area) areas.now }
         requires same { map (λ area. (area.key, area.bits)) places.items ≡ map keyed areas.now }
         ensures layout { OnOk result (self.new.layout.items ≡ self.old.layout.items ++ places.items ∷ []) }
         ensures tables { OnOk result (self.new.tables.items ≡ self.old.tables.items ++ table_at task places.items ∷ []) }

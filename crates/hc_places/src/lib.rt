@@ -5,6 +5,7 @@
 
 mod areas;
 pub mod configure;
+pub mod datagram_variables;
 mod datagrams;
 pub mod laws;
 pub mod layout;

@@ -147,7 +147,7 @@ fn merge(alloc: Global, changed: &[ChangedRow], old: &[Row]) -> Result<Vec<Row>,
 
 impl Swap {
     ghost use Rattle.std.specs.Prelude.{◌≡◌, IfOk, length};
-    ghost use Rattle.hc_places.specs.Swap.{changed_places, changed_variables, swapped};
+    ghost use Rattle.hc_places.specs.Swap.{ChangesAscend, SaysWhatDiffers, changed_places, changed_variables, swapped};
 
     /// What leads from one table to another, for the edit that asks for it. That the edit leads from the
     /// one table to the other isn't checked: the swap names whatever edit is given. `AllocError` where a
@@ -160,7 +160,8 @@ impl Swap {
     ) -> Result<Swap, AllocError>
         ensures edit { IfOk result (λ swap. swap.edit ≡ edit.now) }
         ensures leads { IfOk result (λ swap. swapped swap.change old.now ≡ new.now) }
-        ensures count { IfOk result (λ swap. length swap.change.rows ≡ length (changed_variables old.now new.now)) }
+        ensures says { IfOk result (λ swap. SaysWhatDiffers old.now new.now swap.change) }
+        ensures count { IfOk result (λ swap. changed_places swap ≡ length (changed_variables old.now new.now)) }
     {
         Ok(Swap {
             edit: edit.copied(alloc)?,
@@ -174,6 +175,15 @@ impl Swap {
         ensures { result.now ≡ self.now.edit }
     {
         &self.edit
+    }
+
+    /// The variables that stand elsewhere, appear or go, each once, in the order of their numbers, with
+    /// their new places; none for one that goes.
+    pub fn changes(&self) -> &[(VarId, Option<Place>)]
+        ensures rows { result.now ≡ self.now.change.rows }
+        ensures ascends { ChangesAscend self.now.change.rows }
+    {
+        self.rows.as_slice()
     }
 
     /// How many variables stand elsewhere, appear or go: each once, so there are no more of them than

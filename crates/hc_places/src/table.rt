@@ -3,6 +3,7 @@ ghost use Rattle.std.specs.Prelude.{◌≡◌, ◌==◌, false, find, nat_lt, On
 ghost use Rattle.std.specs.List.Sorted.{IsNonDecreasingBy, IsPartitionPoint};
 ghost use Rattle.hc_places.specs.Table.{by_number};
 
+use crate::datagram_variables::DatagramVariables;
 use arrayvec::ArrayVec;
 use hc_records::items::{Copied, Items};
 use hc_records::records::{Dir, VarId};
@@ -26,10 +27,13 @@ pub struct Place {
 
 impl Model for Place {
     ghost use Rattle.hc_records.specs.Image.{VariablePlace};
+    ghost use Rattle.hc_places.specs.Ranges.{IsPlace};
 
     ghost Value = { VariablePlace };
 
     ghost view = { λ place. record { task = place.task; datagram = place.datagram; bit = place.bit; bits = place.bits; dir = place.dir } };
+
+    ghost invariant = { λ place. IsPlace (record { task = place.task; datagram = place.datagram; bit = place.bit; bits = place.bits; dir = place.dir }) };
 
     ghost inverse = { λ place. record { task = place.task; datagram = place.datagram; bit = place.bit; bits = place.bits; dir = place.dir } };
 }
@@ -56,11 +60,15 @@ pub(crate) struct TaskTable {
 }
 
 impl Model for TaskTable {
+    ghost use Rattle.std.specs.Prelude.{All};
+    ghost use Rattle.hc_places.specs.Ranges.{IsDatagram};
     ghost use Rattle.hc_places.specs.Table.{TaskTable};
 
     ghost Value = { TaskTable };
 
     ghost view = { λ task. record { datagrams = task.datagrams.items; outputs = task.outputs; inputs = task.inputs } };
+
+    ghost invariant = { λ task. All IsDatagram task.datagrams.items };
 }
 
 /// The datagrams and the parts of the eight tasks, and the place of each variable of a line.
@@ -121,8 +129,10 @@ fn find_place(rows: &[(VarId, Place)], variable: VarId) -> Option<Place>
 }
 
 impl Places {
-    ghost use Rattle.std.specs.Prelude.{◌≡◌, IfOk};
-    ghost use Rattle.hc_places.specs.Table.{RowsAscend, by_number, datagram_in, part_in, place_in};
+    ghost use Rattle.std.specs.Prelude.{◌≡◌, ◌≤◌, All, IfOk, IfSome, length};
+    ghost use Rattle.hc_records.specs.declared.limits.TheConstants.{MOST_DATAGRAMS};
+    ghost use Rattle.hc_places.specs.Ranges.{IsDatagram};
+    ghost use Rattle.hc_places.specs.Table.{RowsAscend, by_number, datagram_in, datagrams_in, part_in, place_in, variables_in};
 
     /// The table of tasks and of rows in any order, which are sorted; no variable has two. `AllocError` where the sort's
     /// memory was refused.
@@ -145,9 +155,43 @@ impl Places {
         find_place(self.variables.as_slice(), variable)
     }
 
+    /// All variables of the line with their places, in the order of their numbers.
+    pub fn variables(&self) -> &[(VarId, Place)]
+        ensures rows { result.now ≡ self.now.variables }
+        ensures ascends { RowsAscend self.now.variables }
+    {
+        self.variables.as_slice()
+    }
+
+    /// The variables of one datagram of a task with their places, in the order of their numbers; none
+    /// where there is no such datagram. The walk passes every variable of the line once.
+    pub fn datagram_variables(&self, task: u8, number: u8) -> DatagramVariables<'_>
+        ensures { result ≡ variables_in self.now task number }
+    {
+        DatagramVariables {
+            rows: self.variables.as_slice(),
+            task,
+            number,
+        }
+    }
+
+    /// The datagrams of a task in the order of their numbers, at most 16; none where there is no such
+    /// task.
+    pub fn datagrams(&self, task: u8) -> &[Datagram]
+        ensures datagrams { result.now ≡ datagrams_in self.now task }
+        ensures few { length result.now ≤ MOST_DATAGRAMS }
+        ensures ranges { All IsDatagram result.now }
+    {
+        match self.tasks.as_slice().get(usize::from(task)) {
+            Some(task) => task.datagrams.as_slice(),
+            None => &[],
+        }
+    }
+
     /// The datagram of a task with a number; none where the task has fewer, or there is no such task.
     pub fn datagram(&self, task: u8, number: u8) -> Option<Datagram>
-        ensures { result ≡ datagram_in self.now task number }
+        ensures datagram { result ≡ datagram_in self.now task number }
+        ensures ranges { IfSome result IsDatagram }
     {
         let task = self.tasks.as_slice().get(usize::from(task))?;
         task.datagrams.get(usize::from(number)).copied()

@@ -1,5 +1,8 @@
 //! Worked lines, by numbers that are known from outside.
-ghost use Rattle.std.specs.Prelude.{◌≡◌, IfOk, map};
+ghost use Rattle.std.specs.Prelude.{◌≡◌, IfOk, IfSome, if◌then◌else◌, map, sum_by};
+ghost use Rattle.hc_records.specs.Keys.{same_dir};
+ghost use Rattle.hc_records.specs.declared.records.Dir.TheVariants.{Out};
+ghost use Rattle.hc_places.specs.Table.{variables_in};
 
 use crate::configure::{Configured, configure};
 use crate::swap::Swap;
@@ -106,6 +109,20 @@ fn configured(alloc: Global, groups: Items<Group>, absent: u16) -> Result<Config
         .ok()
         .ok_or("few datagrams")?;
     Ok(configured)
+}
+
+/// The bits of the output variables of a datagram, where 32 bits hold their sum: a caller that walks a
+/// datagram's variables.
+fn output_bits(places: &Places, task: u8, number: u8) -> Option<u32>
+    ensures { IfSome result (λ sum. sum ≡ sum_by (λ row. if same_dir row.1.dir Out then row.1.bits else 0) (variables_in places.now task number)) }
+{
+    let mut sum: u32 = 0;
+    for (_, place) in places.datagram_variables(task, number) {
+        if place.dir == Dir::Out {
+            sum = sum.checked_add(u32::from(place.bits))?;
+        }
+    }
+    Some(sum)
 }
 
 #[test]

@@ -1,11 +1,12 @@
 //! The places of a task's variables.
-ghost use Rattle.std.specs.Prelude.{◌≡◌, ◌+◌, ◌<◌, ◌≤◌, ◌++◌, IfOk, OnOk, map};
+ghost use Rattle.std.specs.Prelude.{◌≡◌, ◌+◌, ◌<◌, ◌≤◌, ◌++◌, All, IfOk, OnOk, map};
 ghost use Rattle.std.specs.List.{flat_map, zip};
 ghost use Rattle.hc_records.specs.Area.{bits_of, width};
 ghost use Rattle.hc_records.specs.Image.{area_variables, variables_from};
 ghost use Rattle.hc_records.specs.TaskList.{keyed};
-ghost use Rattle.hc_records.specs.declared.limits.TheConstants.{MOST_AREA_BITS};
+ghost use Rattle.hc_records.specs.declared.limits.TheConstants.{MOST_AREA_BITS, MOST_DATAGRAMS, TASKS};
 ghost use Rattle.hc_places.specs.Parts.{AreSendable, row_at};
+ghost use Rattle.hc_places.specs.Ranges.{HasBits, OffersBits};
 
 use crate::areas::Listed;
 use crate::table::Place;
@@ -29,7 +30,10 @@ fn add_entries(
     first: u16,
     entries: &[Entry],
 ) -> Result<u16, AllocError>
-    requires { first + bits_of entries.now < 65536 }
+    requires task { carrier.task < TASKS }
+    requires datagram { carrier.datagram < MOST_DATAGRAMS }
+    requires inside { first + bits_of entries.now ≤ MOST_AREA_BITS }
+    requires widths { All HasBits entries.now }
     ensures rows { OnOk result (rows.new.items ≡ rows.old.items ++ map (row_at carrier.task carrier.datagram carrier.dir) (variables_from first entries.now)) }
     ensures behind { IfOk result (λ behind. behind ≡ first + bits_of entries.now) }
 {
@@ -58,8 +62,10 @@ fn add_area(
     listed: &Listed,
     placed: Placed,
 ) -> Result<(), AllocError>
-    requires few { placed.datagram < 256 }
+    requires task { task < TASKS }
+    requires few { placed.datagram < MOST_DATAGRAMS }
     requires inside { placed.bit + width listed.now.area ≤ MOST_AREA_BITS }
+    requires offers { OffersBits listed.now.area }
     ensures { OnOk result (rows.new.items ≡ rows.old.items ++ area_variables task (listed.now, placed)) }
 {
     let area = listed.area();
@@ -84,7 +90,9 @@ pub(crate) fn add_variables(
     areas: &[Listed],
     places: &[Placed],
 ) -> Result<(), AllocError>
+    requires task { task < TASKS }
     requires sendable { AreSendable places.now }
+    requires offers { All (λ listed. OffersBits listed.area) areas.now }
     requires same { map (λ area. (area.key, area.bits)) places.now ≡ map keyed areas.now }
     ensures { OnOk result (rows.new.items ≡ rows.old.items ++ flat_map (area_variables task) (zip areas.now places.now)) }
 {

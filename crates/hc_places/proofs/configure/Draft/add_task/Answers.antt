@@ -4,6 +4,7 @@ use Rattle.hc_records.specs.TaskList.{keyed}
 use Rattle.hc_records.specs.Packing.{opening, packed}
 use Rattle.hc_records.proofs.lemmas.Packed.{packed-areas}
 use Rattle.hc_places.proofs.Tables.{areas-few, places-sendable}
+use Rattle.hc_places.proofs.Widths.{areas-offer}
 use Rattle.hc_places.proofs.configure.Draft.add_task.Goals as goal
 
 pub place_areas-requires-clause-few : goal.place_areas-requires-clause-few
@@ -25,3 +26,9 @@ add_places-requires-clause-same c =
     let first = c.as_slice.ensures.value in
     let stand = c.in_ok-places.ensures.places in
     rw stand (packed-areas opening (map keyed c.as_slice.result.now) ∙ ap (map keyed) (first ∙ sym again))
+
+pub add_places-requires-clause-offers : goal.add_places-requires-clause-offers
+add_places-requires-clause-offers c =
+    let again = c.as_slice-2.ensures.value in
+    let listed = again ∙ c.in_ok-areas.ensures in
+    rw listed (areas-offer c.args.task c.args.line.now c.requires.line.listable)
