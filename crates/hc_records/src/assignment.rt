@@ -6,32 +6,40 @@ ghost use Rattle.hc_records.specs.Area.{bits_of, entries_at};
 ghost use Rattle.hc_records.specs.Lists.{has_repeat};
 ghost use Rattle.hc_records.specs.Project.{offered_bits};
 
+use crate::conditions::scan::{Relation, some_pair};
 use crate::limits::MOST_AREA_BITS;
 use crate::records::{Area, Entry, Pdo};
 
-/// One bit more than the widest area.
-pub const TOO_WIDE: u32 = MOST_AREA_BITS + 1;
+/// One bit more than the widest area: widths are counted up to it.
+pub const WIDTH_CAP: u32 = MOST_AREA_BITS + 1;
+
+/// Two equal indexes.
+struct SameNumber;
+
+impl Relation<u16> for SameNumber {
+    ghost use Rattle.std.specs.Prelude.{◌==◌};
+
+    ghost relation = { λ earlier later. later == earlier };
+
+    fn holds(earlier: &u16, later: &u16) -> bool {
+        *later == *earlier
+    }
+}
 
 /// Whether an index stands twice in a list.
 pub fn repeats(indexes: &[u16]) -> bool
     ensures { result ≡ has_repeat indexes.now }
 {
-    for i in 0..indexes.len() {
-        let index = indexes[i];
-        if indexes[i + 1..].contains(&index) {
-            return true;
-        }
-    }
-    false
+    some_pair::<u16, SameNumber>(indexes)
 }
 
-/// The bits of entries, or `TOO_WIDE` where they are more.
+/// The bits of entries, or `WIDTH_CAP` where they are more.
 fn capped_bits(entries: &[Entry]) -> u32
-    ensures { result ≡ min TOO_WIDE (bits_of entries.now) }
+    ensures { result ≡ min WIDTH_CAP (bits_of entries.now) }
 {
     let mut total = 0u32;
     for entry in entries {
-        total = (total + u32::from(entry.1)).min(TOO_WIDE);
+        total = (total + u32::from(entry.1)).min(WIDTH_CAP);
     }
     total
 }
@@ -48,24 +56,24 @@ pub fn offered_entries(offered: &[Pdo], index: u16) -> &[Entry]
     &[]
 }
 
-/// The bits of offered PDOs in the order of their indexes, or `TOO_WIDE` where they are more.
+/// The bits of offered PDOs in the order of their indexes, or `WIDTH_CAP` where they are more.
 fn assigned_bits(offered: &[Pdo], indexes: &[u16]) -> u32
-    ensures { result ≡ min TOO_WIDE (bits_of (flat_map (entries_at offered.now) indexes.now)) }
+    ensures { result ≡ min WIDTH_CAP (bits_of (flat_map (entries_at offered.now) indexes.now)) }
 {
     let mut total = 0u32;
     for index in indexes {
-        total = (total + capped_bits(offered_entries(offered, *index))).min(TOO_WIDE);
+        total = (total + capped_bits(offered_entries(offered, *index))).min(WIDTH_CAP);
     }
     total
 }
 
-/// The bits of all offered PDOs, or `TOO_WIDE` where they are more.
+/// The bits of all offered PDOs, or `WIDTH_CAP` where they are more.
 fn all_bits(offered: &[Pdo]) -> u32
-    ensures { result ≡ min TOO_WIDE (offered_bits offered.now) }
+    ensures { result ≡ min WIDTH_CAP (offered_bits offered.now) }
 {
     let mut total = 0u32;
     for pdo in offered {
-        total = (total + capped_bits(pdo.entries.as_slice())).min(TOO_WIDE);
+        total = (total + capped_bits(pdo.entries.as_slice())).min(WIDTH_CAP);
     }
     total
 }
@@ -75,7 +83,7 @@ impl Area {
     ghost use Rattle.hc_records.specs.Area.{width};
     ghost use Rattle.hc_records.specs.Edits.{has_unknown, offers};
     ghost use Rattle.hc_records.specs.Project.{reach};
-    ghost use Rattle.hc_records.specs.declared.limits.TheConstants.{MOST_AREA_BITS};
+    ghost use Rattle.hc_records.specs.declared.limits.TheConstants.{MOST_AREA_BITS, MOST_DATAGRAM_BYTES};
 
     /// Whether the area offers a PDO of an index.
     pub fn offers(&self, index: u16) -> bool
@@ -91,10 +99,10 @@ impl Area {
         indexes.iter().any(|index| !self.offers(*index))
     }
 
-    /// The width in bits with these PDOs assigned in place of those that are, or `TOO_WIDE` where it
+    /// The width in bits with these PDOs assigned in place of those that are, or `WIDTH_CAP` where it
     /// is more. An index that isn't offered has no bits.
     pub fn width_with(&self, indexes: &[u16]) -> u32
-        ensures { result ≡ min TOO_WIDE (width (record self.now { assigned = indexes.now })) }
+        ensures { result ≡ min WIDTH_CAP (width (record self.now { assigned = indexes.now })) }
     {
         assigned_bits(self.offered.as_slice(), indexes)
     }
@@ -112,7 +120,7 @@ impl Area {
     /// its offered PDOs, or of the widest area where these are more.
     pub fn reach(&self) -> u32
         ensures value { result ≡ reach self.now }
-        ensures low { result ≤ 1486 }
+        ensures low { result ≤ MOST_DATAGRAM_BYTES }
     {
         all_bits(self.offered.as_slice())
             .min(MOST_AREA_BITS)

@@ -12,8 +12,5 @@ pub mod keys;
 pub mod laws;
 pub mod limits;
 pub mod line;
-mod names;
 pub mod project;
-mod ranges;
 pub mod records;
-mod sweep;

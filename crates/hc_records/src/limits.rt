@@ -23,9 +23,9 @@ pub const MOST_ENTRY_BITS: u8 = 64;
 /// (ETG.1000.4, 5.3 and 5.4).
 pub const MOST_DATAGRAM_BYTES: u16 = 1486;
 
-/// The most bits of an area, which is never split over datagrams: the bits of
-/// `MOST_DATAGRAM_BYTES`.
-pub const MOST_AREA_BITS: u32 = 11888;
+/// The most bits of an area, which is never split over datagrams: those of the longest datagram,
+/// 11,888.
+pub const MOST_AREA_BITS: u32 = 8 * MOST_DATAGRAM_BYTES as u32;
 
 /// The cyclic tasks, numbered from 0 (this project's profile).
 pub const TASKS: u8 = 8;

@@ -1,8 +1,8 @@
 //! A project: declared groups in which every value is in its range and every name stands once.
-ghost use Rattle.std.specs.Prelude.{◌≡◌, ◌≢◌, None, Some, IfErr, IfOk, OnOk};
+ghost use Rattle.std.specs.Prelude.{◌≡◌, ◌≢◌, Err, None, Some, IfErr, IfOk, IsTrue, OnOk};
 ghost use Rattle.hc_records.specs.Limits.{IsProjectInside};
-ghost use Rattle.hc_records.specs.Project.{lowest_fault};
-ghost use Rattle.hc_records.specs.declared.faults.ProjectFault.TheVariants.{Memory};
+ghost use Rattle.hc_records.specs.Project.{has_outside, lowest_fault};
+ghost use Rattle.hc_records.specs.declared.faults.ProjectFault.TheVariants.{Memory, OutOfRange};
 
 use crate::conditions::judge;
 use crate::faults::ProjectFault;
@@ -33,11 +33,12 @@ impl Model for Project {
 impl Project {
     /// The project of declared groups. Otherwise the lowest fault whose condition holds over all of
     /// them, from `OutOfRange` to `AreaTooBig`, or `Memory` where a growth was refused; the groups
-    /// are then dropped.
+    /// are then dropped. `OutOfRange` is judged before memory is taken.
     pub fn checked(alloc: Global, groups: Items<Group>) -> Result<Project, ProjectFault>
         ensures project { IfOk result (λ project. project ≡ groups) }
         ensures accepted { OnOk result (lowest_fault groups ≡ None) }
         ensures refused { IfErr result (λ fault. fault ≢ Memory → lowest_fault groups ≡ Some fault) }
+        ensures outside { IsTrue (has_outside groups) → result ≡ Err OutOfRange }
     {
         judge(alloc, groups.as_slice())?;
         Ok(Project { groups })

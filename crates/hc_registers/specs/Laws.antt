@@ -1,13 +1,15 @@
--- What is written into a block is read from it, and a datagram's counter is counted in one pass. Each is the contract of a function of `laws`.
-use Rattle.std.specs.Prelude.{◌≡◌, ℕ, ◌+◌, ◌/◌, ◌%◌, ◌<◌, ◌≤◌, ◌^◌, slice_index, sum_by, All, AllPairs, Contains, IsTrue, List, None}
+-- What is written into a block is read from it, a slave's blocks stand apart, and a datagram's counter is counted in one pass. Each is the contract of a function of `laws`.
+use Rattle.std.specs.Prelude.{◌≡◌, ℕ, ◌+◌, ◌/◌, ◌%◌, ◌<◌, ◌≤◌, ◌^◌, length, slice_index, sum_by, All, AllPairs, Contains, IsTrue, List, None}
 use Rattle.hc_records.specs.declared.limits.TheConstants.{MOST_AREA_BITS}
 use Rattle.hc_records.specs.declared.records.Area.{Area}
 use Rattle.hc_records.specs.declared.keys.Key.{Key}
 use Rattle.hc_records.specs.Keys.{is_before}
 use Rattle.hc_records.specs.Area.{width}
 use Rattle.hc_records.specs.Image.{counter_share}
+use Rattle.hc_records.specs.Limits.{IsSlaveInside}
+use Rattle.hc_records.specs.Line.{Member}
 use Rattle.hc_registers.specs.declared.fmmu.Mapping.{Mapping}
-use Rattle.hc_registers.specs.Blocks.{IsMappable, activation, byte_count, control_of, last_bit, mapped_bytes, sync_manager_bytes, touched_bytes, type_of}
+use Rattle.hc_registers.specs.Blocks.{IsMappable, RegisterBlock, activation, byte_count, control_of, last_bit, mapped_bytes, slave_blocks, sync_manager_bytes, touched_bytes, type_of}
 use Rattle.hc_registers.specs.Counting.{counted_from}
 use Rattle.hc_registers.specs.Fields.{long_at, word_at}
 
@@ -36,6 +38,19 @@ pub record FmmuFields (area : Area) (mapping : Mapping) : Type 0 where
 
 abbrev pub FmmusAreRead : Type 0
 FmmusAreRead = (area : Area) (mapping : Mapping) → area.phys < 2 ^ 16 → IsMappable area mapping → FmmuFields area mapping
+
+-- a register that a block takes
+pub record Takes (block : RegisterBlock) (register : ℕ) : Type 0 where
+  pub from : block.register ≤ register
+  pub below : register < block.register + length block.bytes
+
+-- two blocks take no register in common
+abbrev pub StandApart : RegisterBlock → RegisterBlock → Type 0
+StandApart a b = (register : ℕ) → Takes a register → ¬ (Takes b register)
+
+-- the blocks of a slave that keeps the limits of a project, in any line, take no register in common
+abbrev pub BlocksStandApart : Type 0
+BlocksStandApart = (line : List Member) (member : Member) → IsSlaveInside member.slave → AllPairs StandApart (slave_blocks line member)
 
 -- where keys ascend, and so do ranks that have each key's, what the slaves with these ranks add is what the areas add in their order
 abbrev pub AscendingKeysAreCounted : Type 0

@@ -1,6 +1,6 @@
 //! What follows from the definitions of the blocks and of the working counter: each function does
 //! nothing, and its contract is a law. Nobody calls it.
-ghost use Rattle.hc_registers.specs.Laws.{AscendingKeysAreCounted, FmmusAreRead, SyncManagersAreRead};
+ghost use Rattle.hc_registers.specs.Laws.{AscendingKeysAreCounted, BlocksStandApart, FmmusAreRead, SyncManagersAreRead};
 
 /// The fields of an area's sync manager block are read as they were written: its start address, its
 /// length in bytes, its control and its activation; its status and its PDI control are 0.
@@ -11,6 +11,12 @@ pub fn sync_managers_are_read()
 /// The fields of a mapped area's FMMU block are read as they were written.
 pub fn fmmus_are_read()
     ensures { FmmusAreRead }
+{}
+
+/// The sync manager and FMMU blocks of a slave of a project take no register in common, so each
+/// register that is written belongs to one of them.
+pub fn blocks_stand_apart()
+    ensures { BlocksStandApart }
 {}
 
 /// Where keys ascend strictly, and so do ranks among which each key's is, the counter by slaves (for

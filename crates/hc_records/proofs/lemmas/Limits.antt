@@ -1,6 +1,6 @@
 -- A project keeps every limit: what each record of specs/Limits asks follows from the conditions of the faults, none of which holds.
-use Rattle.std.proofs.Common.{◌≡◌, ℕ, ◌+◌, ◌<◌, ◌≤◌, Bool, true, false, List, [], ◌∷◌, length, refl, sym, arith}
-use Rattle.std.specs.Prelude.{All, AllPairs, None, map, nat_lt, not, slice_index_or, ◌&&◌, ◌||◌, ◌==◌, ◌-◌, ◌≢◌}
+use Rattle.std.proofs.Common.{◌≡◌, ℕ, ◌+◌, ◌≤◌, Bool, true, false, List, [], ◌∷◌, length, refl, sym, arith}
+use Rattle.std.specs.Prelude.{All, None, map, nat_lt, not, slice_index_or, ◌&&◌, ◌||◌, ◌==◌, ◌-◌, ◌≢◌}
 use Rattle.std.specs.List.{list_any}
 use Rattle.std.proofs.lemmas.Bool.{and_from, both_ways, eqb-false, eqb-true, lt-ltb, ltb-false, ltb-true, not-false, or_parts}
 use Rattle.std.proofs.lemmas.List.Elements.{All-weaker}
@@ -12,9 +12,9 @@ use Rattle.hc_records.specs.declared.records.Group.{Group}
 use Rattle.hc_records.specs.declared.faults.ProjectFault.TheVariants.{OutOfRange}
 use Rattle.hc_records.specs.Area.{Entry, width}
 use Rattle.hc_records.specs.Edits.{has_unknown}
-use Rattle.hc_records.specs.Limits.{BeginsMandatory, ComesAndGoes, IsAreaInside, IsEntryInside, IsPdoInside, IsProjectInside, IsSlaveInside, KeepApart, Reaches}
+use Rattle.hc_records.specs.Limits.{BeginsMandatory, ComesAndGoes, IsAreaInside, IsEntryInside, IsPdoInside, IsProjectInside, IsSlaveInside, KeepApart}
 use Rattle.hc_records.specs.Lists.{has_repeat, some_pair}
-use Rattle.hc_records.specs.Project.{area_outside, entry_outside, has_outside, has_overlap, has_unknown_pdo, is_bare, is_misplaced, is_outside, is_wide, lowest_fault, overlap, pdo_outside, project_faults, reach, repeats_sync_manager, same_index, same_sync_manager, slave_outside, slaves_of, slave_names, some_slave}
+use Rattle.hc_records.specs.Project.{area_outside, entry_outside, has_overlap, has_unknown_pdo, is_bare, is_misplaced, is_outside, is_wide, lowest_fault, overlap, pdo_outside, project_faults, reach, repeats_sync_manager, same_index, same_sync_manager, slave_outside, slaves_of, slave_names, some_slave}
 use Rattle.hc_records.proofs.lemmas.Lists.{All-flat_map, All-from_none, AllPairs-from_none, AllPairs-from_once, AllPairs-unmap, AllPairs-weaker}
 use Rattle.hc_records.proofs.lemmas.Projects.{none-holds}
 
@@ -129,9 +129,10 @@ comes-and-goes group none =
 begins-mandatory : (groups : List Group) → is_misplaced groups ≡ false → BeginsMandatory groups
 begins-mandatory [] none = both_ways true none refl
 begins-mandatory (group ∷ groups) none =
-    let parts = or_parts (not (group.alias == 0)) (list_any is_bare groups) none in
-    (eqb-true group.alias 0 (not-false (group.alias == 0) parts.0),
-     All-weaker (λ other. is_bare other ≡ false) ComesAndGoes comes-and-goes groups (All-from_none is_bare groups parts.1))
+    let parts = or_parts (not (group.alias == 0)) (list_any is_bare groups) none in (
+      eqb-true group.alias 0 (not-false (group.alias == 0) parts.0),
+      All-weaker (λ other. is_bare other ≡ false) ComesAndGoes comes-and-goes groups (All-from_none is_bare groups parts.1),
+    )
 
 -- no slave of the groups meets a test
 all-slaves : (test : Slave → Bool) (groups : List Group) → some_slave test groups ≡ false → All (λ slave. test slave ≡ false) (slaves_of groups)

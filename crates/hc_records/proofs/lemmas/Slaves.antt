@@ -1,9 +1,8 @@
 -- What a project's limits say of the slaves of its line.
 pub use Rattle.hc_records.specs.Limits.{IsAreaInside, IsSlaveInside}
-use Rattle.std.proofs.Common.{◌≡◌, ℕ, ◌+◌, ◌<◌, ◌≤◌, List, [], ◌∷◌, length, refl, sym, ap, ◌∙◌, arith, length-append}
+use Rattle.std.proofs.Common.{◌≡◌, ℕ, ◌+◌, List, [], ◌∷◌, length, refl, sym, ap, ◌∙◌, arith, length-append}
 use Rattle.std.specs.Prelude.{All, AllPairs, None, map, sum_by, ◌≢◌}
 use Rattle.std.proofs.lemmas.List.Sums.{sum_by-cons}
-use Rattle.hc_records.specs.declared.records.Slave.{Slave}
 use Rattle.hc_records.specs.declared.records.Declared.{Declared}
 use Rattle.hc_records.specs.Line.{IsCounted, groups_of, line_from}
 use Rattle.hc_records.specs.Project.{lowest_fault, slaves_of}

@@ -1,7 +1,7 @@
 use Rattle.std.proofs.Common.{◌≡◌, min, take}
-use Rattle.hc_records.specs.declared.assignment.TheConstants.{TOO_WIDE}
+use Rattle.hc_records.specs.declared.assignment.TheConstants.{WIDTH_CAP}
 use Rattle.hc_records.specs.Project.{offered_bits}
 use Rattle.hc_records.proofs.assignment.all_bits.Given as goal
 
 abbrev pub invariant-loop-pdo : goal.invariant-loop-pdo
-invariant-loop-pdo l = l.total ≡ min TOO_WIDE (offered_bits (take l.pdo-index l.offered))
+invariant-loop-pdo l = l.total ≡ min WIDTH_CAP (offered_bits (take l.pdo-index l.offered))
