@@ -17,6 +17,7 @@ pub mod Parts
 pub mod Projects
 pub mod Reaches
 pub mod Slaves
+pub mod Spans
 pub mod Stations
 pub mod Tasks
 pub mod Tiles
