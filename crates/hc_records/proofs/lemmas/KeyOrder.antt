@@ -145,3 +145,10 @@ key-order a b = by (is_within b a) refl
     by : (within : Bool) → is_within b a ≡ within → (is_before a b ≡ true) ⊎ ((is_before b a ≡ true) ⊎ (a ≡ b))
     by true within = same (or_cases (is_before b a) (same_key b a) within)
     by false within = inl (before-else a b within)
+
+pub within-else : (a b : Key) → is_before a b ≡ false → is_within b a ≡ true
+within-else a b other = by (is_within b a) refl
+  where
+    by : (within : Bool) → is_within b a ≡ within → is_within b a ≡ true
+    by true within = within
+    by false within = let none : true ≡ false = sym (before-else a b within) ∙ other in cc

@@ -171,7 +171,7 @@ same-cut first last front (x ∷ xs) (y ∷ ys) is is' cut agree =
 -- what is packed from a key on, up to the next cut
 
 -- an area lies in a span by its key
-abbrev key_lies_in : Interval → Key → Bool
+abbrev pub key_lies_in : Interval → Key → Bool
 key_lies_in span key = is_within span.0 key && is_before key span.1
 
 place-key : (fitting : Bool) (front : Front) (area : Keyed) → (place fitting front area).key ≡ area.0
@@ -179,7 +179,7 @@ place-key true front area = refl
 place-key false front area = refl
 
 -- the places of areas whose keys aren't in a span
-drops-behind : (span : Interval) (front : Front) (list : List Keyed) → All (λ area. key_lies_in span area.0 ≡ false) list → filter (lies_in span) (packed front list) ≡ []
+pub drops-behind : (span : Interval) (front : Front) (list : List Keyed) → All (λ area. key_lies_in span area.0 ≡ false) list → filter (lies_in span) (packed front list) ≡ []
 drops-behind span front [] all = refl
 drops-behind span front (area ∷ areas) all =
     let placed = placed_at front area in
