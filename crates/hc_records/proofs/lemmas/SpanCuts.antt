@@ -112,10 +112,10 @@ cut-areas before area after is =
     let higher = AllPairs-head (λ a b. IsTrue (is_before a.0 b.0)) area after (AllPairs-append_right (λ a b. IsTrue (is_before a.0 b.0)) before (area ∷ after) is.ascends) in
     filter-append test before (area ∷ after)
     ∙ ap (λ (front : List Keyed). front ++ filter test (area ∷ after))
-        (filter-drops test before (All-weaker (λ a. is_before a.0 area.0 ≡ true) (λ a. is_within area.0 a.0 ≡ false) (λ a low. before-apart a.0 area.0 low) before lower))
+    (filter-drops test before (All-weaker (λ a. is_before a.0 area.0 ≡ true) (λ a. is_within area.0 a.0 ≡ false) (λ a low. before-apart a.0 area.0 low) before lower))
     ∙ filter-keeps test (area ∷ after)
-        (All-cons (λ a. is_within area.0 a.0 ≡ true) area after (within-refl area.0)
-        (All-weaker (λ a. is_before area.0 a.0 ≡ true) (λ a. is_within area.0 a.0 ≡ true) (λ a high. within-from_before area.0 a.0 high) after higher))
+    (All-cons (λ a. is_within area.0 a.0 ≡ true) area after (within-refl area.0)
+    (All-weaker (λ a. is_before area.0 a.0 ≡ true) (λ a. is_within area.0 a.0 ≡ true) (λ a high. within-from_before area.0 a.0 high) after higher))
 
 cut-alone : (before : List Keyed) (area : Keyed) (after : List Keyed) → IsTaskList (before ++ area ∷ after) → fits (front_after opening before) area ≡ false →
     IsCutAlone (before ++ area ∷ after) (area.0, next_cut (behind (placed_at (front_after opening before) area)) after)
@@ -142,9 +142,9 @@ cut-alone before area after is other =
           ap (λ (places : List Placed). map seen_area (filter (lies_in span) places)) (packed-alone before area after is.packable later)
           ∙ ap (map seen_area) (filter-append (lies_in span) (packed opening before) (map (raised count) (packed opening rest)))
           ∙ ap (λ (front : List Placed). map seen_area (front ++ filter (lies_in span) (map (raised count) (packed opening rest))))
-              (drops-behind span opening before
-              (All-weaker (λ a. is_before a.0 area.0 ≡ true) (λ a. key_lies_in span a.0 ≡ false)
-              (λ a low. and_left (is_within area.0 a.0) (is_before a.0 end) (before-apart a.0 area.0 low)) before lower))
+          (drops-behind span opening before
+          (All-weaker (λ a. is_before a.0 area.0 ≡ true) (λ a. key_lies_in span a.0 ≡ false)
+          (λ a low. and_left (is_within area.0 a.0) (is_before a.0 end) (before-apart a.0 area.0 low)) before lower))
           ∙ seen-raised span count (packed opening rest)
           ∙ ap (map seen_area) (carried-areas span opening rest list_from (sym alone))
           ∙ ap (λ (areas : List Keyed). map seen_area (carried opening areas)) (sym own);
