@@ -14,10 +14,10 @@ use Rattle.hc_records.proofs.lemmas.Lengths.{opening-beginning, opening-fits}
 use Rattle.hc_records.proofs.lemmas.Lists.{All-append_left, All-append_right}
 
 -- a front with so many more datagrams before it
-abbrev raised_front : ℕ → Front → Front
+abbrev pub raised_front : ℕ → Front → Front
 raised_front datagrams front = record front { datagram = front.datagram + datagrams }
 
-place-raised : (fitting : Bool) (datagrams : ℕ) (front : Front) (area : Keyed) → place fitting (raised_front datagrams front) area ≡ raised datagrams (place fitting front area)
+pub place-raised : (fitting : Bool) (datagrams : ℕ) (front : Front) (area : Keyed) → place fitting (raised_front datagrams front) area ≡ raised datagrams (place fitting front area)
 place-raised true datagrams front area = refl
 place-raised false datagrams front area =
     let sum : front.datagram + datagrams + 1 ≡ front.datagram + 1 + datagrams = omega arith in
@@ -35,7 +35,7 @@ later-other true front area begun later = sym later ∙ fitting-begins front are
 later-other false front area begun later = refl
 
 -- it stands as the first area of a list, in the next datagram
-first-raised : (datagrams : ℕ) (front : Front) (area : Keyed) → area.1 ≤ 11888 → datagrams ≡ front.datagram + 1 → fits front area ≡ false →
+pub first-raised : (datagrams : ℕ) (front : Front) (area : Keyed) → area.1 ≤ 11888 → datagrams ≡ front.datagram + 1 → fits front area ≡ false →
     placed_at front area ≡ raised datagrams (placed_at opening area)
 first-raised datagrams front area narrow same other =
     let first : raised datagrams (placed_at opening area) ≡ raised datagrams (place true opening area) =
@@ -48,7 +48,7 @@ first-raised datagrams front area narrow same other =
     ∙ sym first
 
 -- the datagrams of what stands before it are those up to the one being filled
-before-count : (before : List Keyed) (area : Keyed) → area.1 ≤ 11888 → fits (front_after opening before) area ≡ false →
+pub before-count : (before : List Keyed) (area : Keyed) → area.1 ≤ 11888 → fits (front_after opening before) area ≡ false →
     datagram_count (packed opening before) ≡ (front_after opening before).datagram + 1
 before-count [] area narrow other = let fitting = opening-fits area narrow in let none : true ≡ false = sym fitting ∙ other in cc
 before-count (first ∷ before) area narrow other = count-front_after first before

@@ -15,20 +15,20 @@ use Rattle.hc_records.specs.Laws.{LiesBetween}
 use Rattle.hc_records.proofs.lemmas.KeyOrder.{same_dir-refl, within-trans, within-total, within-from_before, within-refl}
 
 -- a key lies in an interval
-record IsIn (key : Key) (interval : Interval) : Type 0 where
+pub record IsIn (key : Key) (interval : Interval) : Type 0 where
   pub from : is_within interval.0 key ≡ true
   pub to : is_within key interval.1 ≡ true
 
-abbrev IsInHull : Key → Option Interval → Type 0
+abbrev pub IsInHull : Key → Option Interval → Type 0
 IsInHull key None = ⊥
 IsInHull key (Some interval) = IsIn key interval
 
 -- the lesser and the greater of two keys
-lesser-within : (before : Bool) (more low key : Key) → is_before more low ≡ before → is_within low key ≡ true → is_within (if before then more else low) key ≡ true
+pub lesser-within : (before : Bool) (more low key : Key) → is_before more low ≡ before → is_within low key ≡ true → is_within (if before then more else low) key ≡ true
 lesser-within true more low key test within = within-trans more low key (within-from_before more low test) within
 lesser-within false more low key test within = within
 
-greater-within : (before : Bool) (more high key : Key) → is_before high more ≡ before → is_within key high ≡ true → is_within key (if before then more else high) ≡ true
+pub greater-within : (before : Bool) (more high key : Key) → is_before high more ≡ before → is_within key high ≡ true → is_within key (if before then more else high) ≡ true
 greater-within true more high key test within = within-trans key high more within (within-from_before high more test)
 greater-within false more high key test within = within
 
@@ -40,7 +40,7 @@ widened-keeps key more (Some interval) in_hull = record {
   to = greater-within (is_before interval.1 more) more interval.1 key refl in_hull.to;
 }
 
-fold-keeps : (key : Key) (hull : Option Interval) (keys : List Key) → IsInHull key hull → IsInHull key (fold widened hull keys)
+pub fold-keeps : (key : Key) (hull : Option Interval) (keys : List Key) → IsInHull key hull → IsInHull key (fold widened hull keys)
 fold-keeps key hull [] in_hull = in_hull
 fold-keeps key hull (more ∷ keys) in_hull = fold-keeps key (widened hull more) keys (widened-keeps key more hull in_hull)
 
@@ -51,12 +51,12 @@ first-in-hull key keys =
     rw alike (fold-keeps key (Some (key, key)) (filter (λ other. same_dir other.dir key.dir) keys) (record { from = within-refl key; to = within-refl key }))
 
 -- a span that holds a key of a hull meets it
-span-meets : (key : Key) (hull : Option Interval) (span : Interval) → IsInHull key hull → IsIn key span → meets_hull hull span ≡ true
+pub span-meets : (key : Key) (hull : Option Interval) (span : Interval) → IsInHull key hull → IsIn key span → meets_hull hull span ≡ true
 span-meets key None span in_hull in_span = absurd in_hull
 span-meets key (Some interval) span in_hull in_span =
     and_from (is_within interval.0 span.1) (is_within span.0 interval.1) (within-trans interval.0 key span.1 in_hull.from in_span.to) (within-trans span.0 key interval.1 in_span.from in_hull.to)
 
-meets-either : (dir : Dir) (keys : List Key) (span : Interval) → meets_hull (hull dir keys) span ≡ true → (meets_hull (hull Out keys) span || meets_hull (hull In keys) span) ≡ true
+pub meets-either : (dir : Dir) (keys : List Key) (span : Interval) → meets_hull (hull dir keys) span ≡ true → (meets_hull (hull Out keys) span || meets_hull (hull In keys) span) ≡ true
 meets-either Out keys span meeting = or_left (meets_hull (hull Out keys) span) (meets_hull (hull In keys) span) meeting
 meets-either In keys span meeting = or_right (meets_hull (hull Out keys) span) (meets_hull (hull In keys) span) meeting
 
@@ -69,7 +69,7 @@ unsettled old new key keys span are in_span =
     and_right (list_any (same_key span.0) (boundaries old)) (not (meets_hull (hull Out (touched old new)) span || meets_hull (hull In (touched old new)) span)) (ap not either)
 
 -- the spans that begin at a key and at later ones, up to END
-abbrev spans_from : Key → List Key → List Interval
+abbrev pub spans_from : Key → List Key → List Interval
 spans_from from later = zip (from ∷ (later ++ END ∷ [])) (later ++ END ∷ [])
 
 one-passes : (test : Interval → Bool) (span : Interval) (rest : List Interval) → test span ≡ true → 1 ≤ length (filter test (span ∷ rest))

@@ -17,7 +17,10 @@ pub mod Packed
 pub mod Parts
 pub mod Projects
 pub mod Reaches
+pub mod SettledSpans
 pub mod Slaves
+pub mod SpanCuts
+pub mod Spans
 pub mod Stations
 pub mod Tasks
 pub mod Tiles

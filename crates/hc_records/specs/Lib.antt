@@ -18,3 +18,4 @@ pub mod Laws
 pub mod ImageLaws
 pub mod AddressLaws
 pub mod ProjectLaws
+pub mod SpanLaws

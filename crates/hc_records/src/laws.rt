@@ -3,6 +3,7 @@
 ghost use Rattle.hc_records.specs.Laws.{ProjectsArePackable, PlacesKeepTheList, AreasLieInside, WideAreasBeginBytes, DatagramsAreSendable, AreasShareNoBit, KeysAscend, KeysLieAboveStart, KeysLieBelowEnd, PackingIsLeast, CutsStandAlone, BoundariesAreCuts, DatagramsAreSpans, BoundariesHaveWidth, UntouchedIsSettled, OutputsComeFirst, TouchedCountsOnce};
 ghost use Rattle.hc_records.specs.ImageLaws.{DatagramsTileTheImage, ImagesAreShort, VariablesLieInDatagrams, VariablesShareNoBit, VariablesStandInTheirParts};
 ghost use Rattle.hc_records.specs.AddressLaws.{AddressesHaveOneDatagram};
+ghost use Rattle.hc_records.specs.SpanLaws.{SettledSpansStay, SpansAreCutAlone};
 ghost use Rattle.hc_records.specs.ProjectLaws.{RanksAreCounted, ReachesHoldWidths, ReachesShareNoByte, StationsAreDistinct};
 
 /// In a project each area of a task's list has 1 to 11,888 bits, so that a datagram can carry it,
@@ -166,4 +167,18 @@ pub fn reaches_hold_widths()
 /// reach, and no byte is taken by two of them.
 pub fn reaches_share_no_byte()
     ensures { ReachesShareNoByte }
+{}
+
+/// Where each area of a list has 1 to 11,888 bits and the keys ascend between `Key::START` and
+/// `Key::END`: each span ends where the areas from its first key on, packed as a list of their own, are
+/// cut first, and its datagram carries just the areas up to there, at the bits that they have alone.
+pub fn spans_are_cut_alone()
+    ensures { SpansAreCutAlone }
+{}
+
+/// A settled span's datagram carries the same areas at the same bits: a span of a task's new list that
+/// is settled was a span of the old list, with the same areas, each with the same width and the same
+/// first bit in its datagram. The datagram's number may differ.
+pub fn settled_spans_stay()
+    ensures { SettledSpansStay }
 {}

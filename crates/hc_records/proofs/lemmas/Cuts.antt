@@ -37,7 +37,7 @@ later_not datagram bit front begun low = grind (arith, nat_tests)
 pub fitting-begins : (front : Front) (area : Keyed) → IsBegun front → begins_later (place true front area) ≡ false
 fitting-begins front area begun = later_not front.datagram (beginning front area) front.bit begun (beginning-behind front area)
 
-other-begins : (front : Front) (area : Keyed) → begins_later (place false front area) ≡ true
+pub other-begins : (front : Front) (area : Keyed) → begins_later (place false front area) ≡ true
 other-begins front area = grind (arith, nat_tests)
 
 -- the keys of the areas at which a later datagram begins

@@ -1,0 +1,61 @@
+-- What follows for the spans of a task: a settled one carries what it carried. Each is the contract of a function of `laws`.
+use Rattle.std.specs.Prelude.{◌≡◌, ℕ, ◌&&◌, true, Bool, if◌then◌else◌, All, Contains, List, [], ◌∷◌, filter, map}
+use Rattle.hc_records.specs.declared.keys.Key.{Key}
+use Rattle.hc_records.specs.declared.keys.TheConstants.Key.{END}
+use Rattle.hc_records.specs.Keys.{is_before, is_within}
+use Rattle.hc_records.specs.TaskList.{Keyed}
+use Rattle.hc_records.specs.Packing.{Front, Placed, behind, fits, opening, packed, placed_at}
+use Rattle.hc_records.specs.Boundaries.{Interval, boundaries, is_settled, spans}
+use Rattle.hc_records.specs.Laws.{Ascends, IsPackable, LiesBetween}
+
+-- what the list of a task of a project is: its areas are packable, and their keys ascend between START and END
+pub record IsTaskList (list : List Keyed) : Type 0 where
+  pub packable : All IsPackable list
+  pub ascends : Ascends list
+  pub between : LiesBetween list
+
+-- an area of a span: its key is the span's first one or a later one, and before the one at which the next span begins
+abbrev pub lies_in : Interval → Placed → Bool
+lies_in span area = is_within span.0 area.key && is_before area.key span.1
+
+-- an area's key, its width, and its first bit in its datagram
+abbrev pub seen_area : Placed → Key × (ℕ × ℕ)
+seen_area area = (area.key, (area.bits, area.bit))
+
+-- what the datagram of a span carries: the areas of the span, each at its first bit
+abbrev pub span_areas : List Keyed → Interval → List (Key × (ℕ × ℕ))
+span_areas list span = map seen_area (filter (lies_in span) (packed opening list))
+
+-- a settled span of the new list is a span of the old list too, and its datagram carries the same areas at the same bits
+pub record CarriesTheSame (old new : List Keyed) (span : Interval) : Type 0 where
+  pub was_span : Contains (spans (boundaries old)) span
+  pub areas : span_areas new span ≡ span_areas old span
+
+abbrev pub SettledSpansStay : Type 0
+SettledSpansStay =
+    (old new : List Keyed) (span : Interval) → IsTaskList old → IsTaskList new
+    → Contains (spans (boundaries new)) span → is_settled old new span ≡ true → CarriesTheSame old new span
+
+-- the key of the first area that doesn't fit, where a datagram is being filled; END where all fit
+abbrev pub next_cut : Front → List Keyed → Key
+next_cut front [] = END
+next_cut front (area ∷ areas) = if fits front area then next_cut (behind (placed_at front area)) areas else area.0
+
+-- the areas up to there, with their places
+abbrev pub carried : Front → List Keyed → List Placed
+carried front [] = []
+carried front (area ∷ areas) =
+    if fits front area then placed_at front area ∷ carried (behind (placed_at front area)) areas else []
+
+-- the areas of a list from a key on
+abbrev pub areas_from : Key → List Keyed → List Keyed
+areas_from key list = filter (λ area. is_within key area.0) list
+
+-- the span that begins at a boundary ends where the areas from there on, packed alone, are cut first; its datagram carries those
+pub record IsCutAlone (list : List Keyed) (span : Interval) : Type 0 where
+  pub next : span.1 ≡ next_cut opening (areas_from span.0 list)
+  pub areas : span_areas list span ≡ map seen_area (carried opening (areas_from span.0 list))
+
+abbrev pub SpansAreCutAlone : Type 0
+SpansAreCutAlone =
+    (list : List Keyed) (span : Interval) → IsTaskList list → Contains (spans (boundaries list)) span → IsCutAlone list span
