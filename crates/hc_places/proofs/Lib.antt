@@ -2,11 +2,13 @@ pub mod Changed
 pub mod Configurable
 pub mod Crowded
 pub mod Entries
+pub mod Merged
 pub mod Once
 pub mod Order
 pub mod Pairs
 pub mod Ranks
 pub mod Recuts
+pub mod Rising
 pub mod Said
 pub mod Sendable
 pub mod Spread

@@ -9,7 +9,7 @@ use Rattle.hc_records.specs.Image.{VariablePlace}
 use Rattle.hc_places.specs.Table.{Row, RowsAscend, Table, TaskTable}
 use Rattle.hc_places.specs.Swap.{ChangedRow, merged, new_row, with_changed}
 use Rattle.hc_places.proofs.Changed.{place-here, place-none, place_of}
-use Rattle.hc_places.proofs.lemmas.Merged.{front, in-place, of-option}
+use Rattle.hc_places.proofs.Merged.{front, in-place, of-option}
 use Rattle.hc_places.proofs.Walked.{AreAbove, above-cons, ascends-above, ascends-rest, by-order, of-heads, piece-above, piece-ascends}
 
 -- rows with one variable changed stay above a lower number, and in order

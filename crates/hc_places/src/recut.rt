@@ -114,9 +114,9 @@ fn recut_line(alloc: Global, old: &[Member], new: &[Member]) -> Result<u32, Allo
 
 /// How many spans of the new line's tasks are recut, where the line of one state becomes that of
 /// another: in each task in which a key's width differs, the spans that don't begin at an old boundary
-/// or that meet the interval from the least to the greatest such output or input. At most 128. Both
-/// are the groups of a project, and no task of either line needs more than 16 datagrams. `AllocError`
-/// where a growth was refused.
+/// or that meet the interval from the least to the greatest such output or input. Both are the
+/// groups of a project, and no task of either line needs more than 16 datagrams. `AllocError` where a
+/// growth was refused.
 pub fn recut(alloc: Global, old: &[Declared], new: &[Declared]) -> Result<u32, AllocError>
     requires old { lowest_fault (groups_of old.now) ≡ None }
     requires new { lowest_fault (groups_of new.now) ≡ None }

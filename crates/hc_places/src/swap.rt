@@ -149,9 +149,10 @@ impl Swap {
     ghost use Rattle.std.specs.Prelude.{◌≡◌, IfOk, length};
     ghost use Rattle.hc_places.specs.Swap.{ChangesAscend, SaysWhatDiffers, changed_places, changed_variables, swapped};
 
-    /// What leads from one table to another, for the edit that asks for it. That the edit leads from the
-    /// one table to the other isn't checked: the swap names whatever edit is given. `AllocError` where a
-    /// growth was refused.
+    /// What leads from one table to another, for the edit that asks for it: for each variable whose place
+    /// differs, one that appears or goes included, its new place or none, and for no other. That the edit
+    /// leads from the one table to the other isn't checked: the swap names whatever edit is given.
+    /// `AllocError` where a growth was refused.
     pub fn between(
         alloc: Global,
         edit: &Edit,
@@ -191,7 +192,7 @@ impl Swap {
     pub fn places(&self) -> u32
         ensures { result ≡ changed_places self.now }
     {
-        let rows = self.rows.as_slice();
+        let rows = self.changes();
         let (Some(first), Some(last)) = (rows.first(), rows.last()) else {
             return 0;
         };

@@ -17,7 +17,8 @@ pub struct Place {
     pub task: u8,
     /// The number of its datagram in the task, 0 to 15.
     pub datagram: u8,
-    /// Its first bit in the datagram's data, counted from the least significant bit of byte 0.
+    /// Its first bit in the datagram's data, counted from the least significant bit of byte 0; the last
+    /// one is at most 11,887.
     pub bit: u16,
     /// Its bits, 1 to 64.
     pub bits: u8,
@@ -38,12 +39,13 @@ impl Model for Place {
     ghost inverse = { λ place. record { task = place.task; datagram = place.datagram; bit = place.bit; bits = place.bits; dir = place.dir } };
 }
 
-/// A datagram of a task.
+/// A datagram of a task. Those of a table have 1 to 1,486 bytes, which lie within the first 23,776 of
+/// the task's image.
 #[derive(Clone, Copy, Debug, Default, PartialEq, Eq)]
 pub struct Datagram {
     /// Its logical address.
     pub address: u32,
-    /// The bytes of its data, 1 to 1,486.
+    /// The bytes of its data.
     pub length: u16,
     /// The working counter that it comes back with when every slave of the line has processed it.
     pub expected: u16,
@@ -71,7 +73,7 @@ impl Model for TaskTable {
     ghost invariant = { λ task. All IsDatagram task.datagrams.items };
 }
 
-/// The datagrams and the parts of the eight tasks, and the place of each variable of a line.
+/// The datagrams and the parts of the tasks, and the place of each variable of a line.
 #[derive(Debug, Drop)]
 pub struct Places {
     pub(crate) tasks: Items<TaskTable>,
@@ -148,14 +150,14 @@ impl Places {
         })
     }
 
-    /// Where a variable stands; none where no assigned entry of the line has it.
+    /// Where a variable stands; none where the table has no row of it.
     pub fn place(&self, variable: VarId) -> Option<Place>
         ensures { result ≡ place_in self.now variable }
     {
-        find_place(self.variables.as_slice(), variable)
+        find_place(self.variables(), variable)
     }
 
-    /// All variables of the line with their places, in the order of their numbers.
+    /// The variables that have a place, each once, in the order of their numbers, with their places.
     pub fn variables(&self) -> &[(VarId, Place)]
         ensures rows { result.now ≡ self.now.variables }
         ensures ascends { RowsAscend self.now.variables }
@@ -164,12 +166,12 @@ impl Places {
     }
 
     /// The variables of one datagram of a task with their places, in the order of their numbers; none
-    /// where there is no such datagram. The walk passes every variable of the line once.
+    /// where there is no such datagram. The walk passes every row of the table once.
     pub fn datagram_variables(&self, task: u8, number: u8) -> DatagramVariables<'_>
         ensures { result ≡ variables_in self.now task number }
     {
         DatagramVariables {
-            rows: self.variables.as_slice(),
+            rows: self.variables(),
             task,
             number,
         }
@@ -214,7 +216,7 @@ impl Places {
     {
         Ok(Places {
             tasks: self.tasks.copied(alloc)?,
-            variables: Vec::from_slice(alloc, self.variables.as_slice())?,
+            variables: Vec::from_slice(alloc, self.variables())?,
         })
     }
 }

@@ -1,7 +1,8 @@
 //! Worked lines, by numbers that are known from outside.
-ghost use Rattle.std.specs.Prelude.{◌≡◌, IfOk, IfSome, if◌then◌else◌, map, sum_by};
+ghost use Rattle.std.specs.Prelude.{◌≡◌, ◌+◌, ◌≤◌, IfOk, IfSome, if◌then◌else◌, map, sum_by};
 ghost use Rattle.hc_records.specs.Keys.{same_dir};
 ghost use Rattle.hc_records.specs.declared.records.Dir.TheVariants.{Out};
+ghost use Rattle.hc_records.specs.declared.limits.TheConstants.{MOST_AREA_BITS, MOST_ENTRY_BITS};
 ghost use Rattle.hc_places.specs.Table.{variables_in};
 
 use crate::configure::{Configured, configure};
@@ -111,6 +112,29 @@ fn configured(alloc: Global, groups: Items<Group>, absent: u16) -> Result<Config
     Ok(configured)
 }
 
+/// The place of an output variable in the first datagram of task 0.
+fn output(bit: u16, bits: u8) -> Place
+    requires some { 1 ≤ bits }
+    requires most { bits ≤ MOST_ENTRY_BITS }
+    requires inside { bit + bits ≤ MOST_AREA_BITS }
+{
+    Place {
+        task: 0,
+        datagram: 0,
+        bit,
+        bits,
+        dir: Dir::Out,
+    }
+}
+
+/// The first bit behind a variable: a caller that has the ranges of a place from the place alone.
+fn end_of(place: Place) -> u16
+    ensures end { result ≡ place.bit + place.bits }
+    ensures inside { result ≤ MOST_AREA_BITS }
+{
+    place.bit + u16::from(place.bits)
+}
+
 /// The bits of the output variables of a datagram, where 32 bits hold their sum: a caller that walks a
 /// datagram's variables.
 fn output_bits(places: &Places, task: u8, number: u8) -> Option<u32>
@@ -159,21 +183,37 @@ fn a_variable_stands_behind_a_gap(rt: HostRuntime) -> Result<(), Fail> {
     let alloc = rt.alloc();
     let Configured { places, .. } = configured(alloc, two_slaves(alloc)?, NONE)?;
     let copy = places.copied(alloc)?;
-    for (number, bit, bits) in [(5, 5, 1), (6, 6, 3), (7, 0, 3)] {
+    for (number, place) in [(5, output(5, 1)), (6, output(6, 3)), (7, output(0, 3))] {
         let variable = VarId::new(number).ok_or("a variable")?;
-        let place = Place {
-            task: 0,
-            datagram: 0,
-            bit,
-            bits,
-            dir: Dir::Out,
-        };
         assert_eq!(rt; places.place(variable), Some(place));
         assert_eq!(rt; copy.place(variable), Some(place));
     }
     let unknown = VarId::new(8).ok_or("a variable")?;
     assert_eq!(rt; places.place(unknown), None);
     assert_eq!(rt; copy.datagram(0, 0), places.datagram(0, 0));
+    Ok(())
+}
+
+#[test]
+fn tables_are_walked(rt: HostRuntime) -> Result<(), Fail> {
+    let alloc = rt.alloc();
+    let Configured { places, .. } = configured(alloc, two_slaves(alloc)?, NONE)?;
+    let mut ends = Vec::new(alloc);
+    for (variable, place) in places.variables() {
+        ends.push((variable.number(), end_of(*place)))?;
+    }
+    assert_eq!(rt; ends.as_slice(), [(5, 6), (6, 9), (7, 3)].as_slice());
+    assert_eq!(rt; places.datagrams(0).len(), 1);
+    assert_eq!(rt; places.datagrams(0).first().copied(), places.datagram(0, 0));
+    assert_eq!(rt;
+        (places.datagrams(1).len(), places.datagrams(8).len()),
+        (0, 0)
+    );
+    assert_eq!(rt; output_bits(&places, 0, 0), Some(7));
+    assert_eq!(rt;
+        (output_bits(&places, 0, 1), output_bits(&places, 1, 0)),
+        (Some(0), Some(0))
+    );
     Ok(())
 }
 
@@ -232,6 +272,20 @@ fn swapped(
     Ok((swap.places(), places))
 }
 
+/// The variables whose place differs, with their new first bits.
+fn changed(
+    alloc: Global,
+    old: &Places,
+    new: &Places,
+) -> Result<Vec<(u32, Option<u16>)>, AllocError> {
+    let swap = Swap::between(alloc, &Edit::Disconnect(TOOL), old, new)?;
+    let mut changed = Vec::new(alloc);
+    for (variable, place) in swap.changes() {
+        changed.push((variable.number(), place.map(|place| place.bit)))?;
+    }
+    Ok(changed)
+}
+
 #[test]
 fn a_tool_goes(rt: HostRuntime) -> Result<(), Fail> {
     let alloc = rt.alloc();
@@ -239,6 +293,10 @@ fn a_tool_goes(rt: HostRuntime) -> Result<(), Fail> {
     let without = configured(alloc, tool_and_module(alloc)?, TOOL)?.places;
     let (count, places) = swapped(alloc, Edit::Disconnect(TOOL), &with, &without)?;
     assert_eq!(rt; count, 2);
+    assert_eq!(rt;
+        changed(alloc, &with, &without)?.as_slice(),
+        [(6, None), (8, Some(3))].as_slice()
+    );
     assert!(rt; has_tool(&with));
     assert!(rt; has_no_tool(&places));
     Ok(())

@@ -8,7 +8,7 @@ use Rattle.hc_records.proofs.lemmas.Slaves.{project-counted}
 use Rattle.hc_places.specs.Layout.{AreInOrder, layout_of}
 use Rattle.hc_places.proofs.Configurable.{project-configurable}
 use Rattle.hc_places.proofs.Ranks.{places-in-order}
-use Rattle.hc_places.proofs.lemmas.Sorted.{rows-ascend}
+use Rattle.hc_places.proofs.lemmas.Ascends.{table-ascends}
 use Rattle.hc_places.proofs.configure.configure.Goals as goal
 
 pub line_of-requires : goal.line_of-requires
@@ -32,4 +32,4 @@ of-requires-2 c =
     let line = c.as_slice.ensures.value ∙ c.in_ok-line.ensures in
     let rows : c.in_ok-layout.field-0.rows.items ≡ flat_map (task_variables (line_from 1 c.args.groups.now)) tasks =
     c.in_ok-layout.ensures.rows ∙ ap (λ (l : List Member). flat_map (task_variables l) tasks) line in
-    rw rows (rows-ascend c.args.groups.now c.requires)
+    rw rows (table-ascends c.args.groups.now c.requires)

@@ -1,4 +1,4 @@
-use Rattle.hc_places.proofs.lemmas.Merged.{found-equal, found-same}
+use Rattle.hc_places.proofs.lemmas.Same.{found-equal, found-same}
 use Rattle.hc_places.proofs.laws.same_is_equal.Goals as goal
 
 pub returns : goal.returns

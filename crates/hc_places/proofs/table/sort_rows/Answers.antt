@@ -2,7 +2,7 @@ use Rattle.std.proofs.Common.{rules}
 use Rattle.std.proofs.lemmas.List.Sorted.{answers_always, IsNonDecreasingBy-from_sort}
 use Rattle.std.proofs.lemmas.Result.{on_ok_weaker}
 use Rattle.hc_places.specs.Table.{Row}
-use Rattle.hc_places.proofs.lemmas.Sorted.{sorted-by_number}
+use Rattle.hc_places.proofs.Rising.{sorted-by_number}
 use Rattle.hc_places.proofs.table.sort_rows.Goals as goal
 
 pub returns-clause-sorted : goal.returns-clause-sorted

@@ -4,7 +4,7 @@ use Rattle.hc_places.specs.Swap.{ChangedRow, ChangesAscend}
 use Rattle.hc_places.specs.Walk.{changes, walked}
 use Rattle.hc_places.proofs.Changed.{changes-counted}
 use Rattle.hc_places.proofs.Said.{changes-say, said}
-use Rattle.hc_places.proofs.lemmas.Merged.{change-leads, changes-ascend}
+use Rattle.hc_places.proofs.Merged.{change-leads, changes-ascend}
 use Rattle.hc_places.proofs.swap.Swap.between.Goals as goal
 
 pub invariant_of-result : goal.invariant_of-result

@@ -2,7 +2,7 @@ use Rattle.std.proofs.Common.{◌≡◌, ◌∙◌, ap}
 use Rattle.hc_places.specs.Table.{RowsAscend, Table}
 use Rattle.hc_places.specs.Swap.{ChangesAscend, Swap, merged}
 use Rattle.hc_places.specs.Walk.{merges, walked}
-use Rattle.hc_places.proofs.lemmas.Merged.{change-merges, walked-merged}
+use Rattle.hc_places.proofs.Merged.{change-merges, walked-merged}
 use Rattle.hc_places.proofs.Swapped.{merged-rows-ascend}
 use Rattle.hc_places.proofs.table.Places.swap.Goals as goal
 

@@ -1,0 +1,177 @@
+-- A sort by numbers puts rows in the order that the table keeps.
+use Rattle.std.proofs.Common.{◌≡◌, ◌∙◌, ap, ℕ, suc, ◌+◌, ◌<◌, ◌≤◌, Bool, true, false, cond, List, [], ◌∷◌, filter, length, nat_cmp, is_lt, refl, sym, arith, suc-le-suc, zero-le, if◌then◌else◌}
+use Rattle.std.specs.Prelude.{All, nat_lt, ◌==◌}
+use Rattle.std.specs.List.Sorted.{ties, IsNonDecreasingBy, IsStableByKey}
+use Rattle.std.proofs.lemmas.Bool.{cond-true, eq-eqb, eqb-true}
+use Rattle.std.proofs.lemmas.Bool.Decides.{nat_tests}
+use Rattle.std.proofs.lemmas.List.Elements.{All-nil, All-cons, All-head, All-tail, All-weaker, filter_agree}
+use Rattle.std.proofs.lemmas.List.Kept.{AllPairs-cons}
+use Rattle.hc_records.specs.declared.records.Dir.TheVariants.{Out}
+use Rattle.hc_records.proofs.lemmas.Lists.{AllPairs-nil}
+use Rattle.hc_places.specs.Table.{Row, RowsAscend, by_number, put}
+use Rattle.hc_places.proofs.Once.{of_row}
+use Rattle.hc_places.proofs.Totals.{total}
+use Rattle.hc_places.proofs.lemmas.Sorted.{filter-by_number}
+
+-- rows of a number
+abbrev numbered : ℕ → Row → Bool
+numbered number row = row.0 == number
+
+-- rows whose numbers are no lower than the first one's, and so on
+abbrev AreAtLeast : ℕ → List Row → Type 0
+AreAtLeast number rows = All (λ row. number ≤ row.0) rows
+
+abbrev Rises : List Row → Type 0
+Rises [] = Unit {0}
+Rises (row ∷ rows) = AreAtLeast row.0 rows × Rises rows
+
+-- rows that are put in their place rise
+
+put-least : (number : ℕ) (past : Bool) (row other : Row) (rest others : List Row) → number ≤ row.0 → AreAtLeast number (other ∷ others) → AreAtLeast number rest
+    → AreAtLeast number (if past then other ∷ rest else row ∷ other ∷ others)
+put-least number true row other rest others low all put = All-cons (λ row. number ≤ row.0) other rest (All-head (λ row. number ≤ row.0) other others all) put
+put-least number false row other rest others low all put = All-cons (λ row. number ≤ row.0) row (other ∷ others) low all
+
+least-put : (number : ℕ) (row : Row) (rows : List Row) → number ≤ row.0 → AreAtLeast number rows → AreAtLeast number (put row rows)
+least-put number row [] low all = All-cons (λ row. number ≤ row.0) row [] low all
+least-put number row (other ∷ others) low all =
+    put-least number (nat_lt other.0 row.0) row other (put row others) others low all
+    (least-put number row others low (All-tail (λ row. number ≤ row.0) other others all))
+
+past-less : (a b : ℕ) → nat_lt a b ≡ true → a ≤ b
+past-less a b test = grind (arith, nat_tests)
+
+not-past : (a b : ℕ) → nat_lt a b ≡ false → b ≤ a
+not-past a b test = grind (arith, nat_tests)
+
+rises-put-by : (past : Bool) (row other : Row) (others : List Row) → nat_lt other.0 row.0 ≡ past → AreAtLeast other.0 others → Rises others → Rises (put row others)
+    → Rises (if past then other ∷ put row others else row ∷ other ∷ others)
+rises-put-by true row other others test least rises put-rises = (least-put other.0 row others (past-less other.0 row.0 test) least, put-rises)
+rises-put-by false row other others test least rises put-rises =
+    let low = not-past other.0 row.0 test in (
+      All-cons (λ later. row.0 ≤ later.0) other others low (All-weaker (λ later. other.0 ≤ later.0) (λ later. row.0 ≤ later.0) (λ later less. omega arith) others least),
+      (least, rises),
+    )
+
+rises-put : (row : Row) (rows : List Row) → Rises rows → Rises (put row rows)
+rises-put row [] rises = (All-nil (λ later. row.0 ≤ later.0), tt)
+rises-put row (other ∷ others) rises = rises-put-by (nat_lt other.0 row.0) row other others refl rises.0 rises.1 (rises-put row others rises.1)
+
+rises-by_number : (rows : List Row) → Rises (by_number rows)
+rises-by_number [] = tt
+rises-by_number (row ∷ rows) = rises-put row (by_number rows) (rises-by_number rows)
+
+-- rows in order that have the same rows of each number are the same
+
+rises-sorted : (rows : List Row) → IsNonDecreasingBy (λ row. row.0) rows → Rises rows
+rises-sorted [] sorted = tt
+rises-sorted (row ∷ rows) sorted = (
+  (λ k d within. sorted 0 (suc k) d zero-le (suc-le-suc within)),
+  rises-sorted rows (λ i j d low within. sorted (suc i) (suc j) d (suc-le-suc low) (suc-le-suc within)),
+)
+
+filter-own : (row : Row) (rows : List Row) → filter (numbered row.0) (row ∷ rows) ≡ row ∷ filter (numbered row.0) rows
+filter-own row rows = cond-true _ _ _ (eq-eqb row.0 row.0 refl)
+
+-- a number that is among them is no lower
+least-found-by : (passes : Bool) (number least : ℕ) (row : Row) (rows kept : List Row) → (row.0 == number) ≡ passes → least ≤ row.0 → (filter (numbered number) rows ≡ kept → least ≤ number)
+    → cond passes (row ∷ filter (numbered number) rows) (filter (numbered number) rows) ≡ kept → least ≤ number
+least-found-by true number least row rows kept test low later is = let same = eqb-true row.0 number test in omega arith
+least-found-by false number least row rows kept test low later is = later is
+
+least-found : (number least : ℕ) (rows : List Row) (one : Row) (more : List Row) → AreAtLeast least rows → filter (numbered number) rows ≡ one ∷ more → least ≤ number
+least-found number least [] one more all is = cc
+least-found number least (row ∷ rows) one more all is =
+    least-found-by (row.0 == number) number least row rows (one ∷ more) refl (All-head (λ row. least ≤ row.0) row rows all)
+    (least-found number least rows one more (All-tail (λ row. least ≤ row.0) row rows all)) is
+
+tails-by : (passes : Bool) (one two : Row) (ones twos : List Row) → one ≡ two → cond passes (one ∷ ones) ones ≡ cond passes (two ∷ twos) twos → ones ≡ twos
+tails-by true one two ones twos head is = cc
+tails-by false one two ones twos head is = is
+
+tails : (one two : Row) (ones twos : List Row) → one ≡ two → ((number : ℕ) → filter (numbered number) (one ∷ ones) ≡ filter (numbered number) (two ∷ twos))
+    → (number : ℕ) → filter (numbered number) ones ≡ filter (numbered number) twos
+tails one two ones twos head same number =
+    tails-by (one.0 == number) one two (filter (numbered number) ones) (filter (numbered number) twos) head
+    (same number ∙ ap (λ row. cond (row.0 == number) (two ∷ filter (numbered number) twos) (filter (numbered number) twos)) (sym head))
+
+same-rows : (ones twos : List Row) → Rises ones → Rises twos → ((number : ℕ) → filter (numbered number) ones ≡ filter (numbered number) twos) → ones ≡ twos
+same-rows [] [] first second same = refl
+same-rows [] (two ∷ twos) first second same = let clash = same two.0 ∙ filter-own two twos in cc
+same-rows (one ∷ ones) [] first second same = let clash = sym (same one.0) ∙ filter-own one ones in cc
+same-rows (one ∷ ones) (two ∷ twos) first second same =
+    let up = least-found one.0 two.0 (two ∷ twos) one _ (All-cons (λ row. two.0 ≤ row.0) two twos (omega arith) second.0) (sym (same one.0) ∙ filter-own one ones) in
+    let down = least-found two.0 one.0 (one ∷ ones) two _ (All-cons (λ row. one.0 ≤ row.0) one ones (omega arith) first.0) (same two.0 ∙ filter-own two twos) in
+    let number : two.0 ≡ one.0 = omega arith in
+    let heads = sym (filter-own one ones) ∙ same one.0 ∙ cond-true _ _ _ (eq-eqb two.0 one.0 number) in
+    let head : one ≡ two = cc in
+    let rest = same-rows ones twos first.1 second.1 (tails one two ones twos head same) in
+    cc
+
+-- the ties of a stable sort are the rows of one number
+ties-numbered : (a b : ℕ) → ties (λ x y. is_lt (nat_cmp x y)) a b ≡ (b == a)
+ties-numbered a b = grind (arith, nat_tests)
+
+-- a row of a number, whatever its place
+abbrev row_of : ℕ → Row
+row_of number = (number, record { task = 0; datagram = 0; bit = 0; bits = 0; dir = Out })
+
+abbrev tied_with : ℕ → Row → Bool
+tied_with number = ties (λ (a b : Row). is_lt (nat_cmp a.0 b.0)) (row_of number)
+
+pub sorted-by_number : (rows sorted : List Row) → IsNonDecreasingBy (λ row. row.0) sorted → IsStableByKey (λ (row : Row). row.0) nat_cmp rows sorted → sorted ≡ by_number rows
+sorted-by_number rows sorted rises stable =
+    same-rows sorted (by_number rows) (rises-sorted sorted rises) (rises-by_number rows)
+    (λ number.
+    let tied : (row : Row) → tied_with number row ≡ numbered number row = λ row. ties-numbered number row.0 in
+    sym (filter_agree (tied_with number) (numbered number) tied sorted)
+    ∙ stable (row_of number)
+    ∙ filter_agree (tied_with number) (numbered number) tied rows
+    ∙ sym (filter-by_number number rows))
+
+-- rows that rise, of which no two have one number, ascend
+
+none-kept-by : (passes : Bool) (row : Row) (kept : List Row) → length (cond passes (row ∷ kept) kept) ≤ 0 → (passes ≡ false) × (length kept ≤ 0)
+none-kept-by true row kept few = absurd (omega arith)
+none-kept-by false row kept few = (refl, few)
+
+none-kept : (number : ℕ) (rows : List Row) → length (filter (numbered number) rows) ≤ 0 → All (λ row. (row.0 == number) ≡ false) rows
+none-kept number [] few = All-nil (λ row. (row.0 == number) ≡ false)
+none-kept number (row ∷ rows) few =
+    let both = none-kept-by (row.0 == number) row (filter (numbered number) rows) few in
+    All-cons (λ row. (row.0 == number) ≡ false) row rows both.0 (none-kept number rows both.1)
+
+strictly : (a b : ℕ) → a ≤ b → (b == a) ≡ false → a < b
+strictly a b low other = grind (arith, nat_tests)
+
+kept-fewer : (passes : Bool) (row : Row) (kept : List Row) → length (cond passes (row ∷ kept) kept) ≤ 1 → length kept ≤ 1
+kept-fewer true row kept few = omega arith
+kept-fewer false row kept few = few
+
+rising-ascends : (rows : List Row) → Rises rows → ((number : ℕ) → length (filter (numbered number) rows) ≤ 1) → RowsAscend rows
+rising-ascends [] rises few = AllPairs-nil (λ a b. a.0 < b.0)
+rising-ascends (row ∷ rows) rises few =
+    let own : length (filter (numbered row.0) (row ∷ rows)) ≡ suc (length (filter (numbered row.0) rows)) = ap length (filter-own row rows) in
+    let one = few row.0 in
+    let others = none-kept row.0 rows (omega arith) in
+    AllPairs-cons (λ a b. a.0 < b.0) row rows (λ k d within. strictly _ _ (rises.0 k d within) (others k d within))
+    (rising-ascends rows rises.1 (λ number. kept-fewer (row.0 == number) row (filter (numbered number) rows) (few number)))
+
+pub ascends-by_number : (rows : List Row) → ((number : ℕ) → length (filter (numbered number) rows) ≤ 1) → RowsAscend (by_number rows)
+ascends-by_number rows few =
+    rising-ascends (by_number rows) (rises-by_number rows) (λ number. rw (filter-by_number number rows) (few number))
+
+same-both : (a b : ℕ) → (a == b) ≡ (b == a)
+same-both a b = grind (arith, nat_tests)
+
+kept-length-by : (passes : Bool) (row : Row) (kept : List Row) → length (cond passes (row ∷ kept) kept) ≡ cond passes 1 0 + length kept
+kept-length-by true row kept = omega arith
+kept-length-by false row kept = omega arith
+
+-- how many rows a number has
+pub kept-length : (number : ℕ) (rows : List Row) → length (filter (numbered number) rows) ≡ total (of_row number) rows
+kept-length number [] = refl
+kept-length number (row ∷ rows) =
+    kept-length-by (row.0 == number) row (filter (numbered number) rows)
+    ∙ ap (λ (b : Bool). cond b 1 0 + length (filter (numbered number) rows)) (same-both row.0 number)
+    ∙ ap (λ (n : ℕ). cond (number == row.0) 1 0 + n) (kept-length number rows)
