@@ -7,3 +7,4 @@ pub mod Mapped
 pub mod Numbered
 pub mod Opening
 pub mod Stations
+pub mod Counts
