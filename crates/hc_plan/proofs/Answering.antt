@@ -1,6 +1,6 @@
 -- The answers to a list of edits, one after another.
 use Rattle.std.proofs.Common.{◌≡◌, ◌≢◌, ◌∙◌, ◌+◌, ◌<◌, ◌≤◌, ℕ, suc, Bool, true, false, List, [], ◌∷◌, ◌++◌, length, drop, refl, sym, ap, subst, arith, drop-cons, if◌then◌else◌}
-use Rattle.std.specs.Prelude.{Ok, Err, IfErr, IfOk, OnErr, OnOk, Result, filter, get_or, map, not}
+use Rattle.std.specs.Prelude.{Option, Some, None, Ok, Err, IfErr, IfOk, IfSome, OnErr, OnOk, Result, filter, get_or, map, not}
 use Rattle.std.specs.List.{zip}
 use Rattle.std.specs.Result.{result_unwrap_or}
 use Rattle.std.proofs.Math.ListN.{drop_of_length-le}
@@ -10,6 +10,7 @@ use Rattle.hc_records.specs.declared.faults.EditFault.{EditFault}
 use Rattle.hc_records.specs.declared.faults.EditFault.TheVariants.{Memory}
 use Rattle.hc_records.specs.Edits.{edited, state_after, state_after_all}
 use Rattle.hc_records.specs.Line.{State}
+use Rattle.hc_edits.specs.Edits.{own_fault}
 use Rattle.hc_plan.specs.Reports.{Answer, AreAnswers, IsAnswer, Tells, carried, wants_memory}
 
 -- what is left of the edits, answered from the present state on, makes all of them answered
@@ -48,7 +49,7 @@ refused old next edit fault false is says same =
 
 left-by : (old next : State) (edit : Edit) (answer : Answer) → IsAnswer old edit answer next → next ≡ after_one old edit (wants_memory answer)
 left-by old next edit (Ok report) is = sym (ap (λ (r : Result State EditFault). result_unwrap_or r old) is.0)
-left-by old next edit (Err fault) is = refused old next edit fault (wants_memory (Err fault)) refl is.0 is.1
+left-by old next edit (Err fault) is = refused old next edit fault (wants_memory (Err fault)) refl is.0 is.2
 
 -- whether an edit is among those that were carried
 taken : (pair : Edit × Answer) (pairs : List (Edit × Answer)) (wants : Bool) → wants_memory pair.1 ≡ wants
@@ -70,12 +71,19 @@ follows [] old new is = is
 follows (pair ∷ pairs) old new is =
     behind pair pairs old is.0 new (wants_memory pair.1) refl (left-by old is.0 pair.0 pair.1 is.1) (follows pairs is.0 new is.2)
 
+abbrev err-of : EditFault → Answer
+err-of fault = Err fault
+
+named : (own : Option EditFault) (fault : EditFault) → IfSome own (λ found. err-of fault ≡ err-of found) → IfSome own (λ found. fault ≡ found)
+named None fault is = is
+named (Some found) fault is = cc
+
 -- the clauses of one edit, as one fact
 pub answer-of : (old new : State) (edit : Edit) (answer : Answer)
     → OnOk answer (edited old edit ≡ Ok new) → IfOk answer (Tells old edit new) → IfErr answer (λ fault. fault ≢ Memory → edited old edit ≡ Err fault)
-    → OnErr answer (new ≡ old) → IsAnswer old edit answer new
-answer-of old new edit (Ok report) makes tells says same = (makes, tells)
-answer-of old new edit (Err fault) makes tells says same = (says, same)
+    → IfSome (own_fault old.groups edit) (λ fault. answer ≡ Err fault) → OnErr answer (new ≡ old) → IsAnswer old edit answer new
+answer-of old new edit (Ok report) makes tells says own same = (makes, tells)
+answer-of old new edit (Err fault) makes tells says own same = (says, named (own_fault old.groups edit) fault own, same)
 
 -- all edits are answered
 pub goes-all : (old new : State) (edits : List Edit) (index : ℕ) (answers : List Answer) → length edits ≤ index

@@ -6,4 +6,7 @@ pub mod LineBlocks
 pub mod Mapped
 pub mod Numbered
 pub mod Opening
+pub mod Registers
 pub mod Stations
+pub mod Unmoved
+pub mod Counts

@@ -12,7 +12,7 @@ use Rattle.hc_plan.specs.Blocks.{IsMappedArea, IsMappedSlave, area_block_in, fmm
 
 module _ {X Y : Type 0} (f g : X → Y) where
   -- two for each element: the even ones are the first of each, the odd ones the second
-  get-first : (xs : List X) (i n : ℕ) → n ≡ 2 * i → slice_get (flat_map (λ x. f x ∷ g x ∷ []) xs) n ≡ option_map f (slice_get xs i)
+  pub get-first : (xs : List X) (i n : ℕ) → n ≡ 2 * i → slice_get (flat_map (λ x. f x ∷ g x ∷ []) xs) n ≡ option_map f (slice_get xs i)
   get-first [] i n is = refl
   get-first (x ∷ xs) zero zero is = refl
   get-first (x ∷ xs) zero (suc n) is = absurd (omega arith)
@@ -20,7 +20,7 @@ module _ {X Y : Type 0} (f g : X → Y) where
   get-first (x ∷ xs) (suc i) (suc zero) is = absurd (omega arith)
   get-first (x ∷ xs) (suc i) (suc (suc n)) is = get-first xs i n (omega arith)
 
-  get-second : (xs : List X) (i n : ℕ) → n ≡ 2 * i + 1 → slice_get (flat_map (λ x. f x ∷ g x ∷ []) xs) n ≡ option_map g (slice_get xs i)
+  pub get-second : (xs : List X) (i n : ℕ) → n ≡ 2 * i + 1 → slice_get (flat_map (λ x. f x ∷ g x ∷ []) xs) n ≡ option_map g (slice_get xs i)
   get-second [] i n is = refl
   get-second (x ∷ xs) i zero is = absurd (omega arith)
   get-second (x ∷ xs) zero (suc zero) is = refl
@@ -52,7 +52,7 @@ numbered-get xs i d inside =
     let parts = numbered-parts i (slice_get xs i) e (sym (get-numbered-from-0 xs i) ∙ slice_get-get_or (enumerate_from 0 xs) i d inside) in
     ap (slice_get xs) parts.0 ∙ parts.1
 
-map-twice : {X Y Z : Type 0} (f : Y → Z) (g : X → Y) (o : Option X) → option_map f (option_map g o) ≡ option_map (λ x. f (g x)) o
+pub map-twice : {X Y Z : Type 0} (f : Y → Z) (g : X → Y) (o : Option X) → option_map f (option_map g o) ≡ option_map (λ x. f (g x)) o
 map-twice f g None = refl
 map-twice f g (Some x) = refl
 

@@ -1,11 +1,12 @@
 -- What edits of a plan answer, and the states that they leave.
-use Rattle.std.specs.Prelude.{◌≡◌, ℕ, ◌≢◌, not, Bool, true, false, List, [], ◌∷◌, filter, length, map, Result, Ok, Err}
+use Rattle.std.specs.Prelude.{◌≡◌, ℕ, ◌≢◌, not, IfSome, Bool, true, false, List, [], ◌∷◌, filter, length, map, Result, Ok, Err}
 use Rattle.hc_records.specs.declared.edit.Edit.{Edit}
 use Rattle.hc_records.specs.declared.faults.EditFault.{EditFault}
 use Rattle.hc_records.specs.declared.faults.EditFault.TheVariants.{Memory}
 use Rattle.hc_records.specs.Boundaries.{recut}
 use Rattle.hc_records.specs.Edits.{edited}
 use Rattle.hc_records.specs.Line.{State, line}
+use Rattle.hc_edits.specs.Edits.{own_fault}
 use Rattle.hc_registers.specs.Blocks.{LineBlock, moved, moved_blocks}
 use Rattle.hc_places.specs.Swap.{changed_variables, swapped}
 use Rattle.hc_places.specs.Table.{table_of}
@@ -28,10 +29,11 @@ pub record Tells (old : State) (edit : Edit) (new : State) (report : Report) : T
 abbrev pub Answer : Type 0
 Answer = Result Report EditFault
 
--- an accepted edit makes the new state and tells of it; a refused one changes nothing and names its fault, or that a growth was refused
+-- an accepted edit makes the new state and tells of it; a refused one changes nothing and names its fault, or that a growth was refused, which no fault that the edit has by itself waits for
 abbrev pub IsAnswer : State → Edit → Answer → State → Type 0
 IsAnswer old edit (Ok report) new = (edited old edit ≡ Ok new) × Tells old edit new report
-IsAnswer old edit (Err fault) new = (fault ≢ Memory → edited old edit ≡ Err fault) × (new ≡ old)
+IsAnswer old edit (Err fault) new =
+    (fault ≢ Memory → edited old edit ≡ Err fault) × IfSome (own_fault old.groups edit) (λ own. fault ≡ own) × (new ≡ old)
 
 -- the answers to a list of edits, each in the state that those before it left, and the state that all of them leave
 abbrev pub AreAnswers : State → List (Edit × Answer) → State → Type 0

@@ -1,6 +1,6 @@
 //! A plan: the declared groups, those that are present, the epoch, and the configuration of the line.
-ghost use Rattle.std.specs.Prelude.{◌≡◌, IfOk, map};
-ghost use Rattle.hc_records.specs.Line.{opened_group};
+ghost use Rattle.std.specs.Prelude.{◌≡◌, IfOk, length, map};
+ghost use Rattle.hc_records.specs.Line.{IsCounted, line_from, opened_group, present_slaves};
 
 use crate::blocks::{block_at, count_blocks, nth_block};
 use crate::moved::moved_blocks;
@@ -35,6 +35,29 @@ fn opened_groups(alloc: Global, groups: Vec<Group>) -> Result<Items<Declared>, A
     Ok(Items::of(opened))
 }
 
+/// How many slaves a declared group has in the line.
+fn count_present(declared: &Declared) -> usize
+    ensures { result ≡ length (present_slaves declared.now) }
+{
+    if declared.present {
+        declared.group.slaves.len()
+    } else {
+        0
+    }
+}
+
+/// How many slaves the line has.
+fn count_slaves(groups: &[Declared]) -> u32
+    requires { IsCounted groups.now }
+    ensures { result ≡ length (line_from 1 groups.now) }
+{
+    let mut total = 0;
+    for declared in groups {
+        total += count_present(declared);
+    }
+    total as u32
+}
+
 /// A state of a line and its configuration.
 #[derive(Debug, Drop)]
 pub struct Plan {
@@ -58,12 +81,13 @@ impl Model for Plan {
 }
 
 impl Plan {
-    ghost use Rattle.std.specs.Prelude.{◌≡◌, ◌≢◌, Err, IfErr, IfOk, None, Ok, OnErr, OnOk, length, map, slice_get};
+    ghost use Rattle.std.specs.Prelude.{◌≡◌, ◌≢◌, Err, IfErr, IfOk, IfSome, None, Ok, OnErr, OnOk, length, map, slice_get};
     ghost use Rattle.hc_records.specs.declared.faults.EditFault.TheVariants.{Memory};
     ghost use Rattle.std.specs.List.{zip};
     ghost use Rattle.hc_records.specs.Edits.{crowded_task, edited, state_after_all};
     ghost use Rattle.hc_records.specs.Line.{groups_of, line, opened};
     ghost use Rattle.hc_records.specs.Project.{lowest_fault};
+    ghost use Rattle.hc_edits.specs.Edits.{own_fault};
     ghost use Rattle.hc_places.specs.Layout.{NamesCrowded};
     ghost use Rattle.hc_plan.specs.Configuration.{block_at, config, line_block_at, position_of, station_at};
     ghost use Rattle.hc_plan.specs.Reports.{AreAnswers, Tells, carried};
@@ -93,13 +117,30 @@ impl Plan {
         self.epoch
     }
 
+    /// The declared groups with their assigned PDOs and tasks, and which of them are present. No fault's
+    /// condition holds of them. It takes no memory.
+    pub fn groups(&self) -> &[Declared]
+        ensures value { result.now ≡ self.now.groups }
+        ensures kept { lowest_fault (groups_of self.now.groups) ≡ None }
+    {
+        self.groups.as_slice()
+    }
+
     /// The table of the present line: its datagrams, parts and variable places. No fault's condition
-    /// holds of the declared groups, so each datagram fits a frame.
+    /// holds of the declared groups, and no task of the line needs more than 16 datagrams.
     pub fn places(&self) -> &Places
         ensures table { result.now ≡ (config (line self.now)).table }
         ensures kept { lowest_fault (groups_of self.now.groups) ≡ None }
+        ensures uncrowded { crowded_task (line self.now) ≡ None }
     {
         &self.places
+    }
+
+    /// How many slaves the present line has. It takes no memory.
+    pub fn slaves(&self) -> u32
+        ensures { result ≡ length (line self.now) }
+    {
+        count_slaves(self.groups.as_slice())
     }
 
     /// The block with a number, from 0, in the order of the slave with a station address: for each area
@@ -111,8 +152,7 @@ impl Plan {
         block_at(self.groups.as_slice(), &self.layout, station, number)
     }
 
-    /// The number of blocks of the present line, at most 32,768: 16 for each of 2,048 slaves. It takes no
-    /// memory.
+    /// The number of blocks of the present line. It takes no memory.
     pub fn blocks(&self) -> u32
         ensures { result ≡ length (config (line self.now)).blocks }
     {
@@ -150,10 +190,12 @@ impl Plan {
     }
 
     /// The plan that an edit makes of this one, configured from nothing; this one stays as it is.
-    /// Otherwise the lowest fault whose condition holds, or `Memory` where a growth was refused.
+    /// Otherwise the lowest fault whose condition holds, or `Memory` where a growth was refused; a fault
+    /// that the edit has by itself, of the faults 1 to 11, is judged before the first growth.
     pub fn edited(&self, alloc: Global, edit: &Edit) -> Result<Plan, EditFault>
         ensures accepted { IfOk result (λ next. edited self.now edit.now ≡ Ok next) }
         ensures refused { IfErr result (λ fault. fault ≢ Memory → edited self.now edit.now ≡ Err fault) }
+        ensures own { IfSome (own_fault self.now.groups edit.now) (λ fault. result ≡ Err fault) }
     {
         if let Some(fault) = own_fault(self.groups.as_slice(), edit) {
             return Err(fault);
@@ -192,11 +234,13 @@ impl Plan {
 
     /// Carries an edit out: the plan is then that of the new line, configured from nothing, and the
     /// report tells what became different. Otherwise the lowest fault whose condition holds, or
-    /// `Memory` where a growth was refused; the plan is then as it was.
+    /// `Memory` where a growth was refused; the plan is then as it was. A fault that the edit has by
+    /// itself, of the faults 1 to 11, is judged before the first growth.
     pub fn apply(&mut self, alloc: Global, edit: &Edit) -> Result<Report, EditFault>
         ensures accepted { OnOk result (edited self.old edit.now ≡ Ok self.new) }
         ensures report { IfOk result (Tells self.old edit.now self.new) }
         ensures refused { IfErr result (λ fault. fault ≢ Memory → edited self.old edit.now ≡ Err fault) }
+        ensures own { IfSome (own_fault self.old.groups edit.now) (λ fault. result ≡ Err fault) }
         ensures unchanged { OnErr result (self.new ≡ self.old) }
     {
         let next = self.edited(alloc, edit)?;

@@ -8,7 +8,7 @@ pub loop-edit-preserved : goal.loop-edit-preserved
 loop-edit-preserved c =
     let one = c.apply-answer.ensures in
     let list = c.push_reserved.ensures in
-    let answered = answer-of c.loop-edit.self c.apply-answer.new.self c.edit-item.result c.apply-answer.result one.accepted one.report one.refused one.unchanged in
+    let answered = answer-of c.loop-edit.self c.apply-answer.new.self c.edit-item.result c.apply-answer.result one.accepted one.report one.refused one.own one.unchanged in
     let goes = goes-on c.args.self.now c.loop-edit.self c.apply-answer.new.self c.args.edits.now c.loop-edit.edit-index c.edit-item.result c.loop-edit.answers.items c.apply-answer.result c.loop-edit-test.true c.edit-item.is answered c.loop-edit.invariant.0 in
     let longer = length-append c.loop-edit.answers.items (c.apply-answer.result ∷ []) in (
       subst (λ (answers : List Answer). Goes c.args.self.now c.args.edits.now (c.loop-edit.edit-index + 1) answers c.apply-answer.new.self) (sym list.items) goes,
