@@ -1,39 +1,70 @@
 -- How a frame is spelled on the line (ETG.1000.4, frame, EtherCAT header and datagram structure).
 -- The EtherType and the serial stand high byte first, all other numbers low byte first.
-use Rattle.std.specs.Prelude.{ℕ, ◌+◌, ◌-◌, ◌*◌, ◌%◌, Bool, true, false, List, [], ◌∷◌, ◌++◌, length, replicate, if◌then◌else◌}
+use Rattle.std.specs.Prelude.{ℕ, ◌+◌, ◌-◌, ◌*◌, ◌%◌, Bool, true, false, List, [], ◌∷◌, ◌++◌, length, map, replicate, if◌then◌else◌}
 use Rattle.std.specs.Int.{w16, w32, to_le_bytes, bytes_high_first}
 use Rattle.hc_frames.specs.declared.commands.Command.{Command}
 use Rattle.hc_frames.specs.declared.commands.Command.TheVariants.{Aprd, Apwr, Fpwr, Lrw}
 use Rattle.hc_frames.specs.declared.limits.TheConstants.{ALIAS_REGISTER, LEAST_FRAME, STATION_REGISTER}
 use Rattle.hc_frames.specs.Commands.{code_of}
 
--- a datagram to be sent: the address is the logical one of LRW, else the position or station in its low word and the register in its high word
-pub record Datagram : Type 0 where
+-- a datagram on the line: the address is the logical one of LRW, else the position or station in its low word and the register in its high word
+pub record Carried : Type 0 where
   pub command : Command
   pub address : ℕ
+  pub interrupt : ℕ
   pub bytes : List ℕ
+  pub counter : ℕ
 
 -- bits 0 to 10 the number of data bytes, bits 11 to 14 clear, bit 15 set where more datagrams follow
 abbrev pub length_field : ℕ → Bool → ℕ
 length_field size more = size + (if more then 32768 else 0)
 
 -- the ten bytes before the data: command, index, address, length field, interrupt field
-abbrev pub datagram_head : ℕ → Command → ℕ → ℕ → Bool → List ℕ
-datagram_head index command address size more = code_of command ∷ index ∷ to_le_bytes w32 address ++ to_le_bytes w16 (length_field size more) ++ 0 ∷ 0 ∷ []
+abbrev pub carried_head : ℕ → Command → ℕ → ℕ → Bool → ℕ → List ℕ
+carried_head index command address size more interrupt =
+    code_of command ∷ index ∷ to_le_bytes w32 address ++ to_le_bytes w16 (length_field size more) ++ to_le_bytes w16 interrupt
 
--- a datagram as sent: the ten bytes, the data, the working counter 0; its index is the serial modulo 256
-abbrev pub datagram_text : ℕ → Bool → Datagram → List ℕ
-datagram_text serial more d = datagram_head (serial % 256) d.command d.address (length d.bytes) more ++ d.bytes ++ 0 ∷ 0 ∷ []
+-- a datagram: the ten bytes, the data, the working counter; its index is the frame's serial modulo 256
+abbrev pub carried_text : ℕ → Bool → Carried → List ℕ
+carried_text serial more d = carried_head (serial % 256) d.command d.address (length d.bytes) more d.interrupt ++ d.bytes ++ to_le_bytes w16 d.counter
 
 -- datagrams one after another: more follow each but the last
-abbrev pub datagrams_text : ℕ → List Datagram → List ℕ
-datagrams_text serial [] = []
-datagrams_text serial (d ∷ []) = datagram_text serial false d
-datagrams_text serial (d ∷ e ∷ ds) = datagram_text serial true d ++ datagrams_text serial (e ∷ ds)
+abbrev pub carried_texts : ℕ → List Carried → List ℕ
+carried_texts serial [] = []
+carried_texts serial (d ∷ []) = carried_text serial false d
+carried_texts serial (d ∷ e ∷ ds) = carried_text serial true d ++ carried_texts serial (e ∷ ds)
 
--- the sixteen bytes before the datagrams: broadcast, the source address 02 and the serial, the EtherType, the EtherCAT header (bits 0 to 10 the datagrams' bytes, bits 12 to 15 the type 1)
+-- the sixteen bytes before the datagrams: destination, the source's first byte and the serial, the EtherType, the EtherCAT header (bits 0 to 10 the datagrams' bytes, bits 12 to 15 the type 1)
+abbrev pub head_to : List ℕ → ℕ → ℕ → ℕ → List ℕ
+head_to destination first serial size = destination ++ first ∷ bytes_high_first 5 serial ++ 0x88 ∷ 0xa4 ∷ to_le_bytes w16 (size + 4096)
+
+-- a frame on the line, with what stands behind its datagrams
+abbrev pub carried_frame : List ℕ → ℕ → ℕ → List Carried → List ℕ → List ℕ
+carried_frame destination first serial ds behind =
+    let text = carried_texts serial ds in head_to destination first serial (length text) ++ text ++ behind
+
+-- a datagram to be sent
+pub record Datagram : Type 0 where
+  pub command : Command
+  pub address : ℕ
+  pub bytes : List ℕ
+
+-- as sent, its interrupt field and its working counter are 0
+abbrev pub sent : Datagram → Carried
+sent d = record { command = d.command; address = d.address; interrupt = 0; bytes = d.bytes; counter = 0 }
+
+abbrev pub datagram_head : ℕ → Command → ℕ → ℕ → Bool → List ℕ
+datagram_head index command address size more = carried_head index command address size more 0
+
+abbrev pub datagram_text : ℕ → Bool → Datagram → List ℕ
+datagram_text serial more d = carried_text serial more (sent d)
+
+abbrev pub datagrams_text : ℕ → List Datagram → List ℕ
+datagrams_text serial ds = carried_texts serial (map sent ds)
+
+-- the head of a frame as sent: broadcast, from the source address 02 and the serial
 abbrev pub frame_head : ℕ → ℕ → List ℕ
-frame_head serial size = replicate 6 255 ++ 2 ∷ bytes_high_first 5 serial ++ 0x88 ∷ 0xa4 ∷ to_le_bytes w16 (size + 4096)
+frame_head serial size = head_to (replicate 6 255) 2 serial size
 
 -- zeros up to the least frame, after this many bytes of datagrams
 abbrev pub padding : ℕ → List ℕ
@@ -41,7 +72,7 @@ padding size = replicate (LEAST_FRAME - (16 + size)) 0
 
 -- a whole frame as sent, without its check sequence
 abbrev pub frame_text : ℕ → List Datagram → List ℕ
-frame_text serial ds = let text = datagrams_text serial ds in frame_head serial (length text) ++ text ++ padding (length text)
+frame_text serial ds = carried_frame (replicate 6 255) 2 serial (map sent ds) (padding (length (datagrams_text serial ds)))
 
 -- process data at a logical address
 abbrev pub lrw : ℕ → List ℕ → Datagram

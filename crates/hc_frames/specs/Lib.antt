@@ -1,3 +1,4 @@
+pub mod Arrived
 pub mod Builds
 pub mod Commands
 pub mod Filled
@@ -6,3 +7,6 @@ pub mod Sizes
 pub mod Lending
 pub mod Handing
 pub mod Opened
+pub mod Regions
+pub mod Returned
+pub mod Survey

@@ -9,7 +9,7 @@ mod laws;
 mod loans;
 mod opened;
 
-pub use datagrams::build_blank_datagram;
+pub use datagrams::{build_blank_datagram, build_datagram_of};
 pub use frames::{
     build_alias_read, build_blank_frame, build_blank_lrw, build_station, build_write, frame_size,
 };

@@ -5,5 +5,6 @@
 pub mod building;
 mod commands;
 pub mod limits;
+pub mod reading;
 
 pub use commands::Command;

@@ -29,3 +29,9 @@ pub const STATION_REGISTER: u16 = 0x0010;
 
 /// The register of the configured station alias (ETG.1000.4, station address registers).
 pub const ALIAS_REGISTER: u16 = 0x0012;
+
+/// Bytes of the datagrams of a frame at most: what may follow the Ethernet header, without the EtherCAT header.
+pub const MAX_DATAGRAMS: u16 = MAX_ETHERCAT - 2;
+
+/// Bytes of a frame at least that the reader looks at: the head, and a datagram without data.
+pub const LEAST_READ: usize = HEAD_BYTES + BESIDE_DATA_BYTES;

@@ -1,6 +1,6 @@
 //! Datagrams in slices of their exact size.
 ghost use Rattle.std.specs.Prelude.{◌≡◌, ◌+◌, ◌≤◌, length, map};
-ghost use Rattle.hc_frames.specs.FrameText.{Datagram, datagram_text, datagrams_text, blank_lrw};
+ghost use Rattle.hc_frames.specs.FrameText.{Datagram, datagram_text, datagrams_text, blank_lrw, lrw};
 ghost use Rattle.hc_frames.specs.Sizes.{datagrams_size};
 
 use super::heads::datagram_head;
@@ -25,6 +25,16 @@ pub(crate) fn write_datagram(
     head.copy_from_slice(&datagram_head(serial, command, address, bytes.len() as u16, more));
     data.copy_from_slice(bytes);
     counter.fill(0);
+}
+
+/// Writes one LRW datagram with these data bytes, 1 to 1,486, and the working counter 0, in one copy. `out` has 12 bytes more than
+/// the data. `more` says that another datagram follows it.
+pub fn build_datagram_of(out: &mut [u8], serial: u64, address: u32, bytes: &[u8], more: bool)
+    requires exact { length out.old ≡ 12 + length bytes.now }
+    requires size { length bytes.now ≤ MAX_DATA }
+    ensures { out.new ≡ datagram_text serial more (lrw address bytes.now) }
+{
+    write_datagram(out, serial, Command::Lrw, address, bytes, more);
 }
 
 /// Writes one LRW datagram whose data bytes are 0, with the working counter 0. `out` has 12 bytes more than `size`, the

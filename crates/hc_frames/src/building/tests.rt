@@ -1,6 +1,11 @@
 //! Frames whose bytes were worked out by hand from the standard's tables.
+ghost use Rattle.std.specs.Prelude.{◌≡◌, ◌+◌, ◌^◌, ◌<◌, ◌≤◌, [], ◌∷◌, length};
+ghost use Rattle.hc_frames.specs.FrameText.{frame_text, lrw};
+ghost use Rattle.hc_frames.specs.Sizes.{frame_bytes};
+
 use super::*;
 use crate::Command;
+use crate::limits::{BESIDE_DATA_BYTES, HEAD_BYTES, MAX_DATAGRAMS};
 use std::process::Abort;
 use std::test::Fail;
 
@@ -15,6 +20,42 @@ fn head(serial: u8, low: u8, high: u8) -> [u8; 16] {
     [
         255, 255, 255, 255, 255, 255, 2, 0, 0, 0, 0, serial, 0x88, 0xa4, low, high,
     ]
+}
+
+/// Writes the frame of two datagrams, given by address and data, into a slice of its exact size: the form in which a
+/// frame is written whose data stand elsewhere, each byte once.
+fn write_two(out: &mut [u8], serial: u64, address: u32, bytes: &[u8], address2: u32, bytes2: &[u8])
+    requires serial { serial < 2 ^ 40 }
+    requires size { 24 + length bytes.now + length bytes2.now ≤ MAX_DATAGRAMS }
+    requires first { length bytes.now ≤ 1486 }
+    requires second { length bytes2.now ≤ 1486 }
+    requires exact { length out.old ≡ frame_bytes (24 + length bytes.now + length bytes2.now) }
+    ensures { out.new ≡ frame_text serial (lrw address bytes.now ∷ lrw address2 bytes2.now ∷ []) }
+{
+    let size = 2 * BESIDE_DATA_BYTES + bytes.len() + bytes2.len();
+    let (head, rest) = out.split_at_mut(HEAD_BYTES);
+    let (texts, padding) = rest.split_at_mut(size);
+    let (text, text2) = texts.split_at_mut(BESIDE_DATA_BYTES + bytes.len());
+    build_head(head, serial, size as u16);
+    build_datagram_of(text, serial, address, bytes, true);
+    build_datagram_of(text2, serial, address2, bytes2, false);
+    padding.fill(0);
+}
+
+#[test]
+fn two_tasks_from_their_data(rt: HostRuntime) {
+    let mut out = [OLD; 60];
+    write_two(&mut out, 6, 0x0100_0000, &[0x34, 0x0a], 0x0200_0000, &[2]);
+    equal(&rt, &out[..16], &head(6, 0x1b, 0x10));
+    equal(
+        &rt,
+        &out[16..43],
+        &[
+            0x0c, 6, 0, 0, 0, 1, 2, 0x80, 0, 0, 0x34, 0x0a, 0, 0, 0x0c, 6, 0, 0, 0, 2, 1, 0, 0, 0,
+            2, 0, 0,
+        ],
+    );
+    equal(&rt, &out[43..], &[0; 17]);
 }
 
 #[test]

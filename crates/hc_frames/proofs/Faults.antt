@@ -1,0 +1,64 @@
+-- The fault that the reader answers is the first that holds.
+use Rattle.std.proofs.Common.{◌≡◌, ◌==◌, ℕ, ◌+◌, ◌%◌, ◌<◌, ◌≤◌, Bool, true, false, cond, ◌&&◌, ◌||◌, not, nat_lt, List, length, refl, ap, ◌∙◌, sym, arith, Option, Some, None}
+use Rattle.std.specs.List.{list_all, list_any}
+use Rattle.std.proofs.lemmas.Bool.Decides.{nat_tests}
+use Rattle.hc_frames.specs.declared.limits.TheConstants.{LEAST_READ, MAX_DATAGRAMS}
+use Rattle.hc_frames.specs.declared.reading.datagrams.Survey.{Survey}
+use Rattle.hc_frames.specs.declared.reading.faults.FrameFault.{FrameFault}
+use Rattle.hc_frames.specs.declared.reading.faults.FrameFault.TheVariants.{Short, NotEtherCat, BadType, BadLength, Circulating, MoreFollows, UnknownCommand, IndexMismatch}
+use Rattle.hc_frames.specs.Arrived.{circulates, datagram_bytes, datagrams_in, fault_in, fill_region, has_other_index, has_bad_length, has_bad_type, has_unknown_command, is_circulating, is_not_ethercat, is_short, is_unknown, is_whole, mismatches, more_at_end, more_between, promises_more, region, serial_in}
+use Rattle.hc_frames.specs.Regions.{StandsBehind, fault_of}
+use Rattle.hc_frames.proofs.Surveys.{Found}
+
+-- the first of eight conditions
+abbrev table : Bool → Bool → Bool → Bool → Bool → Bool → Bool → Bool → Option FrameFault
+table a b c d e f g h =
+    cond a (Some Short) (cond b (Some NotEtherCat) (cond c (Some BadType) (cond d (Some BadLength) (cond e (Some Circulating) (cond f (Some MoreFollows) (cond g (Some UnknownCommand) (cond h (Some IndexMismatch) None)))))))
+
+fourth : (a b c d e f g h : Bool) → a ≡ false → b ≡ false → c ≡ false → d ≡ true → table a b c d e f g h ≡ Some BadLength
+fourth a b c d e f g h a' b' c' d' = rw (a', b', c', d') refl
+
+others : (a b c d e f g h : Bool) → a ≡ false → b ≡ false → c ≡ false → d ≡ false → table a b c d e f g h ≡ table false false false false e f g h
+others a b c d e f g h a' b' c' d' = rw (a', b', c', d') refl
+
+found_fault : (e f g h : Bool) (seen : Survey) → seen.circulates ≡ e → seen.more ≡ f → seen.unknown ≡ g → seen.mismatch ≡ h → table false false false false e f g h ≡ fault_of seen
+found_fault e f g h seen e' f' g' h' =
+    ap (λ (x : Bool). table false false false false x f g h) (sym e')
+    ∙ ap (λ (x : Bool). table false false false false seen.circulates x g h) (sym f')
+    ∙ ap (λ (x : Bool). table false false false false seen.circulates seen.more x h) (sym g')
+    ∙ ap (λ (x : Bool). table false false false false seen.circulates seen.more seen.unknown x) (sym h')
+
+not_less : (m n : ℕ) → n ≤ m → nat_lt m n ≡ false
+not_less m n h = grind (arith, nat_tests)
+
+less : (m n : ℕ) → m < n → nat_lt m n ≡ true
+less m n h = grind (arith, nat_tests)
+
+-- where the datagrams don't fill their bytes
+pub unfilled : (bytes left : List ℕ) → StandsBehind bytes left → fill_region (datagrams_in left) ≡ false → fault_in bytes ≡ Some BadLength
+unfilled bytes left there bad =
+    let wrong : fill_region (datagrams_in (region bytes)) ≡ false = ap (λ (r : List ℕ). fill_region (datagrams_in r)) (sym there.found_there) ∙ bad in
+    let long : has_bad_length bytes ≡ true =
+    ap (λ (b : Bool). b || (nat_lt (length bytes) (16 + datagram_bytes bytes) || not (fill_region (datagrams_in (region bytes))))) (not_less MAX_DATAGRAMS (datagram_bytes bytes) there.within)
+    ∙ ap (λ (b : Bool). b || not (fill_region (datagrams_in (region bytes)))) (not_less (length bytes) (16 + datagram_bytes bytes) there.there)
+    ∙ ap not wrong in
+    fourth (is_short bytes) (is_not_ethercat bytes) (has_bad_type bytes) (has_bad_length bytes) (is_circulating bytes) (promises_more bytes) (has_unknown_command bytes) (mismatches bytes)
+    (not_less (length bytes) LEAST_READ there.long) there.ethercat there.type long
+
+-- where they do, the fault is the one that the pass over them finds
+pub filled : (bytes left : List ℕ) (seen : Survey) → StandsBehind bytes left → Found (serial_in bytes % 256) (datagrams_in left) seen → 0 < length (datagrams_in left) → fault_in bytes ≡ fault_of seen
+filled bytes left seen there found some =
+    let same : datagrams_in left ≡ datagrams_in (region bytes) = ap datagrams_in there.found_there in
+    let full : fill_region (datagrams_in left) ≡ true =
+    ap (λ (b : Bool). b && (list_all is_whole (datagrams_in left) && more_between (datagrams_in left))) (less 0 (length (datagrams_in left)) some)
+    ∙ ap (λ (b : Bool). b && more_between (datagrams_in left)) found.whole ∙ found.between in
+    let good : fill_region (datagrams_in (region bytes)) ≡ true = sym (ap fill_region same) ∙ full in
+    let long : has_bad_length bytes ≡ false =
+    ap (λ (b : Bool). b || (nat_lt (length bytes) (16 + datagram_bytes bytes) || not (fill_region (datagrams_in (region bytes))))) (not_less MAX_DATAGRAMS (datagram_bytes bytes) there.within)
+    ∙ ap (λ (b : Bool). b || not (fill_region (datagrams_in (region bytes)))) (not_less (length bytes) (16 + datagram_bytes bytes) there.there)
+    ∙ ap not good in
+    others (is_short bytes) (is_not_ethercat bytes) (has_bad_type bytes) (has_bad_length bytes) (is_circulating bytes) (promises_more bytes) (has_unknown_command bytes) (mismatches bytes)
+    (not_less (length bytes) LEAST_READ there.long) there.ethercat there.type long
+    ∙ found_fault (is_circulating bytes) (promises_more bytes) (has_unknown_command bytes) (mismatches bytes) seen
+    (found.circulates ∙ ap (λ (r : List ℕ). list_any circulates (datagrams_in r)) there.found_there) (found.more some ∙ ap (λ (r : List ℕ). more_at_end (datagrams_in r)) there.found_there)
+    (found.unknown ∙ ap (λ (r : List ℕ). list_any is_unknown (datagrams_in r)) there.found_there) (found.mismatch ∙ ap (λ (r : List ℕ). list_any (has_other_index (serial_in bytes % 256)) (datagrams_in r)) there.found_there)

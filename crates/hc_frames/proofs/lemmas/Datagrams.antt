@@ -1,0 +1,60 @@
+-- The datagrams that stand in some bytes, step by step.
+use Rattle.std.proofs.Common.{◌≡◌, ℕ, zero, suc, ◌+◌, ◌<◌, ◌≤◌, Bool, true, false, ◌&&◌, List, [], ◌∷◌, length, drop, map, refl, ap, ◌∙◌, sym, arith, rules, length-drop}
+use Rattle.std.specs.List.{list_all}
+use Rattle.std.specs.Prelude.{slice_range}
+use Rattle.std.proofs.lemmas.Grind.{common_steps}
+use Rattle.std.proofs.lemmas.Bool.Decides.{nat_tests}
+use Rattle.hc_frames.specs.Arrived.{Placed, carried, data_size, datagrams_in, is_whole, placed_from, starts_within}
+
+-- as many steps as there are bytes are enough
+enough : (n m : ℕ) (bytes : List ℕ) → length bytes ≤ n → length bytes ≤ m → starts_within n bytes ≡ starts_within m bytes
+unfolding starts_within
+enough zero zero bytes a b = refl
+enough zero (suc m) [] a b = refl
+enough zero (suc m) (x ∷ bytes) a b = absurd (omega arith)
+enough (suc n) zero [] a b = refl
+enough (suc n) zero (x ∷ bytes) a b = absurd (omega arith)
+enough (suc n) (suc m) [] a b = refl
+enough (suc n) (suc m) (x ∷ bytes) a b =
+    let behind : List ℕ = drop (12 + data_size (x ∷ bytes)) (x ∷ bytes) in
+    let shorter : length behind ≤ length bytes = omega (arith, length-drop (12 + data_size (x ∷ bytes)) (x ∷ bytes)) in
+    ap (λ (ds : List (List ℕ)). (x ∷ bytes) ∷ ds) (enough n m behind (omega arith) (omega arith))
+
+pub datagrams-none : (bytes : List ℕ) → length bytes ≡ 0 → datagrams_in bytes ≡ []
+unfolding starts_within
+datagrams-none [] e = refl
+datagrams-none (x ∷ bytes) e = absurd (omega arith)
+
+pub datagrams-some : (bytes : List ℕ) → 0 < length bytes → datagrams_in bytes ≡ bytes ∷ datagrams_in (drop (12 + data_size bytes) bytes)
+unfolding starts_within
+datagrams-some [] some = absurd (omega arith)
+datagrams-some (x ∷ bytes) some =
+    let behind : List ℕ = drop (12 + data_size (x ∷ bytes)) (x ∷ bytes) in
+    let shorter : length behind ≤ length bytes = omega (arith, length-drop (12 + data_size (x ∷ bytes)) (x ∷ bytes)) in
+    enough (length (x ∷ bytes)) (suc (length bytes)) (x ∷ bytes) (omega arith) (omega arith)
+    ∙ ap (λ (ds : List (List ℕ)). (x ∷ bytes) ∷ ds) (enough (length bytes) (length behind) behind (omega arith) (omega arith))
+
+pub whole-long : (bytes : List ℕ) → is_whole bytes ≡ true → 12 + data_size bytes ≤ length bytes
+whole-long bytes whole = grind (arith, nat_tests)
+
+-- the data of a whole datagram
+pub carried-length : (bytes : List ℕ) → is_whole bytes ≡ true → length (carried bytes).bytes ≡ data_size bytes
+carried-length bytes whole = let long : 12 + data_size bytes ≤ length bytes = whole-long bytes whole in grind (arith, common_steps)
+
+and_true : (a b : Bool) → (a && b) ≡ true → (a ≡ true) × (b ≡ true)
+and_true true b e = (refl, e)
+and_true false b e = cc
+
+-- of whole datagrams the first one is, and the others are
+pub first-whole : (bytes : List ℕ) → 0 < length bytes → list_all is_whole (datagrams_in bytes) ≡ true
+    → (is_whole bytes ≡ true) × (list_all is_whole (datagrams_in (drop (12 + data_size bytes) bytes)) ≡ true)
+first-whole bytes some whole =
+    and_true (is_whole bytes) (list_all is_whole (datagrams_in (drop (12 + data_size bytes) bytes))) (sym (ap (list_all is_whole) (datagrams-some bytes some)) ∙ whole)
+
+pub placed-some : (start : ℕ) (bytes : List ℕ) → 0 < length bytes → is_whole bytes ≡ true
+    → placed_from start (map carried (datagrams_in bytes)) ≡ record { start = start; carried = carried bytes } ∷ placed_from (start + (12 + data_size bytes)) (map carried (datagrams_in (drop (12 + data_size bytes) bytes)))
+placed-some start bytes some whole =
+    let behind : List ℕ = drop (12 + data_size bytes) bytes in
+    let here : Placed = record { start = start; carried = carried bytes } in
+    ap (λ (ds : List (List ℕ)). placed_from start (map carried ds)) (datagrams-some bytes some)
+    ∙ ap (λ (n : ℕ). here ∷ placed_from (start + (12 + n)) (map carried (datagrams_in behind))) (carried-length bytes whole)

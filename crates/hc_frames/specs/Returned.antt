@@ -1,0 +1,39 @@
+-- A sending that comes back (this project's profile of ETG.1000.4, frame and datagram structure): the slaves change data, working counters, interrupt fields and the low word of a position's address, and the first source byte's bit 1 is set as sent.
+use Rattle.std.specs.Prelude.{◌≡◌, ℕ, ◌+◌, ◌*◌, ◌/◌, ◌^◌, ◌<◌, ◌≤◌, List, [], ◌∷◌, ◌++◌, length, map, replicate}
+use Rattle.hc_frames.specs.declared.commands.Command.{Command}
+use Rattle.hc_frames.specs.declared.commands.Command.TheVariants.{Aprd, Apwr, Fpwr, Lrw}
+use Rattle.hc_frames.specs.declared.limits.TheConstants.{MAX_DATA, MAX_DATAGRAMS}
+use Rattle.hc_frames.specs.FrameText.{Carried, Datagram, carried_frame, carried_texts}
+
+-- the address of a command after the line: a position is counted up by the slaves
+abbrev pub KeepsAddress : Command → ℕ → ℕ → Type 0
+KeepsAddress Aprd old new = new / 65536 ≡ old / 65536
+KeepsAddress Apwr old new = new / 65536 ≡ old / 65536
+KeepsAddress Fpwr old new = new ≡ old
+KeepsAddress Lrw old new = new ≡ old
+
+-- a datagram as it comes back
+pub record ComesBack (d : Datagram) (part : Carried) : Type 0 where
+  pub command : part.command ≡ d.command
+  pub address : KeepsAddress d.command d.address part.address
+  pub size : length part.bytes ≡ length d.bytes
+
+-- the same, one by one
+abbrev pub AllComeBack : List Datagram → List Carried → Type 0
+AllComeBack [] [] = Unit {0}
+AllComeBack [] (part ∷ parts) = ⊥
+AllComeBack (d ∷ ds) [] = ⊥
+AllComeBack (d ∷ ds) (part ∷ parts) = ComesBack d part × AllComeBack ds parts
+
+-- a returned text of a sending: its datagrams came back as these parts, and any bytes or none follow them
+pub record IsReturned (serial : ℕ) (ds : List Datagram) (parts : List Carried) (bytes : List ℕ) : Type 0 where
+  pub back : AllComeBack ds parts
+  pub text : (behind : List ℕ) × (bytes ≡ carried_frame (replicate 6 255) 2 serial parts behind)
+
+-- a datagram whose fields fit their places
+pub record FitsLine (part : Carried) : Type 0 where
+  pub address : part.address < 2 ^ 32
+  pub interrupt : part.interrupt < 2 ^ 16
+  pub counter : part.counter < 2 ^ 16
+  pub filled : 1 ≤ length part.bytes
+  pub size : length part.bytes ≤ MAX_DATA

@@ -1,0 +1,62 @@
+//! One pass over the datagrams of a frame.
+ghost use Rattle.std.specs.Prelude.{◌≡◌, ◌<◌, ◌≤◌, ◌^◌, length};
+ghost use Rattle.hc_frames.specs.Arrived.{datagrams_in};
+ghost use Rattle.hc_frames.specs.Survey.{noted, nothing_seen, surveyed};
+
+use super::fields::{behind, circulates, has_other_index, is_unknown, is_whole, says_more};
+
+/// What the conditions of a frame look at, over the datagrams up to some place.
+#[derive(Clone, Copy)]
+pub(crate) struct Survey {
+    /// How many there are.
+    pub(crate) count: usize,
+    /// One of them has gone round the ring.
+    pub(crate) circulates: bool,
+    /// The last one says that more follow; so it is before the first.
+    pub(crate) more: bool,
+    /// One of them has an unknown command.
+    pub(crate) unknown: bool,
+    /// One of them has another index.
+    pub(crate) mismatch: bool,
+}
+
+impl Survey {
+    /// With the datagram at the front, which is whole.
+    fn noted(self, index: u8, bytes: &[u8]) -> Survey
+        requires room { self.count < 2 ^ 63 }
+        requires whole { 12 ≤ length bytes.now }
+        ensures { result ≡ noted index self bytes.now }
+    {
+        Survey {
+            count: self.count + 1,
+            circulates: self.circulates || circulates(bytes),
+            more: says_more(bytes),
+            unknown: self.unknown || is_unknown(bytes),
+            mismatch: self.mismatch || has_other_index(index, bytes),
+        }
+    }
+}
+
+/// What the conditions look at, over all datagrams of these bytes. None where one isn't whole, or one but the last
+/// doesn't say that more follow.
+pub(crate) fn survey_of(region: &[u8], index: u8) -> Option<Survey>
+    requires { length region.now < 2048 }
+    ensures { result ≡ surveyed index nothing_seen (datagrams_in region.now) }
+{
+    let mut rest = region;
+    let mut seen = Survey {
+        count: 0,
+        circulates: false,
+        more: true,
+        unknown: false,
+        mismatch: false,
+    };
+    while !rest.is_empty() {
+        if !seen.more || !is_whole(rest) {
+            return None;
+        }
+        seen = seen.noted(index, rest);
+        rest = behind(rest);
+    }
+    Some(seen)
+}

@@ -1,0 +1,168 @@
+//! What a frame that was read tells.
+ghost use Rattle.std.specs.Prelude.{◌≡◌, ◌+◌, ◌-◌, ◌<◌, ◌∷◌, true, length, map, slice_get};
+ghost use Rattle.std.specs.List.{list_all};
+ghost use Rattle.hc_frames.specs.Arrived.{carried, datagrams_in, is_whole, placed_from, region, Reading};
+
+use super::fields::{behind, data_size, long_at, word_at};
+use crate::commands::Command;
+use crate::limits::{DATAGRAM_HEAD_BYTES, HEAD_BYTES};
+use std::marker::Model;
+
+/// A datagram of a frame that was read. It borrows the frame.
+#[derive(Debug, Drop)]
+pub struct Part<'a> {
+    /// Where its first byte stands in the frame: the address is 2 bytes further, the data 10, and the working counter
+    /// follows the data.
+    pub start: usize,
+    /// What the slaves were asked to do.
+    pub command: Command,
+    /// The logical address of `Lrw`, else the position or station in the low word and the register in the high word.
+    pub address: u32,
+    /// The interrupt field.
+    pub interrupt: u16,
+    /// The data, 1 to 1,486 bytes.
+    pub bytes: &'a [u8],
+    /// The working counter.
+    pub counter: u16,
+}
+
+impl<'a> Model for Part<'a> {
+    ghost use Rattle.hc_frames.specs.Arrived.{Placed};
+
+    ghost Value = { Placed };
+
+    ghost view = { λ part. record { start = part.start; carried = record { command = part.command; address = part.address; interrupt = part.interrupt; bytes = part.bytes.now; counter = part.counter } } };
+}
+
+/// A frame that was read: its serial and its datagrams. It borrows the frame.
+#[derive(Debug, Drop)]
+pub struct Returned<'a> {
+    serial: u64,
+    region: &'a [u8],
+    count: usize,
+}
+
+impl<'a> Model for Returned<'a> {
+    ghost use Rattle.std.specs.Prelude.{◌≡◌, ◌<◌, true, length, map};
+    ghost use Rattle.std.specs.List.{list_all};
+    ghost use Rattle.hc_frames.specs.Arrived.{carried, datagrams_in, is_whole, Reading};
+
+    ghost Value = { Reading };
+
+    ghost view = { λ frame. record { serial = frame.serial; parts = map carried (datagrams_in frame.region.now) } };
+
+    ghost invariant = { λ frame. (list_all is_whole (datagrams_in frame.region.now) ≡ true) × (frame.count ≡ length (datagrams_in frame.region.now)) × (length frame.region.now < 2048) };
+}
+
+impl<'a> Returned<'a> {
+    /// The reading of whole datagrams.
+    pub(crate) fn of(serial: u64, region: &'a [u8], count: usize) -> Returned<'a>
+        requires whole { list_all is_whole (datagrams_in region.now) ≡ true }
+        requires counted { count ≡ length (datagrams_in region.now) }
+        requires short { length region.now < 2048 }
+        ensures { result ≡ record { serial = serial; parts = map carried (datagrams_in region.now) } }
+    {
+        Returned {
+            serial,
+            region,
+            count,
+        }
+    }
+
+    /// The sending's serial, below 2^40.
+    pub fn serial(&self) -> u64
+        ensures { result ≡ self.now.serial }
+    {
+        self.serial
+    }
+
+    /// How many datagrams the frame has, at least 1.
+    pub fn len(&self) -> usize
+        ensures { result ≡ length self.now.parts }
+    {
+        self.count
+    }
+
+    /// The datagrams, one by one from the front.
+    pub fn parts(&self) -> Parts<'a>
+        ensures { result ≡ placed_from 16 self.now.parts }
+    {
+        Parts {
+            rest: self.region,
+            start: HEAD_BYTES,
+        }
+    }
+
+    /// A datagram, counted from 0. None where the frame has fewer. It walks over those before it: use `parts` for all.
+    pub fn get(&self, index: usize) -> Option<Part<'a>>
+        ensures { result ≡ slice_get (placed_from 16 self.now.parts) index }
+    {
+        self.parts().nth(index)
+    }
+}
+
+/// The datagrams of a frame that a walk has not reached yet, in their order. Contracts see it as the list of them.
+#[derive(Debug, Drop)]
+pub struct Parts<'a> {
+    rest: &'a [u8],
+    start: usize,
+}
+
+impl<'a> Model for Parts<'a> {
+    ghost use Rattle.std.specs.Prelude.{List, ◌≡◌, ◌+◌, ◌<◌, true, length, map};
+    ghost use Rattle.std.specs.List.{list_all};
+    ghost use Rattle.hc_frames.specs.Arrived.{carried, datagrams_in, is_whole, placed_from, Placed};
+
+    ghost Value = { List Placed };
+
+    ghost view = { λ left. placed_from left.start (map carried (datagrams_in left.rest.now)) };
+
+    ghost invariant = { λ left. (list_all is_whole (datagrams_in left.rest.now) ≡ true) × (left.start + length left.rest.now < 4096) };
+}
+
+/// The whole datagram at the front of some bytes.
+fn part_at(start: usize, bytes: &[u8]) -> Part<'_>
+    requires { is_whole bytes.now ≡ true }
+    ensures { result ≡ record { start = start; carried = carried bytes.now } }
+{
+    let size = data_size(bytes);
+    Part {
+        start,
+        command: Command::of(bytes[0]).unwrap_or(Command::Lrw),
+        address: long_at(bytes, 2),
+        interrupt: word_at(bytes, 8),
+        bytes: &bytes[DATAGRAM_HEAD_BYTES..DATAGRAM_HEAD_BYTES + size],
+        counter: word_at(bytes, DATAGRAM_HEAD_BYTES + size),
+    }
+}
+
+/// The datagram at the front, and the bytes behind it.
+fn first_part(start: usize, bytes: &[u8]) -> (Part<'_>, &[u8])
+    requires some { 0 < length bytes.now }
+    requires whole { list_all is_whole (datagrams_in bytes.now) ≡ true }
+    ensures placed { placed_from start (map carried (datagrams_in bytes.now)) ≡ result.0 ∷ placed_from (start + (length bytes.now - length result.1.now)) (map carried (datagrams_in result.1.now)) }
+    ensures whole { list_all is_whole (datagrams_in result.1.now) ≡ true }
+    ensures shorter { length result.1.now < length bytes.now }
+{
+    (part_at(start, bytes), behind(bytes))
+}
+
+impl<'a> Iterator for Parts<'a> {
+    ghost use Rattle.std.specs.Iterator.{YieldsFirst, item_count};
+
+    type Item = Part<'a>;
+
+    ghost next_gives = { YieldsFirst (λ left. left) };
+
+    ghost remaining = { item_count (λ left. left) };
+
+    fn next(&mut self) -> Option<Part<'a>> {
+        if self.rest.is_empty() {
+            return None;
+        }
+        let (part, behind) = first_part(self.start, self.rest);
+        self.start += self.rest.len() - behind.len();
+        self.rest = behind;
+        Some(part)
+    }
+}
