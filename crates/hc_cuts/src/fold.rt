@@ -23,7 +23,6 @@ fn add_cuts(
     areas: &[(Key, u16)],
 ) -> Result<(), TooManyDatagrams>
     requires packable { All IsPackable areas.now }
-    requires room { first.bit ≤ MOST_AREA_BITS }
     requires begun { first.datagram + 1 ≡ length keys.old.items }
     requires few { length keys.old.items ≤ MOST_DATAGRAMS }
     ensures added { OnOk result (keys.new.items ≡ keys.old.items ++ cuts_from first areas.now) }

@@ -7,15 +7,13 @@ ghost use Rattle.hc_records.specs.Packing.{next_byte, opening, packed};
 ghost use Rattle.hc_records.specs.declared.limits.TheConstants.{MOST_AREA_BITS};
 
 use hc_records::keys::Key;
-use hc_records::limits::MOST_DATAGRAM_BYTES;
+use hc_records::limits::MOST_AREA_BITS;
 use hc_records::records::Dir;
 use std::alloc::{AllocError, Global};
 use std::marker::Model;
 
-/// The bits of the longest datagram.
-const ROOM: u16 = 8 * MOST_DATAGRAM_BYTES;
-
-/// An area, its width in bits, and the datagram and the bit at which it begins.
+/// An area, its width in bits, and the datagram and the bit at which it begins. It ends within the
+/// longest datagram.
 #[derive(Clone, Copy, Debug)]
 pub struct Placed {
     key: Key,
@@ -25,17 +23,21 @@ pub struct Placed {
 }
 
 impl Model for Placed {
+    ghost use Rattle.std.specs.Prelude.{◌+◌, ◌≤◌};
     ghost use Rattle.hc_records.specs.Packing.{Placed};
+    ghost use Rattle.hc_records.specs.declared.limits.TheConstants.{MOST_AREA_BITS};
 
     ghost Value = { Placed };
 
     ghost view = { λ area. record { key = area.key; bits = area.bits; datagram = area.datagram; bit = area.bit } };
 
+    ghost invariant = { λ area. area.bit + area.bits ≤ MOST_AREA_BITS };
+
     ghost inverse = { λ area. record { key = area.key; bits = area.bits; datagram = area.datagram; bit = area.bit } };
 }
 
 /// The datagram that is being filled: its number, its first free bit, and the direction of the area
-/// before that bit.
+/// before that bit, which lies within the longest datagram or at its end.
 #[derive(Clone, Copy, Debug)]
 pub struct Front {
     datagram: u16,
@@ -44,11 +46,15 @@ pub struct Front {
 }
 
 impl Model for Front {
+    ghost use Rattle.std.specs.Prelude.{◌≤◌};
     ghost use Rattle.hc_records.specs.Packing.{Front};
+    ghost use Rattle.hc_records.specs.declared.limits.TheConstants.{MOST_AREA_BITS};
 
     ghost Value = { Front };
 
     ghost view = { λ front. record { datagram = front.datagram; bit = front.bit; last = front.last } };
+
+    ghost invariant = { λ front. front.bit ≤ MOST_AREA_BITS };
 
     ghost inverse = { λ front. record { datagram = front.datagram; bit = front.bit; last = front.last } };
 }
@@ -69,8 +75,9 @@ fn is_turning(last: Dir, dir: Dir) -> bool
 }
 
 impl Placed {
-    ghost use Rattle.std.specs.Prelude.{◌≡◌, ◌+◌, ◌<◌, ◌≤◌};
+    ghost use Rattle.std.specs.Prelude.{◌≡◌, ◌+◌, ◌≤◌};
     ghost use Rattle.hc_records.specs.Packing.{behind};
+    ghost use Rattle.hc_records.specs.declared.limits.TheConstants.{MOST_AREA_BITS};
 
     /// The area's key.
     pub fn key(self) -> Key
@@ -95,14 +102,14 @@ impl Placed {
 
     /// Its first bit in that datagram.
     pub fn bit(self) -> u16
-        ensures { result ≡ self.bit }
+        ensures value { result ≡ self.bit }
+        ensures inside { result + self.bits ≤ MOST_AREA_BITS }
     {
         self.bit
     }
 
     /// The datagram that is being filled once the area stands.
     pub fn behind(self) -> Front
-        requires { self.bit + self.bits < 65536 }
         ensures { result ≡ behind self }
     {
         Front {
@@ -131,7 +138,6 @@ impl Front {
 
     /// The bit at which an area would begin.
     fn beginning(self, key: Key, bits: u16) -> u16
-        requires { self.bit ≤ MOST_AREA_BITS }
         ensures value { result ≡ beginning self (key, bits) }
         ensures low { result ≤ MOST_AREA_BITS }
     {
@@ -144,21 +150,18 @@ impl Front {
 
     /// Whether an area of at most 11,888 bits would end within the datagram.
     pub fn fits(self, key: Key, bits: u16) -> bool
-        requires front { self.bit ≤ MOST_AREA_BITS }
-        requires narrow { bits ≤ MOST_AREA_BITS }
+        requires { bits ≤ MOST_AREA_BITS }
         ensures { result ≡ fits self (key, bits) }
     {
-        self.beginning(key, bits) + bits <= ROOM
+        u32::from(self.beginning(key, bits) + bits) <= MOST_AREA_BITS
     }
 
     /// Where an area of at most 11,888 bits stands: in this datagram where it fits, else at bit 0 of
     /// a new one.
     pub fn place(self, key: Key, bits: u16) -> Placed
-        requires front { self.bit ≤ MOST_AREA_BITS }
         requires narrow { bits ≤ MOST_AREA_BITS }
         requires few { self.datagram < 65535 }
-        ensures value { result ≡ placed_at self (key, bits) }
-        ensures inside { result.bit + bits ≤ MOST_AREA_BITS }
+        ensures { result ≡ placed_at self (key, bits) }
     {
         if self.fits(key, bits) {
             Placed {

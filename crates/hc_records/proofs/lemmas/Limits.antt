@@ -15,8 +15,7 @@ use Rattle.hc_records.specs.Edits.{has_unknown}
 use Rattle.hc_records.specs.Limits.{BeginsMandatory, ComesAndGoes, IsAreaInside, IsEntryInside, IsPdoInside, IsProjectInside, IsSlaveInside, KeepApart}
 use Rattle.hc_records.specs.Lists.{has_repeat, some_pair}
 use Rattle.hc_records.specs.Project.{area_outside, entry_outside, has_overlap, has_unknown_pdo, is_bare, is_misplaced, is_outside, is_wide, lowest_fault, overlap, pdo_outside, project_faults, reach, repeats_sync_manager, same_index, same_sync_manager, slave_outside, slaves_of, slave_names, some_slave}
-use Rattle.hc_records.proofs.lemmas.Lists.{All-flat_map, All-from_none, AllPairs-from_none, AllPairs-from_once, AllPairs-unmap, AllPairs-weaker}
-use Rattle.hc_records.proofs.lemmas.Projects.{none-holds}
+use Rattle.hc_records.proofs.lemmas.Lists.{All-flat_map, All-from_none, AllPairs-from_none, AllPairs-from_once, AllPairs-unmap, AllPairs-weaker, none-holds}
 
 -- one record
 

@@ -1,11 +1,11 @@
 -- What holds of the elements, or of each element and each later one, of lists that are joined, mapped, numbered or taken apart.
-use Rattle.std.proofs.Common.{◌≡◌, ℕ, ◌+◌, ◌<◌, ◌≤◌, suc, Bool, true, false, cond, List, [], ◌∷◌, ◌++◌, length, arith, sym}
-use Rattle.std.specs.Prelude.{All, AllPairs, filter, map, ◌==◌, ◌≢◌}
+use Rattle.std.proofs.Common.{◌≡◌, ℕ, ◌+◌, ◌<◌, ◌≤◌, zero, suc, ◌-◌, ◌∙◌, Bool, true, false, cond, List, [], ◌∷◌, ◌++◌, length, ap, arith, refl, sym, if◌then◌else◌}
+use Rattle.std.specs.Prelude.{All, AllPairs, None, Some, filter, map, slice_get, ◌==◌, ◌≢◌}
 use Rattle.std.specs.List.{enumerate_from, flat_map, list_any}
 use Rattle.std.proofs.lemmas.Bool.{eqb-false, or_parts}
 use Rattle.std.proofs.lemmas.List.Elements.{All-nil, All-cons, All-head, All-tail, All-append, All-weaker, All-filter, All-map, filter_passes}
 use Rattle.std.proofs.lemmas.List.Kept.{AllPairs-cons}
-use Rattle.hc_records.specs.Lists.{has_repeat, some_pair}
+use Rattle.hc_records.specs.Lists.{has_repeat, lowest, some_pair}
 
 pub All-append_left : {X : Type 0} (P : X → Type 0) (xs ys : List X) → All P (xs ++ ys) → All P xs
 All-append_left P [] ys all = All-nil P
@@ -141,3 +141,37 @@ pub AllPairs-from_once : (xs : List ℕ) → has_repeat xs ≡ false → AllPair
 AllPairs-from_once xs once =
     AllPairs-weaker (λ x y. (y == x) ≡ false) (λ x y. x ≢ y) (λ x y differ same. eqb-false y x differ (sym same)) xs
     (AllPairs-from_none (λ x y. y == x) xs once)
+
+-- a filter keeps no more elements than there are
+
+kept-few : {X : Type 0} (passes : Bool) (x : X) (kept xs : List X) → length kept ≤ length xs → length (cond passes (x ∷ kept) kept) ≤ suc (length xs)
+kept-few true x kept xs few = omega arith
+kept-few false x kept xs few = omega arith
+
+pub filter-few : {X : Type 0} (test : X → Bool) (xs : List X) → length (filter test xs) ≤ length xs
+filter-few test [] = omega arith
+filter-few test (x ∷ xs) = kept-few (test x) x (filter test xs) xs (filter-few test xs)
+
+-- what stands at an index of joined lists
+
+pub get-front : {X : Type 0} (xs ys : List X) (n : ℕ) → n < length xs → slice_get (xs ++ ys) n ≡ slice_get xs n
+get-front [] ys n inside = absurd (omega arith)
+get-front (x ∷ xs) ys zero inside = refl
+get-front (x ∷ xs) ys (suc n) inside = get-front xs ys n (omega arith)
+
+pub get-back : {X : Type 0} (xs ys : List X) (n : ℕ) → length xs ≤ n → slice_get (xs ++ ys) n ≡ slice_get ys (n - length xs)
+get-back [] ys n past = ap (λ (k : ℕ). slice_get ys k) (omega arith)
+get-back (x ∷ xs) ys zero past = absurd (omega arith)
+get-back (x ∷ xs) ys (suc n) past = get-back xs ys n (omega arith) ∙ ap (slice_get ys) (omega arith)
+
+-- where there is no lowest fault, none of the conditions holds
+
+none-first : {F : Type 0} (judged : Bool) (fault : F) (rest : List (Bool × F)) → (if judged then Some fault else lowest rest) ≡ None → (judged ≡ false) × (lowest rest ≡ None)
+none-first true fault rest none = cc
+none-first false fault rest none = (refl, none)
+
+pub none-holds : {F : Type 0} (faults : List (Bool × F)) → lowest faults ≡ None → All (λ judged. judged.0 ≡ false) faults
+none-holds [] none = All-nil (λ judged. judged.0 ≡ false)
+none-holds (judged ∷ rest) none =
+    let both = none-first judged.0 judged.1 rest none in
+    All-cons (λ judged. judged.0 ≡ false) judged rest both.0 (none-holds rest both.1)

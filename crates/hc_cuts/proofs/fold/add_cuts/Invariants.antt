@@ -1,5 +1,5 @@
 use Rattle.std.proofs.Common.{◌≡◌, ◌+◌, ◌≤◌, ◌++◌, length, drop}
-use Rattle.hc_records.specs.declared.limits.TheConstants.{MOST_AREA_BITS, MOST_DATAGRAMS}
+use Rattle.hc_records.specs.declared.limits.TheConstants.{MOST_DATAGRAMS}
 use Rattle.hc_records.specs.Laws.{cuts_from}
 use Rattle.hc_cuts.proofs.fold.add_cuts.Given as goal
 
@@ -9,5 +9,4 @@ invariant-loop-area l = record {
   keys : l.keys.items ++ cuts_from l.front (drop l.area-index l.areas) ≡ l.initial.keys.items ++ cuts_from l.fn.first l.areas;
   begun : l.front.datagram + 1 ≡ length l.keys.items;
   few : length l.keys.items ≤ MOST_DATAGRAMS;
-  room : l.front.bit ≤ MOST_AREA_BITS;
 }

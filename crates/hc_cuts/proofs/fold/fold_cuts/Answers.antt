@@ -18,7 +18,7 @@ returns-clause-keys c =
       empty = c.new-keys.ensures;
       first = c.push.ensures.items;
       opens = c.opening.ensures;
-      stands = c.place.ensures.value;
+      stands = c.place.ensures;
       goes_on = c.behind-front.ensures;
       rest = c.in_ok-add_cuts.ensures.added;
     })
@@ -31,7 +31,7 @@ returns-clause-few c =
       empty = c.new-keys.ensures;
       first = c.push.ensures.items;
       opens = c.opening.ensures;
-      stands = c.place.ensures.value;
+      stands = c.place.ensures;
       goes_on = c.behind-front.ensures;
       rest = c.in_ok-add_cuts.ensures.added;
     }) in
@@ -46,7 +46,7 @@ returns-in_err-add_cuts-clause-refused c =
       empty = c.new-keys.ensures;
       first = c.push.ensures.items;
       opens = c.opening.ensures;
-      stands = c.place.ensures.value;
+      stands = c.place.ensures;
       goes_on = c.behind-front.ensures;
       rest = refl;
     }) in

@@ -1,5 +1,4 @@
 use Rattle.std.proofs.Common.{◌≡◌, ◌≤◌, ◌++◌, drop}
-use Rattle.hc_records.specs.declared.limits.TheConstants.{MOST_AREA_BITS}
 use Rattle.hc_records.specs.Packing.{opening, packed}
 use Rattle.hc_cuts.proofs.packing.pack.Given as goal
 
@@ -8,5 +7,4 @@ abbrev pub invariant-loop-area : goal.invariant-loop-area
 invariant-loop-area l = record {
   places : l.places.items ++ packed l.front (drop l.area-index l.list) ≡ packed opening l.list;
   few : l.front.datagram ≤ l.area-index;
-  room : l.front.bit ≤ MOST_AREA_BITS;
 }
