@@ -95,12 +95,16 @@ all-from list is =
     filter-keeps (λ area. is_within START area.0) list
     (All-weaker (λ area. is_before START area.0 ≡ true) (λ area. is_within START area.0 ≡ true) (λ area above. within-from_before START area.0 above) list is.between.above)
 
+-- so the whole list is one from START on
+pub task-list-from : (list : List Keyed) → IsTaskList list → IsListFrom START list
+task-list-from list is = subst (λ (areas : List Keyed). IsListFrom START areas) (all-from list is) (areas-from START list is)
+
 start-alone : (list : List Keyed) → IsTaskList list → IsCutAlone list (START, next_cut opening list)
 start-alone list is =
     let whole = all-from list is in record {
       next = ap (next_cut opening) (sym whole);
       areas =
-          ap (map seen_area) (carried-areas (START, next_cut opening list) opening list (subst (λ (areas : List Keyed). IsListFrom START areas) whole (areas-from START list is)) refl)
+          ap (map seen_area) (carried-areas (START, next_cut opening list) opening list (task-list-from list is) refl)
           ∙ ap (λ (areas : List Keyed). map seen_area (carried opening areas)) (sym whole);
     }
 

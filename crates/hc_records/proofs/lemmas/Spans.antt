@@ -174,7 +174,7 @@ same-cut first last front (x ∷ xs) (y ∷ ys) is is' cut agree =
 abbrev pub key_lies_in : Interval → Key → Bool
 key_lies_in span key = is_within span.0 key && is_before key span.1
 
-place-key : (fitting : Bool) (front : Front) (area : Keyed) → (place fitting front area).key ≡ area.0
+pub place-key : (fitting : Bool) (front : Front) (area : Keyed) → (place fitting front area).key ≡ area.0
 place-key true front area = refl
 place-key false front area = refl
 
