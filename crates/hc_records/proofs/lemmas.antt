@@ -20,8 +20,10 @@ pub mod Reaches
 pub mod SettledSpans
 pub mod Slaves
 pub mod SpanCuts
+pub mod SpanDatagrams
 pub mod Spans
 pub mod Stations
+pub mod TaskLists
 pub mod Tasks
 pub mod Tiles
 pub mod VariableBits

@@ -1,22 +1,38 @@
 -- What follows for the spans of a task: a settled one carries what it carried. Each is the contract of a function of `laws`.
-use Rattle.std.specs.Prelude.{◌≡◌, ℕ, ◌&&◌, true, Bool, if◌then◌else◌, All, Contains, List, [], ◌∷◌, filter, map}
+use Rattle.std.specs.Prelude.{◌≡◌, ℕ, ◌&&◌, true, Bool, if◌then◌else◌, All, Contains, None, List, [], ◌∷◌, filter, map, slice_get, Some}
 use Rattle.hc_records.specs.declared.keys.Key.{Key}
 use Rattle.hc_records.specs.declared.keys.TheConstants.Key.{END}
 use Rattle.hc_records.specs.Keys.{is_before, is_within}
-use Rattle.hc_records.specs.TaskList.{Keyed}
+use Rattle.hc_records.specs.Line.{State, groups_of, line}
+use Rattle.hc_records.specs.TaskList.{Keyed, task_list}
 use Rattle.hc_records.specs.Packing.{Front, Placed, behind, fits, opening, packed, placed_at}
+use Rattle.hc_records.specs.Image.{inside}
 use Rattle.hc_records.specs.Boundaries.{Interval, boundaries, is_settled, spans}
+use Rattle.hc_records.specs.Project.{lowest_fault}
 use Rattle.hc_records.specs.Laws.{Ascends, IsPackable, LiesBetween}
 
--- what the list of a task of a project is: its areas are packable, and their keys ascend between START and END
+-- the list of a task: its areas are packable, and their keys ascend between START and END
 pub record IsTaskList (list : List Keyed) : Type 0 where
   pub packable : All IsPackable list
   pub ascends : Ascends list
   pub between : LiesBetween list
 
+-- the list of each task of each line of a project is one
+abbrev pub ProjectsHaveTaskLists : Type 0
+ProjectsHaveTaskLists =
+    (state : State) (task : ℕ) → lowest_fault (groups_of state.groups) ≡ None
+    → IsTaskList (task_list task (line state))
+
 -- an area of a span: its key is the span's first one or a later one, and before the one at which the next span begins
 abbrev pub lies_in : Interval → Placed → Bool
 lies_in span area = is_within span.0 area.key && is_before area.key span.1
+
+-- the areas of a datagram are those of the span with its number
+abbrev pub SpansAreDatagrams : Type 0
+SpansAreDatagrams =
+    (list : List Keyed) (datagram : ℕ) (span : Interval) → IsTaskList list
+    → slice_get (spans (boundaries list)) datagram ≡ Some span
+    → inside datagram (packed opening list) ≡ filter (lies_in span) (packed opening list)
 
 -- an area's key, its width, and its first bit in its datagram
 abbrev pub seen_area : Placed → Key × (ℕ × ℕ)

@@ -3,7 +3,7 @@
 ghost use Rattle.hc_records.specs.Laws.{ProjectsArePackable, PlacesKeepTheList, AreasLieInside, WideAreasBeginBytes, DatagramsAreSendable, AreasShareNoBit, KeysAscend, KeysLieAboveStart, KeysLieBelowEnd, PackingIsLeast, CutsStandAlone, BoundariesAreCuts, DatagramsAreSpans, BoundariesHaveWidth, UntouchedIsSettled, OutputsComeFirst, TouchedCountsOnce};
 ghost use Rattle.hc_records.specs.ImageLaws.{DatagramsTileTheImage, ImagesAreShort, VariablesLieInDatagrams, VariablesShareNoBit, VariablesStandInTheirParts};
 ghost use Rattle.hc_records.specs.AddressLaws.{AddressesHaveOneDatagram};
-ghost use Rattle.hc_records.specs.SpanLaws.{SettledSpansStay, SpansAreCutAlone};
+ghost use Rattle.hc_records.specs.SpanLaws.{ProjectsHaveTaskLists, SettledSpansStay, SpansAreCutAlone, SpansAreDatagrams};
 ghost use Rattle.hc_records.specs.ProjectLaws.{RanksAreCounted, ReachesHoldWidths, ReachesShareNoByte, StationsAreDistinct};
 
 /// In a project each area of a task's list has 1 to 11,888 bits, so that a datagram can carry it,
@@ -167,6 +167,19 @@ pub fn reaches_hold_widths()
 /// reach, and no byte is taken by two of them.
 pub fn reaches_share_no_byte()
     ensures { ReachesShareNoByte }
+{}
+
+/// In a project the list of each task is one that packing and spans are meant for, whichever groups are
+/// present: each area has 1 to 11,888 bits, and the keys ascend between `Key::START` and `Key::END`.
+pub fn projects_have_task_lists()
+    ensures { ProjectsHaveTaskLists }
+{}
+
+/// The datagrams of a task are its spans: where each area of a list has 1 to 11,888 bits and the keys
+/// ascend between `Key::START` and `Key::END`, the areas of a datagram are those of the span with its
+/// number, whose keys are the span's first one or a later one and before the next span's.
+pub fn spans_are_datagrams()
+    ensures { SpansAreDatagrams }
 {}
 
 /// Where each area of a list has 1 to 11,888 bits and the keys ascend between `Key::START` and

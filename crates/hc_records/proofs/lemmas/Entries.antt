@@ -1,6 +1,6 @@
 -- The entries of a project's areas, and what holds of each area of a task.
-use Rattle.std.proofs.Common.{◌≡◌, ℕ, ◌+◌, ◌≤◌, Bool, true, false, List, [], ◌∷◌, Option, Some, None, length, refl}
-use Rattle.std.specs.Prelude.{All, filter, find, nat_lt, not, ◌||◌, ◌==◌, ◌-◌}
+use Rattle.std.proofs.Common.{◌≡◌, ℕ, ◌+◌, ◌≤◌, Bool, true, false, List, [], Option, Some, None, length, refl}
+use Rattle.std.specs.Prelude.{All, find, nat_lt, not, ◌||◌, ◌==◌, ◌-◌}
 use Rattle.std.specs.List.{enumerate_from, flat_map, list_any}
 use Rattle.std.specs.Option.{option_map_or}
 use Rattle.std.proofs.lemmas.Bool.{ltb-false, or_parts}

@@ -1,8 +1,8 @@
 -- What a settled span carries: what it carried before the edit.
-use Rattle.std.proofs.Common.{◌≡◌, ℕ, ◌<◌, ◌⊎◌, inl, inr, zero, suc, Bool, true, false, List, [], ◌∷◌, ◌++◌, Option, Some, None, length, refl, sym, ap, subst, ◌∙◌, arith, if◌then◌else◌}
-use Rattle.std.specs.Prelude.{All, Contains, filter, fold, map, not, ◌&&◌, ◌||◌, ◌==◌}
+use Rattle.std.proofs.Common.{◌≡◌, ◌⊎◌, inl, inr, zero, suc, Bool, true, false, List, [], ◌∷◌, ◌++◌, Option, Some, None, refl, sym, ap, subst, ◌∙◌, arith, if◌then◌else◌}
+use Rattle.std.specs.Prelude.{All, Contains, filter, fold, map, not, ◌||◌, ◌==◌}
 use Rattle.std.specs.List.{list_any}
-use Rattle.std.proofs.lemmas.Bool.{and_parts, cond-false, cond-true, eq-eqb, eqb-true, not-true, or_cases}
+use Rattle.std.proofs.lemmas.Bool.{and_parts, eq-eqb, eqb-true, not-true, or_cases}
 use Rattle.std.proofs.lemmas.List.Elements.{All-nil, All-cons, All-head, All-tail}
 use Rattle.hc_records.specs.declared.records.Dir.{Dir}
 use Rattle.hc_records.specs.declared.records.Dir.TheVariants.{Out, In}
@@ -10,10 +10,10 @@ use Rattle.hc_records.specs.declared.keys.Key.{Key}
 use Rattle.hc_records.specs.declared.keys.TheConstants.Key.{START, END}
 use Rattle.hc_records.specs.Keys.{same_dir, same_key, is_before, is_within}
 use Rattle.hc_records.specs.TaskList.{Keyed}
-use Rattle.hc_records.specs.Packing.{Placed, opening}
+use Rattle.hc_records.specs.Packing.{opening}
 use Rattle.hc_records.specs.Boundaries.{Interval, boundaries, hull, is_settled, is_touched, later_keys, meets_hull, spans, touched, widened, width_in}
-use Rattle.hc_records.specs.SpanLaws.{CarriesTheSame, IsTaskList, areas_from, carried, next_cut, seen_area, span_areas}
-use Rattle.hc_records.proofs.lemmas.KeyOrder.{before-other, other-sym, same_dir-refl, same_key-refl, same_key-same, within-else, within-refl}
+use Rattle.hc_records.specs.SpanLaws.{CarriesTheSame, IsTaskList, areas_from, carried, seen_area, span_areas}
+use Rattle.hc_records.proofs.lemmas.KeyOrder.{before-other, other-sym, same_dir-refl, same_key-same, within-else, within-refl}
 use Rattle.hc_records.proofs.lemmas.Lists.{All-append_left, All-append_right, All-from_filter, All-unmap}
 use Rattle.hc_records.proofs.lemmas.SpanCuts.{areas-from, span-alone, span-begins}
 use Rattle.hc_records.proofs.lemmas.Spans.{Agree, same-cut, width-here, width-skip}

@@ -1,6 +1,6 @@
 -- A span begins at START or at a cut inside its list, and ends where the areas from there on are cut first.
-use Rattle.std.proofs.Common.{◌≡◌, ℕ, ◌+◌, ◌<◌, ◌≤◌, ◌⊎◌, inl, inr, zero, suc, Bool, true, false, List, [], ◌∷◌, ◌++◌, length, refl, sym, ap, subst, ◌∙◌, arith, if◌then◌else◌}
-use Rattle.std.specs.Prelude.{All, AllPairs, Contains, IsTrue, filter, map, ◌&&◌}
+use Rattle.std.proofs.Common.{◌≡◌, ◌⊎◌, inl, inr, zero, suc, Bool, true, false, List, [], ◌∷◌, ◌++◌, refl, sym, ap, subst, ◌∙◌, arith, if◌then◌else◌}
+use Rattle.std.specs.Prelude.{All, Contains, IsTrue, filter, map}
 use Rattle.std.proofs.lemmas.Bool.{and_left, cond-false, cond-true}
 use Rattle.std.proofs.lemmas.List.Elements.{All-cons, All-filter, All-head, All-weaker, filter-append, filter_passes}
 use Rattle.std.proofs.lemmas.List.Kept.{AllPairs-filter}
@@ -10,13 +10,13 @@ use Rattle.hc_records.specs.Keys.{is_before, is_within}
 use Rattle.hc_records.specs.TaskList.{Keyed}
 use Rattle.hc_records.specs.Packing.{Front, Placed, opening, fits, placed_at, behind, packed}
 use Rattle.hc_records.specs.Image.{datagram_count}
-use Rattle.hc_records.specs.Boundaries.{Interval, begins_later, boundaries, later_keys, spans}
-use Rattle.hc_records.specs.Laws.{Ascends, IsPackable, cuts_from, front_after, raised}
-use Rattle.hc_records.specs.SpanLaws.{IsCutAlone, IsTaskList, areas_from, carried, lies_in, next_cut, seen_area, span_areas}
+use Rattle.hc_records.specs.Boundaries.{Interval, begins_later, boundaries, spans}
+use Rattle.hc_records.specs.Laws.{IsPackable, cuts_from, front_after, raised}
+use Rattle.hc_records.specs.SpanLaws.{IsCutAlone, IsTaskList, areas_from, carried, lies_in, next_cut, seen_area}
 use Rattle.hc_records.proofs.lemmas.Cuts.{later_keys-cuts, other-begins}
 use Rattle.hc_records.proofs.lemmas.KeyOrder.{before-apart, within-from_before, within-refl}
 use Rattle.hc_records.proofs.lemmas.Lengths.{opening-fits}
-use Rattle.hc_records.proofs.lemmas.Lists.{All-append_left, All-append_right, AllPairs-across, AllPairs-append_right, AllPairs-head}
+use Rattle.hc_records.proofs.lemmas.Lists.{All-append_right, AllPairs-across, AllPairs-append_right, AllPairs-head}
 use Rattle.hc_records.proofs.lemmas.Packed.{place}
 use Rattle.hc_records.proofs.lemmas.Spans.{IsListFrom, carried-areas, cut-raised, drops-behind, filter-drops, filter-keeps, key_lies_in, seen-raised}
 use Rattle.hc_records.proofs.Alone.{before-count, first-raised, packed-alone}
@@ -95,12 +95,16 @@ all-from list is =
     filter-keeps (λ area. is_within START area.0) list
     (All-weaker (λ area. is_before START area.0 ≡ true) (λ area. is_within START area.0 ≡ true) (λ area above. within-from_before START area.0 above) list is.between.above)
 
+-- so the whole list is one from START on
+pub task-list-from : (list : List Keyed) → IsTaskList list → IsListFrom START list
+task-list-from list is = subst (λ (areas : List Keyed). IsListFrom START areas) (all-from list is) (areas-from START list is)
+
 start-alone : (list : List Keyed) → IsTaskList list → IsCutAlone list (START, next_cut opening list)
 start-alone list is =
     let whole = all-from list is in record {
       next = ap (next_cut opening) (sym whole);
       areas =
-          ap (map seen_area) (carried-areas (START, next_cut opening list) opening list (subst (λ (areas : List Keyed). IsListFrom START areas) whole (areas-from START list is)) refl)
+          ap (map seen_area) (carried-areas (START, next_cut opening list) opening list (task-list-from list is) refl)
           ∙ ap (λ (areas : List Keyed). map seen_area (carried opening areas)) (sym whole);
     }
 

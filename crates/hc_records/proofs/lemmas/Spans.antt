@@ -1,29 +1,20 @@
 -- The spans of a task: where each ends, what its datagram carries, and which of them an edit leaves as they were.
-use Rattle.std.proofs.Common.{◌≡◌, ℕ, ◌+◌, ◌<◌, ◌≤◌, ◌⊎◌, inl, inr, zero, suc, Bool, true, false, List, [], ◌∷◌, ◌++◌, Option, Some, None, length, refl, sym, ap, subst, ◌∙◌, arith, if◌then◌else◌}
-use Rattle.std.specs.Prelude.{All, AllPairs, Contains, IsTrue, filter, find, fold, map, not, ◌&&◌, ◌||◌, ◌==◌}
-use Rattle.std.specs.List.{list_any, zip}
-use Rattle.std.specs.Option.{option_map_or}
-use Rattle.std.proofs.lemmas.Bool.{and_left, and_from, and_parts, and_right, cond-false, cond-true, cond_both, eqb-true, not-true, not_from_false, or_cases}
-use Rattle.std.proofs.lemmas.List.{map-append}
-use Rattle.std.proofs.lemmas.List.Elements.{All-nil, All-cons, All-head, All-tail, All-append, All-contains, All-map, All-weaker, filter-append}
-use Rattle.hc_records.specs.declared.records.Dir.{Dir}
-use Rattle.hc_records.specs.declared.records.Dir.TheVariants.{Out, In}
+use Rattle.std.proofs.Common.{◌≡◌, ℕ, ◌<◌, ◌⊎◌, inl, inr, Bool, true, false, List, [], ◌∷◌, refl, sym, ap, subst, ◌∙◌, arith, if◌then◌else◌}
+use Rattle.std.specs.Prelude.{All, IsTrue, filter, map, ◌&&◌}
+use Rattle.std.proofs.lemmas.Bool.{and_from, and_right, cond-false, cond-true, cond_both}
+use Rattle.std.proofs.lemmas.List.Elements.{All-cons, All-head, All-tail, All-weaker}
 use Rattle.hc_records.specs.declared.keys.Key.{Key}
-use Rattle.hc_records.specs.declared.keys.TheConstants.Key.{START, END}
-use Rattle.hc_records.specs.Keys.{same_dir, same_key, is_before, is_within}
+use Rattle.hc_records.specs.declared.keys.TheConstants.Key.{END}
+use Rattle.hc_records.specs.Keys.{same_key, is_before, is_within}
 use Rattle.hc_records.specs.TaskList.{Keyed}
-use Rattle.hc_records.specs.Packing.{Front, Placed, opening, fits, placed_at, behind, packed}
-use Rattle.hc_records.specs.Image.{datagram_count}
-use Rattle.hc_records.specs.Boundaries.{Interval, boundaries, hull, is_settled, is_touched, later_keys, meets_hull, spans, touched, widened, width_in}
-use Rattle.hc_records.specs.Laws.{Ascends, IsPackable, LiesBetween, cuts_from, front_after, raised}
-use Rattle.hc_records.specs.SpanLaws.{CarriesTheSame, IsCutAlone, IsTaskList, areas_from, carried, lies_in, next_cut, seen_area, span_areas}
-use Rattle.hc_records.proofs.lemmas.KeyOrder.{before-apart, before-else, before-other, before-trans, key-order, other-sym, same_dir-refl, same_key-refl, same_key-same, within-apart, within-from_before, within-refl, within-total, within-trans}
-use Rattle.hc_records.proofs.lemmas.Lists.{All-append_left, All-append_right, All-from_filter, All-unmap, AllPairs-across, AllPairs-append_right, AllPairs-head, AllPairs-tail}
+use Rattle.hc_records.specs.Packing.{Front, Placed, fits, placed_at, behind, packed}
+use Rattle.hc_records.specs.Boundaries.{Interval, width_in}
+use Rattle.hc_records.specs.Laws.{Ascends, IsPackable, raised}
+use Rattle.hc_records.specs.SpanLaws.{carried, lies_in, next_cut, seen_area}
+use Rattle.hc_records.proofs.lemmas.KeyOrder.{before-other, before-trans, key-order, same_key-refl, same_key-same, within-apart, within-from_before, within-refl, within-trans}
+use Rattle.hc_records.proofs.lemmas.Lists.{AllPairs-head, AllPairs-tail}
 use Rattle.hc_records.proofs.lemmas.Packed.{place}
-use Rattle.hc_records.proofs.lemmas.Cuts.{later_keys-cuts, other-begins}
-use Rattle.hc_records.proofs.lemmas.Lengths.{opening-fits}
-use Rattle.hc_records.proofs.Alone.{first-raised, packed-alone, raised_front, place-raised, before-count}
-use Rattle.hc_records.proofs.Touched.{IsIn, IsInHull, fold-keeps, greater-within, lesser-within, meets-either, span-meets, spans_from}
+use Rattle.hc_records.proofs.Alone.{raised_front, place-raised}
 
 -- what a filter leaves
 
@@ -174,7 +165,7 @@ same-cut first last front (x ∷ xs) (y ∷ ys) is is' cut agree =
 abbrev pub key_lies_in : Interval → Key → Bool
 key_lies_in span key = is_within span.0 key && is_before key span.1
 
-place-key : (fitting : Bool) (front : Front) (area : Keyed) → (place fitting front area).key ≡ area.0
+pub place-key : (fitting : Bool) (front : Front) (area : Keyed) → (place fitting front area).key ≡ area.0
 place-key true front area = refl
 place-key false front area = refl
 

@@ -1,14 +1,13 @@
 -- The datagrams of a task lie end to end in its image.
-use Rattle.std.proofs.Common.{◌≡◌, ℕ, ◌+◌, ◌*◌, ◌<◌, ◌≤◌, zero, suc, Bool, true, false, List, [], ◌∷◌, Option, Some, None, get_or, refl, arith, if◌then◌else◌}
+use Rattle.std.proofs.Common.{◌≡◌, ℕ, ◌+◌, ◌*◌, ◌<◌, ◌≤◌, zero, suc, List, Option, Some, None, get_or, refl, arith}
 use Rattle.std.specs.Prelude.{All, find}
 use Rattle.std.specs.Option.{option_map_or}
-use Rattle.std.proofs.lemmas.List.Elements.{All-head, All-tail}
 use Rattle.hc_records.specs.declared.limits.TheConstants.{MOST_DATAGRAM_BYTES, MOST_DATAGRAMS}
 use Rattle.hc_records.specs.declared.records.Dir.TheVariants.{In}
 use Rattle.hc_records.specs.Keys.{same_dir}
 use Rattle.hc_records.specs.TaskList.{Keyed}
 use Rattle.hc_records.specs.Packing.{Placed, opening, packed}
-use Rattle.hc_records.specs.Image.{datagram_count, datagram_length, datagram_offset, first_byte, image_length, input_length, output_length}
+use Rattle.hc_records.specs.Image.{datagram_count, datagram_length, datagram_offset, first_byte, image_length, output_length}
 use Rattle.hc_records.specs.Laws.{IsPackable}
 use Rattle.hc_records.specs.ImageLaws.{TilesImage}
 use Rattle.hc_records.proofs.lemmas.Finds.{found-all}

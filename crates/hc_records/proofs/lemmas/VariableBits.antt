@@ -1,19 +1,18 @@
 -- Where the places of a line's variables lie, and that they share no bit.
-use Rattle.std.proofs.Common.{◌≡◌, ◌≢◌, ℕ, ◌+◌, ◌*◌, ◌/◌, ◌<◌, ◌≤◌, ◌⊎◌, inl, inr, Bool, true, false, List, [], ◌∷◌, Option, Some, None, get_or, length, refl, sym, ap, ◌∙◌, arith}
-use Rattle.std.specs.Prelude.{All, AllPairs, find, filter, map, ◌==◌, ◌&&◌, nat_lt}
-use Rattle.std.specs.List.{enumerate_from, flat_map, list_any, zip}
-use Rattle.std.proofs.lemmas.List.Elements.{All-append, All-weaker}
-use Rattle.hc_records.specs.declared.limits.TheConstants.{TASKS}
-use Rattle.hc_records.specs.Area.{Entry, assigned_entries}
-use Rattle.hc_records.specs.Line.{Member, State, groups_of, line}
+use Rattle.std.proofs.Common.{◌≡◌, ◌≢◌, ℕ, ◌+◌, ◌<◌, ◌≤◌, ◌⊎◌, inl, inr, List, Some, get_or, refl, sym, arith}
+use Rattle.std.specs.Prelude.{All, AllPairs, find, ◌==◌}
+use Rattle.std.specs.List.{flat_map}
+use Rattle.std.proofs.lemmas.List.Elements.{All-weaker}
+use Rattle.hc_records.specs.Area.{assigned_entries}
+use Rattle.hc_records.specs.Line.{Member, line}
 use Rattle.hc_records.specs.TaskList.{Listed, task_areas, task_list}
-use Rattle.hc_records.specs.Packing.{Placed, opening, packed}
+use Rattle.hc_records.specs.Packing.{Placed, opening}
 use Rattle.hc_records.specs.Image.{VariablePlace, area_variables, task_places, task_variables, tasks, variable_place, variables_from}
 use Rattle.hc_records.specs.Laws.{StandsBefore}
 use Rattle.hc_records.specs.ImageLaws.{SharesNoBit}
 use Rattle.hc_records.proofs.lemmas.Finds.{found-all, found-two, mapped-some, tasks-ascend}
 use Rattle.hc_records.proofs.lemmas.Lists.{All-flat_map, AllPairs-flat_map, AllPairs-map, AllPairs-weaker}
-use Rattle.hc_records.proofs.lemmas.Variables.{EndsFirst, IsEntryVariable, IsPlaced, area-variables-all, entry-variables-apart, line-variables-all, pairs-placed, place_of, task_pairs, zip-pairs}
+use Rattle.hc_records.proofs.lemmas.Variables.{EndsFirst, IsPlaced, area-variables-all, entry-variables-apart, pairs-placed, place_of, task_pairs, zip-pairs}
 use Rattle.hc_records.proofs.Apart.{packed-apart}
 
 -- the variable that is found at a place is one of the line's

@@ -1,9 +1,8 @@
 -- The datagram in which a variable of a line lies, and its part of the image.
-use Rattle.std.proofs.Common.{◌≡◌, ℕ, ◌+◌, ◌*◌, ◌<◌, ◌≤◌, Bool, true, false, List, Some, None, get_or, refl, sym, ap, ◌∙◌, arith}
+use Rattle.std.proofs.Common.{◌≡◌, ℕ, ◌+◌, ◌≤◌, true, List, Some, None, get_or, refl, sym, ap, ◌∙◌, arith}
 use Rattle.std.specs.Prelude.{All, nat_lt, ◌==◌, ◌&&◌}
 use Rattle.std.specs.List.{enumerate_from}
 use Rattle.std.proofs.lemmas.Bool.{and_parts}
-use Rattle.hc_records.specs.declared.limits.TheConstants.{TASKS}
 use Rattle.hc_records.specs.declared.records.Dir.{Dir}
 use Rattle.hc_records.specs.declared.records.Dir.TheVariants.{Out, In}
 use Rattle.hc_records.specs.declared.records.Area.{Area}
@@ -11,9 +10,9 @@ use Rattle.hc_records.specs.declared.keys.Key.{Key}
 use Rattle.hc_records.specs.Keys.{same_dir}
 use Rattle.hc_records.specs.Area.{width}
 use Rattle.hc_records.specs.Line.{Member, State, groups_of, line}
-use Rattle.hc_records.specs.TaskList.{Listed, belongs, task_areas, task_list}
+use Rattle.hc_records.specs.TaskList.{belongs, task_areas, task_list}
 use Rattle.hc_records.specs.Packing.{Placed}
-use Rattle.hc_records.specs.Image.{VariablePlace, area_variables, datagram_count, task_places, variable_place}
+use Rattle.hc_records.specs.Image.{VariablePlace, datagram_count, task_places, variable_place}
 use Rattle.hc_records.specs.Project.{lowest_fault}
 use Rattle.hc_records.specs.Laws.{KeepsToItsPart}
 use Rattle.hc_records.specs.ImageLaws.{LiesInDatagram, StandsInItsPart}
@@ -23,7 +22,7 @@ use Rattle.hc_records.proofs.lemmas.Greatest.{greatest-all}
 use Rattle.hc_records.proofs.lemmas.Parts.{EndsInDatagram, ends-in-datagram, outputs-first}
 use Rattle.hc_records.proofs.lemmas.Tasks.{listed}
 use Rattle.hc_records.proofs.lemmas.VariableBits.{found-place}
-use Rattle.hc_records.proofs.lemmas.Variables.{IsEntryVariable, IsPlaced, area-variables-all, line-variables-all, pairs-placed, place_of, task_pairs, zip-left, zip-right}
+use Rattle.hc_records.proofs.lemmas.Variables.{IsPlaced, area-variables-all, line-variables-all, pairs-placed, task_pairs, zip-left, zip-right}
 
 pub variables-lie : (state : State) (variable : ℕ) (place : VariablePlace) → lowest_fault (groups_of state.groups) ≡ None → variable_place variable (line state) ≡ Some place →
     LiesInDatagram (line state) place
