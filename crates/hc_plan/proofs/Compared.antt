@@ -15,7 +15,7 @@ use Rattle.hc_registers.specs.Blocks.{LineBlock, RegisterBlock, line_blocks, mem
 use Rattle.hc_plan.specs.Blocks.{IsLaidOut, IsMappedSlave, slave_blocks_in}
 use Rattle.hc_plan.specs.Moved.{has_block_in, moved_in, moved_of}
 use Rattle.hc_plan.proofs.LineBlocks.{drop-met, drop-past, laid-out-all, length-slave_blocks, slave_blocks-line}
-use Rattle.hc_plan.proofs.Stations.{IsAbsent, project-distinct, stations}
+use Rattle.hc_records.proofs.lemmas.Stations.{IsAbsent, project-distinct, stations}
 
 -- a block is one of a slave's where the station address is that slave's and it has the block
 

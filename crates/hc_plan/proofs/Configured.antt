@@ -9,7 +9,7 @@ use Rattle.hc_records.specs.Line.{Member, is_at}
 use Rattle.hc_records.specs.Lists.{has_repeat}
 use Rattle.hc_registers.specs.Blocks.{LineBlock, RegisterBlock, member_blocks, numbered, slave_blocks}
 use Rattle.hc_plan.proofs.Numbered.{get-numbered-from-0}
-use Rattle.hc_plan.proofs.Stations.{IsAbsent, stations}
+use Rattle.hc_records.proofs.lemmas.Stations.{IsAbsent, stations}
 
 -- an element that stands at an index is contained, and a contained one stands at an index
 

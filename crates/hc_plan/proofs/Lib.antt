@@ -7,6 +7,4 @@ pub mod Mapped
 pub mod Numbered
 pub mod Opening
 pub mod Registers
-pub mod Stations
 pub mod Unmoved
-pub mod Counts

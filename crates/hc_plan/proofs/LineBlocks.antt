@@ -6,7 +6,7 @@ use Rattle.std.specs.List.{enumerate_from, flat_map, list_any}
 use Rattle.std.proofs.lemmas.List.Filters.{length-filter_both}
 use Rattle.std.proofs.lemmas.List.FromFn.{length-enumerate_from}
 use Rattle.std.proofs.lemmas.Option.{get_or_from_slice_get, slice_get-get_or, slice_get-map, slice_get_within}
-use Rattle.std.proofs.lemmas.List.Elements.{All-head, All-tail}
+use Rattle.std.proofs.lemmas.List.Elements.{All-head, All-tail, All-weaker}
 use Rattle.hc_records.specs.declared.records.Area.{Area}
 use Rattle.hc_records.specs.declared.records.Declared.{Declared}
 use Rattle.hc_records.specs.declared.keys.Key.{Key}
@@ -15,10 +15,10 @@ use Rattle.hc_records.specs.Packing.{Placed}
 use Rattle.hc_records.proofs.lemmas.Slaves.{project-counted}
 use Rattle.hc_records.proofs.lemmas.Walks.{get-back, get-front, length-line}
 use Rattle.hc_registers.specs.declared.fmmu.Mapping.{Mapping}
-use Rattle.hc_registers.specs.Blocks.{LineBlock, RegisterBlock, area_blocks, line_blocks, member_blocks, moved_blocks, same_block, slave_blocks, sync_manager_block, fmmu_block, mapping_at, mapping_of}
+use Rattle.hc_registers.specs.Blocks.{LineBlock, RegisterBlock, area_blocks, line_blocks, member_blocks, moved_blocks, numbered, same_block, slave_blocks, sync_manager_block, fmmu_block, mapping_at, mapping_of}
 use Rattle.hc_places.specs.Layout.{placed_in}
 use Rattle.hc_places.proofs.lemmas.Found.{find-holds}
-use Rattle.hc_plan.specs.Blocks.{IsLaidOut, IsMappedSlave, area_blocks_in, fmmu_block_in, mapping_in, slave_blocks_in}
+use Rattle.hc_plan.specs.Blocks.{IsLaidOut, IsMappedSlave, area_blocks_in, blocks_left, fmmu_block_in, mapping_in, own_left, slave_blocks_in}
 use Rattle.hc_plan.specs.Configuration.{at_station, block_at, line_block_at}
 use Rattle.hc_plan.proofs.Mapped.{placed-in-line, slave-mapped}
 use Rattle.hc_plan.proofs.Numbered.{get-numbered-from-0, numbered-get}
@@ -39,11 +39,6 @@ laid-out-all groups layout laid j d inside =
 pub found-mapped : (groups : List Declared) (layout : List (List Placed)) (station : ℕ) (member : Member) → IsLaidOut groups layout
     → find (is_at station) (line_from 1 groups) ≡ Some member → IsMappedSlave layout member
 found-mapped groups layout station member laid found = (find-holds (IsMappedSlave layout) (is_at station) (line_from 1 groups) member found (laid-out-all groups layout laid)).0
-
-pub nth-mapped : (groups : List Declared) (layout : List (List Placed)) (n : ℕ) (member : Member) → IsLaidOut groups layout
-    → slice_get (line_from 1 groups) n ≡ Some member → IsMappedSlave layout member
-nth-mapped groups layout n member laid at =
-    subst (λ (l : List (List Placed)). IsMappedSlave l member) (sym laid.stands) (slave-mapped groups n member laid.project laid.uncrowded at)
 
 -- the blocks by a layout of the line are the blocks of the line
 pub slave_blocks-line : (groups : List Declared) (layout : List (List Placed)) (member : Member) → IsLaidOut groups layout → IsMappedSlave layout member
@@ -85,6 +80,13 @@ drop-met {X} xs position x at =
     ∙ ap (λ (y : X). y ∷ drop (suc position) xs) (get_or_from_slice_get xs position x x at)
     ∙ ap (λ (k : ℕ). x ∷ drop k xs) next
 
+-- a walk ends behind the last element
+pub drop-past : {X : Type 0} (xs : List X) (position : ℕ) → slice_get xs position ≡ None → drop position xs ≡ []
+drop-past [] zero none = refl
+drop-past [] (suc position) none = refl
+drop-past (x ∷ xs) zero none = cc
+drop-past (x ∷ xs) (suc position) none = drop-past xs position none
+
 abbrev told : LineBlock → ℕ × RegisterBlock
 told found = at_station found.station found.block
 
@@ -112,60 +114,45 @@ block-behind whole rest member n past =
     get-back (member_blocks whole member) (flat_map (member_blocks whole) rest) n (omega (arith, past, count))
     ∙ ap (λ (k : ℕ). slice_get (flat_map (member_blocks whole) rest) (n - k)) count
 
--- a slave met at a position of the line that a layout is of
-pub record Met (groups : List Declared) (layout : List (List Placed)) (position own : ℕ) (member : Member) : Type 0 where
-  pub laid : IsLaidOut groups layout
-  pub at : slice_get (line_from 1 groups) position ≡ Some member
-  pub counts : own ≡ 2 * length member.slave.areas
+pub blocks-met : (whole rest : List Member) (member : Member)
+    → length (flat_map (member_blocks whole) (member ∷ rest)) ≡ 2 * length member.slave.areas + length (flat_map (member_blocks whole) rest)
+blocks-met whole rest member =
+    length-append (member_blocks whole member) (flat_map (member_blocks whole) rest)
+    ∙ ap (λ (n : ℕ). n + length (flat_map (member_blocks whole) rest)) (length-member_blocks whole member)
 
-pub met-mapped : (groups : List Declared) (layout : List (List Placed)) (position own : ℕ) (member : Member) → Met groups layout position own member → IsMappedSlave layout member
-met-mapped groups layout position own member met = nth-mapped groups layout position member met.laid met.at
-
-pub met-early : (groups : List Declared) (layout : List (List Placed)) (position own : ℕ) (member : Member) → Met groups layout position own member
-    → (position < length (line_from 1 groups)) × (length (line_from 1 groups) < 65535)
-met-early groups layout position own member met =
-    let counted : sum_by (λ (d : Declared). length d.group.slaves) groups < 65535 = project-counted groups met.laid.project in
-    let most = length-line 1 groups in
-    (slice_get_within (line_from 1 groups) position member met.at, omega (arith, counted, most))
-
--- the blocks from its position on are its own and those behind it
-pub met-count : (groups : List Declared) (layout : List (List Placed)) (position own : ℕ) (member : Member) → Met groups layout position own member
-    → length (flat_map (member_blocks (line_from 1 groups)) (drop position (line_from 1 groups)))
-    ≡ own + length (flat_map (member_blocks (line_from 1 groups)) (drop (position + 1) (line_from 1 groups)))
-met-count groups layout position own member met =
-    let line = line_from 1 groups in
-    ap (λ (members : List Member). length (flat_map (member_blocks line) members)) (drop-met line position member met.at)
-    ∙ length-append (member_blocks line member) (flat_map (member_blocks line) (drop (position + 1) line))
-    ∙ ap (λ (n : ℕ). n + length (flat_map (member_blocks line) (drop (position + 1) line))) (length-member_blocks line member ∙ sym met.counts)
-
-pub met-here : (groups : List Declared) (layout : List (List Placed)) (position own : ℕ) (member : Member) (n left : ℕ) → Met groups layout position own member → left < own
-    → slice_get (flat_map (member_blocks (line_from 1 groups)) (drop position (line_from 1 groups))) left ≡ slice_get (line_blocks (line_from 1 groups)) n
+-- the block with a number is one of the slave that a walk meets, where it has enough
+pub met-here : (groups : List Declared) (layout : List (List Placed)) (rest : List Member) (member : Member) (n left : ℕ) → IsLaidOut groups layout → IsMappedSlave layout member
+    → left < 2 * length member.slave.areas
+    → slice_get (flat_map (member_blocks (line_from 1 groups)) (member ∷ rest)) left ≡ slice_get (line_blocks (line_from 1 groups)) n
     → line_block_at (line_from 1 groups) n ≡ option_map (at_station member.slave.station) (slice_get (slave_blocks_in layout member) left)
-met-here groups layout position own member n left met inside same =
+met-here groups layout rest member n left laid mapped inside same =
     let line = line_from 1 groups in
-    let counts = met.counts in
     ap (option_map told) (sym same)
-    ∙ ap (λ (members : List Member). option_map told (slice_get (flat_map (member_blocks line) members) left)) (drop-met line position member met.at)
-    ∙ block-here line (drop (position + 1) line) member left (omega (arith, inside, counts))
-    ∙ ap (λ (blocks : List RegisterBlock). option_map (at_station member.slave.station) (slice_get blocks left))
-    (sym (slave_blocks-line groups layout member met.laid (met-mapped groups layout position own member met)))
+    ∙ block-here line rest member left inside
+    ∙ ap (λ (blocks : List RegisterBlock). option_map (at_station member.slave.station) (slice_get blocks left)) (sym (slave_blocks-line groups layout member laid mapped))
 
-pub met-behind : (groups : List Declared) (layout : List (List Placed)) (position own : ℕ) (member : Member) (left : ℕ) → Met groups layout position own member → own ≤ left
-    → slice_get (flat_map (member_blocks (line_from 1 groups)) (drop position (line_from 1 groups))) left
-    ≡ slice_get (flat_map (member_blocks (line_from 1 groups)) (drop (position + 1) (line_from 1 groups))) (left - own)
-met-behind groups layout position own member left met past =
-    let line = line_from 1 groups in
-    let counts = met.counts in
-    ap (λ (members : List Member). slice_get (flat_map (member_blocks line) members) left) (drop-met line position member met.at)
-    ∙ block-behind line (drop (position + 1) line) member left (omega (arith, past, counts))
-    ∙ ap (λ (k : ℕ). slice_get (flat_map (member_blocks line) (drop (position + 1) line)) (left - k)) (sym met.counts)
+-- a walk by a layout of the line gives the blocks of the line
+pub walk-begins : (groups : List Declared) (layout : List (List Placed)) (members : List Member) → IsLaidOut groups layout → All (IsMappedSlave layout) members
+    → blocks_left layout None 0 members ≡ flat_map (member_blocks (line_from 1 groups)) members
+walk-begins groups layout members laid mapped =
+    flat_map-same (λ member. own_left layout (Some member) 0) (member_blocks (line_from 1 groups)) members
+    (All-weaker (IsMappedSlave layout) (λ member. own_left layout (Some member) 0 ≡ member_blocks (line_from 1 groups) member)
+    (λ member own. ap (numbered member.slave.station 0) (slave_blocks-line groups layout member laid own)) members mapped)
 
--- a walk ends behind the last element
-pub drop-past : {X : Type 0} (xs : List X) (position : ℕ) → slice_get xs position ≡ None → drop position xs ≡ []
-drop-past [] zero none = refl
-drop-past [] (suc position) none = refl
-drop-past (x ∷ xs) zero none = cc
-drop-past (x ∷ xs) (suc position) none = drop-past xs position none
+-- and ends its slave's where the slave has no block with the next number
+pub own-met : (layout : List (List Placed)) (member : Member) (number : ℕ) (block : RegisterBlock) → slice_get (slave_blocks_in layout member) number ≡ Some block
+    → own_left layout (Some member) number ≡ (record { station = member.slave.station; number = number; block = block }) ∷ own_left layout (Some member) (number + 1)
+own-met layout member number block at = ap (numbered member.slave.station number) (drop-met (slave_blocks_in layout member) number block at)
+
+pub own-past : (layout : List (List Placed)) (member : Member) (number : ℕ) → slice_get (slave_blocks_in layout member) number ≡ None → own_left layout (Some member) number ≡ []
+own-past layout member number none = ap (numbered member.slave.station number) (drop-past (slave_blocks_in layout member) number none)
+
+-- and goes on with the slave behind it
+pub walk-goes : (layout : List (List Placed)) (member : Option Member) (number : ℕ) (members : List Member) (next : Member) (rest : List Member)
+    → own_left layout member number ≡ [] → members ≡ next ∷ rest → blocks_left layout (Some next) 0 rest ≡ blocks_left layout member number members
+walk-goes layout member number members next rest none is =
+    sym (ap (λ (own : List LineBlock). own ++ flat_map (λ m. own_left layout (Some m) 0) members) none
+    ∙ ap (flat_map (λ m. own_left layout (Some m) 0)) is)
 
 pub found-block : (groups : List Declared) (layout : List (List Placed)) (station number : ℕ) (member : Member) → IsLaidOut groups layout
     → find (is_at station) (line_from 1 groups) ≡ Some member → block_at (line_from 1 groups) station number ≡ slice_get (slave_blocks_in layout member) number
@@ -188,12 +175,17 @@ length-some : {X : Type 0} (p : X → Bool) (xs : List X) → length (filter p x
 length-some p xs = let both = length-filter_both p (λ x. not (p x)) (λ x. refl) xs in omega (arith, both)
 
 -- so no line has more blocks than a number of 32 bits
-pub few-moved : (groups : List Declared) (layout : List (List Placed)) (old : List Member) → IsLaidOut groups layout
-    → length (moved_blocks old (line_from 1 groups)) < 4294967296
-few-moved groups layout old laid =
+pub few-blocks : (groups : List Declared) (layout : List (List Placed)) → IsLaidOut groups layout → length (line_blocks (line_from 1 groups)) < 4294967296
+few-blocks groups layout laid =
     let line = line_from 1 groups in
     let counted : sum_by (λ (d : Declared). length d.group.slaves) groups < 65535 = project-counted groups laid.project in
     let members = length-line 1 groups in
     let blocks = length-blocks layout line line (laid-out-all groups layout laid) in
-    let some = length-some (λ block. not (list_any (same_block block) (line_blocks old))) (line_blocks line) in
-    omega (arith, counted, members, blocks, some)
+    omega (arith, counted, members, blocks)
+
+pub few-moved : (groups : List Declared) (layout : List (List Placed)) (old : List Member) → IsLaidOut groups layout
+    → length (moved_blocks old (line_from 1 groups)) < 4294967296
+few-moved groups layout old laid =
+    let all = few-blocks groups layout laid in
+    let some = length-some (λ block. not (list_any (same_block block) (line_blocks old))) (line_blocks (line_from 1 groups)) in
+    omega (arith, all, some)

@@ -19,13 +19,14 @@ use Rattle.hc_records.specs.Image.{datagram_count, task_places, tasks}
 use Rattle.hc_records.specs.Edits.{crowded_task}
 use Rattle.hc_records.specs.Project.{lowest_fault}
 use Rattle.hc_records.specs.Laws.{IsPackable, LiesInside}
+use Rattle.hc_records.specs.Limits.{IsAreaInside, IsSlaveInside}
 use Rattle.hc_records.proofs.lemmas.Greatest.{greatest-all}
 use Rattle.hc_records.proofs.lemmas.Inside.{packed-inside}
 use Rattle.hc_records.proofs.lemmas.Lines.{RanksBelow, line-ascends}
 use Rattle.hc_records.proofs.lemmas.Lists.{All-unmap}
 use Rattle.hc_records.proofs.lemmas.Packable.{project-packable}
 use Rattle.hc_records.proofs.lemmas.Packed.{area_of, packed-areas}
-use Rattle.hc_records.proofs.lemmas.Slaves.{IsAreaInside, IsSlaveInside, line-inside}
+use Rattle.hc_records.proofs.lemmas.Slaves.{line-inside}
 use Rattle.hc_records.proofs.lemmas.Tasks.{task-list-all}
 use Rattle.hc_registers.specs.declared.fmmu.Mapping.{Mapping}
 use Rattle.hc_registers.specs.Blocks.{IsMappable, mapping_at}

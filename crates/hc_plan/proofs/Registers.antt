@@ -2,50 +2,38 @@
 use Rattle.std.proofs.Common.{◌≡◌, ℕ, ◌+◌, ◌*◌, ◌/◌, ◌%◌, ◌<◌, ◌≤◌, ◌==◌, Bool, true, false, List, [], ◌∷◌, Contains, length, refl, sym, ap, ◌∙◌, arith, inl, inr}
 use Rattle.std.specs.Prelude.{◌≢◌, All, AllPairs, Option, Some, None, find, map, option_and_then, option_map, slice_get, slice_index_or}
 use Rattle.std.specs.List.{enumerate_from, list_any}
-use Rattle.std.proofs.lemmas.Bool.{cases_order, eqb-false, eqb-true, or_parts}
-use Rattle.std.proofs.lemmas.List.Kept.{AllPairs-cons}
+use Rattle.std.proofs.lemmas.Bool.{cases_order, eqb-false, eqb-true}
 use Rattle.std.proofs.lemmas.Option.{get_or_from_slice_get, slice_get_within}
 use Rattle.hc_records.specs.declared.limits.TheConstants.{MOST_AREAS}
-use Rattle.hc_records.specs.declared.faults.ProjectFault.TheVariants.{OutOfRange}
 use Rattle.hc_records.specs.declared.records.Area.{Area}
 use Rattle.hc_records.specs.declared.records.Declared.{Declared}
 use Rattle.hc_records.specs.declared.records.Slave.{Slave}
 use Rattle.hc_records.specs.Line.{Member, groups_of, is_at, line_from}
-use Rattle.hc_records.specs.Lists.{some_pair}
-use Rattle.hc_records.specs.Project.{lowest_fault, project_faults, repeats_sync_manager, same_sync_manager, some_slave}
-use Rattle.hc_records.proofs.lemmas.Lines.{line-slaves}
-use Rattle.hc_records.proofs.lemmas.Lists.{All-from_none, All-unmap, AllPairs-nil}
-use Rattle.hc_records.proofs.lemmas.Projects.{none-holds}
+use Rattle.hc_records.specs.Limits.{IsSlaveInside}
+use Rattle.hc_records.specs.Project.{lowest_fault}
 use Rattle.hc_records.proofs.lemmas.Slaves.{line-inside}
 use Rattle.hc_registers.specs.declared.registers.TheConstants.{FMMU_BLOCKS, FMMU_BLOCK_BYTES, SYNC_MANAGER_BLOCKS, SYNC_MANAGER_BLOCK_BYTES}
 use Rattle.hc_registers.specs.Blocks.{LineBlock, RegisterBlock, fmmu_block, line_blocks, mapping_of, slave_blocks, sync_manager_block}
 use Rattle.hc_places.proofs.lemmas.Found.{find-holds}
 use Rattle.hc_plan.proofs.Configured.{configured-block}
 use Rattle.hc_plan.proofs.Numbered.{get-first, get-numbered-from-0, get-second, map-twice}
-use Rattle.hc_plan.proofs.Stations.{project-distinct}
+use Rattle.hc_records.proofs.lemmas.Stations.{project-distinct}
 
 -- the areas of a slave have distinct sync managers
 
-apart : (areas : List Area) → some_pair same_sync_manager areas ≡ false → AllPairs (λ a b. same_sync_manager a b ≡ false) areas
-apart [] none = AllPairs-nil (λ a b. same_sync_manager a b ≡ false)
-apart (area ∷ areas) none =
-    let parts = or_parts (list_any (same_sync_manager area) areas) (some_pair same_sync_manager areas) none in
-    AllPairs-cons (λ a b. same_sync_manager a b ≡ false) area areas (All-from_none (same_sync_manager area) areas parts.0) (apart areas parts.1)
-
-not-below : (areas : List Area) (i j : ℕ) (a b : Area) → some_pair same_sync_manager areas ≡ false → slice_get areas i ≡ Some a → slice_get areas j ≡ Some b
+not-below : (areas : List Area) (i j : ℕ) (a b : Area) → AllPairs (λ x y. x.sm ≢ y.sm) areas → slice_get areas i ≡ Some a → slice_get areas j ≡ Some b
     → a.sm ≡ b.sm → i < j → i ≡ j
-not-below areas i j a b none first second same below =
-    let differ : ((slice_index_or areas j a).sm == (slice_index_or areas i a).sm) ≡ false = apart areas none i j a below (slice_get_within areas j b second) in
+not-below areas i j a b managers first second same below =
     let one : (slice_index_or areas i a).sm ≡ a.sm = ap (λ (area : Area). area.sm) (get_or_from_slice_get areas i a a first) in
     let two : (slice_index_or areas j a).sm ≡ b.sm = ap (λ (area : Area). area.sm) (get_or_from_slice_get areas j b a second) in
-    absurd (eqb-false (slice_index_or areas j a).sm (slice_index_or areas i a).sm differ (two ∙ sym same ∙ sym one))
+    absurd (managers i j a below (slice_get_within areas j b second) (one ∙ same ∙ sym two))
 
-one-manager : (areas : List Area) (i j : ℕ) (a b : Area) → some_pair same_sync_manager areas ≡ false → slice_get areas i ≡ Some a → slice_get areas j ≡ Some b
+one-manager : (areas : List Area) (i j : ℕ) (a b : Area) → AllPairs (λ x y. x.sm ≢ y.sm) areas → slice_get areas i ≡ Some a → slice_get areas j ≡ Some b
     → a.sm ≡ b.sm → i ≡ j
-one-manager areas i j a b none first second same = elim (cases_order i j) [
+one-manager areas i j a b managers first second same = elim (cases_order i j) [
   | inl equal ↦ equal
-  | inr (inl below) ↦ not-below areas i j a b none first second same below
-  | inr (inr above) ↦ sym (not-below areas j i b a none second first (sym same) above)
+  | inr (inl below) ↦ not-below areas i j a b managers first second same below
+  | inr (inr above) ↦ sym (not-below areas j i b a managers second first (sym same) above)
 ]
 
 -- the register of a slave's block with a number
@@ -89,32 +77,27 @@ block-of line member n block false is at =
 
 -- blocks at one register have one number
 
--- a slave with few areas, whose sync managers are distinct
-record IsTold (slave : Slave) : Type 0 where
-  few : length slave.areas ≤ MOST_AREAS
-  once : repeats_sync_manager slave ≡ false
-
-one-number : (slave : Slave) (n k : ℕ) (a b : RegisterBlock) (p q : Bool) → (n % 2 == 0) ≡ p → (k % 2 == 0) ≡ q → IsTold slave → IsBlock slave.areas n a → IsBlock slave.areas k b
+one-number : (slave : Slave) (n k : ℕ) (a b : RegisterBlock) (p q : Bool) → (n % 2 == 0) ≡ p → (k % 2 == 0) ≡ q → IsSlaveInside slave → IsBlock slave.areas n a → IsBlock slave.areas k b
     → a.register ≡ b.register → n ≡ k
-one-number slave n k a b true true first second told one two same =
+one-number slave n k a b true true first second inside one two same =
     let left = one.even (eqb-true (n % 2) 0 first) in
     let right = two.even (eqb-true (k % 2) 0 second) in
     let evens : (n % 2 ≡ 0) × (k % 2 ≡ 0) = (eqb-true (n % 2) 0 first, eqb-true (k % 2) 0 second) in
-    let index = one-manager slave.areas (n / 2) (k / 2) one.area two.area told.once one.found two.found (omega (arith, left, right, same)) in
+    let index = one-manager slave.areas (n / 2) (k / 2) one.area two.area inside.managers one.found two.found (omega (arith, left, right, same)) in
     omega (arith, index, evens.0, evens.1)
-one-number slave n k a b true false first second told one two same =
+one-number slave n k a b true false first second inside one two same =
     let left = one.even (eqb-true (n % 2) 0 first) in
     let right = two.odd (eqb-false (k % 2) 0 second) in
-    let few = told.few in
+    let few = inside.few in
     let below = slice_get_within slave.areas (k / 2) two.area two.found in
     absurd (omega (arith, left, right, same, few, below))
-one-number slave n k a b false true first second told one two same =
+one-number slave n k a b false true first second inside one two same =
     let left = one.odd (eqb-false (n % 2) 0 first) in
     let right = two.even (eqb-true (k % 2) 0 second) in
-    let few = told.few in
+    let few = inside.few in
     let below = slice_get_within slave.areas (n / 2) one.area one.found in
     absurd (omega (arith, left, right, same, few, below))
-one-number slave n k a b false false first second told one two same =
+one-number slave n k a b false false first second inside one two same =
     let left = one.odd (eqb-false (n % 2) 0 first) in
     let right = two.odd (eqb-false (k % 2) 0 second) in
     let odds : (n % 2 ≢ 0) × (k % 2 ≢ 0) = (eqb-false (n % 2) 0 first, eqb-false (k % 2) 0 second) in
@@ -124,23 +107,15 @@ one-number slave n k a b false false first second told one two same =
 
 -- so two blocks of a slave at one register are one
 
-same-bytes : (line : List Member) (member : Option Member) (n k : ℕ) (a b : RegisterBlock) → ((m : Member) → member ≡ Some m → IsTold m.slave)
+same-bytes : (line : List Member) (member : Option Member) (n k : ℕ) (a b : RegisterBlock) → ((m : Member) → member ≡ Some m → IsSlaveInside m.slave)
     → option_and_then (λ m. slice_get (slave_blocks line m) n) member ≡ Some a → option_and_then (λ m. slice_get (slave_blocks line m) k) member ≡ Some b
     → a.register ≡ b.register → a ≡ b
-same-bytes line None n k a b told one two same = cc
-same-bytes line (Some m) n k a b told one two same =
-    let number = one-number m.slave n k a b (n % 2 == 0) (k % 2 == 0) refl refl (told m refl)
+same-bytes line None n k a b inside one two same = cc
+same-bytes line (Some m) n k a b inside one two same =
+    let number = one-number m.slave n k a b (n % 2 == 0) (k % 2 == 0) refl refl (inside m refl)
     (block-of line m n a (n % 2 == 0) refl one) (block-of line m k b (k % 2 == 0) refl two) same in
     let found : Some a ≡ Some b = sym one ∙ ap (slice_get (slave_blocks line m)) number ∙ two in
     cc
-
-line-told : (groups : List Declared) → lowest_fault (groups_of groups) ≡ None → All (λ member. IsTold member.slave) (line_from 1 groups)
-line-told groups none i d below =
-    let once = All-unmap (λ group. list_any repeats_sync_manager group.slaves ≡ false) (λ (declared : Declared). declared.group) groups
-    (All-from_none (λ group. list_any repeats_sync_manager group.slaves) (groups_of groups) (none-holds (project_faults (groups_of groups)) none 3 (false, OutOfRange) (omega arith))) in
-    let own = line-slaves (λ slave. repeats_sync_manager slave ≡ false) 1 groups
-    (λ k e within. All-from_none repeats_sync_manager (slice_index_or groups k e).group.slaves (once k e within)) in
-    record { few = (line-inside groups none i d below).few; once = own i d below }
 
 pub one-block : (groups : List Declared) (a b : LineBlock) → lowest_fault (groups_of groups) ≡ None → Contains (line_blocks (line_from 1 groups)) a → Contains (line_blocks (line_from 1 groups)) b
     → a.station ≡ b.station → a.block.register ≡ b.block.register → a.block ≡ b.block
@@ -148,7 +123,7 @@ one-block groups a b none one two station register =
     let members = line_from 1 groups in
     let distinct = project-distinct groups none in
     same-bytes members (find (is_at b.station) members) a.number b.number a.block b.block
-    (λ m found. (find-holds (λ (member : Member). IsTold member.slave) (is_at b.station) members m found (line-told groups none)).0)
+    (λ m found. (find-holds (λ (member : Member). IsSlaveInside member.slave) (is_at b.station) members m found (line-inside groups none)).0)
     (ap (λ (n : ℕ). option_and_then (λ (m : Member). slice_get (slave_blocks members m) a.number) (find (is_at n) members)) (sym station)
     ∙ configured-block members members a distinct one)
     (configured-block members members b distinct two) register

@@ -8,7 +8,7 @@ use Rattle.hc_records.specs.Edits.{edited}
 use Rattle.hc_records.specs.Line.{State, line}
 use Rattle.hc_edits.specs.Edits.{own_fault}
 use Rattle.hc_registers.specs.Blocks.{LineBlock, moved, moved_blocks}
-use Rattle.hc_places.specs.Swap.{changed_variables, swapped}
+use Rattle.hc_places.specs.Swap.{SaysWhatDiffers, changed_places, changed_variables, swapped}
 use Rattle.hc_places.specs.Table.{table_of}
 use Rattle.hc_plan.specs.declared.report.Report.{Report}
 
@@ -24,7 +24,8 @@ pub record Tells (old : State) (edit : Edit) (new : State) (report : Report) : T
   pub blocks : report.blocks ≡ map name_of (moved_blocks (line old) (line new))
   pub named : report.swap.edit ≡ edit
   pub leads : swapped report.swap.change (table_of (line old)) ≡ table_of (line new)
-  pub places : length report.swap.change.rows ≡ length (changed_variables (table_of (line old)) (table_of (line new)))
+  pub says : SaysWhatDiffers (table_of (line old)) (table_of (line new)) report.swap.change
+  pub places : changed_places report.swap ≡ length (changed_variables (table_of (line old)) (table_of (line new)))
 
 abbrev pub Answer : Type 0
 Answer = Result Report EditFault

@@ -1,17 +1,65 @@
-//! The register blocks of a slave of the line, by the places that a layout has for its areas.
-ghost use Rattle.std.specs.Prelude.{◌≡◌, ◌*◌, ◌<◌, ◌≤◌, length, option_map, slice_get};
+//! The register blocks of the slaves of a line, by the places that a layout has for their areas.
+ghost use Rattle.std.specs.Prelude.{◌≡◌, [], ◌∷◌, ◌+◌, ◌*◌, ◌<◌, ◌≤◌, MatchOption, OnSome, length, option_map, slice_get};
+ghost use Rattle.std.specs.Iterator.{YieldsFirst, item_count};
+ghost use Rattle.std.specs.Option.{ForSome};
 ghost use Rattle.hc_records.specs.declared.limits.TheConstants.{MOST_AREAS, TASKS};
 ghost use Rattle.hc_records.specs.Line.{line_from};
 ghost use Rattle.hc_registers.specs.Blocks.{line_blocks};
 ghost use Rattle.hc_plan.specs.Configuration.{at_station, block_at, line_block_at};
-ghost use Rattle.hc_plan.specs.Blocks.{IsLaidOut, IsMappedArea, IsMappedSlave, area_block_in, mapping_in, slave_blocks_in};
+ghost use Rattle.hc_plan.specs.Blocks.{IsLaidOut, IsMappedArea, IsMappedSlave, area_block_in, mapping_in, own_left, slave_blocks_in};
 
 use hc_places::layout::Layout;
 use hc_records::keys::Key;
-use hc_records::line::{Member, member_at, nth_member};
+use hc_records::line::{LineMembers, Member, member_at, members};
 use hc_records::records::{Area, Declared};
 use hc_registers::blocks::Block;
 use hc_registers::fmmu::{Mapping, logical_address};
+use std::marker::Model;
+
+/// A block of the line that a slave is configured with.
+#[derive(Debug, Drop)]
+pub struct LineBlock {
+    /// The station address of its slave.
+    pub station: u16,
+    /// Its number in the slave's order, from 0.
+    pub number: u8,
+    /// Its register and its bytes.
+    pub block: Block,
+}
+
+impl Model for LineBlock {
+    ghost use Rattle.hc_registers.specs.Blocks.{LineBlock};
+
+    ghost Value = { LineBlock };
+
+    ghost view = { λ found. record { station = found.station; number = found.number; block = found.block } };
+}
+
+/// The blocks of the line that a walk hasn't reached yet, in line and block order. Contracts see it as
+/// the list of them.
+#[derive(Debug, Drop)]
+pub struct LineBlocks<'a> {
+    layout: &'a Layout,
+    // the slave that the walk has reached, none before the first
+    member: Option<Member<'a>>,
+    // the number of its next block
+    number: u8,
+    // the slaves behind it
+    members: LineMembers<'a>,
+}
+
+impl<'a> Model for LineBlocks<'a> {
+    ghost use Rattle.std.specs.Prelude.{All, List};
+    ghost use Rattle.std.specs.Option.{ForSome};
+    ghost use Rattle.hc_registers.specs.Blocks.{LineBlock};
+    ghost use Rattle.hc_plan.specs.Blocks.{IsMappedSlave, blocks_left};
+
+    ghost Value = { List LineBlock };
+
+    ghost view = { λ left. blocks_left left.layout.now left.member left.number left.members };
+
+    ghost invariant = { λ left. ForSome left.member (IsMappedSlave left.layout.now) × All (IsMappedSlave left.layout.now) left.members };
+}
 
 /// Where the area at an index of a slave with a rank is mapped; none where it has 0 bits.
 fn mapping(layout: &Layout, rank: u16, index: u8, area: &Area) -> Option<Mapping>
@@ -87,10 +135,8 @@ pub(crate) fn count_blocks(groups: &[Declared], layout: &Layout) -> u32
     ensures { result ≡ length (line_blocks (line_from 1 groups.now)) }
 {
     let mut total = 0;
-    let mut position = 0;
-    while let Some(member) = nth_member(groups, position) {
+    for member in members(groups) {
         total += own_blocks(&member);
-        position += 1;
     }
     total
 }
@@ -111,15 +157,65 @@ pub(crate) fn nth_block(groups: &[Declared], layout: &Layout, n: u32) -> Option<
     ensures { result ≡ line_block_at (line_from 1 groups.now) n }
 {
     let mut left = n;
-    let mut position = 0;
-    while let Some(member) = nth_member(groups, position) {
+    for member in members(groups) {
         let own = own_blocks(&member);
         if left < own {
             let block = block_of(layout, &member, left as u8);
             return with_station(member.slave().station, block);
         }
         left -= own;
-        position += 1;
     }
     None
+}
+
+/// The block with a number, from 0, of a slave, if there is one.
+fn own_block(layout: &Layout, member: &Option<Member<'_>>, number: u8) -> Option<LineBlock>
+    requires { ForSome member.now (IsMappedSlave layout.now) }
+    ensures gives { MatchOption result (own_left layout.now member.now number ≡ []) (λ found. own_left layout.now member.now number ≡ found ∷ own_left layout.now member.now (number + 1)) }
+    ensures few { OnSome result (number < 16) }
+{
+    match member {
+        Some(member) => {
+            let block = block_of(layout, member, number)?;
+            let station = member.slave().station;
+            Some(LineBlock {
+                station,
+                number,
+                block,
+            })
+        }
+        None => None,
+    }
+}
+
+/// The blocks of the line, in line and block order.
+pub(crate) fn line_blocks<'a>(groups: &'a [Declared], layout: &'a Layout) -> LineBlocks<'a>
+    requires { IsLaidOut groups.now layout.now }
+    ensures { result ≡ line_blocks (line_from 1 groups.now) }
+{
+    LineBlocks {
+        layout,
+        member: None,
+        number: 0,
+        members: members(groups),
+    }
+}
+
+impl<'a> Iterator for LineBlocks<'a> {
+    type Item = LineBlock;
+
+    ghost next_gives = { YieldsFirst (λ left. left) };
+
+    ghost remaining = { item_count (λ left. left) };
+
+    fn next(&mut self) -> Option<LineBlock> {
+        loop {
+            if let Some(found) = own_block(self.layout, &self.member, self.number) {
+                self.number += 1;
+                return Some(found);
+            }
+            self.member = Some(self.members.next()?);
+            self.number = 0;
+        }
+    }
 }

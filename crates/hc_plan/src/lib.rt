@@ -2,7 +2,7 @@
 //! and the program ask it for datagrams, places and register blocks.
 #![tactic(auto)]
 
-mod blocks;
+pub mod blocks;
 pub mod laws;
 mod moved;
 pub mod plan;

@@ -8,32 +8,12 @@ ghost use Rattle.hc_registers.specs.Blocks.{moved_blocks, numbered, same_bytes};
 ghost use Rattle.hc_plan.specs.Blocks.{IsLaidOut, IsMappedSlave, slave_blocks_in};
 ghost use Rattle.hc_plan.specs.Moved.{has_block_in, moved_in, moved_of};
 
-use crate::blocks::block_of;
+use crate::blocks::{LineBlock, block_of};
 use hc_places::layout::Layout;
 use hc_records::line::{Member, line_of, member_at};
 use hc_records::records::Declared;
 use hc_registers::blocks::Block;
 use std::alloc::{AllocError, Global};
-use std::marker::Model;
-
-/// A block of the line.
-#[derive(Debug, Drop)]
-pub(crate) struct LineBlock {
-    /// The station address of its slave.
-    pub(crate) station: u16,
-    /// Its number in the slave's order, from 0 to 15.
-    pub(crate) number: u8,
-    /// The register and the bytes.
-    pub(crate) block: Block,
-}
-
-impl Model for LineBlock {
-    ghost use Rattle.hc_registers.specs.Blocks.{LineBlock};
-
-    ghost Value = { LineBlock };
-
-    ghost view = { λ found. record { station = found.station; number = found.number; block = found.block } };
-}
 
 /// Whether two blocks have the same bytes at the same register.
 fn is_same(a: &Block, b: &Block) -> bool

@@ -1,8 +1,8 @@
 //! A plan: the declared groups, those that are present, the epoch, and the configuration of the line.
-ghost use Rattle.std.specs.Prelude.{◌≡◌, IfOk, length, map};
-ghost use Rattle.hc_records.specs.Line.{IsCounted, line_from, opened_group, present_slaves};
+ghost use Rattle.std.specs.Prelude.{◌≡◌, IfOk, map};
+ghost use Rattle.hc_records.specs.Line.{opened_group};
 
-use crate::blocks::{block_at, count_blocks, nth_block};
+use crate::blocks::{LineBlocks, block_at, count_blocks, line_blocks, nth_block};
 use crate::moved::moved_blocks;
 use crate::report::{Report, names_of};
 use hc_edits::faults::own_fault;
@@ -16,7 +16,7 @@ use hc_records::edit::Edit;
 use hc_records::faults::EditFault;
 use hc_records::items::Items;
 use hc_records::limits::LAST_EPOCH;
-use hc_records::line::{is_declared_station, member_index, nth_member};
+use hc_records::line::{is_declared_station, member_index, nth_member, slave_count};
 use hc_records::project::Project;
 use hc_records::records::{Declared, Group};
 use hc_registers::blocks::Block;
@@ -33,29 +33,6 @@ fn opened_groups(alloc: Global, groups: Vec<Group>) -> Result<Items<Declared>, A
         opened.push(Declared { group, present })?;
     }
     Ok(Items::of(opened))
-}
-
-/// How many slaves a declared group has in the line.
-fn count_present(declared: &Declared) -> usize
-    ensures { result ≡ length (present_slaves declared.now) }
-{
-    if declared.present {
-        declared.group.slaves.len()
-    } else {
-        0
-    }
-}
-
-/// How many slaves the line has.
-fn count_slaves(groups: &[Declared]) -> u32
-    requires { IsCounted groups.now }
-    ensures { result ≡ length (line_from 1 groups.now) }
-{
-    let mut total = 0;
-    for declared in groups {
-        total += count_present(declared);
-    }
-    total as u32
 }
 
 /// A state of a line and its configuration.
@@ -118,10 +95,11 @@ impl Plan {
     }
 
     /// The declared groups with their assigned PDOs and tasks, and which of them are present. No fault's
-    /// condition holds of them. It takes no memory.
+    /// condition holds of them, and no task of the line needs more than 16 datagrams. It takes no memory.
     pub fn groups(&self) -> &[Declared]
         ensures value { result.now ≡ self.now.groups }
         ensures kept { lowest_fault (groups_of self.now.groups) ≡ None }
+        ensures uncrowded { crowded_task (line self.now) ≡ None }
     {
         self.groups.as_slice()
     }
@@ -140,7 +118,7 @@ impl Plan {
     pub fn slaves(&self) -> u32
         ensures { result ≡ length (line self.now) }
     {
-        count_slaves(self.groups.as_slice())
+        slave_count(self.groups.as_slice()) as u32
     }
 
     /// The block with a number, from 0, in the order of the slave with a station address: for each area
@@ -165,6 +143,14 @@ impl Plan {
         ensures { result ≡ line_block_at (line self.now) n }
     {
         nth_block(self.groups.as_slice(), &self.layout, n)
+    }
+
+    /// The blocks of the present line, in line and block order, one by one: each with its slave's station
+    /// address and its number in the slave's order. The walk takes no memory.
+    pub fn line_blocks(&self) -> LineBlocks<'_>
+        ensures { result ≡ (config (line self.now)).blocks }
+    {
+        line_blocks(self.groups.as_slice(), &self.layout)
     }
 
     /// The station address of the slave at a position of the line, from 0; none where the line is

@@ -2,7 +2,7 @@
 ghost use Rattle.std.specs.Prelude.{◌≡◌, IfOk, map};
 ghost use Rattle.hc_plan.specs.Reports.{name_of};
 
-use crate::moved::LineBlock;
+use crate::blocks::LineBlock;
 use hc_places::swap::Swap;
 use hc_records::items::Items;
 use std::alloc::{AllocError, Global};

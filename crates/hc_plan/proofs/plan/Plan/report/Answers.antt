@@ -5,7 +5,7 @@ use Rattle.hc_records.specs.declared.records.Declared.{Declared}
 use Rattle.hc_records.specs.Line.{State, line_from}
 use Rattle.hc_registers.specs.Blocks.{LineBlock, moved_blocks}
 use Rattle.hc_places.specs.Table.{Table, table_of}
-use Rattle.hc_places.specs.Swap.{changed_variables, swapped}
+use Rattle.hc_places.specs.Swap.{SaysWhatDiffers, changed_variables, swapped}
 use Rattle.hc_plan.specs.declared.report.Report.{Report}
 use Rattle.hc_plan.specs.Reports.{Tells, name_of}
 use Rattle.hc_plan.proofs.LineBlocks.{few-moved}
@@ -61,6 +61,9 @@ returns c =
       blocks = is;
       named = c.in_ok-between.ensures.edit;
       leads = ap (swapped change) (sym tables) ∙ c.in_ok-between.ensures.leads ∙ next;
+      says =
+          subst (λ (t : Table). SaysWhatDiffers (table_of (line_from 1 old)) t change) next
+          (subst (λ (t : Table). SaysWhatDiffers t c.next.inside.places change) tables c.in_ok-between.ensures.says);
       places = c.in_ok-between.ensures.count
           ∙ ap (λ (t : Table). length (changed_variables t c.next.inside.places)) tables
           ∙ ap (λ (t : Table). length (changed_variables (table_of (line_from 1 old)) t)) next;
