@@ -62,3 +62,11 @@ filled bytes left seen there found some =
     ∙ found_fault (is_circulating bytes) (promises_more bytes) (has_unknown_command bytes) (mismatches bytes) seen
     (found.circulates ∙ ap (λ (r : List ℕ). list_any circulates (datagrams_in r)) there.found_there) (found.more some ∙ ap (λ (r : List ℕ). more_at_end (datagrams_in r)) there.found_there)
     (found.unknown ∙ ap (λ (r : List ℕ). list_any is_unknown (datagrams_in r)) there.found_there) (found.mismatch ∙ ap (λ (r : List ℕ). list_any (has_other_index (serial_in bytes % 256)) (datagrams_in r)) there.found_there)
+
+-- where none of the eight conditions holds
+pub no_fault : (bytes : List ℕ) → is_short bytes ≡ false → is_not_ethercat bytes ≡ false → has_bad_type bytes ≡ false → has_bad_length bytes ≡ false
+    → is_circulating bytes ≡ false → promises_more bytes ≡ false → has_unknown_command bytes ≡ false → mismatches bytes ≡ false → fault_in bytes ≡ None
+no_fault bytes a b c d e f g h = none_holds (is_short bytes) (is_not_ethercat bytes) (has_bad_type bytes) (has_bad_length bytes) (is_circulating bytes) (promises_more bytes) (has_unknown_command bytes) (mismatches bytes) a b c d e f g h
+  where
+    none_holds : (a b c d e f g h : Bool) → a ≡ false → b ≡ false → c ≡ false → d ≡ false → e ≡ false → f ≡ false → g ≡ false → h ≡ false → table a b c d e f g h ≡ None
+    none_holds a b c d e f g h a' b' c' d' e' f' g' h' = rw (a', b', c', d', e', f', g', h') refl

@@ -1,3 +1,7 @@
 -- What the crates above cite, a file a subject.
-pub mod Opening
 pub mod Datagrams
+pub mod Opening
+pub mod Readings
+pub mod Replaced
+pub mod Returns
+pub mod Texts

@@ -4,6 +4,7 @@ pub mod Commands
 pub mod Filled
 pub mod FrameText
 pub mod Sizes
+pub mod Laws
 pub mod Lending
 pub mod Handing
 pub mod Opened

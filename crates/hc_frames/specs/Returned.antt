@@ -37,3 +37,14 @@ pub record FitsLine (part : Carried) : Type 0 where
   pub counter : part.counter < 2 ^ 16
   pub filled : 1 ≤ length part.bytes
   pub size : length part.bytes ≤ MAX_DATA
+
+-- no address is a position's
+abbrev pub IsAddressed : Command → Type 0
+IsAddressed Aprd = ⊥
+IsAddressed Apwr = ⊥
+IsAddressed Fpwr = Unit {0}
+IsAddressed Lrw = Unit {0}
+
+abbrev pub AllAddressed : List Datagram → Type 0
+AllAddressed [] = Unit {0}
+AllAddressed (d ∷ ds) = IsAddressed d.command × AllAddressed ds

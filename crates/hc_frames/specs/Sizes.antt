@@ -1,6 +1,7 @@
 -- How many bytes a frame has.
 use Rattle.std.specs.Prelude.{ℕ, ◌+◌, ◌<◌, ◌≤◌, max, List, length, All, sum_by}
 use Rattle.hc_frames.specs.declared.limits.TheConstants.{LEAST_FRAME, MAX_ETHERCAT}
+use Rattle.hc_frames.specs.FrameText.{Carried}
 
 -- all bytes of a frame with this many bytes of datagrams
 abbrev pub frame_bytes : ℕ → ℕ
@@ -19,3 +20,7 @@ pub record ShareFrame (ds : List (ℕ × ℕ)) : Type 0 where
   pub some : 0 < length ds
   pub filled : All (λ d. 1 ≤ d.1) ds
   pub within : 2 + datagrams_size ds ≤ MAX_ETHERCAT
+
+-- the bytes of datagrams on the line
+abbrev pub text_size : List Carried → ℕ
+text_size ds = sum_by (λ d. 12 + length d.bytes) ds

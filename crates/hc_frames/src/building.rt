@@ -5,7 +5,6 @@ use thiserror::Error;
 mod datagrams;
 mod frames;
 mod heads;
-mod laws;
 mod loans;
 mod opened;
 
@@ -14,7 +13,6 @@ pub use frames::{
     build_alias_read, build_blank_frame, build_blank_lrw, build_station, build_write, frame_size,
 };
 pub use heads::build_head;
-pub use laws::law_of_filled_frames;
 pub use loans::{build_datagram, build_lrw};
 pub use opened::{Open, build_frame};
 

@@ -1,0 +1,70 @@
+-- What comes back of a sending.
+use Rattle.std.proofs.Common.{◌≡◌, ℕ, ◌+◌, List, [], ◌∷◌, ◌++◌, length, map, replicate, refl, sym, ap, ◌∙◌, append_assoc}
+use Rattle.hc_frames.specs.declared.commands.Command.{Command}
+use Rattle.hc_frames.specs.declared.commands.Command.TheVariants.{Aprd, Apwr, Fpwr, Lrw}
+use Rattle.hc_frames.specs.Arrived.{Reading, fault_in, reading_of}
+use Rattle.hc_frames.specs.FrameText.{Carried, Datagram, datagrams_text, frame_head, padding, sent}
+use Rattle.hc_frames.specs.Laws.{BuiltFramesAreRead, FramesHaveOneReading, ReturnedFramesAreRead, SentFramesAreReturned}
+use Rattle.hc_frames.specs.Returned.{AllAddressed, AllComeBack, IsAddressed, KeepsAddress}
+use Rattle.hc_frames.proofs.lemmas.Readings.{frame-read}
+
+same_commands : (ds : List Datagram) (parts : List Carried) → AllComeBack ds parts → map (λ (part : Carried). part.command) parts ≡ map (λ (d : Datagram). d.command) ds
+same_commands [] [] back = refl
+same_commands [] (part ∷ parts) back = absurd back
+same_commands (d ∷ ds) [] back = absurd back
+same_commands (d ∷ ds) (part ∷ parts) back =
+    ap (λ (c : Command). c ∷ map (λ (p : Carried). p.command) parts) back.0.command ∙ ap (λ (cs : List Command). d.command ∷ cs) (same_commands ds parts back.1)
+
+same_sizes : (ds : List Datagram) (parts : List Carried) → AllComeBack ds parts → map (λ (part : Carried). length part.bytes) parts ≡ map (λ (d : Datagram). length d.bytes) ds
+same_sizes [] [] back = refl
+same_sizes [] (part ∷ parts) back = absurd back
+same_sizes (d ∷ ds) [] back = absurd back
+same_sizes (d ∷ ds) (part ∷ parts) back =
+    ap (λ (n : ℕ). n ∷ map (λ (p : Carried). length p.bytes) parts) back.0.size ∙ ap (λ (ns : List ℕ). length d.bytes ∷ ns) (same_sizes ds parts back.1)
+
+same_address : (command : Command) (old new : ℕ) → IsAddressed command → KeepsAddress command old new → new ≡ old
+same_address Aprd old new addressed kept = absurd addressed
+same_address Apwr old new addressed kept = absurd addressed
+same_address Fpwr old new addressed kept = kept
+same_address Lrw old new addressed kept = kept
+
+same_addresses : (ds : List Datagram) (parts : List Carried) → AllComeBack ds parts → AllAddressed ds → map (λ (part : Carried). part.address) parts ≡ map (λ (d : Datagram). d.address) ds
+same_addresses [] [] back addressed = refl
+same_addresses [] (part ∷ parts) back addressed = absurd back
+same_addresses (d ∷ ds) [] back addressed = absurd back
+same_addresses (d ∷ ds) (part ∷ parts) back addressed =
+    ap (λ (n : ℕ). n ∷ map (λ (p : Carried). p.address) parts) (same_address d.command d.address part.address addressed.0 back.0.address)
+    ∙ ap (λ (ns : List ℕ). d.address ∷ ns) (same_addresses ds parts back.1 addressed.1)
+
+pub returned-read : ReturnedFramesAreRead
+returned-read serial ds parts bytes back can =
+    let read = frame-read (replicate 6 255) 2 serial parts back.text.0 refl can in
+    (ap fault_in back.text.1 ∙ read.0, ap reading_of back.text.1 ∙ read.1, same_commands ds parts back.back, same_sizes ds parts back.back, same_addresses ds parts back.back)
+
+address_kept : (command : Command) (address : ℕ) → KeepsAddress command address address
+address_kept Aprd address = refl
+address_kept Apwr address = refl
+address_kept Fpwr address = refl
+address_kept Lrw address = refl
+
+all_sent : (ds : List Datagram) → AllComeBack ds (map sent ds)
+all_sent [] = tt
+all_sent (d ∷ ds) = (record { command = refl; address = address_kept d.command d.address; size = refl }, all_sent ds)
+
+pub sent-returned : SentFramesAreReturned
+sent-returned serial ds behind =
+    let text : List ℕ = datagrams_text serial ds in
+    record { back = all_sent ds; text = (padding (length text) ++ behind, append_assoc (frame_head serial (length text) ++ text) (padding (length text)) behind) }
+
+pub built-read : BuiltFramesAreRead
+built-read serial ds behind can =
+    let back = sent-returned serial ds behind in
+    let read = frame-read (replicate 6 255) 2 serial (map sent ds) back.text.0 refl can in
+    (ap fault_in back.text.1 ∙ read.0, ap reading_of back.text.1 ∙ read.1)
+
+pub one-reading : FramesHaveOneReading
+one-reading destination destination2 first first2 serial serial2 parts parts2 behind behind2 long long2 can can2 e =
+    let read = frame-read destination first serial parts behind long can in
+    let read2 = frame-read destination2 first2 serial2 parts2 behind2 long2 can2 in
+    let same = sym read.1 ∙ ap reading_of e ∙ read2.1 in
+    (ap (λ (r : Reading). r.serial) same, ap (λ (r : Reading). r.parts) same)
