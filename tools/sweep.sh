@@ -1,11 +1,13 @@
 #!/bin/sh
-# Refuses each growth of memory in turn, in tests and in the program that `rt ci` has built. Every such run must end by
-# itself: with its own answer, or with want of memory and nothing else. The last line is 'N passed, M failed'.
+# Refuses growths of memory, in tests and in the program that `rt ci` has built: each growth in turn alone, and each with
+# every later one. Every such run must end by itself: with its own answer, or with want of memory and nothing else. A case
+# in which no growth was refused fails. The last line is 'N passed, M failed'.
 set -u
 cd "$(dirname "$0")/.."
 scratch=$(mktemp -d)
 trap 'rm -rf "$scratch"' EXIT
 gcc -O2 -Wall -shared -fPIC -o "$scratch/refuse.so" tools/refuse_growth.c -ldl || exit 1
+program=crates/hotline/out/hotline
 passed=0
 failed=0
 
@@ -14,94 +16,132 @@ has_refused() {
     grep -q '^refused growth$' "$scratch/errors"
 }
 
-# refuse_each LABEL JUDGE INPUT COMMAND..: runs a command with its first growth refused, then its second, until a run
-# meets no refusal. What it wrote stands in `said`, its errors in `errors`; `JUDGE STATUS` says whether it ended well.
+# refuse_each LABEL JUDGE MODE INPUT COMMAND..: runs a command with its first growth refused, then its second, until a run
+# meets no refusal; where MODE is `+`, every later growth is refused as well. What it wrote stands in `said`, its errors in
+# `errors`; `JUDGE STATUS` says whether it ended well.
 refuse_each() {
-    label=$1 judge=$2 input=$3
-    shift 3
+    label=$1 judge=$2 mode=$3 input=$4
+    shift 4
     number=0
     : >"$scratch/errors"
     while [ "$number" -eq 0 ] || has_refused; do
         number=$((number + 1))
-        timeout 60 env REFUSE_GROWTH=$number LD_PRELOAD="$scratch/refuse.so" "$@" <"$input" >"$scratch/said" 2>"$scratch/errors"
+        timeout 60 env REFUSE_GROWTH="$number$mode" LD_PRELOAD="$scratch/refuse.so" "$@" <"$input" >"$scratch/said" 2>"$scratch/errors"
         status=$?
         if [ "$number" -gt 5000 ] || ! "$judge" "$status"; then
-            echo "sweep: $label with growth $number refused: status $status"
+            echo "sweep: $label with growth $number$mode refused: status $status"
             cat "$scratch/said" "$scratch/errors"
             failed=$((failed + 1))
             return
         fi
     done
-    echo "sweep: $label: $((number - 1)) growths refused in turn"
+    if [ "$number" -eq 1 ]; then
+        echo "sweep: $label: no growth was refused"
+        failed=$((failed + 1))
+        return
+    fi
+    echo "sweep: $label: $((number - 1)) growths refused in turn${mode:+ with all later ones}"
     passed=$((passed + 1))
 }
 
-# A test ends well, or by want of memory and no failed assertion.
+# A test of which no growth is refused passes. Where one is, it passes by its own answer, or ends by want of memory and no
+# failed assertion.
 test_ended_well() {
-    [ "$1" -eq 0 ] && return 0
+    if ! has_refused || [ "$1" -eq 0 ]; then
+        [ "$1" -eq 0 ] && grep -q '^test result: ok. 1 passed; 0 failed' "$scratch/said"
+        return
+    fi
     cat "$scratch/said" "$scratch/errors" >"$scratch/all"
     grep -Eq '^error: (Memory|AllocError|AllocFailed|Project\(Memory\)|Opening\(Memory\))' "$scratch/all" &&
         ! grep -q 'assert' "$scratch/all"
 }
 
-# Whether the program ended before its first command as it may: with nothing while its input is read, with the fault
-# while the project is opened.
-opening_ended_well() {
-    case $1 in
-    4) [ ! -s "$scratch/said" ] ;;
-    3) grep -Eqx 'project fault 11 Memory|open fault 2 Memory' "$scratch/said" && [ "$(wc -l <"$scratch/said")" -eq 1 ] ;;
-    *) return 1 ;;
+# sweep_test CRATE TEST
+sweep_test() {
+    for mode in '' +; do
+        refuse_each "$1 $2" test_ended_well "$mode" /dev/null "crates/$1/out/$1_tests" "$2"
+    done
+}
+
+# run_unrefused LINES NAME: what the program prints for the lines, and its status.
+run_unrefused() {
+    timeout 60 "$program" <"$1" >"$scratch/$2"
+    echo $? >"$scratch/$2.status"
+}
+
+# expect_refusals INPUT: numbers the commands that a run reaches from 1, and writes what the program must print where growths
+# are refused for command I: in `alone.I` what it prints with a blank line in place of the command, but for the refusal in
+# its place; in `lasting.I` what it prints before the command, and the refusal for it and each command behind it.
+expect_refusals() {
+    rm -f "$scratch"/alone.* "$scratch"/lasting.*
+    first=$(($(grep -n '^%%$' "$1" | head -n 1 | cut -d : -f 1) + 1))
+    last=$(wc -l <"$1")
+    count=0
+    for line in $(seq "$first" "$last"); do
+        head -n $((line - 1)) "$1" >"$scratch/lines"
+        run_unrefused "$scratch/lines" front
+        [ "$(cat "$scratch/front.status")" -eq 0 ] || return
+        sed "${line}s/.*//" "$1" >"$scratch/lines"
+        run_unrefused "$scratch/lines" without
+        count=$((count + 1))
+        size=$(wc -c <"$scratch/front")
+        { cat "$scratch/front"; echo refused 14 Memory; tail -c +$((size + 1)) "$scratch/without"; } >"$scratch/alone.$count"
+        cp "$scratch/without.status" "$scratch/alone.$count.status"
+        { cat "$scratch/front"; yes refused 14 Memory | head -n $((last - line + 1)); } >"$scratch/lasting.$count"
+        echo 0 >"$scratch/lasting.$count.status"
+    done
+}
+
+# Whether the run ended as one does for which a growth is refused in a phase of it: while the input is read, which prints
+# nothing, while the project is opened, or for a command.
+ended_in_phase() {
+    case $2 in
+    reading) [ "$1" -eq 4 ] && [ ! -s "$scratch/said" ] ;;
+    0) [ "$1" -eq 3 ] && grep -Eqx 'project fault 11 Memory|open fault 2 Memory' "$scratch/said" && [ "$(wc -l <"$scratch/said")" -eq 1 ] ;;
+    *) [ -f "$scratch/$refusals.$2" ] && cmp -s "$scratch/said" "$scratch/$refusals.$2" && [ "$1" -eq "$(cat "$scratch/$refusals.$2.status")" ] ;;
     esac
 }
 
-# The first run prints the whole text, or one command's text is replaced by its refusal. The stored text has 3 lines of
-# `layout`, 4 of `regs` and 1 of `show`.
-first_run_ended_well() {
-    [ "$1" -eq 0 ] || { opening_ended_well "$1"; return; }
-    has_refused || { cmp -s "$scratch/said" crates/hotline/stdout; return; }
-    for lines in 1,3 4,7 8,8; do
-        sed "${lines}c refused 14 Memory" crates/hotline/stdout | cmp -s - "$scratch/said" && return 0
-    done
-    return 1
+# A run without a refusal prints the whole text. Later growths are refused in the same phase as earlier ones or in the next
+# one, and the last in the last command.
+run_ended_well() {
+    if ! has_refused; then
+        cmp -s "$scratch/said" "$text" && [ "$1" -eq "$text_status" ] && [ "$phase" = "$count" ]
+        return
+    fi
+    ended_in_phase "$1" "$phase" && return
+    case $phase in
+    reading) phase=0 ;;
+    *) phase=$((phase + 1)) ;;
+    esac
+    ended_in_phase "$1" "$phase"
 }
 
-# A run of `layout` and edits by turns prints the whole text, or refuses one command for want of memory. Behind a refused
-# edit the next layout is the one before it; behind an accepted one it is of the next epoch.
-edits_ended_well() {
-    [ "$1" -eq 0 ] || { opening_ended_well "$1"; return; }
-    has_refused || { cmp -s "$scratch/said" examples/two_groups.out; return; }
-    awk '
-        /^refused 14 Memory$/ { wants++ }
-        /^(epoch|refused) / { answer[++answers] = $0; next }
-        { answer[answers] = answer[answers] "\n" $0 }
-        END {
-            is_well = wants == 1 && answers == 7
-            for (i = 2; i < answers; i += 2) {
-                before = answer[i - 1]; after = answer[i + 1]
-                if (before ~ /^refused/ || after ~ /^refused/) continue
-                split(before, old); split(after, new)
-                if (answer[i] ~ /^refused/) is_well = is_well && before == after
-                else is_well = is_well && new[2] == old[2] + 1 && answer[i] ~ "^epoch " new[2] " "
-            }
-            exit !is_well
-        }' "$scratch/said"
-}
-
-# sweep_test CRATE TEST
-sweep_test() {
-    refuse_each "$1 $2" test_ended_well /dev/null "crates/$1/out/$1_tests" "$2"
+# sweep_program LABEL INPUT TEXT STATUS
+sweep_program() {
+    text=$3 text_status=$4
+    expect_refusals "$2"
+    refusals=alone phase=reading
+    refuse_each "hotline, $1" run_ended_well '' "$2" "$program"
+    refusals=lasting phase=reading
+    refuse_each "hotline, $1" run_ended_well + "$2" "$program"
 }
 
 sweep_test hc_records project::tests::the_project_or_memory
 sweep_test hc_project tests::projects::project_or_memory
 sweep_test hc_cuts tests::areas_are_packed_in_their_order
+sweep_test hc_places tests::a_variable_stands_behind_a_gap
+sweep_test hc_places tests::a_tool_comes
 sweep_test worked_lines layouts::an_input_begins_the_next_byte
+sweep_test worked_lines edits::a_list_of_edits_is_answered_in_its_order
+sweep_test worked_lines edits::a_swapped_table_is_the_new_one
 sweep_test hc_rings tests::a_buffer_begins_anew
 sweep_test hc_rings tests::four_buffers_go_round
 sweep_test hc_rings tests::a_dropped_sender_leaves_its_posts
 sweep_test hc_rings tests::frames_go_in_order
 sweep_test hotline tests::edits::a_group_comes_and_goes
-refuse_each "hotline, its first run" first_run_ended_well crates/hotline/stdin crates/hotline/out/hotline
-refuse_each "hotline, two groups" edits_ended_well examples/two_groups.in crates/hotline/out/hotline
+sweep_program "its first run" crates/hotline/stdin crates/hotline/stdout 0
+sweep_program "every command" tools/commands.in tools/commands.out 2
+sweep_program "two groups" examples/two_groups.in examples/two_groups.out 0
 echo "$passed passed, $failed failed"
 [ "$failed" -eq 0 ]

@@ -3,3 +3,4 @@ mod Numbers
 mod Inside
 mod ReadBack
 mod WholeProject
+mod Texts

@@ -1,6 +1,8 @@
--- The project of a text, or the lowest fault of its tree.
-use Rattle.std.specs.Prelude.{Bool, List, ◌∷◌, Option, Some, None, Result, Ok, Err}
+-- The project of a text, or its lowest fault.
+use Rattle.std.specs.Prelude.{ℕ, Bool, if◌then◌else◌, List, ◌∷◌, Option, Some, None, Result, Ok, Err}
+use Rattle.std.specs.Str.{is_utf8}
 use Rattle.toml.specs.Data.{Members, table}
+use Rattle.toml.specs.Parse.{parse_document}
 use Rattle.hc_records.specs.declared.records.Group.{Group}
 use Rattle.hc_records.specs.declared.faults.ProjectFault.{ProjectFault}
 use Rattle.hc_records.specs.declared.faults.ProjectFault.TheVariants.{NotToml, MissingField, OutOfRange}
@@ -26,3 +28,7 @@ settled groups = unless_refused (lowest (reading_faults groups)) groups.value
 abbrev pub project_of : Option Members → Result (List Group) ProjectFault
 project_of None = Err NotToml
 project_of (Some members) = settled (declared_groups (table members))
+
+-- the project of a text, or its lowest fault
+unfoldable pub project_in : List ℕ → Result (List Group) ProjectFault
+project_in text = if is_utf8 text then project_of (parse_document text) else Err NotToml

@@ -1,9 +1,8 @@
 //! Project text as a whole: the document that TOML reads, its groups, and the project that they
 //! make or the lowest fault.
-ghost use Rattle.std.specs.Prelude.{◌≡◌, ◌≢◌, None, IfErr, IfOk, IsErrOf, IsUtf8};
-ghost use Rattle.toml.specs.Parse.{parse_document};
-ghost use Rattle.hc_project.specs.Text.{project_of, settled};
-ghost use Rattle.hc_records.specs.declared.faults.ProjectFault.TheVariants.{Memory, NotToml};
+ghost use Rattle.std.specs.Prelude.{◌≡◌, ◌≢◌, IfErr, IfOk};
+ghost use Rattle.hc_project.specs.Text.{project_in, settled};
+ghost use Rattle.hc_records.specs.declared.faults.ProjectFault.TheVariants.{Memory};
 
 use crate::levels::read_groups;
 use crate::reading::Reading;
@@ -18,7 +17,6 @@ use toml::Value;
 fn settle(alloc: Global, groups: Reading<Items<Group>>) -> Result<Project, ProjectFault>
     ensures project { IfOk result (λ project. settled groups ≡ Ok project) }
     ensures refused { IfErr result (λ fault. fault ≢ Memory → settled groups ≡ Err fault) }
-    ensures toml { IfErr result (λ fault. fault ≢ NotToml) }
 {
     let Reading { value, flaws } = groups;
     if flaws.missing {
@@ -38,13 +36,10 @@ fn settle(alloc: Global, groups: Reading<Items<Group>>) -> Result<Project, Proje
 /// text, where a growth was refused. Nothing is kept of a text that is refused.
 ///
 /// Each byte and each value is looked at once. Names that stand twice are found in n log n steps.
+#[tactic(auto, using(crate::proofs::Texts::unread))]
 pub fn read_project(alloc: Global, text: &[u8]) -> Result<Project, ProjectFault>
-    ensures utf8 { IfOk result (λ _. IsUtf8 text.now) }
-    ensures project { IfOk result (λ project. project_of (parse_document text.now) ≡ Ok project) }
-    ensures refused { IfErr result (λ fault. fault ≢ Memory → IsUtf8 text.now
-        → project_of (parse_document text.now) ≡ Err fault) }
-    ensures not_toml { IsErrOf result NotToml → IsUtf8 text.now → parse_document text.now ≡ None }
-    ensures not_utf8 { IfErr result (λ fault. fault ≢ Memory → ¬ (IsUtf8 text.now) → fault ≡ NotToml) }
+    ensures project { IfOk result (λ project. project_in text.now ≡ Ok project) }
+    ensures refused { IfErr result (λ fault. fault ≢ Memory → project_in text.now ≡ Err fault) }
 {
     let table = match toml::table_from_slice(alloc, text) {
         Ok(table) => table,

@@ -2,25 +2,36 @@
 ghost use Rattle.std.specs.Prelude.{ℕ, take, OnErr, OnOk};
 ghost use Rattle.std.specs.Io.KnownBytes.{Appends};
 
-use std::io::Write;
+use std::io::{ErrorKind, Write};
 use thiserror::Error;
 
-/// A write failed, or took nothing.
+/// The most turns of writing one text that may be interrupted: as many as reading an input takes.
+const MOST_INTERRUPTIONS: u32 = 4_194_305;
+
+/// A write failed, took nothing, or was interrupted too often.
 #[derive(Clone, Copy, Debug, PartialEq, Eq, Error)]
 #[error("the output cannot be written")]
 pub struct WriteFailed;
 
-/// Writes all of a text. Where a write fails or takes nothing, a front of the text was written.
+/// Writes all of a text. An interrupted write is taken again, at most 4,194,305 times in one text. Where a
+/// write fails for another cause, takes nothing, or is interrupted once more, a front of the text was
+/// written.
 pub fn write_text<W: Write>(output: &mut W, text: &[u8]) -> Result<(), WriteFailed>
     ensures ok { OnOk result (Appends (W.contents output.old) (W.contents output.new) text.now) }
     ensures err { OnErr result ((n : ℕ) × Appends (W.contents output.old) (W.contents output.new) (take n text.now)) }
 {
     let mut written = 0;
+    let mut left = MOST_INTERRUPTIONS;
     while written < text.len() {
         match output.write(&text[written..]) {
             Ok(0) => return Err(WriteFailed),
             Ok(count) => written += count,
-            Err(_) => return Err(WriteFailed),
+            Err(error) => {
+                if error.kind() != ErrorKind::Interrupted || left == 0 {
+                    return Err(WriteFailed);
+                }
+                left -= 1;
+            }
         }
     }
     Ok(())

@@ -4,6 +4,7 @@ pub mod Lengths
 pub mod Turns
 pub mod Openings
 pub mod Outcomes
+pub mod Starved
 pub mod Grown
 pub mod VariablePlaces
 pub mod EditArguments

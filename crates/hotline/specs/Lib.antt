@@ -9,4 +9,5 @@ pub mod Commands
 pub mod Runs
 pub mod Opening
 pub mod Text
+pub mod Starved
 pub mod Turns

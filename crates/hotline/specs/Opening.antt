@@ -1,21 +1,15 @@
 -- Opening the project of an input.
-use Rattle.std.specs.Prelude.{ℕ, Bool, true, false, if◌then◌else◌, List, ◌++◌, Option, Some, None, Result, Ok, Err, codes}
+use Rattle.std.specs.Prelude.{ℕ, Bool, true, false, List, ◌++◌, Option, Some, None, Result, Ok, Err, codes}
 use Rattle.std.specs.Fmt.{decimal}
-use Rattle.std.specs.Str.{is_utf8}
-use Rattle.toml.specs.Parse.{parse_document}
 use Rattle.hc_records.specs.declared.records.Group.{Group}
 use Rattle.hc_records.specs.declared.faults.ProjectFault.{ProjectFault}
 use Rattle.hc_records.specs.declared.faults.ProjectFault.TheVariants as fault
 use Rattle.hc_records.specs.Edits.{crowded_task}
 use Rattle.hc_records.specs.Line.{State, line, opened}
-use Rattle.hc_project.specs.Text.{project_of}
+use Rattle.hc_project.specs.Text.{project_in}
 use Rattle.hotline.specs.declared.opening.Unopened.{Unopened}
 use Rattle.hotline.specs.declared.opening.Unopened.TheVariants.{Project, TooManyDatagrams, Memory}
 use Rattle.hotline.specs.Refusals.{project_fault_text}
-
--- the project of a text, or its lowest fault
-unfoldable pub project_in : List ℕ → Result (List Group) ProjectFault
-project_in text = if is_utf8 text then project_of (parse_document text) else Err fault.NotToml
 
 -- the lowest task of the opening line that needs more than 16 datagrams
 unfoldable pub crowded_at_opening : List Group → Option ℕ

@@ -3,8 +3,9 @@
 ghost use Rattle.std.specs.Prelude.{◌≡◌, ◌≤◌, ◌+◌, false, true, length, IfSome};
 ghost use Rattle.std.specs.Option.{option_copied};
 ghost use Rattle.hc_text.specs.Cutting.{left_in, lines_after};
-ghost use Rattle.hotline.specs.Opening.{is_memory};
+ghost use Rattle.hotline.specs.Opening.{in_want, is_memory};
 ghost use Rattle.hotline.specs.Runs.{reply_to, run};
+ghost use Rattle.hotline.specs.Starved.{EndsAsOne, StarvedOutcome, StarvedRun};
 ghost use Rattle.hotline.specs.Text.{EndsAs, outcome_of, unopened};
 ghost use Rattle.hotline.specs.Turns.{Starves, Takes};
 ghost use Rattle.hc_text.specs.declared.input.TheConstants.{MOST_INPUT};
@@ -97,8 +98,10 @@ fn run_commands<W: Write>(
     output: &mut W,
 ) -> RunEnd
     requires { first + left_in (option_copied lines) ≤ MOST_INPUT + 2 }
-    ensures { result.starved ≡ false
+    ensures unstarved { result.starved ≡ false
         → EndsAs (W.contents output.old) (W.contents output.new) result.status (run opened (lines_after first (option_copied lines.entry))) }
+    ensures starved { result.starved ≡ true
+        → EndsAsOne (W.contents output.old) (W.contents output.new) result.status (StarvedRun opened (lines_after first (option_copied lines.entry))) }
 {
     let mut plan = opened;
     let mut starved = false;
@@ -120,34 +123,41 @@ fn run_commands<W: Write>(
     }
 }
 
+/// Writes the line of a project that isn't opened, behind which the run ends.
+fn end_with<W: Write>(line: &[u8], starved: bool, output: &mut W) -> RunEnd
+    ensures told { EndsAs (W.contents output.old) (W.contents output.new) result.status (record { text = line.now; status = 3 }) }
+    ensures starved { result.starved ≡ starved }
+{
+    let status = match write_text(output, line) {
+        Ok(()) => UNOPENED,
+        Err(_) => BROKEN,
+    };
+    RunEnd { status, starved }
+}
+
 /// Tells why the project isn't opened.
+#[tactic(auto, using(crate::proofs::Openings::in_want_memory))]
 fn end_unopened<W: Write>(alloc: Global, fault: Unopened, output: &mut W) -> RunEnd
     ensures told { result.starved ≡ false
         → EndsAs (W.contents output.old) (W.contents output.new) result.status (unopened fault) }
-    ensures starved { result.starved ≡ false → is_memory fault ≡ false }
+    ensures unstarved { result.starved ≡ false → is_memory fault ≡ false }
+    ensures starved { result.starved ≡ true
+        → EndsAs (W.contents output.old) (W.contents output.new) result.status (unopened (in_want fault)) }
 {
-    let mut text = String::new(alloc);
-    let (written, starved) = match push_unopened(fault, &mut text) {
-        Ok(()) => (write_text(output, text.as_bytes()), fault.is_memory()),
-        Err(_) => (write_text(output, memory_text(fault)), true),
-    };
-    match written {
-        Ok(()) => RunEnd {
-            status: UNOPENED,
-            starved,
-        },
-        Err(_) => RunEnd {
-            status: BROKEN,
-            starved,
-        },
+    let mut line = String::new(alloc);
+    match push_unopened(fault, &mut line) {
+        Ok(()) => end_with(line.as_bytes(), fault.is_memory(), output),
+        Err(_) => end_with(memory_text(fault), true, output),
     }
 }
 
 /// Runs an input that is read.
 fn run_input<W: Write>(alloc: Global, input: &[u8], output: &mut W) -> RunEnd
     requires { length input.now ≤ MOST_INPUT }
-    ensures { result.starved ≡ false
+    ensures unstarved { result.starved ≡ false
         → EndsAs (W.contents output.old) (W.contents output.new) result.status (outcome_of input.now) }
+    ensures starved { result.starved ≡ true
+        → EndsAsOne (W.contents output.old) (W.contents output.new) result.status (StarvedOutcome input.now) }
 {
     let sections = split_sections(input);
     match open_plan(alloc, sections.project) {
@@ -160,12 +170,19 @@ fn run_input<W: Write>(alloc: Global, input: &[u8], output: &mut W) -> RunEnd
 /// bytes. Where it ends unstarved with another status than 4, what was written is the whole text and
 /// the status is its status; in any unstarved end it is a front of the text.
 ///
+/// The same holds of a starved end and one of the texts that a refused growth allows: nothing and status 4
+/// where the input isn't read, `project fault 11 Memory` or `open fault 2 Memory` and status 3 where the
+/// project isn't opened, else the text of the commands, one or more of which gave `refused 14 Memory` and
+/// changed nothing.
+///
 /// Faults are found in the order input, project, opening, commands. Status 4 comes where the input is
 /// longer than 4,194,304 bytes, where reading fails or doesn't end within 4,194,305 turns, and where a
-/// write fails or takes nothing.
+/// write fails, takes nothing, or is interrupted over 4,194,305 times in one reply.
 pub fn run_hotline<R: Read, W: Write>(alloc: Global, input: &mut R, output: &mut W) -> RunEnd
-    ensures { result.starved ≡ false → IfSome (R.remaining input.old)
+    ensures unstarved { result.starved ≡ false → IfSome (R.remaining input.old)
         (λ bytes. EndsAs (W.contents output.old) (W.contents output.new) result.status (outcome_of bytes)) }
+    ensures starved { result.starved ≡ true → IfSome (R.remaining input.old)
+        (λ bytes. EndsAsOne (W.contents output.old) (W.contents output.new) result.status (StarvedOutcome bytes)) }
 {
     match read_all(alloc, input) {
         Ok(bytes) => run_input(alloc, &bytes, output),

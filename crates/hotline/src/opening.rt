@@ -1,7 +1,8 @@
 //! Opening the project of an input, or telling why it can't be opened.
-ghost use Rattle.std.specs.Prelude.{◌≡◌, ◌++◌, IfErr, IfOk, OnOk, false, string_bytes};
-ghost use Rattle.hc_records.specs.declared.faults.ProjectFault.TheVariants.{Memory};
-ghost use Rattle.hotline.specs.Opening.{crowded_at_opening, in_want, is_memory, is_project_memory, opened_unless, opening_of, project_in, unopened_text};
+ghost use Rattle.std.specs.Prelude.{◌≡◌, ◌++◌, IfErr, IfOk, IsOk, OnOk, false, string_bytes};
+ghost use Rattle.hc_project.specs.Text.{project_in};
+ghost use Rattle.hotline.specs.declared.opening.Unopened.TheVariants.{Memory};
+ghost use Rattle.hotline.specs.Opening.{crowded_at_opening, in_want, is_memory, is_project_memory, opened_unless, opening_of, unopened_text};
 
 use crate::refusals::push_project_fault;
 use hc_plan::plan::Plan;
@@ -47,14 +48,6 @@ fn is_project_memory(fault: ProjectFault) -> bool
     fault == ProjectFault::Memory
 }
 
-/// The project of a text, or its lowest fault, or `Memory` where a growth was refused.
-fn project_in(alloc: Global, text: &[u8]) -> Result<Project, ProjectFault>
-    ensures project { IfOk result (λ project. project_in text.now ≡ Ok project) }
-    ensures refused { IfErr result (λ fault. is_project_memory fault ≡ false → project_in text.now ≡ Err fault) }
-{
-    read_project(alloc, text)
-}
-
 /// The plan of a project at its opening.
 fn open_project(alloc: Global, project: Project) -> Result<Plan, Unopened>
     ensures opened { IfOk result (λ plan. opened_unless (crowded_at_opening project) project ≡ Ok plan) }
@@ -67,13 +60,15 @@ fn open_project(alloc: Global, project: Project) -> Result<Plan, Unopened>
     }
 }
 
-/// The plan of the project of a text at its opening, or why it isn't opened.
+/// The plan of the project of a text at its opening, or why it isn't opened. `Unopened::Memory` comes only
+/// where the text is a project.
 #[tactic(auto, unfolding(crate::specs::Opening::opening_of))]
 pub fn open_plan(alloc: Global, text: &[u8]) -> Result<Plan, Unopened>
     ensures opened { IfOk result (λ plan. opening_of text.now ≡ Ok plan) }
     ensures refused { IfErr result (λ fault. is_memory fault ≡ false → opening_of text.now ≡ Err fault) }
+    ensures memory { IfErr result (λ fault. fault ≡ Memory → IsOk (project_in text.now)) }
 {
-    match project_in(alloc, text) {
+    match read_project(alloc, text) {
         Ok(project) => open_project(alloc, project),
         Err(fault) => Err(Unopened::Project(fault)),
     }

@@ -1,5 +1,5 @@
 //! Inputs that are too long, readers that fail, and writers that fail.
-use super::devices::{Halting, Interrupted, LineFeeds, Narrow};
+use super::devices::{Halting, Interrupted, LineFeeds, Narrow, Stuttering};
 use super::{FIRST_COMMANDS, FIRST_TEXT, ONE_SLAVE, ROOM, joined};
 use crate::engine::{RunEnd, run_hotline};
 use hc_text::input::MOST_INPUT;
@@ -80,6 +80,36 @@ fn an_interrupted_read_is_taken_again(rt: HostRuntime) -> Result<(), Fail> {
         assert_eq!(rt; end, ended(0), "at {calls_left}");
         assert_eq!(rt; output.as_slice(), FIRST_TEXT.as_bytes(), "at {calls_left}");
     }
+    Ok(())
+}
+
+#[test]
+fn an_interrupted_write_is_taken_again(rt: HostRuntime) -> Result<(), Fail> {
+    let text = joined(rt.alloc(), ONE_SLAVE, FIRST_COMMANDS)?;
+    let mut input = text.as_bytes();
+    let mut output = Stuttering {
+        taken: Vec::with_capacity(rt.alloc(), ROOM)?,
+        is_interrupted: false,
+    };
+    let end = run_hotline(rt.alloc(), &mut input, &mut output);
+    if end.starved {
+        return Err(Fail::from(AllocError));
+    }
+    assert_eq!(rt; end, ended(0));
+    assert_eq!(rt; output.taken.as_slice(), FIRST_TEXT.as_bytes());
+    Ok(())
+}
+
+#[test]
+fn writing_ends_after_its_interruptions(rt: HostRuntime) -> Result<(), Fail> {
+    let mut input = "%%\nfoo\n".as_bytes();
+    let mut output = Interrupted { calls: 0 };
+    let end = run_hotline(rt.alloc(), &mut input, &mut output);
+    if end.starved {
+        return Err(Fail::from(AllocError));
+    }
+    assert_eq!(rt; end, ended(4));
+    assert_eq!(rt; output.calls, 4_194_306);
     Ok(())
 }
 

@@ -78,3 +78,37 @@ impl Write for Narrow {
         Ok(())
     }
 }
+
+impl Write for Interrupted {
+    fn write(&mut self, _buf: &[u8]) -> io::Result<usize> {
+        self.calls = self.calls.saturating_add(1);
+        Err(io::Error::from(ErrorKind::Interrupted))
+    }
+
+    fn flush(&mut self) -> io::Result<()> {
+        Ok(())
+    }
+}
+
+/// A writer that is interrupted at every other call, and takes a few bytes at those between.
+#[derive(Drop)]
+pub struct Stuttering {
+    pub taken: Vec<u8>,
+    pub is_interrupted: bool,
+}
+
+impl Write for Stuttering {
+    fn write(&mut self, buf: &[u8]) -> io::Result<usize> {
+        self.is_interrupted = !self.is_interrupted;
+        if self.is_interrupted {
+            return Err(io::Error::from(ErrorKind::Interrupted));
+        }
+        let count = buf.len().min(7);
+        self.taken.extend_from_slice(&buf[..count])?;
+        Ok(count)
+    }
+
+    fn flush(&mut self) -> io::Result<()> {
+        Ok(())
+    }
+}

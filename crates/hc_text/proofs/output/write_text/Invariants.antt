@@ -1,4 +1,4 @@
-use Rattle.std.proofs.Common.{length, ◌-◌, ◌≤◌, take}
+use Rattle.std.proofs.Common.{length, ◌+◌, ◌-◌, ◌≤◌, take}
 use Rattle.std.specs.Io.KnownBytes.{Appends}
 use Rattle.hc_text.proofs.output.write_text.Given as goal
 
@@ -12,4 +12,4 @@ invariant-loop-written g l =
     }
 
 abbrev pub decreases-loop-written : goal.decreases-loop-written
-decreases-loop-written g l = length l.text - l.written
+decreases-loop-written g l = (length l.text - l.written) + l.left

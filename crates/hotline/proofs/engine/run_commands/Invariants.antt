@@ -2,8 +2,10 @@ use Rattle.std.proofs.Common.{◌≡◌, ◌≤◌, ◌+◌, false}
 use Rattle.std.specs.Option.{option_copied}
 use Rattle.hc_text.specs.Cutting.{left_in, lines_after}
 use Rattle.hotline.specs.Runs.{run}
+use Rattle.hotline.specs.Starved.{StarvedRun}
 use Rattle.hotline.specs.Turns.{Continues}
 use Rattle.hc_text.specs.declared.input.TheConstants.{MOST_INPUT}
+use Rattle.hotline.proofs.Starved.{Leads, Left}
 use Rattle.hotline.proofs.engine.run_commands.Given as goal
 
 abbrev pub invariant-loop-rest : goal.invariant-loop-rest
@@ -13,6 +15,7 @@ invariant-loop-rest g l =
       few : l.number + left_in (option_copied l.rest) ≤ MOST_INPUT + 2;
       runs : l.starved ≡ false
           → Continues (contents l.fn.output) (contents l.output) (run l.plan (lines_after l.number (option_copied l.rest))) (run l.fn.opened (lines_after l.first (option_copied l.fn.lines)));
+      starves : Leads (contents l.fn.output) (contents l.output) (Left l.starved l.plan (lines_after l.number (option_copied l.rest))) (StarvedRun l.fn.opened (lines_after l.first (option_copied l.fn.lines)));
     }
 
 abbrev pub decreases-loop-rest : goal.decreases-loop-rest
