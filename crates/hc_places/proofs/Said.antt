@@ -5,7 +5,7 @@ use Rattle.std.proofs.lemmas.Bool.{eqb-true}
 use Rattle.std.proofs.lemmas.List.Elements.{All-nil}
 use Rattle.hc_records.specs.Image.{VariablePlace}
 use Rattle.hc_places.specs.Table.{Row, RowsAscend}
-use Rattle.hc_places.specs.Swap.{ChangedRow, new_place, same_found, same_place}
+use Rattle.hc_places.specs.Swap.{ChangedRow, new_place, same_place}
 use Rattle.hc_places.specs.Walk.{changes, walked}
 use Rattle.hc_places.proofs.Changed.{place-none, place_of}
 use Rattle.hc_places.proofs.Swapped.{place-of-cons}

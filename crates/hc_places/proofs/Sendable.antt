@@ -1,10 +1,10 @@
 -- The datagrams of a task lie in their ranges.
-use Rattle.std.proofs.Common.{◌≡◌, ℕ, zero, suc, ◌+◌, ◌*◌, ◌<◌, ◌≤◌, List, [], ◌∷◌, arith}
+use Rattle.std.proofs.Common.{ℕ, zero, suc, ◌+◌, ◌*◌, ◌<◌, ◌≤◌, List, arith}
 use Rattle.std.specs.Prelude.{All}
 use Rattle.std.specs.List.{range_with_len}
 use Rattle.std.proofs.lemmas.List.Elements.{All-cons, All-map, All-nil}
-use Rattle.hc_records.specs.declared.limits.TheConstants.{MOST_DATAGRAMS, MOST_DATAGRAM_BYTES}
-use Rattle.hc_records.specs.Image.{datagram_count, datagram_length, datagram_offset}
+use Rattle.hc_records.specs.declared.limits.TheConstants.{MOST_DATAGRAM_BYTES}
+use Rattle.hc_records.specs.Image.{datagram_count, datagram_offset}
 use Rattle.hc_records.specs.Packing.{Placed}
 use Rattle.hc_places.specs.Parts.{AreSendable, datagram_at, datagrams_of}
 use Rattle.hc_places.specs.Ranges.{IsDatagram}

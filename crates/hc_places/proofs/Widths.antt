@@ -1,6 +1,6 @@
 -- The entries that a project's areas offer have 1 to 64 bits.
-use Rattle.std.proofs.Common.{◌≡◌, ℕ, ◌<◌, ◌≤◌, Bool, true, false, cond, List, [], ◌∷◌, arith}
-use Rattle.std.specs.Prelude.{All, None, Option, Some, find, map, nat_lt, ◌||◌, ◌==◌, ◌++◌, ◌-◌, ◌+◌, length, not}
+use Rattle.std.proofs.Common.{◌≡◌, ℕ, Bool, true, false, cond, List, [], ◌∷◌}
+use Rattle.std.specs.Prelude.{All, None, Option, Some, find, map, nat_lt, ◌||◌, ◌==◌, ◌-◌, ◌+◌, length, not}
 use Rattle.std.specs.Option.{option_map_or}
 use Rattle.std.specs.List.{enumerate_from, flat_map, list_any}
 use Rattle.std.proofs.lemmas.Bool.{ltb-false, or_parts}

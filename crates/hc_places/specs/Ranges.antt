@@ -1,5 +1,5 @@
 -- The ranges in which a place and a datagram of a table lie.
-use Rattle.std.specs.Prelude.{ℕ, ◌+◌, ◌*◌, ◌<◌, ◌≤◌, All}
+use Rattle.std.specs.Prelude.{◌+◌, ◌*◌, ◌<◌, ◌≤◌, All}
 use Rattle.hc_records.specs.declared.limits.TheConstants.{MOST_AREA_BITS, MOST_DATAGRAMS, MOST_DATAGRAM_BYTES, MOST_ENTRY_BITS, TASKS}
 use Rattle.hc_records.specs.declared.records.Area.{Area}
 use Rattle.hc_records.specs.Area.{Entry}

@@ -1,5 +1,5 @@
 -- The rows of a table ascend.
-use Rattle.std.proofs.Common.{◌≡◌, arith, length, filter}
+use Rattle.std.proofs.Common.{◌≡◌, arith}
 use Rattle.std.specs.Prelude.{List, None}
 use Rattle.std.specs.List.{flat_map}
 use Rattle.hc_records.specs.declared.records.Declared.{Declared}
