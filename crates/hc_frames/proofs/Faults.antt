@@ -70,3 +70,32 @@ no_fault bytes a b c d e f g h = none_holds (is_short bytes) (is_not_ethercat by
   where
     none_holds : (a b c d e f g h : Bool) → a ≡ false → b ≡ false → c ≡ false → d ≡ false → e ≡ false → f ≡ false → g ≡ false → h ≡ false → table a b c d e f g h ≡ None
     none_holds a b c d e f g h a' b' c' d' e' f' g' h' = rw (a', b', c', d', e', f', g', h') refl
+
+fault_or_none : {fault : FrameFault} → Some fault ≡ None → ⊥
+fault_or_none e = cc
+
+-- none of the eight conditions holds
+pub record Clear (bytes : List ℕ) : Type 0 where
+  pub ethercat : is_not_ethercat bytes ≡ false
+  pub type : has_bad_type bytes ≡ false
+  pub length : has_bad_length bytes ≡ false
+  pub turn : is_circulating bytes ≡ false
+  pub end : promises_more bytes ≡ false
+  pub known : has_unknown_command bytes ≡ false
+  pub index : mismatches bytes ≡ false
+
+pub clear_of : (bytes : List ℕ) → fault_in bytes ≡ None → Clear bytes
+clear_of bytes none =
+    let all = every (is_short bytes) (is_not_ethercat bytes) (has_bad_type bytes) (has_bad_length bytes) (is_circulating bytes) (promises_more bytes) (has_unknown_command bytes) (mismatches bytes) none in
+    record { ethercat = all.0; type = all.1; length = all.2; turn = all.3; end = all.4; known = all.5; index = all.6 }
+  where
+    every : (a b c d e f g h : Bool) → table a b c d e f g h ≡ None → (b ≡ false) × (c ≡ false) × (d ≡ false) × (e ≡ false) × (f ≡ false) × (g ≡ false) × (h ≡ false)
+    every true b c d e f g h none = absurd (fault_or_none none)
+    every false true c d e f g h none = absurd (fault_or_none none)
+    every false false true d e f g h none = absurd (fault_or_none none)
+    every false false false true e f g h none = absurd (fault_or_none none)
+    every false false false false true f g h none = absurd (fault_or_none none)
+    every false false false false false true g h none = absurd (fault_or_none none)
+    every false false false false false false true h none = absurd (fault_or_none none)
+    every false false false false false false false true none = absurd (fault_or_none none)
+    every false false false false false false false false none = (refl, refl, refl, refl, refl, refl, refl)
