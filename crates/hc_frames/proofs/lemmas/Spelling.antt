@@ -1,5 +1,5 @@
 -- A readable frame is the spelling of what it tells.
-use Rattle.std.proofs.Common.{◌≡◌, ◌==◌, ℕ, zero, suc, ◌+◌, ◌-◌, ◌*◌, ◌/◌, ◌%◌, ◌^◌, ◌<◌, ◌≤◌, Bool, true, false, cond, ◌&&◌, ◌||◌, not, All, nat_lt, nat_le, List, [], ◌∷◌, ◌++◌, length, take, drop, map, get_or, refl, sym, ap, ◌∙◌, subst, append_assoc, append-nil, arith, rules, length-append, length-drop, Option, Some, None, unwrap_or, is_none}
+use Rattle.std.proofs.Common.{◌≡◌, ◌==◌, ℕ, zero, suc, ◌+◌, ◌*◌, ◌/◌, ◌%◌, ◌<◌, ◌≤◌, Bool, true, false, ◌&&◌, ◌||◌, not, All, nat_lt, nat_le, List, [], ◌∷◌, ◌++◌, length, take, drop, map, get_or, refl, sym, ap, ◌∙◌, subst, append-nil, arith, length-drop, unwrap_or, is_none}
 use Rattle.std.specs.Prelude.{slice_index}
 use Rattle.std.specs.List.{list_all, list_any}
 use Rattle.std.specs.Int.{w16, to_le_bytes}
@@ -9,10 +9,10 @@ use Rattle.hc_frames.proofs.Faults.{Clear, clear_of}
 use Rattle.hc_frames.proofs.Surveys.{not_false}
 use Rattle.std.proofs.lemmas.List.Elements.{All-cons}
 use Rattle.std.proofs.lemmas.Bool.Decides.{nat_tests}
-use Rattle.hc_frames.specs.declared.commands.Command.TheVariants.{Aprd, Apwr, Fpwr, Lrw}
+use Rattle.hc_frames.specs.declared.commands.Command.TheVariants.{Lrw}
 use Rattle.hc_frames.specs.Commands.{code_of, command_of}
-use Rattle.hc_frames.specs.FrameText.{Carried, head_to, carried_head, carried_text, carried_texts, length_field}
-use Rattle.hc_frames.specs.Arrived.{carried, circulates, data_size, datagram_bytes, datagrams_in, fill_region, is_not_ethercat, region, serial_in, has_other_index, is_unknown, is_whole, more_at_end, more_between, says_more, word_at}
+use Rattle.hc_frames.specs.FrameText.{Carried, head_to, carried_text, carried_texts, length_field}
+use Rattle.hc_frames.specs.Arrived.{carried, circulates, data_size, datagram_bytes, datagrams_in, is_not_ethercat, region, serial_in, has_other_index, is_unknown, is_whole, more_at_end, more_between, says_more, word_at}
 use Rattle.hc_frames.specs.Laws.{ReadableFramesAreCarried}
 use Rattle.hc_frames.specs.Returned.{FitsLine}
 use Rattle.hc_frames.proofs.lemmas.Datagrams.{carried-length, datagrams-none, datagrams-some, whole-long}
@@ -144,24 +144,24 @@ head_spelled serial more bytes all clean =
     let long : 12 + data_size bytes ≤ length bytes = whole-long bytes clean.whole in
     let P : List ℕ → Type 0 = λ xs. AllBytes xs → Clean serial more xs → Spelled serial more xs in
     by_ten P (λ a b c d e f g h i j xs all clean.
-        let bytes : List ℕ = a ∷ b ∷ c ∷ d ∷ e ∷ f ∷ g ∷ h ∷ i ∷ j ∷ xs in
-        let c' : c < 256 = all 2 0 (omega arith) in
-        let d' : d < 256 = all 3 0 (omega arith) in
-        let e' : e < 256 = all 4 0 (omega arith) in
-        let f' : f < 256 = all 5 0 (omega arith) in
-        let g' : g < 256 = all 6 0 (omega arith) in
-        let h' : h < 256 = all 7 0 (omega arith) in
-        let i' : i < 256 = all 8 0 (omega arith) in
-        let j' : j < 256 = all 9 0 (omega arith) in
-        let size : length (carried bytes).bytes ≡ (g + 256 * h) % 2048 = carried-length bytes clean.whole in
-        let field : length_field (length (carried bytes).bytes) more ≡ g + 256 * h =
-            ap (λ (n : ℕ). length_field n more) size ∙ field_back (g + 256 * h) more (omega arith) (spare_clear bytes clean.whole) clean.turn clean.promise in
-        carried-cut serial more (carried bytes) (drop (12 + data_size bytes) bytes)
-        ∙ ten_same _ _ _ _ _ _ _ _ _ _ a b c d e f g h i j _ xs
-          (code_back a clean.known) (sym (unequal_not b (serial % 256) clean.index))
-          (byte_0 c d e f c' d' e' f') (byte_1 c d e f c' d' e' f') (byte_2 c d e f c' d' e' f') (byte_3 c d e f c' d' e' f')
-          (ap (λ (n : ℕ). n % 256) field ∙ low_byte g h g' h') (ap (λ (n : ℕ). n / 256 % 256) field ∙ high_byte g h g' h')
-          (low_byte i j i' j') (high_byte i j i' j') (tail_spelled bytes all clean.whole))
+    let bytes : List ℕ = a ∷ b ∷ c ∷ d ∷ e ∷ f ∷ g ∷ h ∷ i ∷ j ∷ xs in
+    let c' : c < 256 = all 2 0 (omega arith) in
+    let d' : d < 256 = all 3 0 (omega arith) in
+    let e' : e < 256 = all 4 0 (omega arith) in
+    let f' : f < 256 = all 5 0 (omega arith) in
+    let g' : g < 256 = all 6 0 (omega arith) in
+    let h' : h < 256 = all 7 0 (omega arith) in
+    let i' : i < 256 = all 8 0 (omega arith) in
+    let j' : j < 256 = all 9 0 (omega arith) in
+    let size : length (carried bytes).bytes ≡ (g + 256 * h) % 2048 = carried-length bytes clean.whole in
+    let field : length_field (length (carried bytes).bytes) more ≡ g + 256 * h =
+    ap (λ (n : ℕ). length_field n more) size ∙ field_back (g + 256 * h) more (omega arith) (spare_clear bytes clean.whole) clean.turn clean.promise in
+    carried-cut serial more (carried bytes) (drop (12 + data_size bytes) bytes)
+    ∙ ten_same _ _ _ _ _ _ _ _ _ _ a b c d e f g h i j _ xs
+    (code_back a clean.known) (sym (unequal_not b (serial % 256) clean.index))
+    (byte_0 c d e f c' d' e' f') (byte_1 c d e f c' d' e' f') (byte_2 c d e f c' d' e' f') (byte_3 c d e f c' d' e' f')
+    (ap (λ (n : ℕ). n % 256) field ∙ low_byte g h g' h') (ap (λ (n : ℕ). n / 256 % 256) field ∙ high_byte g h g' h')
+    (low_byte i j i' j') (high_byte i j i' j') (tail_spelled bytes all clean.whole))
     bytes (omega arith) all clean
 
 -- its fields fit
@@ -189,6 +189,7 @@ head_fits bytes all whole =
   where
     one_of : (n : ℕ) → nat_le 1 n ≡ true → 1 ≤ n
     one_of n e = grind (arith, nat_tests)
+
     most_of : (n : ℕ) → nat_le n 1486 ≡ true → n ≤ 1486
     most_of n e = grind (arith, nat_tests)
 
@@ -268,7 +269,7 @@ told (suc n) serial bytes short some all clean = step (λ (rest : List ℕ). tol
         let one : Clean serial true bytes = first_clean serial bytes rest behind both in
         let B : List ℕ → Type 0 = AllBytes in
         let others : Told serial rest (datagrams_in rest) =
-            others_told rest (omega (arith, ap length e, length-drop (12 + data_size bytes) bytes)) (omega arith) (subst B (sym e) (bytes_behind (12 + data_size bytes) bytes all)) (subst Q (sym there) (others_clean serial bytes rest behind both)) in
+        others_told rest (omega (arith, ap length e, length-drop (12 + data_size bytes) bytes)) (omega arith) (subst B (sym e) (bytes_behind (12 + data_size bytes) bytes all)) (subst Q (sym there) (others_clean serial bytes rest behind both)) in
         let S : List (List ℕ) → Type 0 = Told serial rest in
         let next : Told serial rest (rest ∷ behind) = subst S there others in
         let R : List (List ℕ) → Type 0 = Told serial bytes in
@@ -295,7 +296,7 @@ by_six P each (a ∷ b ∷ c ∷ d ∷ e ∷ f ∷ xs) long = each a b c d e f x
 -- the five bytes of a serial
 serial_bytes : (a b c d e : ℕ) → a < 256 → b < 256 → c < 256 → d < 256 → e < 256
     → let n = e + 256 * (d + 256 * (c + 256 * (b + 256 * a))) in
-      (n / 4294967296 % 256 ≡ a) × (n / 16777216 % 256 ≡ b) × (n / 65536 % 256 ≡ c) × (n / 256 % 256 ≡ d) × (n % 256 ≡ e) × (n < 1099511627776)
+    (n / 4294967296 % 256 ≡ a) × (n / 16777216 % 256 ≡ b) × (n / 65536 % 256 ≡ c) × (n / 256 % 256 ≡ d) × (n % 256 ≡ e) × (n < 1099511627776)
 serial_bytes a b c d e a' b' c' d' e' = (omega arith, omega arith, omega arith, omega arith, omega arith, omega arith)
 
 header_back : (n : ℕ) → n / 2048 ≡ 2 → n % 2048 + 4096 ≡ n
@@ -311,23 +312,24 @@ frame_round : (bytes : List ℕ) → 16 ≤ length bytes → Round bytes
 frame_round bytes long =
     by_ten (λ xs. 16 ≤ length xs → Round xs)
     (λ b0 b1 b2 b3 b4 b5 b6 b7 b8 b9 rest long.
-      by_six (λ xs. Round (b0 ∷ b1 ∷ b2 ∷ b3 ∷ b4 ∷ b5 ∷ b6 ∷ b7 ∷ b8 ∷ b9 ∷ xs))
-      (λ b10 b11 b12 b13 b14 b15 xs all type kind text same size.
-        let bytes : List ℕ = b0 ∷ b1 ∷ b2 ∷ b3 ∷ b4 ∷ b5 ∷ b6 ∷ b7 ∷ b8 ∷ b9 ∷ b10 ∷ b11 ∷ b12 ∷ b13 ∷ b14 ∷ b15 ∷ xs in
-        let n : ℕ = datagram_bytes bytes in
-        let spelled = serial_bytes b7 b8 b9 b10 b11 (all 7 0 (omega arith)) (all 8 0 (omega arith)) (all 9 0 (omega arith)) (all 10 0 (omega arith)) (all 11 0 (omega arith)) in
-        let low : b14 < 256 = all 14 0 (omega arith) in
-        let high : b15 < 256 = all 15 0 (omega arith) in
-        let header : length text + 4096 ≡ b14 + 256 * b15 = ap (λ (k : ℕ). k + 4096) size ∙ header_back (b14 + 256 * b15) kind in
-        let both = and_true _ _ (not_false _ type) in
-        let behind : drop (16 + n) bytes ≡ drop n xs = sym (drop_twice 16 n bytes) in
-        let tail : text ++ drop (16 + n) bytes ≡ xs = ap (λ (t : List ℕ). t ++ drop (16 + n) bytes) same ∙ ap (λ (t : List ℕ). take n xs ++ t) behind ∙ take-append-drop n xs in
-        (spelled.5,
-         ap (λ (t : List ℕ). b0 ∷ b1 ∷ b2 ∷ b3 ∷ b4 ∷ b5 ∷ b6 ∷ t)
-         (sym (nine_same _ _ _ _ _ _ _ _ _ b7 b8 b9 b10 b11 b12 b13 b14 b15 _ xs
-           spelled.0 spelled.1 spelled.2 spelled.3 spelled.4 (sym (same_number b12 0x88 both.0)) (sym (same_number b13 0xa4 both.1))
-           (ap (λ (k : ℕ). k % 256) header ∙ low_byte b14 b15 low high) (ap (λ (k : ℕ). k / 256 % 256) header ∙ high_byte b14 b15 low high) tail))))
-      rest (omega arith))
+    by_six (λ xs. Round (b0 ∷ b1 ∷ b2 ∷ b3 ∷ b4 ∷ b5 ∷ b6 ∷ b7 ∷ b8 ∷ b9 ∷ xs))
+    (λ b10 b11 b12 b13 b14 b15 xs all type kind text same size.
+    let bytes : List ℕ = b0 ∷ b1 ∷ b2 ∷ b3 ∷ b4 ∷ b5 ∷ b6 ∷ b7 ∷ b8 ∷ b9 ∷ b10 ∷ b11 ∷ b12 ∷ b13 ∷ b14 ∷ b15 ∷ xs in
+    let n : ℕ = datagram_bytes bytes in
+    let spelled = serial_bytes b7 b8 b9 b10 b11 (all 7 0 (omega arith)) (all 8 0 (omega arith)) (all 9 0 (omega arith)) (all 10 0 (omega arith)) (all 11 0 (omega arith)) in
+    let low : b14 < 256 = all 14 0 (omega arith) in
+    let high : b15 < 256 = all 15 0 (omega arith) in
+    let header : length text + 4096 ≡ b14 + 256 * b15 = ap (λ (k : ℕ). k + 4096) size ∙ header_back (b14 + 256 * b15) kind in
+    let both = and_true _ _ (not_false _ type) in
+    let behind : drop (16 + n) bytes ≡ drop n xs = sym (drop_twice 16 n bytes) in
+    let tail : text ++ drop (16 + n) bytes ≡ xs = ap (λ (t : List ℕ). t ++ drop (16 + n) bytes) same ∙ ap (λ (t : List ℕ). take n xs ++ t) behind ∙ take-append-drop n xs in (
+      spelled.5,
+      ap (λ (t : List ℕ). b0 ∷ b1 ∷ b2 ∷ b3 ∷ b4 ∷ b5 ∷ b6 ∷ t)
+          (sym (nine_same _ _ _ _ _ _ _ _ _ b7 b8 b9 b10 b11 b12 b13 b14 b15 _ xs
+          spelled.0 spelled.1 spelled.2 spelled.3 spelled.4 (sym (same_number b12 0x88 both.0)) (sym (same_number b13 0xa4 both.1))
+          (ap (λ (k : ℕ). k % 256) header ∙ low_byte b14 b15 low high) (ap (λ (k : ℕ). k / 256 % 256) header ∙ high_byte b14 b15 low high) tail)),
+    ))
+    rest (omega arith))
     bytes (omega arith) long
 
 least_of : (m n : ℕ) → nat_lt m n ≡ false → n ≤ m
@@ -355,7 +357,7 @@ frame-carried bytes all none =
     let ds : List (List ℕ) = datagrams_in part in
     let serial : ℕ = serial_in bytes in
     let n : ℕ = datagram_bytes bytes in
-    let long = or_false _ _ clear.length in
+    let long = or_false _ _ clear.size in
     let there : 16 + n ≤ length bytes = least_of _ _ (or_false _ _ long.1).0 in
     let within : n ≤ 1498 = least_of _ _ long.0 in
     let filled = and_true _ _ (not_false _ (or_false _ _ long.1).1) in
@@ -363,8 +365,8 @@ frame-carried bytes all none =
     let rows = and_true _ _ filled.1 in
     let size : length part ≡ n = omega (arith, length-take n (drop 16 bytes), length-drop 16 bytes) in
     let said : Told serial part ds =
-        told (length part) serial part (omega arith) (some_bytes part some) (bytes_before n (drop 16 bytes) (bytes_behind 16 bytes all))
-        (record { whole = rows.0; between = rows.1; end = clear.end; turn = clear.turn; known = clear.known; index = clear.index }) in
+    told (length part) serial part (omega arith) (some_bytes part some) (bytes_before n (drop 16 bytes) (bytes_behind 16 bytes all))
+    (record { whole = rows.0; between = rows.1; end = clear.end; turn = clear.turn; known = clear.known; index = clear.index }) in
     let parts : List Carried = map carried ds in
     let text : List ℕ = carried_texts serial parts in
     let size_of : length text ≡ n = ap length said.text ∙ size in
