@@ -1,5 +1,5 @@
 -- The fault that the reader answers is the first that holds.
-use Rattle.std.proofs.Common.{◌≡◌, ◌==◌, ℕ, ◌+◌, ◌%◌, ◌<◌, ◌≤◌, Bool, true, false, cond, ◌&&◌, ◌||◌, not, nat_lt, List, length, refl, ap, ◌∙◌, sym, arith, Option, Some, None}
+use Rattle.std.proofs.Common.{◌≡◌, ℕ, ◌+◌, ◌%◌, ◌<◌, ◌≤◌, Bool, true, false, cond, ◌&&◌, ◌||◌, not, nat_lt, List, length, refl, ap, ◌∙◌, sym, arith, Option, Some, None}
 use Rattle.std.specs.List.{list_all, list_any}
 use Rattle.std.proofs.lemmas.Bool.Decides.{nat_tests}
 use Rattle.hc_frames.specs.declared.limits.TheConstants.{LEAST_READ, MAX_DATAGRAMS}
@@ -70,3 +70,36 @@ no_fault bytes a b c d e f g h = none_holds (is_short bytes) (is_not_ethercat by
   where
     none_holds : (a b c d e f g h : Bool) → a ≡ false → b ≡ false → c ≡ false → d ≡ false → e ≡ false → f ≡ false → g ≡ false → h ≡ false → table a b c d e f g h ≡ None
     none_holds a b c d e f g h a' b' c' d' e' f' g' h' = rw (a', b', c', d', e', f', g', h') refl
+
+fault_or_none : {fault : FrameFault} → Some fault ≡ None → ⊥
+fault_or_none e = cc
+
+-- none of the eight conditions holds
+pub record Clear (bytes : List ℕ) : Type 0 where
+  pub long : LEAST_READ ≤ length bytes
+  pub ethercat : is_not_ethercat bytes ≡ false
+  pub type : has_bad_type bytes ≡ false
+  pub size : has_bad_length bytes ≡ false
+  pub turn : is_circulating bytes ≡ false
+  pub end : promises_more bytes ≡ false
+  pub known : has_unknown_command bytes ≡ false
+  pub index : mismatches bytes ≡ false
+
+pub clear_of : (bytes : List ℕ) → fault_in bytes ≡ None → Clear bytes
+clear_of bytes none =
+    let all = every (is_short bytes) (is_not_ethercat bytes) (has_bad_type bytes) (has_bad_length bytes) (is_circulating bytes) (promises_more bytes) (has_unknown_command bytes) (mismatches bytes) none in
+    record { long = least_of (length bytes) LEAST_READ all.0; ethercat = all.1; type = all.2; size = all.3; turn = all.4; end = all.5; known = all.6; index = all.7 }
+  where
+    every : (a b c d e f g h : Bool) → table a b c d e f g h ≡ None → (a ≡ false) × (b ≡ false) × (c ≡ false) × (d ≡ false) × (e ≡ false) × (f ≡ false) × (g ≡ false) × (h ≡ false)
+    every true b c d e f g h none = absurd (fault_or_none none)
+    every false true c d e f g h none = absurd (fault_or_none none)
+    every false false true d e f g h none = absurd (fault_or_none none)
+    every false false false true e f g h none = absurd (fault_or_none none)
+    every false false false false true f g h none = absurd (fault_or_none none)
+    every false false false false false true g h none = absurd (fault_or_none none)
+    every false false false false false false true h none = absurd (fault_or_none none)
+    every false false false false false false false true none = absurd (fault_or_none none)
+    every false false false false false false false false none = (refl, refl, refl, refl, refl, refl, refl, refl)
+
+    least_of : (m n : ℕ) → nat_lt m n ≡ false → n ≤ m
+    least_of m n e = grind (arith, nat_tests)

@@ -1,8 +1,7 @@
 -- What one pass over the datagrams finds is what the conditions look at.
-use Rattle.std.proofs.Common.{◌≡◌, ◌==◌, ℕ, zero, suc, ◌+◌, ◌<◌, ◌≤◌, Bool, true, false, cond, ◌&&◌, ◌||◌, not, nat_lt, List, [], ◌∷◌, length, drop, refl, ap, ◌∙◌, sym, arith, rules, Option, Some, None, add-zero, zero-add}
+use Rattle.std.proofs.Common.{◌≡◌, ℕ, ◌+◌, ◌<◌, Bool, true, false, ◌&&◌, ◌||◌, not, nat_lt, List, [], ◌∷◌, length, drop, refl, ap, ◌∙◌, sym, arith, Some, None, zero-add}
 use Rattle.std.specs.List.{list_all, list_any}
 use Rattle.std.proofs.Math.Bool.{or-false, or_assoc}
-use Rattle.std.proofs.lemmas.Bool.Decides.{nat_tests}
 use Rattle.hc_frames.specs.declared.reading.datagrams.Survey.{Survey}
 use Rattle.hc_frames.specs.Arrived.{circulates, data_size, datagrams_in, fill_region, has_other_index, is_unknown, is_whole, more_at_end, more_between, says_more}
 use Rattle.hc_frames.specs.Survey.{noted, nothing_seen, surveyed}

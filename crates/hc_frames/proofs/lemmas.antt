@@ -4,4 +4,5 @@ pub mod Opening
 pub mod Readings
 pub mod Replaced
 pub mod Returns
+pub mod Spelling
 pub mod Texts

@@ -34,6 +34,11 @@ carried_texts serial [] = []
 carried_texts serial (d ∷ []) = carried_text serial false d
 carried_texts serial (d ∷ e ∷ ds) = carried_text serial true d ++ carried_texts serial (e ∷ ds)
 
+-- whether a datagram that stands in front of these is followed by more
+abbrev pub has_more : List Carried → Bool
+has_more [] = false
+has_more (d ∷ ds) = true
+
 -- the sixteen bytes before the datagrams: destination, the source's first byte and the serial, the EtherType, the EtherCAT header (bits 0 to 10 the datagrams' bytes, bits 12 to 15 the type 1)
 abbrev pub head_to : List ℕ → ℕ → ℕ → ℕ → List ℕ
 head_to destination first serial size = destination ++ first ∷ bytes_high_first 5 serial ++ 0x88 ∷ 0xa4 ∷ to_le_bytes w16 (size + 4096)

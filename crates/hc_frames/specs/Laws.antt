@@ -1,9 +1,9 @@
 -- What follows from the definitions of texts and readings.
-use Rattle.std.specs.Prelude.{◌≡◌, ℕ, ◌+◌, ◌^◌, ◌<◌, ◌≤◌, Bool, true, List, [], ◌∷◌, ◌++◌, length, take, drop, map, All, None, Option}
+use Rattle.std.specs.Prelude.{◌≡◌, ℕ, ◌+◌, ◌^◌, ◌<◌, ◌≤◌, Bool, true, List, ◌∷◌, ◌++◌, length, take, drop, map, All, None, slice_index}
 use Rattle.std.specs.List.{flat_map}
 use Rattle.hc_frames.specs.declared.limits.TheConstants.{MAX_DATAGRAMS}
-use Rattle.hc_frames.specs.Arrived.{fault_in, reading_of}
-use Rattle.hc_frames.specs.FrameText.{Carried, Datagram, blank_lrw, carried_frame, carried_text, carried_texts, datagram_text, datagrams_text, frame_text, lrw, sent}
+use Rattle.hc_frames.specs.Arrived.{datagram_bytes, fault_in, reading_of}
+use Rattle.hc_frames.specs.FrameText.{Carried, Datagram, blank_lrw, carried_frame, carried_text, carried_texts, datagram_text, frame_text, has_more, lrw, sent}
 use Rattle.hc_frames.specs.Returned.{AllAddressed, FitsLine, IsReturned}
 use Rattle.hc_frames.specs.Sizes.{frame_bytes, text_size}
 
@@ -70,3 +70,20 @@ FramesHaveOneReading =
     → length destination ≡ 6 → length destination2 ≡ 6 → CanBeCarried serial parts → CanBeCarried serial2 parts2
     → carried_frame destination first serial parts behind ≡ carried_frame destination2 first2 serial2 parts2 behind2
     → (serial ≡ serial2) × (parts ≡ parts2)
+
+-- a readable frame is spelled by what it tells, with the destination, the first source byte and the bytes behind its datagrams that it has
+abbrev pub ReadableFramesAreCarried : Type 0
+ReadableFramesAreCarried =
+    (bytes : List ℕ) → All (λ b. b < 256) bytes → fault_in bytes ≡ None
+    → CanBeCarried (reading_of bytes).serial (reading_of bytes).parts
+    × (bytes ≡ carried_frame (take 6 bytes) (slice_index bytes 6) (reading_of bytes).serial (reading_of bytes).parts (drop (16 + datagram_bytes bytes) bytes))
+
+-- a readable frame with another datagram of as many data bytes in the place of one is read so, and as before round it
+abbrev pub PartsAreReplaced : Type 0
+PartsAreReplaced =
+    (bytes : List ℕ) → All (λ b. b < 256) bytes → fault_in bytes ≡ None
+    → (before : List Carried) (old : Carried) (after : List Carried) → (reading_of bytes).parts ≡ before ++ old ∷ after
+    → (new : Carried) → FitsLine new → length new.bytes ≡ length old.bytes
+    → let start = 16 + text_size before in
+    let changed = take start bytes ++ carried_text (reading_of bytes).serial (has_more after) new ++ drop (start + (12 + length old.bytes)) bytes in
+    (fault_in changed ≡ None) × (reading_of changed ≡ record { serial = (reading_of bytes).serial; parts = before ++ new ∷ after })

@@ -1,10 +1,10 @@
 -- What the reader knows of a frame before it looks at the datagrams, and what a pass over them adds.
-use Rattle.std.specs.Prelude.{◌≡◌, ℕ, ◌+◌, ◌≤◌, false, List, length, Option, Some, None, Result, Ok, Err, if◌then◌else◌}
+use Rattle.std.specs.Prelude.{◌≡◌, ℕ, ◌+◌, ◌≤◌, false, List, length, Option, Some, None, if◌then◌else◌}
 use Rattle.hc_frames.specs.declared.limits.TheConstants.{LEAST_READ, MAX_DATAGRAMS}
 use Rattle.hc_frames.specs.declared.reading.datagrams.Survey.{Survey}
 use Rattle.hc_frames.specs.declared.reading.faults.FrameFault.{FrameFault}
 use Rattle.hc_frames.specs.declared.reading.faults.FrameFault.TheVariants.{Circulating, MoreFollows, UnknownCommand, IndexMismatch}
-use Rattle.hc_frames.specs.Arrived.{datagram_bytes, fault_in, has_bad_type, is_not_ethercat, region}
+use Rattle.hc_frames.specs.Arrived.{datagram_bytes, has_bad_type, is_not_ethercat, region}
 
 -- the bytes of the datagrams, where no condition holds that shows before they are looked at
 pub record StandsBehind (bytes found : List ℕ) : Type 0 where

@@ -1,9 +1,9 @@
 -- A sending that comes back (this project's profile of ETG.1000.4, frame and datagram structure): the slaves change data, working counters, interrupt fields and the low word of a position's address, and the first source byte's bit 1 is set as sent.
-use Rattle.std.specs.Prelude.{◌≡◌, ℕ, ◌+◌, ◌*◌, ◌/◌, ◌^◌, ◌<◌, ◌≤◌, List, [], ◌∷◌, ◌++◌, length, map, replicate}
+use Rattle.std.specs.Prelude.{◌≡◌, ℕ, ◌/◌, ◌^◌, ◌<◌, ◌≤◌, List, [], ◌∷◌, length, replicate}
 use Rattle.hc_frames.specs.declared.commands.Command.{Command}
 use Rattle.hc_frames.specs.declared.commands.Command.TheVariants.{Aprd, Apwr, Fpwr, Lrw}
-use Rattle.hc_frames.specs.declared.limits.TheConstants.{MAX_DATA, MAX_DATAGRAMS}
-use Rattle.hc_frames.specs.FrameText.{Carried, Datagram, carried_frame, carried_texts}
+use Rattle.hc_frames.specs.declared.limits.TheConstants.{MAX_DATA}
+use Rattle.hc_frames.specs.FrameText.{Carried, Datagram, carried_frame}
 
 -- the address of a command after the line: a position is counted up by the slaves
 abbrev pub KeepsAddress : Command → ℕ → ℕ → Type 0

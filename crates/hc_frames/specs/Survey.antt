@@ -1,5 +1,5 @@
 -- What one pass over the datagrams of a frame finds.
-use Rattle.std.specs.Prelude.{ℕ, ◌+◌, Bool, true, false, ◌&&◌, ◌||◌, List, [], ◌∷◌, Option, Some, None, if◌then◌else◌}
+use Rattle.std.specs.Prelude.{ℕ, ◌+◌, true, false, ◌&&◌, ◌||◌, List, [], ◌∷◌, Option, Some, None, if◌then◌else◌}
 use Rattle.hc_frames.specs.declared.reading.datagrams.Survey.{Survey}
 use Rattle.hc_frames.specs.Arrived.{circulates, has_other_index, is_unknown, is_whole, says_more}
 

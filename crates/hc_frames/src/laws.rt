@@ -1,7 +1,7 @@
 //! What follows from the definitions of `specs/`, so that a reader can trust them and a caller can use it: each function
 //! here does nothing, and its contract is a law. Nobody calls it.
 ghost use Rattle.hc_frames.specs.Filled.{FilledFrame};
-ghost use Rattle.hc_frames.specs.Laws.{BlankDatagramsAreFilled, BlankFramesAreFilled, BuiltFramesAreRead, CarriedFramesAreRead, FramesHaveOneReading, FramesHaveTheirSize, ReturnedFramesAreRead, SentFramesAreReturned, TextsAreJoined};
+ghost use Rattle.hc_frames.specs.Laws.{BlankDatagramsAreFilled, BlankFramesAreFilled, BuiltFramesAreRead, CarriedFramesAreRead, FramesHaveOneReading, FramesHaveTheirSize, PartsAreReplaced, ReadableFramesAreCarried, ReturnedFramesAreRead, SentFramesAreReturned, TextsAreJoined};
 
 /// When all loans of an opened frame are over, the slice holds the frame of its datagrams with the data that were left
 /// in their parts, and behind it what stood there.
@@ -56,4 +56,16 @@ pub fn built_frames_are_read()
 /// No frame can be read in two ways.
 pub fn frames_have_one_reading()
     ensures { FramesHaveOneReading }
+{}
+
+/// A readable frame is spelled by what it tells, with the destination, the first source byte and the bytes behind its
+/// datagrams that it has; so it can be spelled anew with other fields, and is then read as these.
+pub fn readable_frames_are_carried()
+    ensures { ReadableFramesAreCarried }
+{}
+
+/// A readable frame with another datagram of as many data bytes in the place of one is read so, and as before round it;
+/// so address, data and working counter can be changed in the frame.
+pub fn parts_are_replaced()
+    ensures { PartsAreReplaced }
 {}

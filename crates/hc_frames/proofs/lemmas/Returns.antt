@@ -1,5 +1,5 @@
 -- What comes back of a sending.
-use Rattle.std.proofs.Common.{◌≡◌, ℕ, ◌+◌, List, [], ◌∷◌, ◌++◌, length, map, replicate, refl, sym, ap, ◌∙◌, append_assoc}
+use Rattle.std.proofs.Common.{◌≡◌, ℕ, List, [], ◌∷◌, ◌++◌, length, map, replicate, refl, sym, ap, ◌∙◌, append_assoc}
 use Rattle.hc_frames.specs.declared.commands.Command.{Command}
 use Rattle.hc_frames.specs.declared.commands.Command.TheVariants.{Aprd, Apwr, Fpwr, Lrw}
 use Rattle.hc_frames.specs.Arrived.{Reading, fault_in, reading_of}

@@ -1,12 +1,11 @@
 -- How long the texts of datagrams and frames are, and how they are joined.
-use Rattle.std.proofs.Common.{◌≡◌, ℕ, ◌+◌, ◌-◌, ◌*◌, ◌%◌, ◌<◌, ◌≤◌, Bool, true, false, List, [], ◌∷◌, ◌++◌, length, map, replicate, refl, sym, ap, ◌∙◌, append_assoc, arith, length-append, zero-add}
-use Rattle.std.specs.Prelude.{sum_by}
+use Rattle.std.proofs.Common.{◌≡◌, ℕ, ◌+◌, ◌-◌, ◌%◌, Bool, true, false, List, [], ◌∷◌, ◌++◌, length, map, refl, sym, ap, ◌∙◌, append_assoc, arith, length-append, zero-add}
 use Rattle.std.specs.List.{flat_map}
 use Rattle.std.specs.Int.{w16, to_le_bytes}
 use Rattle.std.proofs.lemmas.List.{length-replicate}
 use Rattle.std.proofs.lemmas.List.Sums.{sum_by-cons}
 use Rattle.hc_frames.specs.declared.limits.TheConstants.{LEAST_FRAME}
-use Rattle.hc_frames.specs.FrameText.{Carried, Datagram, carried_frame, carried_head, carried_text, carried_texts, datagrams_text, frame_head, frame_text, head_to, padding, sent}
+use Rattle.hc_frames.specs.FrameText.{Carried, Datagram, carried_head, carried_text, carried_texts, datagrams_text, frame_head, frame_text, padding, sent}
 use Rattle.hc_frames.specs.Sizes.{frame_bytes, text_size}
 
 -- the ten bytes before the data, the data, and what stands behind them

@@ -1,7 +1,7 @@
-use Rattle.std.proofs.Common.{◌≡◌, ◌==◌, ◌<◌, ◌≤◌, ◌+◌, ◌-◌, ℕ, List, true, false, not, length, drop, length-drop, ap, sym, ◌∙◌, arith, Some, None}
+use Rattle.std.proofs.Common.{◌≡◌, ◌<◌, ◌≤◌, ◌+◌, ◌-◌, ℕ, List, true, length, drop, length-drop, ap, sym, ◌∙◌, arith}
 use Rattle.std.proofs.lemmas.Bool.Decides.{nat_tests}
 use Rattle.hc_frames.specs.Arrived.{data_size, datagrams_in, is_whole}
-use Rattle.hc_frames.specs.Survey.{noted, nothing_seen, surveyed}
+use Rattle.hc_frames.specs.Survey.{noted, surveyed}
 use Rattle.hc_frames.proofs.lemmas.Datagrams.{datagrams-none, whole-long}
 use Rattle.hc_frames.proofs.Surveys.{not_false, not_true, survey_goes, survey_unpromised, survey_unwhole}
 use Rattle.hc_frames.proofs.reading.datagrams.survey_of.Goals as goal

@@ -1,7 +1,7 @@
-use Rattle.std.proofs.Common.{◌≡◌, ℕ, ◌+◌, ◌%◌, ◌<◌, ◌&&◌, Bool, false, List, true, length, map, nat_lt, refl, ap, sym, ◌∙◌, arith, Some, None}
+use Rattle.std.proofs.Common.{◌≡◌, ℕ, ◌%◌, ◌<◌, ◌&&◌, Bool, false, List, length, map, nat_lt, ap, sym, ◌∙◌, arith, Some}
 use Rattle.std.specs.List.{list_all}
 use Rattle.hc_frames.specs.declared.reading.datagrams.Survey.{Survey}
-use Rattle.hc_frames.specs.Arrived.{carried, datagrams_in, is_whole, more_between, region, serial_in, Reading}
+use Rattle.hc_frames.specs.Arrived.{carried, datagrams_in, is_whole, more_between, serial_in}
 use Rattle.hc_frames.specs.Survey.{nothing_seen, surveyed}
 use Rattle.hc_frames.proofs.Faults.{filled, unfilled}
 use Rattle.hc_frames.proofs.Surveys.{Found, found, not_found}

@@ -1,4 +1,4 @@
-use Rattle.std.proofs.Common.{◌≡◌, ◌+◌, ◌-◌, ◌<◌, ◌≤◌, ◌∷◌, ◌∙◌, ℕ, List, true, length, length-drop, drop, map, ap, sym, arith}
+use Rattle.std.proofs.Common.{◌≡◌, ◌+◌, ◌-◌, ◌≤◌, ◌∷◌, ◌∙◌, ℕ, List, length, length-drop, drop, map, ap, sym, arith}
 use Rattle.std.specs.List.{list_all}
 use Rattle.hc_frames.specs.Arrived.{carried, data_size, datagrams_in, is_whole, placed_from, Placed}
 use Rattle.hc_frames.proofs.lemmas.Datagrams.{first-whole, placed-some, whole-long}
