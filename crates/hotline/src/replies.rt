@@ -1,6 +1,6 @@
 //! The reply to one command line.
-ghost use Rattle.std.specs.Prelude.{◌≡◌, IfOk, OnErr, OnOk, string_bytes};
-ghost use Rattle.hotline.specs.Runs.{reply_to};
+ghost use Rattle.std.specs.Prelude.{◌≡◌, ◌++◌, IfOk, OnErr, OnOk, map, string_bytes};
+ghost use Rattle.hotline.specs.Runs.{reply_to, reply_to_words};
 
 use crate::commands::{command_in, obey};
 use crate::refusals::push_bad_command;
@@ -28,26 +28,34 @@ pub fn answer(alloc: Global, line: &[u8], number: u32, plan: &mut Plan) -> Resul
 {
     let words = split_words(alloc, line)?;
     let mut text = String::new(alloc);
-    if words.is_empty() {
-        return Ok(Reply {
-            text,
-            goes_on: true,
-        });
-    }
-    match command_in(alloc, words[0], &words[1..])? {
+    let goes_on = push_reply(alloc, &words, number, plan, &mut text)?;
+    Ok(Reply { text, goes_on })
+}
+
+/// Adds what the words of a line print, and tells whether the run goes on behind it.
+fn push_reply(
+    alloc: Global,
+    words: &[&[u8]],
+    number: u32,
+    plan: &mut Plan,
+    out: &mut String,
+) -> Result<bool, AllocError>
+    ensures text { OnOk result (string_bytes out.new ≡ string_bytes out.old ++ (reply_to_words plan.old number (map (λ word. word.now) words.now)).text) }
+    ensures goes_on { IfOk result (λ goes_on. goes_on ≡ (reply_to_words plan.old number (map (λ word. word.now) words.now)).goes_on) }
+    ensures state { OnOk result (plan.new ≡ (reply_to_words plan.old number (map (λ word. word.now) words.now)).state) }
+    ensures unchanged { OnErr result (plan.new ≡ plan.old) }
+{
+    let [name, arguments @ ..] = words else {
+        return Ok(true);
+    };
+    match command_in(alloc, name, arguments)? {
         Some(command) => {
-            obey(alloc, &command, plan, &mut text)?;
-            Ok(Reply {
-                text,
-                goes_on: true,
-            })
+            obey(alloc, &command, plan, out)?;
+            Ok(true)
         }
         None => {
-            push_bad_command(number, &mut text)?;
-            Ok(Reply {
-                text,
-                goes_on: false,
-            })
+            push_bad_command(number, out)?;
+            Ok(false)
         }
     }
 }
