@@ -32,7 +32,7 @@ use Rattle.hc_registers.specs.declared.fmmu.Mapping.{Mapping}
 use Rattle.hc_registers.specs.Blocks.{IsMappable, mapping_at}
 use Rattle.hc_places.specs.Layout.{layout_of, placed_in}
 use Rattle.hc_places.proofs.lemmas.Found.{find-holds}
-use Rattle.hc_places.proofs.lemmas.Merged.{same-dirs}
+use Rattle.hc_places.proofs.lemmas.Same.{same-dirs}
 use Rattle.hc_plan.specs.Blocks.{IsMappedArea, IsMappedSlave}
 use Rattle.hc_plan.proofs.Numbered.{numbered-get}
 

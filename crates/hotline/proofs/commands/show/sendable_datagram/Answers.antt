@@ -9,5 +9,5 @@ use Rattle.hotline.proofs.commands.show.sendable_datagram.Goals as goal
 pub returns-clause-sendable : goal.returns-clause-sendable
 returns-clause-sendable c =
     subst (λ found. IfSome found (λ (datagram : Datagram). IsDatagramLength datagram.length))
-    (sym (c.datagram.ensures ∙ ap (λ table. datagram_in table c.args.task c.args.number) c.places.ensures.table))
+    (sym (c.datagram.ensures.datagram ∙ ap (λ table. datagram_in table c.args.task c.args.number) c.places.ensures.table))
     (planned_length c.args.plan.now c.args.task c.args.number c.places.ensures.kept)
