@@ -9,6 +9,7 @@ pub mod Inside
 pub mod KeyOrder
 pub mod Least
 pub mod Lengths
+pub mod Limits
 pub mod Lines
 pub mod Lists
 pub mod Packable

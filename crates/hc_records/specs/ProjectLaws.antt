@@ -1,14 +1,49 @@
 -- What a project's conditions say of its line and of its areas. Each is the contract of a function of `laws`.
-use Rattle.std.specs.Prelude.{◌≡◌, ℕ, ◌+◌, ◌*◌, ◌<◌, ◌≤◌, false, All, AllPairs, None, List, map}
-use Rattle.hc_records.specs.declared.limits.TheConstants.{MEMORY_END, MEMORY_START}
+use Rattle.std.specs.Prelude.{◌≡◌, ℕ, ◌+◌, ◌*◌, ◌<◌, ◌≤◌, false, All, AllPairs, None, List, length, map}
+use Rattle.hc_records.specs.declared.limits.TheConstants.{LAST_SYNC_MANAGER, MEMORY_END, MEMORY_START, MOST_AREA_BITS, MOST_AREAS, MOST_ENTRIES, MOST_ENTRY_BITS, MOST_GROUPS, MOST_PDOS, MOST_SLAVES, TASKS}
 use Rattle.hc_records.specs.declared.records.Area.{Area}
 use Rattle.hc_records.specs.declared.records.Declared.{Declared}
 use Rattle.hc_records.specs.declared.records.Group.{Group}
+use Rattle.hc_records.specs.declared.records.Pdo.{Pdo}
 use Rattle.hc_records.specs.declared.records.Slave.{Slave}
-use Rattle.hc_records.specs.Area.{width}
+use Rattle.hc_records.specs.Area.{Entry, width}
 use Rattle.hc_records.specs.Line.{IsCounted, State, groups_of, line}
 use Rattle.hc_records.specs.Lists.{has_repeat}
 use Rattle.hc_records.specs.Project.{lowest_fault, reach, slaves_of}
+
+-- an entry of 1 to 64 bits
+pub record KeepsEntryLimits (entry : Entry) : Type 0 where
+  pub some : 1 ≤ entry.1
+  pub most : entry.1 ≤ MOST_ENTRY_BITS
+
+pub record KeepsPdoLimits (pdo : Pdo) : Type 0 where
+  pub few : length pdo.entries ≤ MOST_ENTRIES
+  pub entries : All KeepsEntryLimits pdo.entries
+
+-- the values of an area in their ranges; its first byte, and the byte behind the last one that it may take, in the memory for process data
+pub record KeepsAreaLimits (area : Area) : Type 0 where
+  pub manager : area.sm ≤ LAST_SYNC_MANAGER
+  pub first : MEMORY_START ≤ area.phys
+  pub last : area.phys + reach area ≤ MEMORY_END
+  pub in_task : area.task < TASKS
+  pub assigned : length area.assigned ≤ MOST_PDOS
+  pub offered : length area.offered ≤ MOST_PDOS
+  pub pdos : All KeepsPdoLimits area.offered
+  pub narrow : width area ≤ MOST_AREA_BITS
+
+pub record KeepsSlaveLimits (slave : Slave) : Type 0 where
+  pub station : 1 ≤ slave.station
+  pub few : length slave.areas ≤ MOST_AREAS
+  pub areas : All KeepsAreaLimits slave.areas
+
+pub record KeepsLimits (groups : List Group) : Type 0 where
+  pub few_groups : length groups ≤ MOST_GROUPS
+  pub few_slaves : length (slaves_of groups) ≤ MOST_SLAVES
+  pub slaves : All KeepsSlaveLimits (slaves_of groups)
+
+-- a project keeps them all
+abbrev pub ProjectsKeepTheirLimits : Type 0
+ProjectsKeepTheirLimits = (groups : List Group) → lowest_fault groups ≡ None → KeepsLimits groups
 
 -- each declared slave of a project has a rank of 16 bits
 abbrev pub RanksAreCounted : Type 0
