@@ -6,19 +6,19 @@ use Rattle.hc_records.specs.declared.records.Declared.{Declared}
 use Rattle.hc_records.specs.declared.records.Group.{Group}
 use Rattle.hc_records.specs.declared.records.Pdo.{Pdo}
 use Rattle.hc_records.specs.declared.records.Slave.{Slave}
-use Rattle.hc_records.specs.Area.{Entry, width}
+use Rattle.hc_records.specs.Area.{width}
 use Rattle.hc_records.specs.Line.{IsCounted, State, groups_of, line}
 use Rattle.hc_records.specs.Lists.{has_repeat}
 use Rattle.hc_records.specs.Project.{lowest_fault, reach, slaves_of}
 
--- an entry of 1 to 64 bits
-pub record KeepsEntryLimits (entry : Entry) : Type 0 where
-  pub some : 1 ≤ entry.1
-  pub most : entry.1 ≤ MOST_ENTRY_BITS
+-- an entry has 1 to 64 bits
+pub record IsEntryWidth (bits : ℕ) : Type 0 where
+  pub some : 1 ≤ bits
+  pub most : bits ≤ MOST_ENTRY_BITS
 
 pub record KeepsPdoLimits (pdo : Pdo) : Type 0 where
   pub few : length pdo.entries ≤ MOST_ENTRIES
-  pub entries : All KeepsEntryLimits pdo.entries
+  pub entries : All (λ entry. IsEntryWidth entry.1) pdo.entries
 
 -- the values of an area in their ranges; its first byte, and the byte behind the last one that it may take, in the memory for process data
 pub record KeepsAreaLimits (area : Area) : Type 0 where
