@@ -10,9 +10,12 @@ use Rattle.hc_records.specs.Edits.{has_unknown}
 use Rattle.hc_records.specs.Project.{reach, slave_names, slaves_of}
 
 -- an entry has 1 to 64 bits
-pub record IsEntryInside (entry : Entry) : Type 0 where
-  pub some : 1 ≤ entry.1
-  pub most : entry.1 ≤ MOST_ENTRY_BITS
+pub record IsEntryWidth (bits : ℕ) : Type 0 where
+  pub some : 1 ≤ bits
+  pub most : bits ≤ MOST_ENTRY_BITS
+
+abbrev pub IsEntryInside : Entry → Type 0
+IsEntryInside entry = IsEntryWidth entry.1
 
 pub record IsPdoInside (pdo : Pdo) : Type 0 where
   pub few : length pdo.entries ≤ MOST_ENTRIES

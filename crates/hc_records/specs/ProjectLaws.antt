@@ -1,5 +1,5 @@
 -- What a project's conditions say of its line and of its areas. Each is the contract of a function of `laws`.
-use Rattle.std.specs.Prelude.{◌≡◌, ℕ, ◌+◌, ◌*◌, ◌<◌, ◌≤◌, false, All, AllPairs, None, List, map}
+use Rattle.std.specs.Prelude.{◌≡◌, ℕ, ◌*◌, ◌<◌, ◌≤◌, false, All, AllPairs, None, List, map}
 use Rattle.hc_records.specs.declared.limits.TheConstants.{MEMORY_END, MEMORY_START}
 use Rattle.hc_records.specs.declared.records.Area.{Area}
 use Rattle.hc_records.specs.declared.records.Declared.{Declared}
@@ -7,8 +7,13 @@ use Rattle.hc_records.specs.declared.records.Group.{Group}
 use Rattle.hc_records.specs.declared.records.Slave.{Slave}
 use Rattle.hc_records.specs.Area.{width}
 use Rattle.hc_records.specs.Line.{IsCounted, State, groups_of, line}
+use Rattle.hc_records.specs.Limits.{IsProjectInside, KeepApart, Reaches}
 use Rattle.hc_records.specs.Lists.{has_repeat}
 use Rattle.hc_records.specs.Project.{lowest_fault, reach, slaves_of}
+
+-- a project keeps all limits: each value in its range, each name once, each area in memory of its own
+abbrev pub ProjectsKeepTheirLimits : Type 0
+ProjectsKeepTheirLimits = (groups : List Group) → lowest_fault groups ≡ None → IsProjectInside groups
 
 -- each declared slave of a project has a rank of 16 bits
 abbrev pub RanksAreCounted : Type 0
@@ -29,11 +34,6 @@ abbrev pub ReachesHoldWidths : Type 0
 ReachesHoldWidths =
     (groups : List Group) → lowest_fault groups ≡ None → All (λ slave. All HoldsItsWidth slave.areas) (slaves_of groups)
 
--- a byte of its slave's memory that an area may take
-pub record TakesByte (area : Area) (byte : ℕ) : Type 0 where
-  pub from : area.phys ≤ byte
-  pub to : byte < area.phys + reach area
-
 -- a byte of the memory that is meant for process data
 pub record IsProcessByte (byte : ℕ) : Type 0 where
   pub from : MEMORY_START ≤ byte
@@ -41,8 +41,8 @@ pub record IsProcessByte (byte : ℕ) : Type 0 where
 
 -- the areas of a slave take bytes of this memory alone, and no two take the same byte
 pub record KeepsAreasApart (slave : Slave) : Type 0 where
-  pub inside : All (λ area. (byte : ℕ) → TakesByte area byte → IsProcessByte byte) slave.areas
-  pub apart : AllPairs (λ a b. (byte : ℕ) → TakesByte a byte → TakesByte b byte → ⊥) slave.areas
+  pub inside : All (λ area. (byte : ℕ) → Reaches area byte → IsProcessByte byte) slave.areas
+  pub apart : AllPairs KeepApart slave.areas
 
 -- so do those of each slave of a project
 abbrev pub ReachesShareNoByte : Type 0

@@ -4,7 +4,7 @@ ghost use Rattle.hc_records.specs.Laws.{ProjectsArePackable, PlacesKeepTheList, 
 ghost use Rattle.hc_records.specs.ImageLaws.{DatagramsTileTheImage, ImagesAreShort, VariablesLieInDatagrams, VariablesShareNoBit, VariablesStandInTheirParts};
 ghost use Rattle.hc_records.specs.AddressLaws.{AddressesHaveOneDatagram};
 ghost use Rattle.hc_records.specs.SpanLaws.{ProjectsHaveTaskLists, SettledSpansStay, SpansAreCutAlone, SpansAreDatagrams};
-ghost use Rattle.hc_records.specs.ProjectLaws.{RanksAreCounted, ReachesHoldWidths, ReachesShareNoByte, StationsAreDistinct};
+ghost use Rattle.hc_records.specs.ProjectLaws.{ProjectsKeepTheirLimits, RanksAreCounted, ReachesHoldWidths, ReachesShareNoByte, StationsAreDistinct};
 
 /// In a project each area of a task's list has 1 to 11,888 bits, so that a datagram can carry it,
 /// whichever groups are present.
@@ -127,6 +127,14 @@ pub fn images_are_short()
 /// most one data byte range: two datagrams of the line, of one task or of two, share none.
 pub fn addresses_have_one_datagram()
     ensures { AddressesHaveOneDatagram }
+{}
+
+/// A project keeps all limits: at most 512 groups and 2,048 slaves; for each slave a station address
+/// from 1 and at most 8 areas; for each area a sync manager up to 15, bytes of the memory from 0x1000 to
+/// 0x2FFF, a task below 8, at most 32 offered and 32 assigned PDOs and at most 11,888 bits; for each PDO
+/// at most 64 entries, of 1 to 64 bits each.
+pub fn projects_keep_their_limits()
+    ensures { ProjectsKeepTheirLimits }
 {}
 
 /// In a project, which declares at most 2,048 slaves, each declared slave has a rank that fits 16 bits.

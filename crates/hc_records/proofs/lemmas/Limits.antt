@@ -134,7 +134,7 @@ begins-mandatory (group ∷ groups) none =
     )
 
 -- no slave of the groups meets a test
-all-slaves : (test : Slave → Bool) (groups : List Group) → some_slave test groups ≡ false → All (λ slave. test slave ≡ false) (slaves_of groups)
+pub all-slaves : (test : Slave → Bool) (groups : List Group) → some_slave test groups ≡ false → All (λ slave. test slave ≡ false) (slaves_of groups)
 all-slaves test groups none =
     All-flat_map (λ slave. test slave ≡ false) (λ (group : Group). group.slaves) groups
     (All-weaker (λ group. list_any test group.slaves ≡ false) (λ group. All (λ slave. test slave ≡ false) group.slaves) (λ group. All-from_none test group.slaves) groups

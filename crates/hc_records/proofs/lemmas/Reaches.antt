@@ -1,31 +1,22 @@
 -- The bytes of its slave's memory that an area of a project may take.
-use Rattle.std.proofs.Common.{◌≡◌, ℕ, ◌+◌, ◌*◌, ◌/◌, ◌≤◌, Bool, true, false, List, [], ◌∷◌, None, get_or, length, refl, sym, ap, ◌∙◌, arith, if◌then◌else◌}
-use Rattle.std.specs.Prelude.{All, AllPairs, min, nat_lt, not, ◌&&◌, ◌||◌, ◌==◌, ◌-◌}
+use Rattle.std.proofs.Common.{◌≡◌, ℕ, ◌+◌, ◌*◌, ◌/◌, ◌≤◌, Bool, true, false, List, [], ◌∷◌, None, get_or, refl, sym, ap, ◌∙◌, arith, if◌then◌else◌}
+use Rattle.std.specs.Prelude.{All, min, ◌||◌, ◌==◌}
 use Rattle.std.specs.List.{flat_map, list_any}
-use Rattle.std.proofs.lemmas.Bool.{and_from, eqb-false, eqb-true, lt-ltb, ltb-false, ne_eqb, or_parts}
-use Rattle.std.proofs.lemmas.List.Elements.{All-weaker}
-use Rattle.std.proofs.lemmas.List.Kept.{AllPairs-cons}
+use Rattle.std.proofs.lemmas.Bool.{eqb-false, eqb-true, ne_eqb, or_parts}
 use Rattle.std.proofs.lemmas.List.Sums.{sum_by-append, sum_by-cons}
-use Rattle.hc_records.specs.declared.limits.TheConstants.{LAST_SYNC_MANAGER, MEMORY_END, MEMORY_START, MOST_AREA_BITS, MOST_AREAS, MOST_PDOS, TASKS}
+use Rattle.hc_records.specs.declared.limits.TheConstants.{MOST_AREA_BITS}
 use Rattle.hc_records.specs.declared.records.Pdo.{Pdo}
 use Rattle.hc_records.specs.declared.records.Area.{Area}
-use Rattle.hc_records.specs.declared.records.Slave.{Slave}
 use Rattle.hc_records.specs.declared.records.Group.{Group}
-use Rattle.hc_records.specs.declared.faults.ProjectFault.TheVariants.{OutOfRange}
 use Rattle.hc_records.specs.Area.{Entry, bits_of, entries_at, width}
 use Rattle.hc_records.specs.Edits.{has_unknown}
 use Rattle.hc_records.specs.Lists.{has_repeat, some_pair}
-use Rattle.hc_records.specs.Project.{area_outside, has_overlap, has_unknown_pdo, is_outside, is_wide, lowest_fault, offered_bits, overlap, pdo_outside, project_faults, reach, same_index, slave_outside, slaves_of, some_slave}
-use Rattle.hc_records.specs.ProjectLaws.{HoldsItsWidth, IsProcessByte, KeepsAreasApart, TakesByte}
-use Rattle.hc_records.proofs.lemmas.Lists.{All-flat_map, All-from_none, AllPairs-nil, AllPairs-weaker}
-use Rattle.hc_records.proofs.lemmas.Projects.{none-holds, project-assigned, project-narrow, project-slaves}
-
--- a slave that doesn't meet a test which none meets
-pub no-slave : (test : Slave → Bool) (groups : List Group) → some_slave test groups ≡ false → All (λ slave. test slave ≡ false) (slaves_of groups)
-no-slave test groups none =
-    All-flat_map (λ slave. test slave ≡ false) (λ (group : Group). group.slaves) groups
-    (All-weaker (λ group. list_any test group.slaves ≡ false) (λ group. All (λ slave. test slave ≡ false) group.slaves) (λ group. All-from_none test group.slaves) groups
-    (All-from_none (λ group. list_any test group.slaves) groups none))
+use Rattle.hc_records.specs.Project.{has_unknown_pdo, lowest_fault, offered_bits, same_index, slaves_of}
+use Rattle.hc_records.specs.Limits.{IsAreaInside, Reaches}
+use Rattle.hc_records.specs.ProjectLaws.{HoldsItsWidth, IsProcessByte, KeepsAreasApart}
+use Rattle.hc_records.proofs.lemmas.Limits.{all-slaves, project-inside}
+use Rattle.hc_records.proofs.lemmas.Lists.{All-from_none}
+use Rattle.hc_records.proofs.lemmas.Projects.{project-assigned}
 
 -- the bits of the PDOs with some indexes, each counted as often as it is named
 abbrev bits_at : List Pdo → List ℕ → ℕ
@@ -91,70 +82,31 @@ bits_at-most (pdo ∷ offered) assigned distinct =
 rounded : (bits most offered : ℕ) → bits ≤ most → bits ≤ offered → bits ≤ 8 * ((min most offered + 7) / 8)
 rounded bits most offered low less = omega arith
 
-area-holds : (area : Area) → is_wide area ≡ false → has_unknown_pdo area ≡ false → HoldsItsWidth area
-area-holds area narrow assigned =
+area-holds : (area : Area) → IsAreaInside area → has_unknown_pdo area ≡ false → HoldsItsWidth area
+area-holds area keeps assigned =
     let distinct = (or_parts (has_unknown area.assigned area) (has_repeat area.assigned) (or_parts (has_unknown area.assigned area || has_repeat area.assigned) (some_pair same_index area.offered) assigned).0).1 in
-    rounded (width area) MOST_AREA_BITS (offered_bits area.offered) (ltb-false MOST_AREA_BITS (width area) narrow) (bits_at-most area.offered area.assigned distinct)
+    rounded (width area) MOST_AREA_BITS (offered_bits area.offered) keeps.narrow (bits_at-most area.offered area.assigned distinct)
 
 pub reaches-hold : (groups : List Group) → lowest_fault groups ≡ None → All (λ slave. All HoldsItsWidth slave.areas) (slaves_of groups)
 reaches-hold groups none k d within =
     let slave = get_or (slaves_of groups) k d in
-    let narrow = All-from_none is_wide slave.areas (no-slave (λ s. list_any is_wide s.areas) groups (project-narrow groups none) k d within) in
-    let assigned = All-from_none has_unknown_pdo slave.areas (no-slave (λ s. list_any has_unknown_pdo s.areas) groups (project-assigned groups none) k d within) in
-    λ i e inside. area-holds (get_or slave.areas i e) (narrow i e inside) (assigned i e inside)
+    let keeps = ((project-inside groups none).slaves k d within).areas in
+    let assigned = All-from_none has_unknown_pdo slave.areas (all-slaves (λ s. list_any has_unknown_pdo s.areas) groups (project-assigned groups none) k d within) in
+    λ i e inside. area-holds (get_or slave.areas i e) (keeps i e inside) (assigned i e inside)
 
--- no two areas of a slave overlap
-
-pub pairs-none : {X : Type 0} (related : X → X → Bool) (xs : List X) → some_pair related xs ≡ false → AllPairs (λ a b. related a b ≡ false) xs
-pairs-none related [] none = AllPairs-nil (λ a b. related a b ≡ false)
-pairs-none related (x ∷ xs) none =
-    let parts = or_parts (list_any (related x) xs) (some_pair related xs) none in
-    AllPairs-cons (λ a b. related a b ≡ false) x xs (All-from_none (related x) xs parts.0) (pairs-none related xs parts.1)
-
-pub project-overlaps : (groups : List Group) → lowest_fault groups ≡ None → some_slave has_overlap groups ≡ false
-project-overlaps groups none = none-holds (project_faults groups) none 4 (false, OutOfRange) (omega arith)
-
-shared-overlap : (a b : Area) (byte : ℕ) → overlap a b ≡ false → TakesByte a byte → TakesByte b byte → ⊥
-shared-overlap a b byte apart takes takes' =
+byte-inside : (area : Area) (byte : ℕ) → IsAreaInside area → Reaches area byte → IsProcessByte byte
+byte-inside area byte keeps takes =
+    let start = keeps.start in
+    let end = keeps.end in
     let from = takes.from in
-    let to = takes.to in
-    let from' = takes'.from in
-    let to' = takes'.to in
-    let some = and_from (nat_lt 0 (reach a)) (nat_lt 0 (reach b)) (lt-ltb 0 (reach a) (omega arith)) (lt-ltb 0 (reach b) (omega arith)) in
-    let three = and_from (nat_lt 0 (reach a) && nat_lt 0 (reach b)) (nat_lt a.phys (b.phys + reach b)) some (lt-ltb a.phys (b.phys + reach b) (omega arith)) in
-    let all : overlap a b ≡ true =
-    and_from (nat_lt 0 (reach a) && nat_lt 0 (reach b) && nat_lt a.phys (b.phys + reach b)) (nat_lt b.phys (a.phys + reach a)) three (lt-ltb b.phys (a.phys + reach a) (omega arith)) in
-    let none : true ≡ false = sym all ∙ apart in
-    cc
-
--- the second and the last of an area's conditions
-two-of-seven : (a b c d e f g : Bool) → (a || b || c || d || e || f || g) ≡ false → (b ≡ false) × (g ≡ false)
-two-of-seven a b c d e f g none =
-    let six = or_parts (a || b || c || d || e || f) g none in
-    let five = or_parts (a || b || c || d || e) f six.0 in
-    let four = or_parts (a || b || c || d) e five.0 in
-    let three = or_parts (a || b || c) d four.0 in
-    let two = or_parts (a || b) c three.0 in
-    ((or_parts a b two.0).1, six.1)
-
-byte-inside : (area : Area) (byte : ℕ) → area_outside area ≡ false → TakesByte area byte → IsProcessByte byte
-byte-inside area byte inside takes =
-    let parts = two-of-seven (nat_lt LAST_SYNC_MANAGER area.sm) (is_outside MEMORY_START (MEMORY_END - 1) area.phys) (not (nat_lt area.task TASKS))
-    (nat_lt MOST_PDOS (length area.assigned)) (nat_lt MOST_PDOS (length area.offered)) (list_any pdo_outside area.offered) (nat_lt MEMORY_END (area.phys + reach area))
-    inside in
-    let low = ltb-false area.phys MEMORY_START (or_parts (nat_lt area.phys MEMORY_START) (nat_lt (MEMORY_END - 1) area.phys) parts.0).0 in
-    let high = ltb-false MEMORY_END (area.phys + reach area) parts.1 in
-    let from = takes.from in
-    let to = takes.to in
+    let below = takes.below in
     record { from = omega arith; to = omega arith }
 
 pub reaches-apart : (groups : List Group) → lowest_fault groups ≡ None → All KeepsAreasApart (slaves_of groups)
 reaches-apart groups none k d within =
     let slave = get_or (slaves_of groups) k d in
-    let outside = (or_parts ((slave.station == 0) || nat_lt MOST_AREAS (length slave.areas)) (list_any area_outside slave.areas) (no-slave slave_outside groups (project-slaves groups none) k d within)).1 in
+    let kept = (project-inside groups none).slaves k d within in
     record {
-      inside = λ i e inside byte. byte-inside (get_or slave.areas i e) byte (All-from_none area_outside slave.areas outside i e inside);
-      apart =
-          AllPairs-weaker (λ a b. overlap a b ≡ false) (λ a b. (byte : ℕ) → TakesByte a byte → TakesByte b byte → ⊥) (λ a b apart byte. shared-overlap a b byte apart) slave.areas
-          (pairs-none overlap slave.areas (no-slave has_overlap groups (project-overlaps groups none) k d within));
+      inside = λ i e inside byte. byte-inside (get_or slave.areas i e) byte (kept.areas i e inside);
+      apart = kept.apart;
     }

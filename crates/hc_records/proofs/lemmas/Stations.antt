@@ -1,15 +1,17 @@
 -- The slaves of a project's line have distinct station addresses.
-use Rattle.std.proofs.Common.{◌≡◌, ℕ, ◌+◌, ◌==◌, Bool, true, false, cond, List, [], ◌∷◌, ◌++◌, length, refl, sym, ap, ◌∙◌, ◌||◌}
-use Rattle.std.specs.Prelude.{Option, Some, None, map}
+use Rattle.std.proofs.Common.{◌≡◌, ℕ, ◌+◌, ◌==◌, Bool, true, false, cond, List, [], ◌∷◌, ◌++◌, length, refl, sym, ap, ◌∙◌, ◌||◌, arith}
+use Rattle.std.specs.Prelude.{None, map}
 use Rattle.std.specs.List.{list_any}
 use Rattle.std.proofs.lemmas.Bool.{or_parts}
+use Rattle.std.proofs.lemmas.List.{map-append}
 use Rattle.std.proofs.lemmas.List.Folds.{list_any-append}
 use Rattle.hc_records.specs.declared.records.Declared.{Declared}
 use Rattle.hc_records.specs.declared.records.Slave.{Slave}
 use Rattle.hc_records.specs.Line.{Member, line_from, members_from}
 use Rattle.hc_records.specs.Lists.{has_repeat}
-use Rattle.hc_records.specs.declared.faults.ProjectFault.TheVariants.{OutOfRange, RepeatedAlias, RepeatedStation}
-use Rattle.hc_records.specs.Project.{has_outside, has_repeated_alias, has_repeated_station, lowest_fault, slaves_of}
+use Rattle.hc_records.specs.declared.faults.ProjectFault.TheVariants.{OutOfRange}
+use Rattle.hc_records.specs.Project.{lowest_fault, project_faults, slaves_of}
+use Rattle.hc_records.proofs.lemmas.Projects.{none-holds}
 
 -- no number of the list is this one
 abbrev pub IsAbsent : ℕ → List ℕ → Type 0
@@ -46,10 +48,6 @@ slave_stations slaves = map (λ slave. slave.station) slaves
 
 abbrev all_stations : List Declared → List ℕ
 all_stations groups = slave_stations (slaves_of (map (λ declared. declared.group) groups))
-
-map-append : {X Y : Type 0} (f : X → Y) (xs ys : List X) → map f (xs ++ ys) ≡ map f xs ++ map f ys
-map-append f [] ys = refl
-map-append f (x ∷ xs) ys = ap (λ (rest : List _). f x ∷ rest) (map-append f xs ys)
 
 stations-members : (rank : ℕ) (slaves : List Slave) → stations (members_from rank slaves) ≡ slave_stations slaves
 stations-members rank [] = refl
@@ -96,13 +94,5 @@ distinct-line rank (declared ∷ groups) distinct =
 
 -- a project repeats no station address, so neither does its line
 
-third-passed : {F : Type 0} (a b c : Bool) (x y z : F) (rest : Option F) → cond a (Some x) (cond b (Some y) (cond c (Some z) rest)) ≡ None → c ≡ false
-third-passed a b false x y z rest none = refl
-third-passed true b true x y z rest none = cc
-third-passed false true true x y z rest none = cc
-third-passed false false true x y z rest none = cc
-
 pub project-distinct : (groups : List Declared) → lowest_fault (map (λ declared. declared.group) groups) ≡ None → has_repeat (stations (line_from 1 groups)) ≡ false
-project-distinct groups none =
-    let declared = map (λ (d : Declared). d.group) groups in
-    distinct-line 1 groups (third-passed (has_outside declared) (has_repeated_alias declared) (has_repeated_station declared) OutOfRange RepeatedAlias RepeatedStation _ none)
+project-distinct groups none = distinct-line 1 groups (none-holds (project_faults (map (λ declared. declared.group) groups)) none 2 (false, OutOfRange) (omega arith))

@@ -16,8 +16,9 @@ use Rattle.hc_records.specs.Image.{VariablePlace, datagram_count, task_places, v
 use Rattle.hc_records.specs.Project.{lowest_fault}
 use Rattle.hc_records.specs.Laws.{KeepsToItsPart}
 use Rattle.hc_records.specs.ImageLaws.{LiesInDatagram, StandsInItsPart}
+use Rattle.hc_records.specs.Limits.{IsEntryWidth}
 use Rattle.hc_records.proofs.lemmas.Ascending.{keys-ascend}
-use Rattle.hc_records.proofs.lemmas.Entries.{HasEntryWidths, IsEntryWidth, task-areas-all, task-widths}
+use Rattle.hc_records.proofs.lemmas.Entries.{HasEntryWidths, task-areas-all, task-widths}
 use Rattle.hc_records.proofs.lemmas.Greatest.{greatest-all}
 use Rattle.hc_records.proofs.lemmas.Parts.{EndsInDatagram, ends-in-datagram, outputs-first}
 use Rattle.hc_records.proofs.lemmas.Tasks.{listed}
