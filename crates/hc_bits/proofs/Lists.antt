@@ -4,9 +4,10 @@ use Rattle.std.specs.Int.{bit_at}
 use Rattle.std.proofs.lemmas.Bool.{cases_lt}
 use Rattle.std.proofs.lemmas.List.{places, ext_get_or, get_or_append_left, get_or-append_right, get_or-take, get_or-drop, get_or_past, length-append, length-take, length-drop}
 use Rattle.std.proofs.lemmas.List.FromFn.{length-map-range_with_len, get_or-map-range_with_len}
-use Rattle.std.proofs.lemmas.Nat.Bits.{bit_at-zero, bit_at-suc, bit_at_lowest, bit_at_above, same_from_bits, same_from_bits_below}
-use Rattle.hc_bits.specs.Bits.{bit_of, ReplacesRun, low_bits, number_of, bits_of, run_of, with_run}
+use Rattle.std.proofs.lemmas.Nat.Bits.{bit_at-zero, bit_at-suc, bit_at_lowest, bit_at_above, same_from_bits}
+use Rattle.hc_bits.specs.Bits.{bit_of, AreBytes, ReplacesRun, low_bits, number_of, bits_of, run_of, with_run}
 use Rattle.hc_bits.proofs.Runs.{bit_of-byte, bit_of-lt}
+use Rattle.hc_bits.proofs.lemmas.Places.{same_bytes_from_bits}
 
 -- ---- the list of bits by places
 pub length-low_bits : (n value : ℕ) → length (low_bits n value) ≡ n
@@ -125,10 +126,7 @@ number_of-run bytes at n value fits same = same_from_bits value (number_of (run_
 ])
 
 -- ---- the bytes by their bits
-pub same_bytes : (xs ys : List ℕ) → ((i : ℕ) → i < length xs → get_or xs i 0 < 2 ^ 8) → ((i : ℕ) → i < length ys → get_or ys i 0 < 2 ^ 8)
-    → bits_of xs ≡ bits_of ys → xs ≡ ys
+pub same_bytes : (xs ys : List ℕ) → AreBytes xs → AreBytes ys → bits_of xs ≡ bits_of ys → xs ≡ ys
 same_bytes xs ys small small2 same =
     let len : length xs ≡ length ys = omega (arith, length-bits_of xs, length-bits_of ys, ap length same) in
-    ext_get_or 0 xs ys len (λ i h. same_from_bits_below 8 _ _ (small i h) (small2 i (omega arith)) (λ j low.
-    sym (bit_of-byte xs i j (8 * i + j) low refl) ∙ sym (get_or-bits_of xs (8 * i + j)) ∙ ap (λ bits. get_or bits (8 * i + j) 0) same
-    ∙ get_or-bits_of ys (8 * i + j) ∙ bit_of-byte ys i j (8 * i + j) low refl))
+    same_bytes_from_bits xs ys small small2 len (λ k h. sym (get_or-bits_of xs k) ∙ ap (λ bits. get_or bits k 0) same ∙ get_or-bits_of ys k)

@@ -27,7 +27,7 @@ bit_of-same_byte xs ys i j k m same e =
     bit_of-byte xs (i + k / 8) (k % 8) m (omega arith) (omega arith) ∙ ap (λ b. bit_at b (k % 8)) same
     ∙ sym (bit_of-byte ys (j + k / 8) (k % 8) (8 * j + k) (omega arith) (omega arith))
 
-bit_of-kept : (xs ys : List ℕ) (k : ℕ) → get_or xs (k / 8) 0 ≡ get_or ys (k / 8) 0 → bit_of xs k ≡ bit_of ys k
+pub bit_of-kept : (xs ys : List ℕ) (k : ℕ) → get_or xs (k / 8) 0 ≡ get_or ys (k / 8) 0 → bit_of xs k ≡ bit_of ys k
 unfolding bit_of
 bit_of-kept xs ys k same = ap (λ b. bit_at b (k % 8)) same
 

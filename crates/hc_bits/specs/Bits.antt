@@ -1,11 +1,15 @@
 -- The bits of bytes, counted from the least significant bit of the first byte.
-use Rattle.std.specs.Prelude.{◌≡◌, ℕ, ◌+◌, ◌*◌, ◌/◌, ◌%◌, ◌<◌, ◌≤◌, List, [], ◌∷◌, ◌++◌, map, take, drop, length, slice_index}
+use Rattle.std.specs.Prelude.{◌≡◌, ℕ, ◌+◌, ◌*◌, ◌^◌, ◌/◌, ◌%◌, ◌<◌, ◌≤◌, List, [], ◌∷◌, ◌++◌, map, take, drop, length, slice_index}
 use Rattle.std.specs.List.{range_with_len, flat_map}
 use Rattle.std.specs.Int.{bit_at}
 
 -- bit k of the bytes: bit k % 8 of byte k / 8
 unfoldable pub bit_of : List ℕ → ℕ → ℕ
 bit_of bytes k = bit_at (slice_index bytes (k / 8)) (k % 8)
+
+-- each number of the list is a byte
+abbrev pub AreBytes : List ℕ → Type 0
+AreBytes bytes = (i : ℕ) → i < length bytes → slice_index bytes i < 2 ^ 8
 
 -- the bits from `at` on become those of `run`, n of them, and every other bit stays
 pub record ReplacesRun (old new : List ℕ) (at n : ℕ) (run : ℕ → ℕ) : Type 0 where

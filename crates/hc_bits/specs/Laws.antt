@@ -1,7 +1,7 @@
 -- What the contracts by single bits say of whole lists of bits.
-use Rattle.std.specs.Prelude.{◌≡◌, ℕ, ◌+◌, ◌*◌, ◌^◌, ◌<◌, ◌≤◌, ◌↔◌, List, length, slice_index}
+use Rattle.std.specs.Prelude.{◌≡◌, ℕ, ◌+◌, ◌*◌, ◌^◌, ◌<◌, ◌≤◌, ◌↔◌, ◌⊎◌, List, ◌++◌, length, take, drop, replicate}
 use Rattle.std.specs.Int.{bit_at}
-use Rattle.hc_bits.specs.Bits.{bit_of, ReplacesRun, low_bits, number_of, bits_of, run_of, with_run}
+use Rattle.hc_bits.specs.Bits.{bit_of, AreBytes, ReplacesRun, low_bits, number_of, bits_of, run_of, with_run}
 
 -- a number below 2 ^ n with the n bits from `at` on is the number that this part of the list spells
 abbrev pub ReadsList : Type 0
@@ -25,5 +25,27 @@ PutsWhatIsRead = (old new : List ℕ) (at n value : ℕ) → value < 2 ^ n → R
 
 -- slices with the same list of bits are the same bytes
 abbrev pub BitsTellBytes : Type 0
-BitsTellBytes = (xs ys : List ℕ) → ((i : ℕ) → i < length xs → slice_index xs i < 2 ^ 8) → ((i : ℕ) → i < length ys → slice_index ys i < 2 ^ 8)
-    → bits_of xs ≡ bits_of ys → xs ≡ ys
+BitsTellBytes = (xs ys : List ℕ) → AreBytes xs → AreBytes ys → bits_of xs ≡ bits_of ys → xs ≡ ys
+
+-- slices of the same length whose bits are the same, place by place, are the same bytes
+abbrev pub SameBitsAreSameBytes : Type 0
+SameBitsAreSameBytes = (xs ys : List ℕ) → AreBytes xs → AreBytes ys → length xs ≡ length ys
+    → ((k : ℕ) → k < 8 * length xs → bit_of xs k ≡ bit_of ys k) → xs ≡ ys
+
+-- each bit of zeros is 0
+abbrev pub ZerosHaveNoBits : Type 0
+ZerosHaveNoBits = (n k : ℕ) → bit_of (replicate n 0) k ≡ 0
+
+-- the bits of two slices joined are those of the first, and behind them those of the second
+abbrev pub JoinedBitsFollow : Type 0
+JoinedBitsFollow = (xs ys : List ℕ) (k : ℕ) → (k < 8 * length xs → bit_of (xs ++ ys) k ≡ bit_of xs k) × (bit_of (xs ++ ys) (8 * length xs + k) ≡ bit_of ys k)
+
+-- the bits of a slice's first n bytes are its own, and those of the bytes behind them stand 8 * n bits further on in it
+abbrev pub PartsKeepBits : Type 0
+PartsKeepBits = (xs : List ℕ) (n k : ℕ) → (k < 8 * n → bit_of (take n xs) k ≡ bit_of xs k) × (bit_of (drop n xs) k ≡ bit_of xs (8 * n + k))
+
+-- two runs that share no bit may be replaced in either order
+abbrev pub DisjointRunsCommute : Type 0
+DisjointRunsCommute = (old a b ab ba : List ℕ) (at n at2 n2 : ℕ) (run run2 : ℕ → ℕ) → (at + n ≤ at2) ⊎ (at2 + n2 ≤ at)
+    → ReplacesRun old a at n run → ReplacesRun a ab at2 n2 run2 → ReplacesRun old b at2 n2 run2 → ReplacesRun b ba at n run
+    → (k : ℕ) → bit_of ab k ≡ bit_of ba k

@@ -1,7 +1,8 @@
 //! Laws of the contracts: what is said bit by bit is a reading, a replacement and a copy of a part of the
-//! slice's list of bits. The functions do nothing; their contracts are the laws.
+//! slice's list of bits; and where the bits of a slice and of its parts stand. The functions do nothing; their
+//! contracts are the laws.
 
-ghost use Rattle.hc_bits.specs.Laws.{BitsTellBytes, CopiesIntoList, PutsIntoList, PutsWhatIsRead, ReadsList};
+ghost use Rattle.hc_bits.specs.Laws.{BitsTellBytes, CopiesIntoList, DisjointRunsCommute, JoinedBitsFollow, PartsKeepBits, PutsIntoList, PutsWhatIsRead, ReadsList, SameBitsAreSameBytes, ZerosHaveNoBits};
 
 /// What `get_bits` answers is the number that the run's part of the list of bits spells.
 pub fn reading_takes_list()
@@ -26,4 +27,29 @@ pub fn put_is_read_back()
 /// Slices of the same bits are the same bytes, so nothing of a slice escapes its list of bits.
 pub fn bits_tell_bytes()
     ensures { BitsTellBytes }
+{}
+
+/// Slices of the same length whose bits are the same, place by place, are the same bytes.
+pub fn same_bits_are_same_bytes()
+    ensures { SameBitsAreSameBytes }
+{}
+
+/// Each bit of a slice of zeros is 0.
+pub fn zeros_have_no_bits()
+    ensures { ZerosHaveNoBits }
+{}
+
+/// The bits of two slices joined are those of the first, and behind them those of the second.
+pub fn joined_bits_follow()
+    ensures { JoinedBitsFollow }
+{}
+
+/// The bits of a slice's first bytes are its own, and so are those of the bytes behind them, further on.
+pub fn parts_keep_bits()
+    ensures { PartsKeepBits }
+{}
+
+/// Two runs that share no bit may be replaced in either order: each bit is then the same.
+pub fn disjoint_runs_commute()
+    ensures { DisjointRunsCommute }
 {}

@@ -7,14 +7,10 @@
 #![tactic(auto)]
 
 mod byte;
-mod laws;
+pub mod laws;
 pub mod plain;
 mod run;
 
-pub use laws::{
-    bits_tell_bytes, copying_replaces_list, put_is_read_back, putting_replaces_list,
-    reading_takes_list,
-};
 pub use run::{copy_bits, get_bits, put_bits};
 
 #[cfg(test)]
