@@ -20,6 +20,9 @@ pub const DATAGRAM_HEAD_BYTES: usize = 10;
 /// Bytes of a datagram beside its data: the 10 before it and the working counter's 2 after it.
 pub const BESIDE_DATA_BYTES: usize = 12;
 
+/// Where the data of a frame's first datagram begin, in bytes from the frame's first.
+pub const FIRST_DATA: usize = HEAD_BYTES + DATAGRAM_HEAD_BYTES;
+
 /// The serial that alias reads and station writes bear: the highest of 40 bits, which no other sending has (this
 /// project's profile).
 pub const SETUP_SERIAL: u64 = 0xff_ffff_ffff;

@@ -13,11 +13,19 @@ use crate::limits::{
     SETUP_SERIAL, STATION_REGISTER,
 };
 
+/// The bytes of a frame with `size` bytes of datagrams: 16 more, and 60 at least.
+pub(crate) fn frame_bytes(size: usize) -> usize
+    requires { size < 2 ^ 32 }
+    ensures { result ≡ frame_bytes size }
+{
+    usize::from(LEAST_FRAME).max(HEAD_BYTES + size)
+}
+
 /// The bytes of a frame of one datagram with `size` data bytes: 28 more, and 60 at least.
 pub fn frame_size(size: u16) -> usize
     ensures { result ≡ frame_size size }
 {
-    usize::from(LEAST_FRAME).max(HEAD_BYTES + BESIDE_DATA_BYTES + usize::from(size))
+    frame_bytes(BESIDE_DATA_BYTES + usize::from(size))
 }
 
 /// Writes a frame of one datagram with these data bytes into a slice of its exact size.
@@ -121,7 +129,7 @@ pub fn build_blank_frame(
     ensures { Builds out.old out.new result (frame_text serial (map blank_lrw datagrams.now)) (frame_bytes (datagrams_size datagrams.now)) }
 {
     let size = datagrams_size(datagrams);
-    let needed = usize::from(LEAST_FRAME).max(HEAD_BYTES + size);
+    let needed = frame_bytes(size);
     if out.len() < needed {
         return Err(Room(needed));
     }

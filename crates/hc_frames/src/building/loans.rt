@@ -8,7 +8,7 @@ ghost use Rattle.hc_frames.specs.Sizes.{frame_size};
 use super::Room;
 use super::datagrams::build_blank_datagram;
 use super::frames::{build_blank_lrw, frame_size};
-use crate::limits::{DATAGRAM_HEAD_BYTES, MAX_DATA};
+use crate::limits::{DATAGRAM_HEAD_BYTES, FIRST_DATA, MAX_DATA};
 
 /// Writes a datagram with data of zeros, and hands back its slice.
 fn with_blank_datagram(
@@ -63,7 +63,7 @@ fn lend_lrw(out: &mut [u8], serial: u64, address: u32, size: u16) -> &mut [u8]
     ensures blank { result.now ≡ replicate size 0 }
 {
     let frame = with_blank_lrw(out, serial, address, size);
-    &mut frame[26..26 + size as usize]
+    &mut frame[FIRST_DATA..FIRST_DATA + size as usize]
 }
 
 /// Writes a frame of one LRW datagram to the front of `out`, and lends its data part, which is 0 at first. `size` is the

@@ -7,8 +7,8 @@ ghost use Rattle.hc_frames.specs.Opened.{IsOpen, first_size, LeavesOpen, OpensFr
 ghost use Rattle.hc_frames.specs.Sizes.{ShareFrame, datagrams_size, frame_bytes};
 
 use super::Room;
-use super::frames::{build_blank_frame, datagrams_size};
-use crate::limits::{HEAD_BYTES, LEAST_FRAME};
+use super::frames::{build_blank_frame, datagrams_size, frame_bytes};
+use crate::limits::{BESIDE_DATA_BYTES, DATAGRAM_HEAD_BYTES, HEAD_BYTES};
 
 /// A frame whose data parts are still to be handed out, in their order.
 #[derive(Drop)]
@@ -26,7 +26,7 @@ fn whole_size(datagrams: &[(u32, u16)]) -> usize
     requires { ShareFrame datagrams.now }
     ensures { result ≡ frame_bytes (datagrams_size datagrams.now) }
 {
-    usize::from(LEAST_FRAME).max(HEAD_BYTES + datagrams_size(datagrams))
+    frame_bytes(datagrams_size(datagrams))
 }
 
 /// Writes a frame with data of zeros to the front of a slice, and hands back the slice.
@@ -63,7 +63,7 @@ pub fn build_frame<'a>(
     }
     let frame = with_blank_frame(out, serial, datagrams);
     Ok(Open {
-        rest: &mut frame[16..],
+        rest: &mut frame[HEAD_BYTES..],
         datagrams,
         serial,
     })
@@ -107,12 +107,15 @@ impl<'a> Open<'a> {
             return None;
         }
         let (size, others) = first_and_others(datagrams);
-        let (text, behind) = cut(rest, 12 + size);
+        let (text, behind) = cut(rest, BESIDE_DATA_BYTES + size);
         let open = Open {
             rest: behind,
             datagrams: others,
             serial,
         };
-        Some((&mut text[10..10 + size], open))
+        Some((
+            &mut text[DATAGRAM_HEAD_BYTES..DATAGRAM_HEAD_BYTES + size],
+            open,
+        ))
     }
 }
