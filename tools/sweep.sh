@@ -129,9 +129,9 @@ sweep_program() {
     done
 }
 
-sweep_test hc_records project::tests::the_project_or_memory
-sweep_test hc_project tests::projects::project_or_memory
-sweep_test hc_cuts tests::areas_are_packed_in_their_order
+sweep_test worked_pieces projects::the_project_or_memory
+sweep_test worked_pieces project_texts::projects::project_or_memory
+sweep_test worked_pieces cuts::areas_are_packed_in_their_order
 sweep_test worked_lines layouts::an_input_begins_the_next_byte
 sweep_test worked_lines edits::a_swapped_table_is_the_new_one
 sweep_test hc_rings tests::a_buffer_begins_anew

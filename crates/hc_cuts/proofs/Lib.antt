@@ -1,4 +1,3 @@
-pub mod Ascending
 pub mod Firsts
 pub mod Hulls
 pub mod lemmas

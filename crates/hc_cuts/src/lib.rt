@@ -5,5 +5,3 @@ pub mod fold;
 pub mod laws;
 pub mod packing;
 pub mod settled;
-#[cfg(test)]
-mod tests;

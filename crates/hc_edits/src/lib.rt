@@ -5,5 +5,3 @@
 mod areas;
 pub mod faults;
 pub mod groups;
-#[cfg(test)]
-mod tests;

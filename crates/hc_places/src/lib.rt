@@ -12,6 +12,4 @@ pub mod layout;
 pub mod recut;
 pub mod swap;
 pub mod table;
-#[cfg(test)]
-mod tests;
 mod variables;

@@ -6,8 +6,6 @@ mod arrays;
 pub mod laws;
 mod levels;
 mod reading;
-#[cfg(test)]
-mod tests;
 mod text;
 mod values;
 

@@ -62,6 +62,3 @@ impl Project {
         groups
     }
 }
-
-#[cfg(test)]
-mod tests;

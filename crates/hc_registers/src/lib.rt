@@ -9,5 +9,3 @@ pub mod fmmu;
 pub mod laws;
 pub mod registers;
 pub mod sync_manager;
-#[cfg(test)]
-mod tests;

@@ -1,0 +1,183 @@
+//! Lists whose datagrams are known.
+ghost use Rattle.std.specs.Prelude.{◌≡◌, All, IfOk, IfSome, IsTrue};
+ghost use Rattle.std.specs.List.{list_all};
+ghost use Rattle.hc_records.specs.Keys.{is_before};
+ghost use Rattle.hc_records.specs.Boundaries.{unsettled_spans};
+ghost use Rattle.hc_records.specs.Laws.{Ascends, IsPackable};
+
+use hc_cuts::fold::{TooManyDatagrams, fold_cuts};
+use hc_cuts::packing::{Front, pack};
+use hc_cuts::settled::{is_touched_task, unsettled_spans, width_in};
+use hc_records::keys::Key;
+use hc_records::records::Dir;
+use std::alloc::{AllocError, Global};
+use std::test::Fail;
+
+fn key(dir: Dir, rank: u16) -> Key {
+    Key { dir, rank, area: 0 }
+}
+
+#[test]
+fn datagrams_begin_where_areas_no_longer_fit(rt: HostRuntime) -> Result<(), Fail> {
+    let [a, b, c] = [key(Dir::Out, 1), key(Dir::Out, 2), key(Dir::Out, 3)];
+    let keys = fold_cuts(&[(a, 8 * 1485), (b, 8), (c, 1)])
+        .ok()
+        .ok_or("two datagrams")?;
+    assert_eq!(rt; keys.as_slice(), [a, c].as_slice());
+    let keys = fold_cuts(&[(a, 8 * 1485), (b, 7), (c, 1)])
+        .ok()
+        .ok_or("one datagram")?;
+    assert_eq!(rt; keys.as_slice(), [a].as_slice());
+    let keys = fold_cuts(&[(a, 8000), (b, 5600), (c, 5600)])
+        .ok()
+        .ok_or("two datagrams")?;
+    assert_eq!(rt; keys.as_slice(), [a, b].as_slice());
+    let keys = fold_cuts(&[]).ok().ok_or("no datagram")?;
+    assert!(rt; keys.is_empty());
+    Ok(())
+}
+
+#[test]
+fn the_first_input_begins_a_byte(rt: HostRuntime) {
+    let front = Front::opening().place(key(Dir::Out, 1), 3).behind();
+    assert_eq!(rt; front.place(key(Dir::Out, 2), 3).bit(), 3);
+    assert_eq!(rt; front.place(key(Dir::In, 1), 1).bit(), 8);
+    assert_eq!(rt; front.place(key(Dir::Out, 2), 8).bit(), 8);
+}
+
+#[test]
+fn areas_are_packed_in_their_order(rt: HostRuntime) -> Result<(), Fail> {
+    let [a, b, c] = [key(Dir::Out, 1), key(Dir::Out, 2), key(Dir::In, 1)];
+    let places = pack(rt.alloc(), &[(a, 3), (b, 8 * 1485), (c, 1)])?;
+    assert_eq!(rt; places.len(), 3);
+    assert_eq!(rt; (places[0].key(), places[0].bits()), (a, 3));
+    assert_eq!(rt; (places[0].datagram(), places[0].bit()), (0, 0));
+    assert_eq!(rt; (places[1].key(), places[1].bits()), (b, 8 * 1485));
+    assert_eq!(rt; (places[1].datagram(), places[1].bit()), (0, 8));
+    assert_eq!(rt; (places[2].key(), places[2].bits()), (c, 1));
+    assert_eq!(rt; (places[2].datagram(), places[2].bit()), (1, 0));
+    assert!(rt; pack(rt.alloc(), &[])?.is_empty());
+    Ok(())
+}
+
+/// So many areas of 1,400 bytes, which fill a datagram each.
+fn filling(alloc: Global, areas: u16) -> Result<Vec<(Key, u16)>, AllocError>
+    ensures { IfOk result (λ list. All IsPackable list.items) }
+{
+    let mut list = Vec::new(alloc);
+    for rank in 0..areas {
+        list.push((key(Dir::Out, rank), 8 * 1400))?;
+    }
+    Ok(list)
+}
+
+#[test]
+fn sixteen_datagrams_are_the_most(rt: HostRuntime) -> Result<(), Fail> {
+    let list = filling(rt.alloc(), 16)?;
+    let keys = fold_cuts(&list).ok().ok_or("sixteen datagrams")?;
+    assert_eq!(rt; keys.len(), 16);
+    let list = filling(rt.alloc(), 17)?;
+    assert_eq!(rt; fold_cuts(&list).err(), Some(TooManyDatagrams));
+    Ok(())
+}
+
+/// Whether a key comes before those of a list.
+fn is_first(key: Key, list: &[(Key, u16)]) -> bool
+    ensures { result ≡ list_all (λ other. is_before key other.0) list.now }
+{
+    list.iter().all(|other| key.is_before(other.0))
+}
+
+/// Whether the keys of a list ascend.
+fn ascends(list: &[(Key, u16)]) -> bool
+    ensures { IsTrue result → Ascends list.now }
+{
+    for i in 0..list.len() {
+        if !is_first(list[i].0, &list[i + 1..]) {
+            return false;
+        }
+    }
+    true
+}
+
+/// The spans that aren't settled of a task whose lists ascend and need at most 16 datagrams each.
+fn unsettled(old: &[(Key, u16)], new: &[(Key, u16)]) -> Option<usize>
+    requires old { All IsPackable old.now }
+    requires new { All IsPackable new.now }
+    ensures { IfSome result (λ spans. spans ≡ unsettled_spans old.now new.now) }
+{
+    if !ascends(old) || !ascends(new) {
+        return None;
+    }
+    let old_starts = fold_cuts(old).ok()?;
+    let new_starts = fold_cuts(new).ok()?;
+    Some(unsettled_spans(old, &old_starts, new, &new_starts))
+}
+
+#[test]
+fn an_edit_at_the_front_reaches_two_spans(rt: HostRuntime) {
+    let [a, b, c, d] = [
+        key(Dir::Out, 1),
+        key(Dir::Out, 2),
+        key(Dir::Out, 3),
+        key(Dir::Out, 4),
+    ];
+    let [e, f, g, h] = [
+        key(Dir::Out, 5),
+        key(Dir::Out, 6),
+        key(Dir::Out, 7),
+        key(Dir::Out, 8),
+    ];
+    let old = [
+        (a, 5600),
+        (b, 5600),
+        (c, 5600),
+        (d, 5600),
+        (e, 5600),
+        (f, 11200),
+        (g, 5600),
+        (h, 5600),
+    ];
+    let new = [
+        (b, 5600),
+        (c, 5600),
+        (d, 5600),
+        (e, 5600),
+        (f, 11200),
+        (g, 5600),
+        (h, 5600),
+    ];
+    assert_eq!(rt; unsettled(&old, &new), Some(2));
+    assert_eq!(rt; unsettled(&new, &new), Some(0));
+    assert_eq!(rt; unsettled(&new, &[]), Some(1));
+    assert_eq!(rt; unsettled(&[], &new), Some(4));
+}
+
+#[test]
+fn a_narrower_area_moves_a_boundary(rt: HostRuntime) {
+    let [a, b, c] = [key(Dir::Out, 1), key(Dir::Out, 2), key(Dir::Out, 3)];
+    let old = [(a, 8000), (b, 5600), (c, 5600)];
+    let new = [(a, 8000), (b, 2400), (c, 5600)];
+    assert!(rt; ascends(&old) && ascends(&new));
+    assert_eq!(rt; unsettled(&old, &new), Some(2));
+    assert!(rt; is_touched_task(&old, &new));
+    assert!(rt; !is_touched_task(&new, &new));
+    assert_eq!(rt; width_in(&new, b), 2400);
+    assert_eq!(rt; width_in(&[], b), 0);
+}
+
+#[test]
+fn outputs_and_inputs_are_reached_apart(rt: HostRuntime) {
+    let [a, b, c] = [key(Dir::Out, 1), key(Dir::Out, 2), key(Dir::Out, 3)];
+    let [d, e, f] = [key(Dir::Out, 4), key(Dir::In, 1), key(Dir::In, 2)];
+    let old = [
+        (a, 800),
+        (b, 11200),
+        (c, 11200),
+        (d, 11200),
+        (e, 800),
+        (f, 11200),
+    ];
+    let new = [(b, 11200), (c, 11200), (d, 11200), (f, 11200)];
+    assert_eq!(rt; unsettled(&old, &new), Some(2));
+}

@@ -1,0 +1,325 @@
+//! Worked lines, by numbers that are known from outside.
+ghost use Rattle.std.specs.Prelude.{◌≡◌, ◌+◌, ◌≤◌, IfOk, IfSome, if◌then◌else◌, map, sum_by};
+ghost use Rattle.hc_records.specs.Keys.{same_dir};
+ghost use Rattle.hc_records.specs.declared.records.Dir.TheVariants.{Out};
+ghost use Rattle.hc_records.specs.declared.limits.TheConstants.{MOST_AREA_BITS, MOST_ENTRY_BITS};
+ghost use Rattle.hc_places.specs.Table.{variables_in};
+
+use hc_places::configure::{Configured, configure};
+use hc_places::swap::Swap;
+use hc_places::table::{Datagram, Place, Places};
+use hc_records::edit::Edit;
+use hc_records::items::{Copied, Items};
+use hc_records::keys::Key;
+use hc_records::project::Project;
+use hc_records::records::{Area, Declared, Dir, Entry, Group, Pdo, Slave, VarId};
+use std::alloc::{AllocError, Global};
+use std::test::Fail;
+
+/// An alias that no group has.
+const NONE: u16 = 1;
+
+/// The alias of the tool that comes and goes.
+const TOOL: u16 = 9;
+
+/// An output area of task 0 at a sync manager, with one PDO of these entries, which is assigned.
+fn area(alloc: Global, sm: u8, entries: &[Entry]) -> Result<Area, AllocError> {
+    let mut offered = Items::new(alloc);
+    offered.push(Pdo {
+        index: 0x1600,
+        entries: Items::of(Vec::from_slice(alloc, entries)?),
+    })?;
+    let mut assigned = Items::new(alloc);
+    assigned.push(0x1600)?;
+    Ok(Area {
+        sm,
+        dir: Dir::Out,
+        phys: 0x1000 + 0x10 * u16::from(sm),
+        offered,
+        assigned,
+        task: 0,
+    })
+}
+
+/// Copies of the groups, all present but one with an alias.
+fn present(alloc: Global, groups: &[Group], absent: u16) -> Result<Vec<Declared>, AllocError>
+    ensures { IfOk result (λ declared. map (λ one. one.group) declared.items ≡ groups.now) }
+{
+    let mut declared = Vec::new(alloc);
+    for group in groups {
+        declared.push(Declared {
+            group: group.copied(alloc)?,
+            present: group.alias != absent,
+        })?;
+    }
+    Ok(declared)
+}
+
+/// A mandatory group of two slaves, with two areas and with one, each of a variable of 3 bits. The
+/// second area's variable stands behind a gap of 2 bits.
+fn two_slaves(alloc: Global) -> Result<Items<Group>, AllocError> {
+    let mut areas = Items::new(alloc);
+    areas.push(area(alloc, 0, &[(VarId::new(7), 3)])?)?;
+    areas.push(area(alloc, 1, &[(None, 2), (VarId::new(5), 1)])?)?;
+    let mut slaves = Items::new(alloc);
+    slaves.push(Slave {
+        station: 1001,
+        areas,
+    })?;
+    let mut areas = Items::new(alloc);
+    areas.push(area(alloc, 0, &[(VarId::new(6), 3)])?)?;
+    slaves.push(Slave {
+        station: 1002,
+        areas,
+    })?;
+    let mut groups = Items::new(alloc);
+    groups.push(Group { alias: 0, slaves })?;
+    Ok(groups)
+}
+
+/// A group of one slave, with an output area of one variable.
+fn one_slave(
+    alloc: Global,
+    alias: u16,
+    station: u16,
+    variable: u32,
+    bits: u8,
+) -> Result<Group, AllocError> {
+    let mut areas = Items::new(alloc);
+    areas.push(area(alloc, 0, &[(VarId::new(variable), bits)])?)?;
+    let mut slaves = Items::new(alloc);
+    slaves.push(Slave { station, areas })?;
+    Ok(Group { alias, slaves })
+}
+
+/// The mandatory slave writes variable 7 of 3 bits, a tool behind it variable 6 of 3 bits, and a
+/// module behind both variable 8 of 5 bits.
+fn tool_and_module(alloc: Global) -> Result<Items<Group>, AllocError> {
+    let mut groups = Items::new(alloc);
+    groups.push(one_slave(alloc, 0, 1001, 7, 3)?)?;
+    groups.push(one_slave(alloc, TOOL, 1002, 6, 3)?)?;
+    groups.push(one_slave(alloc, 8, 1003, 8, 5)?)?;
+    Ok(groups)
+}
+
+/// The line of groups, all present but one with an alias.
+fn configured(alloc: Global, groups: Items<Group>, absent: u16) -> Result<Configured, Fail> {
+    let project = Project::checked(alloc, groups).ok().ok_or("a project")?;
+    let declared = present(alloc, project.groups(), absent)?;
+    let configured = configure(alloc, declared.as_slice())
+        .ok()
+        .ok_or("few datagrams")?;
+    Ok(configured)
+}
+
+/// The place of an output variable in the first datagram of task 0.
+fn output(bit: u16, bits: u8) -> Place
+    requires some { 1 ≤ bits }
+    requires most { bits ≤ MOST_ENTRY_BITS }
+    requires inside { bit + bits ≤ MOST_AREA_BITS }
+{
+    Place {
+        task: 0,
+        datagram: 0,
+        bit,
+        bits,
+        dir: Dir::Out,
+    }
+}
+
+/// The first bit behind a variable: a caller that has the ranges of a place from the place alone.
+fn end_of(place: Place) -> u16
+    ensures end { result ≡ place.bit + place.bits }
+    ensures inside { result ≤ MOST_AREA_BITS }
+{
+    place.bit + u16::from(place.bits)
+}
+
+/// The bits of the output variables of a datagram, where 32 bits hold their sum: a caller that walks a
+/// datagram's variables.
+fn output_bits(places: &Places, task: u8, number: u8) -> Option<u32>
+    ensures { IfSome result (λ sum. sum ≡ sum_by (λ row. if same_dir row.1.dir Out then row.1.bits else 0) (variables_in places.now task number)) }
+{
+    let mut sum: u32 = 0;
+    for (_, place) in places.datagram_variables(task, number) {
+        if place.dir == Dir::Out {
+            sum = sum.checked_add(u32::from(place.bits))?;
+        }
+    }
+    Some(sum)
+}
+
+#[test]
+fn areas_of_three_bits_share_bytes(rt: HostRuntime) -> Result<(), Fail> {
+    let alloc = rt.alloc();
+    let Configured { layout, places } = configured(alloc, two_slaves(alloc)?, NONE)?;
+    for (rank, area, bit) in [(1, 0, 0), (1, 1, 3), (2, 0, 6)] {
+        let key = Key {
+            dir: Dir::Out,
+            rank,
+            area,
+        };
+        let placed = layout.placed(0, key).ok_or("an area")?;
+        assert_eq!(rt;
+            (placed.datagram(), placed.bit(), placed.bits()),
+            (0, bit, 3)
+        );
+    }
+    assert!(rt; layout.placed(1, Key::START).is_none());
+    let datagram = Datagram {
+        address: 0x0100_0000,
+        length: 2,
+        expected: 4,
+        offset: 0,
+    };
+    assert_eq!(rt; places.datagram(0, 0), Some(datagram));
+    assert_eq!(rt; places.datagram(0, 1), None);
+    assert_eq!(rt; (places.part(0), places.part(7)), ((2, 0), (0, 0)));
+    Ok(())
+}
+
+#[test]
+fn a_variable_stands_behind_a_gap(rt: HostRuntime) -> Result<(), Fail> {
+    let alloc = rt.alloc();
+    let Configured { places, .. } = configured(alloc, two_slaves(alloc)?, NONE)?;
+    let copy = places.copied(alloc)?;
+    for (number, place) in [(5, output(5, 1)), (6, output(6, 3)), (7, output(0, 3))] {
+        let variable = VarId::new(number).ok_or("a variable")?;
+        assert_eq!(rt; places.place(variable), Some(place));
+        assert_eq!(rt; copy.place(variable), Some(place));
+    }
+    let unknown = VarId::new(8).ok_or("a variable")?;
+    assert_eq!(rt; places.place(unknown), None);
+    assert_eq!(rt; copy.datagram(0, 0), places.datagram(0, 0));
+    Ok(())
+}
+
+#[test]
+fn tables_are_walked(rt: HostRuntime) -> Result<(), Fail> {
+    let alloc = rt.alloc();
+    let Configured { places, .. } = configured(alloc, two_slaves(alloc)?, NONE)?;
+    let mut ends = Vec::new(alloc);
+    for (variable, place) in places.variables() {
+        ends.push((variable.number(), end_of(*place)))?;
+    }
+    assert_eq!(rt; ends.as_slice(), [(5, 6), (6, 9), (7, 3)].as_slice());
+    assert_eq!(rt; places.datagrams(0).len(), 1);
+    assert_eq!(rt; places.datagrams(0).first().copied(), places.datagram(0, 0));
+    assert_eq!(rt;
+        (places.datagrams(1).len(), places.datagrams(8).len()),
+        (0, 0)
+    );
+    assert_eq!(rt; output_bits(&places, 0, 0), Some(7));
+    assert_eq!(rt;
+        (output_bits(&places, 0, 1), output_bits(&places, 1, 0)),
+        (Some(0), Some(0))
+    );
+    Ok(())
+}
+
+/// Whether a variable has this first bit, or has no place.
+fn stands_at(places: &Places, number: u32, bit: Option<u16>) -> bool {
+    let Some(variable) = VarId::new(number) else {
+        return false;
+    };
+    match places.place(variable) {
+        Some(place) => bit == Some(place.bit),
+        None => bit.is_none(),
+    }
+}
+
+/// Whether the only datagram of task 0 has this length and this expected counter, and is the task's
+/// outputs.
+fn has_datagram(places: &Places, length: u16, expected: u16) -> bool {
+    let datagram = Datagram {
+        address: 0x0100_0000,
+        length,
+        expected,
+        offset: 0,
+    };
+    places.datagram(0, 0) == Some(datagram)
+        && places.datagram(0, 1).is_none()
+        && places.part(0) == (length, 0)
+}
+
+/// The table of the mandatory slave, the tool and the module: 3, 3 and 5 bits, and three slaves that
+/// write.
+fn has_tool(places: &Places) -> bool {
+    stands_at(places, 7, Some(0))
+        && stands_at(places, 6, Some(3))
+        && stands_at(places, 8, Some(6))
+        && has_datagram(places, 2, 6)
+}
+
+/// The table of the mandatory slave and the module: 3 and 5 bits, and two slaves that write.
+fn has_no_tool(places: &Places) -> bool {
+    stands_at(places, 7, Some(0))
+        && stands_at(places, 6, None)
+        && stands_at(places, 8, Some(3))
+        && has_datagram(places, 1, 4)
+}
+
+/// Swaps a copy of a table for the next one: how many variables change, and the copy.
+fn swapped(
+    alloc: Global,
+    edit: Edit,
+    old: &Places,
+    new: &Places,
+) -> Result<(u32, Places), AllocError> {
+    let swap = Swap::between(alloc, &edit, old, new)?;
+    let mut places = old.copied(alloc)?;
+    places.swap(alloc, &swap)?;
+    Ok((swap.places(), places))
+}
+
+/// The variables whose place differs, with their new first bits.
+fn changed(
+    alloc: Global,
+    old: &Places,
+    new: &Places,
+) -> Result<Vec<(u32, Option<u16>)>, AllocError> {
+    let swap = Swap::between(alloc, &Edit::Disconnect(TOOL), old, new)?;
+    let mut changed = Vec::new(alloc);
+    for (variable, place) in swap.changes() {
+        changed.push((variable.number(), place.map(|place| place.bit)))?;
+    }
+    Ok(changed)
+}
+
+#[test]
+fn a_tool_goes(rt: HostRuntime) -> Result<(), Fail> {
+    let alloc = rt.alloc();
+    let with = configured(alloc, tool_and_module(alloc)?, NONE)?.places;
+    let without = configured(alloc, tool_and_module(alloc)?, TOOL)?.places;
+    let (count, places) = swapped(alloc, Edit::Disconnect(TOOL), &with, &without)?;
+    assert_eq!(rt; count, 2);
+    assert_eq!(rt;
+        changed(alloc, &with, &without)?.as_slice(),
+        [(6, None), (8, Some(3))].as_slice()
+    );
+    assert!(rt; has_tool(&with));
+    assert!(rt; has_no_tool(&places));
+    Ok(())
+}
+
+#[test]
+fn a_tool_comes(rt: HostRuntime) -> Result<(), Fail> {
+    let alloc = rt.alloc();
+    let with = configured(alloc, tool_and_module(alloc)?, NONE)?.places;
+    let without = configured(alloc, tool_and_module(alloc)?, TOOL)?.places;
+    let (count, places) = swapped(alloc, Edit::Connect(TOOL), &without, &with)?;
+    assert_eq!(rt; count, 2);
+    assert!(rt; has_no_tool(&without));
+    assert!(rt; has_tool(&places));
+    Ok(())
+}
+
+#[test]
+fn a_swap_names_its_edit(rt: HostRuntime) -> Result<(), Fail> {
+    let alloc = rt.alloc();
+    let places = configured(alloc, tool_and_module(alloc)?, NONE)?.places;
+    let swap = Swap::between(alloc, &Edit::Connect(TOOL), &places, &places)?;
+    assert_eq!(rt; swap.places(), 0);
+    assert!(rt; matches!(swap.edit(), Edit::Connect(TOOL)));
+    Ok(())
+}

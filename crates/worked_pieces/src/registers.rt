@@ -1,0 +1,192 @@
+//! Blocks of worked lines, with the bytes that their registers must hold.
+use hc_registers::blocks::Block;
+use hc_registers::counters::{added_count, expected_count};
+use hc_registers::fmmu::{self, Mapping, fmmu_block};
+use hc_registers::sync_manager::{self, sync_block};
+use hc_records::items::Items;
+use hc_records::keys::Key;
+use hc_records::records::{Area, Dir, Pdo, VarId};
+use std::alloc::{AllocError, Global};
+use std::test::Fail;
+
+/// An area of task 0 with one variable of so many bits, at most 64, which is assigned.
+fn area(alloc: Global, sm: u8, dir: Dir, phys: u16, bits: u8) -> Result<Area, AllocError> {
+    let mut entries = Items::new(alloc);
+    entries.push((VarId::new(1), bits))?;
+    let mut offered = Items::new(alloc);
+    offered.push(Pdo {
+        index: 0x1600,
+        entries,
+    })?;
+    let mut assigned = Items::new(alloc);
+    if bits > 0 {
+        assigned.push(0x1600)?;
+    }
+    Ok(Area {
+        sm,
+        dir,
+        phys,
+        offered,
+        assigned,
+        task: 0,
+    })
+}
+
+/// The two blocks of an area at an index of its slave's record that begins at a bit of datagram 0.
+fn blocks_of(
+    alloc: Global,
+    index: u8,
+    area: &Area,
+    bit: u16,
+) -> Result<Option<(Block, Block)>, AllocError> {
+    let width = area.width_with(area.assigned.as_slice());
+    if width > 64 || area.sm > 15 || index > 7 || bit > 64 {
+        return Ok(None);
+    }
+    let mapping = if width == 0 {
+        None
+    } else {
+        Some(Mapping {
+            address: 0x0100_0000,
+            bit,
+        })
+    };
+    Ok(Some((Block::sync_manager(area), Block::fmmu(index, area, mapping))))
+}
+
+#[test]
+fn a_slave_of_two_areas(rt: HostRuntime) -> Result<(), Fail> {
+    let output = area(rt.alloc(), 2, Dir::Out, 0x1100, 2)?;
+    let (manager, fmmu) = blocks_of(rt.alloc(), 0, &output, 0)?.ok_or("in range")?;
+    assert_eq!(rt; manager.register(), 0x0810);
+    assert_eq!(rt;
+        manager.bytes(),
+        [0x00, 0x11, 0x01, 0x00, 0x64, 0x00, 0x01, 0x00].as_slice()
+    );
+    assert_eq!(rt; fmmu.register(), 0x0600);
+    assert_eq!(rt;
+        fmmu.bytes(),
+        [0, 0, 0, 1, 1, 0, 0, 1, 0x00, 0x11, 0, 2, 1, 0, 0, 0].as_slice()
+    );
+    let input = area(rt.alloc(), 3, Dir::In, 0x1180, 12)?;
+    let (manager, fmmu) = blocks_of(rt.alloc(), 1, &input, 8)?.ok_or("in range")?;
+    assert_eq!(rt; manager.register(), 0x0818);
+    assert_eq!(rt;
+        manager.bytes(),
+        [0x80, 0x11, 0x02, 0x00, 0x20, 0x00, 0x01, 0x00].as_slice()
+    );
+    assert_eq!(rt; fmmu.register(), 0x0610);
+    assert_eq!(rt;
+        fmmu.bytes(),
+        [1, 0, 0, 1, 2, 0, 0, 3, 0x80, 0x11, 0, 1, 1, 0, 0, 0].as_slice()
+    );
+    Ok(())
+}
+
+#[test]
+fn areas_of_three_bits(rt: HostRuntime) -> Result<(), Fail> {
+    let second = area(rt.alloc(), 1, Dir::Out, 0x1010, 3)?;
+    let (_, fmmu) = blocks_of(rt.alloc(), 1, &second, 3)?.ok_or("in range")?;
+    assert_eq!(rt;
+        fmmu.bytes(),
+        [0, 0, 0, 1, 1, 0, 3, 5, 0x10, 0x10, 0, 2, 1, 0, 0, 0].as_slice()
+    );
+    let third = area(rt.alloc(), 0, Dir::Out, 0x1000, 3)?;
+    let (_, fmmu) = blocks_of(rt.alloc(), 0, &third, 6)?.ok_or("in range")?;
+    assert_eq!(rt;
+        fmmu.bytes(),
+        [0, 0, 0, 1, 2, 0, 6, 0, 0x00, 0x10, 0, 2, 1, 0, 0, 0].as_slice()
+    );
+    Ok(())
+}
+
+#[test]
+fn an_area_of_no_bits(rt: HostRuntime) -> Result<(), Fail> {
+    let empty = area(rt.alloc(), 3, Dir::In, 0x1180, 0)?;
+    let (manager, fmmu) = blocks_of(rt.alloc(), 1, &empty, 0)?.ok_or("in range")?;
+    assert_eq!(rt;
+        manager.bytes(),
+        [0x80, 0x11, 0x00, 0x00, 0x20, 0x00, 0x00, 0x00].as_slice()
+    );
+    assert_eq!(rt; fmmu.bytes(), [0u8; 16].as_slice());
+    Ok(())
+}
+
+#[test]
+fn fields_are_read(rt: HostRuntime) {
+    let manager = [0x80, 0x11, 0x02, 0x01, 0x20, 0x03, 0x01, 0x04];
+    assert_eq!(rt; sync_manager::start_address(&manager), 0x1180);
+    assert_eq!(rt; sync_manager::length(&manager), 0x0102);
+    assert_eq!(rt; sync_manager::control(&manager), 0x20);
+    assert_eq!(rt; sync_manager::status(&manager), 3);
+    assert_eq!(rt; sync_manager::activate(&manager), 1);
+    assert_eq!(rt; sync_manager::pdi_control(&manager), 4);
+    let block = [1, 2, 3, 4, 5, 6, 7, 8, 9, 10, 11, 12, 13, 0, 0, 0];
+    assert_eq!(rt; fmmu::logical_start_address(&block), 0x0403_0201);
+    assert_eq!(rt; fmmu::length(&block), 0x0605);
+    assert_eq!(rt; fmmu::logical_start_bit(&block), 7);
+    assert_eq!(rt; fmmu::logical_stop_bit(&block), 8);
+    assert_eq!(rt; fmmu::physical_start_address(&block), 0x0a09);
+    assert_eq!(rt; fmmu::physical_start_bit(&block), 11);
+    assert_eq!(rt; fmmu::fmmu_type(&block), 12);
+    assert_eq!(rt; fmmu::activate(&block), 13);
+}
+
+fn key(dir: Dir, rank: u16, area: u8) -> Key {
+    Key { dir, rank, area }
+}
+
+#[test]
+fn counters_count_slaves(rt: HostRuntime) {
+    let three_bits = [
+        key(Dir::Out, 1, 0),
+        key(Dir::Out, 1, 1),
+        key(Dir::Out, 2, 0),
+    ];
+    assert_eq!(rt; expected_count(&three_bits, &[1, 2]), 4);
+    let and_an_input = [
+        key(Dir::Out, 1, 0),
+        key(Dir::Out, 1, 1),
+        key(Dir::Out, 2, 0),
+        key(Dir::In, 1, 2),
+    ];
+    assert_eq!(rt; expected_count(&and_an_input, &[1, 2]), 5);
+    assert_eq!(rt; expected_count(&[], &[1, 2]), 0);
+}
+
+/// The counter of a datagram, by one pass over the keys of its areas.
+fn counted(keys: &[Key]) -> u64 {
+    let mut total = 0;
+    let mut before = None;
+    for key in keys {
+        total += u64::from(added_count(before, *key));
+        before = Some(*key);
+    }
+    total
+}
+
+/// Whether the pass and the count by slaves both give this counter, on a line of the ranks 1, 2 and 7.
+fn is_counter(keys: &[Key], counter: u16) -> bool {
+    expected_count(keys, &[1, 2, 7]) == counter && counted(keys) == u64::from(counter)
+}
+
+#[test]
+fn a_pass_counts_what_slaves_add(rt: HostRuntime) {
+    let [first, second] = [key(Dir::Out, 1, 0), key(Dir::Out, 1, 1)];
+    assert!(rt; is_counter(&[], 0));
+    assert!(rt; is_counter(&[first], 2));
+    assert!(rt; is_counter(&[first, second], 2));
+    assert!(rt; is_counter(&[first, key(Dir::In, 1, 2)], 3));
+    assert!(rt; is_counter(&[first, key(Dir::Out, 2, 0)], 4));
+    let line = [
+        first,
+        second,
+        key(Dir::Out, 7, 3),
+        key(Dir::In, 1, 2),
+        key(Dir::In, 2, 0),
+        key(Dir::In, 2, 1),
+        key(Dir::In, 7, 0),
+    ];
+    assert!(rt; is_counter(&line, 7));
+    assert!(rt; is_counter(&line[1..5], 6));
+}
