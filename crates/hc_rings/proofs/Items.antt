@@ -1,5 +1,5 @@
 -- The items of a ring of posts.
-use Rattle.std.proofs.Common.{◌≡◌, ◌<◌, Bool, true, false, List, [], ◌∷◌, ◌++◌, length, refl, ap, sym, ◌∙◌, subst, arith}
+use Rattle.std.proofs.Common.{◌≡◌, ◌+◌, ◌<◌, Bool, true, false, List, [], ◌∷◌, ◌++◌, length, drop, refl, ap, sym, ◌∙◌, subst, arith}
 use Rattle.std.proofs.lemmas.List.{append-nil, length-append, map-append, nil_from_length}
 use mathlib.Core.List.{IsPrefix}
 use Rattle.hc_rings.specs.Post.{Post}
@@ -40,6 +40,15 @@ posts_of_items [] false = refl
 posts_of_items [] true = refl
 posts_of_items (b ∷ posts) false = ap (λ zs. b ∷ zs) (posts_of_items posts false)
 posts_of_items (b ∷ posts) true = ap (λ zs. b ∷ zs) (posts_of_items posts true)
+
+-- an open ring, and the end behind it
+pub items_of_ended : (xs : List Item) → is_open xs ≡ true → xs ++ End ∷ [] ≡ items_of (posts_of (xs ++ End ∷ [])) true
+items_of_ended [] none_yet = refl
+items_of_ended (Buffer b ∷ xs) none_yet = ap (λ zs. Buffer b ∷ zs) (items_of_ended xs none_yet)
+items_of_ended (End ∷ xs) none_yet = absurd (cc)
+
+pub posts_of_ended : (xs : List Item) → posts_of (xs ++ End ∷ []) ≡ posts_of xs
+posts_of_ended xs = posts_of_append xs (End ∷ []) ∙ append-nil (posts_of xs)
 
 -- behind the end the ring is not open
 pub is_open_ended : (posts : List Post) → is_open (items_of posts true) ≡ false
@@ -100,3 +109,41 @@ known_before_end known [] x h is none =
     let p = posts_of_prefix known (End ∷ []) (h.0, h.1 ∙ ap (λ y. y ∷ []) is) in
     nil_from_length (posts_of known) (omega (arith, ap length p.1, length-append (posts_of known) p.0))
 known_before_end known (y ∷ behind) x h is none = let no : false ≡ true = none (omega arith) in absurd (cc)
+
+-- behind the end nothing is sent
+pub nothing_behind : (posts all : List Post) (known : List Item) → items_of posts true ++ known ≡ items_of all true → known ≡ []
+nothing_behind [] [] known same = ap (drop 1) same
+nothing_behind [] (b ∷ all) known same = absurd (cc)
+nothing_behind (p ∷ posts) [] known same = absurd (cc)
+nothing_behind (p ∷ posts) (b ∷ all) known same = nothing_behind posts all known (ap (drop 1) same)
+
+length-items_of : (posts : List Post) → length (items_of posts true) ≡ length posts + 1
+length-items_of [] = refl
+length-items_of (p ∷ posts) = omega (arith, length-items_of posts)
+
+length-open : (posts : List Post) → length (items_of posts false) ≡ length posts
+length-open [] = refl
+length-open (p ∷ posts) = omega (arith, length-open posts)
+
+-- where the end is still to come, all that is sent besides are posts
+pub known_posts : (items known whole : List Item) (ended : Bool) → ended ≡ false → items ≡ items_of (posts_of items) ended → items ++ known ≡ whole → whole ≡ items_of (posts_of whole) true
+    → length (posts_of known) + 1 ≡ length known
+known_posts items known whole true not_yet came sent all = absurd (cc)
+known_posts items known whole false not_yet came sent all =
+    omega (
+      arith,
+      ap length came,
+      length-open (posts_of items),
+      ap length all,
+      length-items_of (posts_of whole),
+      ap length sent,
+      length-append items known,
+      ap (λ xs. length (posts_of xs)) sent,
+      ap length (posts_of_append items known),
+      length-append (posts_of items) (posts_of known),
+    )
+
+-- where the end came, nothing else is sent
+pub known_none : (items known whole : List Item) (ended : Bool) → items ≡ items_of (posts_of items) ended → items ++ known ≡ whole → whole ≡ items_of (posts_of whole) true → ended ≡ true → known ≡ []
+known_none items known whole false came sent all ended = absurd (cc)
+known_none items known whole true came sent all ended = nothing_behind (posts_of items) (posts_of whole) known (ap (λ xs. xs ++ known) (sym came) ∙ sent ∙ all)

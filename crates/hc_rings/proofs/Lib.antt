@@ -1,5 +1,5 @@
 pub mod Items
-pub mod Post
 pub mod Prefixes
 pub mod Rest
 pub mod Whole
+pub mod lemmas

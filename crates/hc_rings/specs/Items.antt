@@ -1,5 +1,5 @@
 -- What goes through a ring of posts: posts, and behind the last of them the end.
-use Rattle.std.specs.Prelude.{◌≡◌, ◌-◌, Bool, true, false, List, [], ◌∷◌, ◌++◌, length, take, map}
+use Rattle.std.specs.Prelude.{◌≡◌, Bool, true, false, List, [], ◌∷◌, ◌++◌, map}
 use Rattle.hc_rings.specs.Post.{Post}
 use Rattle.hc_rings.specs.declared.item.Item.{Item}
 use Rattle.hc_rings.specs.declared.item.Item.TheVariants.{Buffer, End}
@@ -24,7 +24,3 @@ Follows before item = is_open before ≡ true
 abbrev pub items_of : List Post → Bool → List Item
 items_of posts false = map Buffer posts
 items_of posts true = map Buffer posts ++ End ∷ []
-
--- what stands in the list before its last posts, which are as many as `rest` has
-abbrev pub before_rest : List Post → List Post → List Post
-before_rest posts rest = take (length posts - length rest) posts

@@ -1,5 +1,9 @@
 pub mod Post
 pub mod Items
 pub mod Ends
+pub mod Taken
 pub mod Ring
+pub mod Lending
+pub mod Finished
+pub mod Laws
 pub mod Frames

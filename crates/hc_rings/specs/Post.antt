@@ -1,14 +1,18 @@
 -- What contracts see of the buffer of a post.
-use Rattle.std.specs.Prelude.{ℕ, List, ◌++◌, length, take, drop, replicate}
+use Rattle.std.specs.Prelude.{ℕ, List, ◌++◌, length, take, drop, replicate, Option, Some, None}
 
 -- the epoch that a post is for, and its output bytes
 pub record Post : Type 0 where
   pub epoch : ℕ
   pub bytes : List ℕ
 
+-- the post of these bytes for this epoch
+abbrev pub post_of : ℕ → List ℕ → Post
+post_of epoch bytes = record { epoch = epoch; bytes = bytes }
+
 -- a post for this epoch, of `size` bytes that are all 0
 abbrev pub blank_post : ℕ → ℕ → Post
-blank_post epoch size = record { epoch = epoch; bytes = replicate size 0 }
+blank_post epoch size = post_of epoch (replicate size 0)
 
 -- the bytes with others written over them from the first one on. As many stay as there were
 abbrev pub overwritten : List ℕ → List ℕ → List ℕ
@@ -17,3 +21,8 @@ overwritten bytes written = take (length bytes) (written ++ drop (length written
 -- the post with other bytes written over its own
 abbrev pub with_written : Post → List ℕ → Post
 with_written post written = record { epoch = post.epoch; bytes = overwritten post.bytes written }
+
+-- how many posts an option is: one or none
+abbrev pub count_of : Option Post → ℕ
+count_of None = 0
+count_of (Some post) = 1

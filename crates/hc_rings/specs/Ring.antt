@@ -1,9 +1,10 @@
 -- What contracts see of the two ends of a ring of posts: what was posted, what was taken, and what is left.
-use Rattle.std.specs.Prelude.{◌≡◌, ℕ, List, ◌++◌, length, true}
+use Rattle.std.specs.Prelude.{◌≡◌, ◌+◌, ℕ, List, ◌++◌, length, true, Option, Some}
 use Rattle.rtrb.specs.Ring.{sent, received, known_free, IsPair, SameProducer, SameConsumer}
-use Rattle.hc_rings.specs.Post.{Post}
-use Rattle.hc_rings.specs.Items.{items_of, before_rest}
-use Rattle.hc_rings.specs.Ends.{put_in, came_out, known_ahead}
+use Rattle.hc_rings.specs.Post.{Post, count_of}
+use Rattle.hc_rings.specs.Items.{items_of}
+use Rattle.hc_rings.specs.Ends.{put_in, known_ahead}
+use Rattle.hc_rings.specs.Taken.{posts_taken}
 use Rattle.hc_rings.specs.declared.posts.PostSender.{PostSender}
 use Rattle.hc_rings.specs.declared.posts.PostReceiver.{PostReceiver}
 
@@ -13,23 +14,35 @@ posted s = put_in s.posts
 
 -- how many buffers were handed out to be filled
 abbrev pub handed_out : PostSender → ℕ
-handed_out s = length (received s.spares)
+handed_out s = length (received s.spares.ring)
+
+-- the post for which the sender holds a buffer, as it stands in it
+abbrev pub held : PostSender → Option Post
+held s = s.held
+
+-- the sender now holds this post, in the buffer that it held before or in one that was handed out to it
+abbrev pub Holds : PostSender → PostSender → Post → Type 0
+Holds old new post = (held new ≡ Some post) × (handed_out new + count_of (held old) ≡ handed_out old + 1)
+
+-- each buffer that was handed out was posted or is held: so it is as long as `buffer` is unused
+abbrev pub PostsEach : PostSender → Type 0
+PostsEach s = handed_out s ≡ length (posted s) + count_of (held s)
 
 -- every post that the receiver has taken, oldest first
 abbrev pub taken : PostReceiver → List Post
-taken r = before_rest (came_out r.posts) r.rest.items
+taken r = posts_taken r.took
 
 -- the posts that the receiver knows to be left, oldest first: the next that it takes
 abbrev pub left : PostReceiver → List Post
 left r = r.rest.items ++ known_ahead r.posts
 
--- these are all that was ever posted: the end came out of the ring behind them, and nothing follows the end
-abbrev pub IsAllPosted : PostReceiver → List Post → Type 0
-IsAllPosted r posts = received r.posts.ring ≡ items_of posts true
+-- the end came out of the ring behind these posts: nothing else came, and nothing follows the end
+abbrev pub EndCameAfter : PostReceiver → List Post → Type 0
+EndCameAfter r posts = received r.posts.ring ≡ items_of posts true
 
 -- the two ends of one ring
 abbrev pub ArePostEnds : PostSender → PostReceiver → Type 0
-ArePostEnds s r = IsPair s.posts.ring r.posts.ring × IsPair r.spares s.spares
+ArePostEnds s r = IsPair s.posts.ring r.posts.ring × IsPair r.spares s.spares.ring
 
 -- every buffer that the receiver has given back, behind the spares that the ring was made with
 abbrev pub given_back : PostReceiver → List Post
@@ -41,7 +54,7 @@ spare_places r = known_free r.spares
 
 -- the same end of the same ring
 abbrev pub SameSender : PostSender → PostSender → Type 0
-SameSender old new = SameProducer old.posts.ring new.posts.ring × SameConsumer old.spares new.spares
+SameSender old new = SameProducer old.posts.ring new.posts.ring × SameConsumer old.spares.ring new.spares.ring
 
 abbrev pub SameReceiver : PostReceiver → PostReceiver → Type 0
 SameReceiver old new = SameConsumer old.posts.ring new.posts.ring × SameProducer old.spares new.spares

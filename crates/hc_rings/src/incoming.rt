@@ -6,6 +6,7 @@ ghost use Rattle.hc_rings.specs.Items.{posts_of, items_of};
 use crate::item::{EndComesLast, Item};
 use crate::outgoing::OutgoingPosts;
 use crate::post_buffer::PostBuffer;
+use crate::posts::PostsEnd;
 use rtrb::Consumer;
 use std::alloc::Global;
 
@@ -22,7 +23,8 @@ pub(crate) struct IncomingPosts {
 impl IncomingPosts {
     ghost use Rattle.std.specs.Prelude.{◌≡◌, ◌≤◌, [], ◌∷◌, ◌++◌, length, IfSome, IfNone, true};
     ghost use mathlib.Core.List.{IsPrefix};
-    ghost use Rattle.rtrb.specs.Ring.{sent, received, IsPair, SameProducer, SameConsumer};
+    ghost use Rattle.rtrb.specs.Ring.{sent, all_sent, received, IsPair, IsFinishedOf, SameProducer, SameConsumer};
+    ghost use Rattle.hc_rings.specs.Items.{posts_of};
     ghost use Rattle.hc_rings.specs.Ends.{put_in, came_out, known_ahead};
 
     /// The next post, or `None` where none is found or the end comes.
@@ -71,5 +73,19 @@ impl IncomingPosts {
         ensures count { (result ≡ length (known_ahead self.new)) × (result ≤ 5) }
     {
         self.ring.slots_beside(&mut outgoing.ring)
+    }
+
+    /// How many posts are in the ring, once its other end has finished.
+    pub(crate) fn after(&mut self, end: &mut PostsEnd) -> usize
+        requires { IsFinishedOf end.old.items self.old.ring }
+        ensures ring { SameConsumer self.old.ring self.new.ring }
+        ensures end { IsFinishedOf end.new.items self.new.ring × (all_sent end.new.items ≡ all_sent end.old.items) }
+        ensures came { received self.new.ring ≡ received self.old.ring }
+        ensures known { IsPrefix (known_ahead self.old) (known_ahead self.new) }
+        ensures split { came_out self.new ++ known_ahead self.new ≡ posts_of (all_sent end.old.items) }
+        ensures count { (result ≡ length (known_ahead self.new)) × (result ≤ 5) }
+    {
+        let items = self.ring.slots_after(&mut end.items);
+        if self.ended { 0 } else { items - 1 }
     }
 }

@@ -5,7 +5,7 @@ ghost use Rattle.hc_rings.specs.Items.{is_open};
 
 use crate::item::{EndComesLast, Item};
 use crate::post_buffer::PostBuffer;
-use crate::posts::POSTS_WAITING;
+use crate::posts::{POSTS_WAITING, PostsEnd};
 use rtrb::Producer;
 use std::alloc::Global;
 
@@ -18,8 +18,10 @@ pub(crate) struct OutgoingPosts {
 }
 
 impl OutgoingPosts {
-    ghost use Rattle.std.specs.Prelude.{◌≡◌, ◌≤◌, [], ◌∷◌, ◌++◌, length, OnOk, OnErr, IfErr};
-    ghost use Rattle.rtrb.specs.Ring.{SameProducer};
+    ghost use Rattle.std.specs.Prelude.{◌≡◌, ◌≤◌, [], ◌∷◌, ◌++◌, length, OnOk, OnErr, IfErr, IfSome};
+    ghost use Rattle.rtrb.specs.Ring.{all_sent, IsPair, IsFinishedOf, SameProducer};
+    ghost use Rattle.hc_rings.specs.Items.{posts_of};
+    ghost use Rattle.hc_rings.specs.declared.incoming.IncomingPosts.{IncomingPosts};
     ghost use Rattle.hc_rings.specs.Ends.{put_in};
 
     /// Puts a post into the ring, or hands it back where four are waiting.
@@ -35,6 +37,18 @@ impl OutgoingPosts {
         }
         self.ring.push_reserved(Item::Buffer(buffer));
         Ok(())
+    }
+
+    /// Leaves the end, and tells all that went in. `None` where the other end of the ring is gone.
+    #[tactic(auto, using(crate::proofs::Items::posts_of_ended, crate::proofs::Items::items_of_ended))]
+    pub(crate) fn finish(self) -> Option<PostsEnd>
+        ensures ring { IfSome result (λ end. (incoming : IncomingPosts) → IsPair self.ring incoming.ring → IsFinishedOf end.items incoming.ring) }
+        ensures all { IfSome result (λ end. posts_of (all_sent end.items) ≡ put_in self) }
+    {
+        let OutgoingPosts { mut ring } = self;
+        ring.push_reserved(Item::End);
+        let items = ring.finish()?;
+        Some(PostsEnd { items })
     }
 }
 

@@ -1,8 +1,8 @@
 //! The buffer of a post. Task seats fill it and the conductor reads it; it goes through the ring whole and comes back as a spare.
 ghost use Rattle.std.specs.Prelude.{◌≡◌, ◌≤◌, length, IfOk};
-ghost use Rattle.std.specs.Borrow.{Lends, Array, sem, u8 as byte};
-ghost use Rattle.hc_rings.specs.Post.{blank_post, with_written};
-ghost use Rattle.hc_rings.specs.contracts.post_buffer.PostBuffer.{the_row};
+ghost use Rattle.std.specs.Borrow.{sem};
+ghost use Rattle.hc_rings.specs.Post.{blank_post};
+ghost use Rattle.hc_rings.specs.Lending.{LendsPost};
 
 use std::alloc::{AllocError, Global};
 use std::marker::Model;
@@ -65,7 +65,7 @@ impl PostBuffer {
 
     /// Lends the output bytes for writing. The epoch stays, and so does the number of bytes.
     pub fn bytes_mut(&mut self) -> &mut [u8]
-        ensures* written { sem 𝓛 (Lends the_row (Array byte 0) self.entry result (with_written self.old)) }
+        ensures* written { sem 𝓛 (LendsPost self.entry result) }
         ensures bytes { result.now ≡ self.old.bytes }
     {
         self.bytes.as_mut_slice()

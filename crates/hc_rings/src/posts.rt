@@ -1,19 +1,26 @@
 //! The two ends of a ring of posts: a task seat posts at one, and the conductor takes at the other and gives the buffers back.
-ghost use Rattle.std.specs.Prelude.{◌≡◌, ◌+◌, ◌≤◌, ◌++◌, length};
+ghost use Rattle.std.specs.Prelude.{◌≡◌, ◌≤◌, ◌++◌};
 ghost use Rattle.std.specs.VecDeque.{deque_len, deque_capacity};
-ghost use Rattle.rtrb.specs.Ring.{received, known_items};
-ghost use Rattle.hc_rings.specs.Items.{posts_of, before_rest};
+ghost use Rattle.rtrb.specs.Ring.{received};
+ghost use Rattle.hc_rings.specs.Items.{posts_of};
+ghost use Rattle.hc_rings.specs.Taken.{posts_taken};
 
 use crate::incoming::IncomingPosts;
 use crate::outgoing::OutgoingPosts;
 use crate::post_buffer::PostBuffer;
-use rtrb::{Consumer, Producer};
+use crate::spares::SpareBuffers;
+use crate::taken::Taken;
+use rtrb::Producer;
 use std::collections::VecDeque;
 
+mod finishing;
+mod holding;
 mod opening;
 mod receiving;
 mod sending;
 
+pub use finishing::PostsEnd;
+pub use holding::PostFault;
 pub use opening::post_ring;
 pub use sending::{Full, NoSpare};
 
@@ -27,9 +34,9 @@ pub const SPARE_BUFFERS: usize = 4;
 #[derive(Drop)]
 pub struct PostSender {
     posts: OutgoingPosts,
-    spares: Consumer<PostBuffer>,
-    // Four spares were there before the first was handed out.
-    ghost four: { 4 ≤ length (received spares) + length (known_items spares) },
+    spares: SpareBuffers,
+    // The buffer of the next post, from `outputs` on until it is posted.
+    held: Option<PostBuffer>,
 }
 
 /// The end that takes posts and gives their buffers back. It may go to a thread of its own.
@@ -38,7 +45,9 @@ pub struct PostReceiver {
     posts: IncomingPosts,
     // Posts that came out of the ring ahead of its end and were not taken yet.
     rest: VecDeque<PostBuffer>,
+    // The posts that were taken, for contracts alone.
+    took: Taken,
     spares: Producer<PostBuffer>,
     ghost room: { (deque_len rest ≤ 5) × (5 ≤ deque_capacity rest) },
-    ghost in_order: { before_rest (posts_of (received posts.ring)) rest.items ++ rest.items ≡ posts_of (received posts.ring) },
+    ghost in_order: { posts_taken took ++ rest.items ≡ posts_of (received posts.ring) },
 }

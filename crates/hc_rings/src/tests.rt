@@ -1,6 +1,9 @@
 //! Rings between threads, and what no clause says of them: that what was put is found, and that a call succeeds where there is memory.
-ghost use Rattle.std.specs.Prelude.{IfSome};
-ghost use Rattle.hc_rings.specs.Ring.{taken, IsAllPosted, SameSender, SameReceiver};
+ghost use Rattle.std.specs.Prelude.{◌≡◌, ◌≤◌, ℕ, List, [], ◌∷◌, ◌++◌, length, slice_set, IfSome, IsTrue};
+ghost use Rattle.hc_rings.specs.Frames.{frames_sent, frames_taken};
+ghost use Rattle.hc_rings.specs.Post.{post_of};
+ghost use Rattle.hc_rings.specs.Ring.{taken, posted, ArePostEnds, EndCameAfter, SameSender, SameReceiver};
+ghost use Rattle.hc_rings.specs.Finished.{all_posted, IsEndOf};
 
 use super::*;
 use std::test::Fail;
@@ -123,7 +126,7 @@ fn a_dropped_sender_leaves_its_posts(rt: HostRuntime) -> Result<(), Fail> {
 
 /// Takes what is left once the sender is gone. It is proved that no `take` is in vain, and that what was taken is then all that was posted.
 fn take_what_is_left(receiver: &mut PostReceiver) -> Option<u32>
-    ensures { IfSome result (λ _. IsAllPosted receiver.new (taken receiver.new)) }
+    ensures { IfSome result (λ _. EndCameAfter receiver.new (taken receiver.new)) }
 {
     let count = receiver.finish()?;
     for _ in 0..count {
@@ -266,6 +269,155 @@ fn a_ring_with_no_room_hands_each_frame_back(rt: HostRuntime) -> Result<(), Fail
     let back = sender.send(FrameBox::of(rt.alloc(), &[8])?);
     assert_eq!(rt; back.err().ok_or("not full")?.bytes(), [8].as_slice());
     assert_eq!(rt; receiver.beside(&mut sender), 0);
+    Ok(())
+}
+
+/// Posts these bytes for this epoch, from the buffer that the sender holds.
+fn post_held_bytes(sender: &mut PostSender, epoch: u32, bytes: &[u8]) -> bool
+    requires { length bytes.now ≤ LARGEST_IMAGE }
+    ensures { IsTrue result → posted sender.new ≡ posted sender.old ++ post_of epoch bytes.now ∷ [] }
+{
+    if sender.hold(epoch, bytes.len()).is_err() {
+        return false;
+    }
+    sender.held_mut().copy_from_slice(bytes);
+    sender.post_held().is_ok()
+}
+
+#[test]
+fn held_buffers_are_posted(rt: HostRuntime) -> Result<(), Fail> {
+    let (mut sender, mut receiver) = post_ring(rt.alloc())?;
+    assert_eq!(rt; sender.post_held(), Err(PostFault::NoBuffer));
+    for epoch in 0..4 {
+        assert!(rt;
+            post_held_bytes(&mut sender, epoch, &[1, 2, epoch as u8]),
+            "epoch {epoch}"
+        );
+    }
+    assert_eq!(rt; sender.hold(9, 5), Err(NoSpare));
+    assert_eq!(rt; sender.post_held(), Err(PostFault::NoBuffer));
+    for epoch in 0..4 {
+        assert!(rt;
+            takes(&mut receiver, epoch, &[1, 2, epoch as u8]),
+            "epoch {epoch}"
+        );
+    }
+    assert!(rt; receiver.take().is_none());
+    Ok(())
+}
+
+#[test]
+fn a_held_buffer_is_begun_anew(rt: HostRuntime) -> Result<(), Fail> {
+    let (mut sender, mut receiver) = post_ring(rt.alloc())?;
+    for _ in 0..6 {
+        assert!(rt; sender.hold(7, LARGEST_IMAGE).is_ok());
+        sender.held_mut().fill(255);
+    }
+    assert!(rt; sender.hold(8, 3).is_ok());
+    assert_eq!(rt; &*sender.held_mut(), [0, 0, 0].as_slice());
+    sender.held_mut().fill(6);
+    assert!(rt; sender.post_held().is_ok());
+    assert!(rt; takes(&mut receiver, 8, &[6, 6, 6]));
+    Ok(())
+}
+
+#[test]
+fn a_full_ring_keeps_the_held_buffer(rt: HostRuntime) -> Result<(), Fail> {
+    let (mut sender, mut receiver) = post_ring(rt.alloc())?;
+    let (mut other, _) = post_ring(rt.alloc())?;
+    for epoch in 0..3 {
+        assert!(rt; post(&mut sender, epoch, &[0, 0, 0]), "epoch {epoch}");
+    }
+    assert!(rt; sender.hold(70, 3).is_ok());
+    sender.held_mut().fill(5);
+    let Ok(mut buffer) = other.buffer() else {
+        return Err("no spare".into());
+    };
+    buffer.begin(3, 3);
+    assert!(rt; sender.post(buffer).is_ok());
+    assert_eq!(rt; sender.post_held(), Err(PostFault::Full));
+    assert!(rt; takes(&mut receiver, 0, &[0, 0, 0]));
+    assert!(rt; sender.post_held().is_ok());
+    for epoch in 1..4 {
+        assert!(rt; takes(&mut receiver, epoch, &[0, 0, 0]), "epoch {epoch}");
+    }
+    assert!(rt; takes(&mut receiver, 70, &[5, 5, 5]));
+    Ok(())
+}
+
+/// Takes what is left once the sender has finished. It is proved that no `take` is in vain, and that what was taken is then
+/// all that was posted.
+fn take_up_to(receiver: &mut PostReceiver, end: &mut PostsEnd) -> u32
+    requires { IsEndOf end.old receiver.old }
+    ensures { taken receiver.new ≡ all_posted end.old }
+{
+    let count = receiver.finish_after(end);
+    while receiver.finish_after(end) > 0 {
+        match receiver.take() {
+            Some(buffer) => receiver.give_back(buffer),
+            None => unreachable!(),
+        }
+    }
+    count
+}
+
+/// Finishes the sender and takes what is left, with the number of these posts. It is proved that what was taken is then all
+/// that was posted.
+fn finish_and_take(sender: PostSender, receiver: &mut PostReceiver) -> Option<u32>
+    requires { ArePostEnds sender receiver.old }
+    ensures { IfSome result (λ _. taken receiver.new ≡ posted sender) }
+{
+    let mut end = sender.finish()?;
+    Some(take_up_to(receiver, &mut end))
+}
+
+#[test]
+fn a_finished_sender_tells_its_posts(rt: HostRuntime) -> Result<(), Fail> {
+    let (mut sender, mut receiver) = post_ring(rt.alloc())?;
+    assert!(rt; post(&mut sender, 0, &[2, 2, 2]));
+    assert!(rt; post(&mut sender, 1, &[2, 2, 2]));
+    assert!(rt; post(&mut sender, 2, &[2, 2, 2]));
+    assert!(rt; takes(&mut receiver, 0, &[2, 2, 2]));
+    assert!(rt; sender.hold(9, 1).is_ok());
+    assert_eq!(rt; finish_and_take(sender, &mut receiver), Some(2));
+    assert!(rt; receiver.take().is_none());
+    assert_eq!(rt; receiver.finish(), Some(0));
+    let (sender, receiver) = post_ring(rt.alloc())?;
+    drop(receiver);
+    assert!(rt; sender.finish().is_none());
+    Ok(())
+}
+
+/// Marks a frame as one that was passed on: its source address becomes a locally administered one (IEEE 802.3).
+fn mark(frame: &mut [u8])
+    ensures { frame.new ≡ slice_set frame.old 6 2 }
+{
+    if frame.len() > 6 {
+        frame[6] = 2;
+    }
+}
+
+/// Takes a frame, marks it in its box and sends it on.
+fn pass_on(from: &mut FrameReceiver, to: &mut FrameSender) -> bool
+    ensures { IsTrue result → (frame : List ℕ) × (frames_taken from.new ≡ frames_taken from.old ++ frame ∷ [])
+        × (frames_sent to.new ≡ frames_sent to.old ++ slice_set frame 6 2 ∷ []) }
+{
+    let Some(mut frame) = from.take() else {
+        return false;
+    };
+    mark(frame.bytes_mut());
+    to.send(frame).is_ok()
+}
+
+#[test]
+fn a_frame_is_marked_on_its_way(rt: HostRuntime) -> Result<(), Fail> {
+    let (mut sender, mut between) = frame_ring(rt.alloc(), 1)?;
+    let (mut further, mut receiver) = frame_ring(rt.alloc(), 1)?;
+    assert!(rt; !pass_on(&mut between, &mut further));
+    assert!(rt; sender.send(FrameBox::of(rt.alloc(), &[9; 8])?).is_ok());
+    assert!(rt; pass_on(&mut between, &mut further));
+    let frame = receiver.take().ok_or("no frame")?;
+    assert_eq!(rt; frame.bytes(), [9, 9, 9, 9, 9, 9, 2, 9].as_slice());
     Ok(())
 }
 

@@ -1,8 +1,7 @@
 //! A frame in a box of its own, which goes from thread to thread whole.
 ghost use Rattle.std.specs.Prelude.{◌≡◌, ◌≤◌, length, IfOk};
-ghost use Rattle.std.specs.Borrow.{Lends, Array, sem, u8 as byte};
-ghost use Rattle.hc_rings.specs.Post.{overwritten};
-ghost use Rattle.hc_rings.specs.contracts.frames.frame_box.FrameBox.{the_row};
+ghost use Rattle.std.specs.Borrow.{sem};
+ghost use Rattle.hc_rings.specs.Lending.{LendsFrame};
 
 use std::alloc::{AllocError, Global};
 use std::marker::Model;
@@ -46,7 +45,7 @@ impl FrameBox {
 
     /// Lends the frame's bytes for writing. Their number stays. Takes no memory.
     pub fn bytes_mut(&mut self) -> &mut [u8]
-        ensures* written { sem 𝓛 (Lends the_row (Array byte 0) self.entry result (overwritten self.old)) }
+        ensures* written { sem 𝓛 (LendsFrame self.entry result) }
         ensures bytes { result.now ≡ self.old }
         ensures most { length result.now ≤ LARGEST_FRAME }
     {

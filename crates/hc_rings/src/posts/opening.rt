@@ -8,6 +8,8 @@ use crate::incoming::IncomingPosts;
 use crate::item::EndComesLast;
 use crate::outgoing::OutgoingPosts;
 use crate::post_buffer::PostBuffer;
+use crate::spares::SpareBuffers;
+use crate::taken::Taken;
 use rtrb::{Consumer, Producer, RingBuffer};
 use std::alloc::{AllocError, Global};
 use std::collections::VecDeque;
@@ -28,7 +30,8 @@ pub fn post_ring(alloc: Global) -> Result<(PostSender, PostReceiver), AllocError
     let rest = VecDeque::with_capacity(alloc, POSTS_WAITING + 1)?;
     let sender = PostSender {
         posts: OutgoingPosts { ring: posts_in },
-        spares: spares_out,
+        spares: SpareBuffers { ring: spares_out },
+        held: None,
     };
     let receiver = PostReceiver {
         posts: IncomingPosts {
@@ -36,6 +39,7 @@ pub fn post_ring(alloc: Global) -> Result<(PostSender, PostReceiver), AllocError
             ended: false,
         },
         rest,
+        took: Taken::Nothing,
         spares: spares_in,
     };
     Ok((sender, receiver))

@@ -2,7 +2,7 @@
 ghost use Rattle.std.specs.Prelude.{◌≡◌, ◌<◌, ◌⊎◌, [], ◌∷◌, ◌++◌, List, length, IsSome, IfSome, IfNone};
 ghost use mathlib.Core.List.{IsPrefix};
 ghost use Rattle.hc_rings.specs.Post.{Post};
-ghost use Rattle.hc_rings.specs.Ring.{posted, handed_out, taken, left, given_back, spare_places, IsAllPosted, ArePostEnds, SameSender, SameReceiver};
+ghost use Rattle.hc_rings.specs.Ring.{posted, handed_out, taken, left, given_back, spare_places, EndCameAfter, ArePostEnds, SameSender, SameReceiver};
 
 use super::{POSTS_WAITING, PostReceiver, PostSender};
 use crate::post_buffer::PostBuffer;
@@ -20,22 +20,23 @@ impl PostReceiver {
         ensures none { IfNone result (taken self.new ≡ taken self.old) }
         ensures none_left { IfNone result ((left self.old ≡ []) × (left self.new ≡ [])) }
 
-        // Once the end is known, what was taken and what is left stays all that was posted.
-        ensures posted { (posts : List Post) → IsAllPosted self.old posts
-            → IsAllPosted self.new posts × (taken self.new ++ left self.new ≡ posts) }
+        ensures end { (posts : List Post) → EndCameAfter self.old posts → EndCameAfter self.new posts }
         ensures given_back { given_back self.new ≡ given_back self.old }
     {
-        match self.rest.pop_front() {
-            Some(buffer) => Some(buffer),
-            None => self.posts.next(),
+        if let Some(buffer) = self.rest.pop_front() {
+            self.took.add(&buffer);
+            return Some(buffer);
         }
+        let buffer = self.posts.next()?;
+        self.took.add(&buffer);
+        Some(buffer)
     }
 
     /// Puts a buffer among the spares, for the sender to fill again. It is dropped where no place is found.
     pub fn give_back(&mut self, buffer: PostBuffer)
         ensures ring { SameReceiver self.old self.new }
         ensures taken { (taken self.new ≡ taken self.old) × (left self.new ≡ left self.old) }
-        ensures posted { (posts : List Post) → IsAllPosted self.old posts → IsAllPosted self.new posts }
+        ensures end { (posts : List Post) → EndCameAfter self.old posts → EndCameAfter self.new posts }
 
         // It is dropped only where no place is known, also after a look.
         ensures given_back { (given_back self.new ≡ given_back self.old ++ buffer ∷ [])
@@ -50,9 +51,9 @@ impl PostReceiver {
     pub fn finish(&mut self) -> Option<u32>
         ensures ring { SameReceiver self.old self.new }
         ensures taken { (taken self.new ≡ taken self.old) × IsPrefix (left self.old) (left self.new) }
-        ensures posted { IfSome result (λ _. IsAllPosted self.new (taken self.new ++ left self.new)) }
+        ensures end { IfSome result (λ _. EndCameAfter self.new (taken self.new ++ left self.new)) }
         ensures count { IfSome result (λ n. n ≡ length (left self.new)) }
-        ensures again { (posts : List Post) → IsAllPosted self.old posts → IsSome result × IsAllPosted self.new posts }
+        ensures again { (posts : List Post) → EndCameAfter self.old posts → IsSome result × EndCameAfter self.new posts }
         ensures given_back { given_back self.new ≡ given_back self.old }
     {
         self.look_for_end();
@@ -81,7 +82,7 @@ impl PostReceiver {
     fn look_for_end(&mut self)
         ensures ring { SameReceiver self.old self.new }
         ensures taken { (taken self.new ≡ taken self.old) × IsPrefix (left self.old) (left self.new) }
-        ensures again { (posts : List Post) → IsAllPosted self.old posts → IsAllPosted self.new posts }
+        ensures again { (posts : List Post) → EndCameAfter self.old posts → EndCameAfter self.new posts }
         ensures given_back { given_back self.new ≡ given_back self.old }
     {
         if !self.posts.is_abandoned() {

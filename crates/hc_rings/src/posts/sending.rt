@@ -1,6 +1,6 @@
 //! What a task seat does with its end of a ring of posts.
 ghost use Rattle.std.specs.Prelude.{◌≡◌, ◌+◌, ◌≤◌, [], ◌∷◌, ◌++◌, length, OnOk, OnErr, IfErr};
-ghost use Rattle.hc_rings.specs.Ring.{posted, handed_out, SameSender};
+ghost use Rattle.hc_rings.specs.Ring.{posted, handed_out, held, SameSender};
 
 use super::{POSTS_WAITING, PostSender, SPARE_BUFFERS};
 use crate::post_buffer::PostBuffer;
@@ -18,15 +18,12 @@ impl PostSender {
     /// may be of an earlier post.
     pub fn buffer(&mut self) -> Result<PostBuffer, NoSpare>
         ensures ring { SameSender self.old self.new }
-        ensures posted { posted self.new ≡ posted self.old }
+        ensures posted { (posted self.new ≡ posted self.old) × (held self.new ≡ held self.old) }
         ensures ok { OnOk result (handed_out self.new ≡ handed_out self.old + 1) }
         ensures no_spare { OnErr result (handed_out self.new ≡ handed_out self.old) }
         ensures no_spare_only_after_four { OnErr result (SPARE_BUFFERS ≤ handed_out self.old) }
     {
-        if self.spares.is_empty() {
-            return Err(NoSpare);
-        }
-        Ok(self.spares.pop_known())
+        self.spares.next().ok_or(NoSpare)
     }
 
     /// Posts the buffer with its epoch and bytes. `Full` only where four posts were made before; it hands the buffer back.
@@ -35,7 +32,7 @@ impl PostSender {
         ensures ok { OnOk result (posted self.new ≡ posted self.old ++ buffer ∷ []) }
         ensures full { IfErr result (λ full. (full.0 ≡ buffer) × (posted self.new ≡ posted self.old)) }
         ensures full_only_after_four { OnErr result (POSTS_WAITING ≤ length (posted self.old)) }
-        ensures handed_out { handed_out self.new ≡ handed_out self.old }
+        ensures handed_out { (handed_out self.new ≡ handed_out self.old) × (held self.new ≡ held self.old) }
     {
         match self.posts.post(buffer) {
             Ok(()) => Ok(()),

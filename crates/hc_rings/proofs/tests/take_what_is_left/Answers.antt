@@ -1,7 +1,8 @@
-use Rattle.std.proofs.Common.{◌≡◌, ◌++◌, List, length, ap, sym, subst, ◌∙◌, arith}
+use Rattle.std.proofs.Common.{◌++◌, List, length, ap, sym, subst, arith}
 use Rattle.hc_rings.specs.Post.{Post}
-use Rattle.hc_rings.specs.Ring.{taken, left, IsAllPosted}
-use Rattle.hc_rings.proofs.Whole.{one_less_left}
+use Rattle.hc_rings.specs.Ring.{taken, left, EndCameAfter}
+use Rattle.hc_rings.proofs.Rest.{one_less_left}
+use Rattle.hc_rings.proofs.lemmas.Ended.{taken_then_left}
 use Rattle.hc_rings.proofs.tests.take_what_is_left.Goals as goal
 
 pub unreachable-requires : goal.unreachable-requires
@@ -13,11 +14,11 @@ loop-preserved c =
     let after = c.take.new.self in
     let at_end = c.give_back.new.self in
     let posts = taken before ++ left before in
-    let one = c.take.ensures.posted posts c.loop.invariant.all in
-    let same : taken at_end ++ left at_end ≡ posts = ap (λ ps. ps ++ left at_end) c.give_back.ensures.taken.0 ∙ ap (λ ps. taken after ++ ps) c.give_back.ensures.taken.1 ∙ one.1 in
-    let P : List Post → Type 0 = λ ps. IsAllPosted at_end ps in
-    let less = one_less_left (taken before) (left before) (taken after) (left after) _ c.in-Some.ensures.some one.1 in
+    let one = c.take.ensures.end posts c.loop.invariant.all in
+    let end = c.give_back.ensures.end posts one in
+    let P : List Post → Type 0 = λ ps. EndCameAfter at_end ps in
+    let less = one_less_left (taken before) (left before) (taken after) (left after) _ c.in-Some.ensures.some (taken_then_left after posts one) in
     record {
-      all = subst P (sym same) (c.give_back.ensures.posted posts one.0);
+      all = subst P (sym (taken_then_left at_end posts end)) end;
       some_left = omega (arith, less, ap length c.give_back.ensures.taken.1, c.loop.invariant.some_left);
     }

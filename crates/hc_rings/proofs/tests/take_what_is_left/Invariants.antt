@@ -1,9 +1,9 @@
 use Rattle.std.proofs.Common.{◌≡◌, ◌+◌, ◌++◌, length}
-use Rattle.hc_rings.specs.Ring.{taken, left, IsAllPosted}
+use Rattle.hc_rings.specs.Ring.{taken, left, EndCameAfter}
 use Rattle.hc_rings.proofs.tests.take_what_is_left.Given as goal
 
 abbrev pub invariant-loop : goal.invariant-loop
 invariant-loop l = record {
-  all : IsAllPosted l.receiver (taken l.receiver ++ left l.receiver);
+  all : EndCameAfter l.receiver (taken l.receiver ++ left l.receiver);
   some_left : length (left l.receiver) + l.counter ≡ l.count;
 }

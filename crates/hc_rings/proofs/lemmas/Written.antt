@@ -1,4 +1,4 @@
--- Bytes that were written over others, for callers that lend a buffer's bytes.
+-- Bytes that were written over others, as a loan of a buffer leaves them.
 use Rattle.std.proofs.Common.{◌≡◌, ℕ, List, ◌++◌, length, take, drop, ap, sym, ◌∙◌}
 use Rattle.std.proofs.Math.Seq.{take-append_seam}
 use Rattle.hc_rings.specs.Post.{overwritten}

@@ -1,0 +1,30 @@
+-- What a lender ends as, once the loan of a buffer or of bytes is over.
+use Rattle.std.specs.Prelude.{ℕ, List, Option, Some}
+use Rattle.std.specs.Option.{option_map}
+use Rattle.std.specs.Borrow.{Lends, MutBor, Fml, Array, u8}
+use Rattle.std.specs.contracts.option.Option as option
+use Rattle.hc_rings.specs.Post.{Post, overwritten, with_written}
+use Rattle.hc_rings.specs.contracts.post_buffer.PostBuffer as buffer
+use Rattle.hc_rings.specs.contracts.frames.frame_box.FrameBox as frame
+use Rattle.hc_rings.specs.contracts.posts.PostSender as sender
+use Rattle.hc_rings.specs.declared.posts.PostSender.{PostSender}
+
+-- the post, with what was left written over its bytes
+abbrev pub LendsPost : MutBor Post → MutBor (List ℕ) → Fml
+LendsPost post lent = Lends buffer.the_row (Array u8 0) post lent (with_written post.now)
+
+-- the frame, with what was left written over its bytes
+abbrev pub LendsFrame : MutBor (List ℕ) → MutBor (List ℕ) → Fml
+LendsFrame bytes lent = Lends frame.the_row (Array u8 0) bytes lent (overwritten bytes.now)
+
+-- the buffer that is there, as it was left
+abbrev pub LendsBuffer : MutBor (Option Post) → MutBor Post → Fml
+LendsBuffer place lent = Lends (option.the_row buffer.the_row) buffer.the_row place lent (λ post. Some post)
+
+-- the buffer that is there, with what was left written over its bytes
+abbrev pub LendsBytes : MutBor (Option Post) → MutBor (List ℕ) → Fml
+LendsBytes place lent = Lends (option.the_row buffer.the_row) (Array u8 0) place lent (λ written. option_map (λ post. with_written post written) place.now)
+
+-- the sender, whose buffer for the next post has what was left written over its bytes
+abbrev pub LendsHeld : MutBor PostSender → MutBor (List ℕ) → Fml
+LendsHeld s lent = Lends sender.the_row (Array u8 0) s lent (λ written. record s.now { held = option_map (λ post. with_written post written) s.now.held })

@@ -1,0 +1,93 @@
+//! The buffer that a task seat holds for its next post: its bytes are lent for writing, and then it is posted.
+ghost use Rattle.std.specs.Prelude.{◌≡◌, ◌≤◌, ◌↔◌, [], ◌∷◌, ◌++◌, length, None, Some, IsSome, IfSome, OnOk, OnErr, IsErrOf};
+ghost use Rattle.std.specs.Borrow.{sem};
+ghost use Rattle.hc_rings.specs.Post.{blank_post};
+ghost use Rattle.hc_rings.specs.Ring.{posted, handed_out, held, PostsEach, Holds, SameSender};
+ghost use Rattle.hc_rings.specs.Lending.{LendsBuffer, LendsBytes, LendsHeld};
+
+use super::{NoSpare, POSTS_WAITING, PostSender, SPARE_BUFFERS};
+use crate::post_buffer::{LARGEST_IMAGE, PostBuffer};
+
+/// Why `post_held` posted nothing.
+#[derive(Clone, Copy, Debug, PartialEq, Eq)]
+pub enum PostFault {
+    /// No buffer is held.
+    NoBuffer,
+    /// The ring had no place for the post. The buffer stays held, as it was left.
+    Full,
+}
+
+impl PostSender {
+    /// Has a buffer of `size` bytes (at most 23,776) that are all 0 held for the next post, for this epoch: the buffer that is
+    /// held already, or else a spare. `NoSpare` comes only where none is held and four buffers were handed out before; as
+    /// long as `buffer` is unused these are four posts.
+    pub fn hold(&mut self, epoch: u32, size: usize) -> Result<(), NoSpare>
+        requires { size ≤ LARGEST_IMAGE }
+        ensures ring { SameSender self.old self.new }
+        ensures posted { posted self.new ≡ posted self.old }
+        ensures ok { OnOk result (Holds self.old self.new (blank_post epoch size)) }
+        ensures no_spare { OnErr result ((held self.old ≡ None) × (held self.new ≡ None) × (handed_out self.new ≡ handed_out self.old)) }
+        ensures no_spare_only_after_four { OnErr result (SPARE_BUFFERS ≤ handed_out self.old) }
+        ensures posts_each { PostsEach self.old → PostsEach self.new × OnErr result (SPARE_BUFFERS ≤ length (posted self.old)) }
+    {
+        let mut buffer = match self.held.take() {
+            Some(buffer) => buffer,
+            None => self.buffer()?,
+        };
+        buffer.begin(epoch, size);
+        self.held = Some(buffer);
+        Ok(())
+    }
+
+    /// Lends the bytes of the buffer that is held, for writing. Its epoch stays, and so does the number of bytes.
+    pub fn held_mut(&mut self) -> &mut [u8]
+        requires { IsSome (held self.old) }
+        ensures* lent { sem 𝓛 (LendsHeld self.entry result) }
+        ensures bytes { IfSome (held self.old) (λ post. result.now ≡ post.bytes) }
+    {
+        lend(&mut self.held)
+    }
+
+    /// Posts the buffer that is held, with its epoch and with its bytes as they were left. `NoBuffer` where none is held. `Full`
+    /// only where four posts were made before.
+    pub fn post_held(&mut self) -> Result<(), PostFault>
+        ensures ring { SameSender self.old self.new }
+        ensures handed_out { handed_out self.new ≡ handed_out self.old }
+        ensures no_buffer { IsErrOf result PostFault.NoBuffer ↔ (held self.old ≡ None) }
+        ensures ok { OnOk result (IfSome (held self.old) (λ post. posted self.new ≡ posted self.old ++ post ∷ []) × (held self.new ≡ None)) }
+        ensures err { OnErr result ((posted self.new ≡ posted self.old) × (held self.new ≡ held self.old)) }
+        ensures full_only_after_four { IsErrOf result PostFault.Full → POSTS_WAITING ≤ length (posted self.old) }
+        ensures posts_each { PostsEach self.old → PostsEach self.new }
+    {
+        let Some(buffer) = self.held.take() else {
+            return Err(PostFault::NoBuffer);
+        };
+        if let Err(buffer) = self.posts.post(buffer) {
+            self.held = Some(buffer);
+            return Err(PostFault::Full);
+        }
+        Ok(())
+    }
+}
+
+/// Lends the bytes of a buffer that is there.
+fn lend(held: &mut Option<PostBuffer>) -> &mut [u8]
+    requires { IsSome held.old }
+    ensures* lent { sem 𝓛 (LendsBytes held.entry result) }
+    ensures bytes { IfSome held.old (λ post. result.now ≡ post.bytes) }
+{
+    let buffer = buffer_of(held);
+    buffer.bytes_mut()
+}
+
+/// Lends a buffer that is there.
+fn buffer_of(held: &mut Option<PostBuffer>) -> &mut PostBuffer
+    requires { IsSome held.old }
+    ensures* lent { sem 𝓛 (LendsBuffer held.entry result) }
+    ensures buffer { held.old ≡ Some result.now }
+{
+    match held {
+        Some(buffer) => buffer,
+        None => unreachable!(),
+    }
+}
