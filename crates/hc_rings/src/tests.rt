@@ -2,7 +2,7 @@
 ghost use Rattle.std.specs.Prelude.{◌≡◌, ◌≤◌, ℕ, List, [], ◌∷◌, ◌++◌, length, slice_set, IfSome, IsTrue};
 ghost use Rattle.hc_rings.specs.Frames.{frames_sent, frames_taken};
 ghost use Rattle.hc_rings.specs.Post.{post_of};
-ghost use Rattle.hc_rings.specs.Ring.{taken, posted, EndCameAfter, SameSender, SameReceiver};
+ghost use Rattle.hc_rings.specs.Ring.{taken, posted, ArePostEnds, EndCameAfter, SameSender, SameReceiver};
 ghost use Rattle.hc_rings.specs.Finished.{all_posted, IsEndOf};
 
 use super::*;
@@ -361,18 +361,25 @@ fn take_up_to(receiver: &mut PostReceiver, end: &mut PostsEnd) -> u32
     count
 }
 
+/// Finishes the sender and takes what is left, with the number of these posts. It is proved that what was taken is then all
+/// that was posted.
+fn finish_and_take(sender: PostSender, receiver: &mut PostReceiver) -> Option<u32>
+    requires { ArePostEnds sender receiver.old }
+    ensures { IfSome result (λ _. taken receiver.new ≡ posted sender) }
+{
+    let mut end = sender.finish()?;
+    Some(take_up_to(receiver, &mut end))
+}
+
 #[test]
 fn a_finished_sender_tells_its_posts(rt: HostRuntime) -> Result<(), Fail> {
     let (mut sender, mut receiver) = post_ring(rt.alloc())?;
-    for epoch in 0..3 {
-        assert!(rt; post(&mut sender, epoch, &[2, 2, 2]), "epoch {epoch}");
-    }
+    assert!(rt; post(&mut sender, 0, &[2, 2, 2]));
+    assert!(rt; post(&mut sender, 1, &[2, 2, 2]));
+    assert!(rt; post(&mut sender, 2, &[2, 2, 2]));
     assert!(rt; takes(&mut receiver, 0, &[2, 2, 2]));
     assert!(rt; sender.hold(9, 1).is_ok());
-    let mut end = sender.finish().ok_or("no end")?;
-    assert_eq!(rt; receiver.finish_after(&mut end), 2);
-    assert_eq!(rt; receiver.finish(), Some(2));
-    assert_eq!(rt; take_up_to(&mut receiver, &mut end), 2);
+    assert_eq!(rt; finish_and_take(sender, &mut receiver), Some(2));
     assert!(rt; receiver.take().is_none());
     assert_eq!(rt; receiver.finish(), Some(0));
     let (sender, receiver) = post_ring(rt.alloc())?;

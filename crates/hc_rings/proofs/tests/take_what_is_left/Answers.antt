@@ -1,4 +1,4 @@
-use Rattle.std.proofs.Common.{◌≡◌, ◌++◌, List, length, ap, sym, subst, arith}
+use Rattle.std.proofs.Common.{◌++◌, List, length, ap, sym, subst, arith}
 use Rattle.hc_rings.specs.Post.{Post}
 use Rattle.hc_rings.specs.Ring.{taken, left, EndCameAfter}
 use Rattle.hc_rings.proofs.Rest.{one_less_left}
