@@ -1,0 +1,13 @@
+pub mod Faults
+pub mod Sendings
+pub mod Arrivals
+pub mod Entries
+pub mod Points
+pub mod Heads
+pub mod Answering
+pub mod Images
+pub mod Outputs
+pub mod Owed
+pub mod Changes
+pub mod Steps
+pub mod WorkedRecords

@@ -1,0 +1,293 @@
+-- Worked records, computed by the definitions: a wrong definition fails here.
+use Rattle.std.specs.Prelude.{◌≡◌, ℕ, ◌+◌, ◌*◌, List, [], ◌∷◌, ◌++◌, length, map, replicate, Some, None, Ok, refl}
+use Rattle.hc_bits.specs.Bits.{bit_of, number_of}
+use Rattle.hc_records.specs.declared.records.Dir.{Dir}
+use Rattle.hc_records.specs.declared.records.Dir.TheVariants.{Out, In}
+use Rattle.hc_records.specs.declared.records.Area.{Area}
+use Rattle.hc_records.specs.declared.records.Group.{Group}
+use Rattle.hc_records.specs.declared.edit.Edit.TheVariants.{Remap, Move}
+use Rattle.hc_frames.specs.declared.commands.Command.TheVariants.{Fpwr, Lrw}
+use Rattle.hc_events.specs.declared.answer.Answer.TheVariants as answer
+use Rattle.hc_events.specs.declared.answer.Outcome.TheVariants.{Inputs, WrongCount, Stale}
+use Rattle.hc_events.specs.declared.faults.CoreFault.TheVariants.{NoSuchTask, NothingOwed, PostLength, StalePost, Unprogrammed}
+use Rattle.hc_events.specs.Arrivals.{Part}
+use Rattle.hc_events.specs.Entries.{Record, Opened}
+use Rattle.hc_events.specs.Points.{next_serial}
+use Rattle.hc_events.specs.Owed.{owed_blocks}
+use Rattle.hc_events.specs.Steps.{Step, Edits, Posts, SendsTasks, SendsWrite, Arrives, Reads, answer_to, answers_to, entries_after_all}
+
+-- a slave with 2 output bits and 12 input bits
+
+abbrev area_of : ℕ → Dir → ℕ → ℕ → ℕ → ℕ → Area
+area_of sm dir phys index variable bits = record {
+  sm = sm;
+  dir = dir;
+  phys = phys;
+  offered = record { index = index; entries = (Some variable, bits) ∷ [] } ∷ [];
+  assigned = index ∷ [];
+  task = 0;
+}
+
+abbrev axis : List Group
+axis = record {
+  alias = 0;
+  slaves = record { station = 1001; areas = area_of 2 Out 0x1100 0x1600 1 2 ∷ area_of 3 In 0x1180 0x1a00 2 12 ∷ [] } ∷ [];
+} ∷ []
+
+abbrev opened : Record
+opened = Opened axis ∷ []
+
+-- a frame that comes back with the answer to a register write of it
+abbrev write_back : ℕ → ℕ → ℕ → ℕ → Step
+write_back serial register size counter = Arrives (Ok (record {
+  serial = serial;
+  parts = record { command = Fpwr; address = 1001 + 65536 * register; interrupt = 0; bytes = replicate size 0; counter = counter } ∷ [];
+}))
+
+-- a frame of datagrams that comes back
+abbrev back : ℕ → List Part → Step
+back serial parts = Arrives (Ok (record { serial = serial; parts = parts }))
+
+abbrev data_back : ℕ → List ℕ → ℕ → Part
+data_back address bytes counter = record { command = Lrw; address = address; interrupt = 0; bytes = bytes; counter = counter }
+
+abbrev owed_count : Record → ℕ
+owed_count past = length (owed_blocks past)
+
+-- Its four register blocks are written, the first owed one each time.
+
+abbrev four_writes : List Step
+four_writes =
+    SendsWrite ∷ write_back 0 0x0810 8 1
+    ∷ SendsWrite ∷ write_back 1 0x0600 16 1
+    ∷ SendsWrite ∷ write_back 2 0x0818 8 1
+    ∷ SendsWrite ∷ []
+
+abbrev before_the_last : Record
+before_the_last = entries_after_all opened four_writes
+
+first_write : answer_to opened SendsWrite ≡ answer.WriteSent (
+    replicate 6 0xff ++ 0x02 ∷ 0 ∷ 0 ∷ 0 ∷ 0 ∷ 0 ∷ 0x88 ∷ 0xa4 ∷ 0x14 ∷ 0x10
+    ∷ 0x05 ∷ 0x00 ∷ 0xe9 ∷ 0x03 ∷ 0x10 ∷ 0x08 ∷ 0x08 ∷ 0 ∷ 0 ∷ 0
+    ∷ 0x00 ∷ 0x11 ∷ 0x01 ∷ 0x00 ∷ 0x64 ∷ 0x00 ∷ 0x01 ∷ 0x00
+    ∷ replicate 26 0)
+first_write = refl
+
+not_yet_written : answer_to before_the_last (SendsTasks (0 ∷ [])) ≡ answer.Refused (Unprogrammed 1)
+not_yet_written = refl
+
+the_last_write : answer_to before_the_last (write_back 3 0x0610 16 1) ≡ answer.WriteDone
+the_last_write = refl
+
+abbrev written : Record
+written = entries_after_all before_the_last (write_back 3 0x0610 16 1 ∷ [])
+
+nothing_owed : answer_to written SendsWrite ≡ answer.Refused NothingOwed
+nothing_owed = refl
+
+-- The owed block is written again until an answer confirms it; an answer to an older write of it doesn't.
+
+missed : answers_to before_the_last (write_back 3 0x0610 16 0 ∷ []) ≡ answer.WriteMissed ∷ []
+missed = refl
+
+abbrev written_again : Record
+written_again = entries_after_all before_the_last (write_back 3 0x0610 16 0 ∷ SendsWrite ∷ SendsWrite ∷ [])
+
+written_with_serials : next_serial written_again ≡ 6
+written_with_serials = refl
+
+older_answer : answer_to written_again (write_back 4 0x0610 16 1) ≡ answer.Stale
+older_answer = refl
+
+confirmed : answer_to written_again (write_back 5 0x0610 16 1) ≡ answer.WriteDone
+confirmed = refl
+
+owed_until_then : (map owed_count (written_again ∷ entries_after_all written_again (write_back 4 0x0610 16 1 ∷ []) ∷ entries_after_all written_again (write_back 5 0x0610 16 1 ∷ []) ∷ []))
+    ≡ 1 ∷ 1 ∷ 0 ∷ []
+owed_until_then = refl
+
+-- Its task posts, is sent, and reads what comes back: the data of a good answer, and those still when the next one has another counter.
+
+refused_posts : answers_to written (Posts 0 0 (2 ∷ 0 ∷ []) ∷ Posts 8 0 (2 ∷ []) ∷ Posts 0 1 (2 ∷ []) ∷ [])
+    ≡ answer.Refused PostLength ∷ answer.Refused NoSuchTask ∷ answer.Refused StalePost ∷ []
+refused_posts = refl
+
+abbrev posted : Record
+posted = entries_after_all written (Posts 0 0 (2 ∷ []) ∷ [])
+
+-- the bytes before the datagrams of a frame with a low serial, and its EtherCAT header's low byte
+abbrev head_of : ℕ → ℕ → List ℕ
+head_of serial size = replicate 6 0xff ++ 0x02 ∷ 0 ∷ 0 ∷ 0 ∷ 0 ∷ serial ∷ 0x88 ∷ 0xa4 ∷ size ∷ 0x10 ∷ []
+
+posted_is_sent : answers_to written (Posts 0 0 (2 ∷ []) ∷ SendsTasks (0 ∷ []) ∷ [])
+    ≡ answer.Posted
+    ∷ answer.Sent ((head_of 4 0x0f ++ 0x0c ∷ 0x04 ∷ 0 ∷ 0 ∷ 0 ∷ 0x01 ∷ 0x03 ∷ 0 ∷ 0 ∷ 0 ∷ 0x02 ∷ replicate 33 0) ∷ [])
+    ∷ []
+unfolding bit_of number_of
+posted_is_sent = refl
+
+abbrev sent_once : Record
+sent_once = entries_after_all posted (SendsTasks (0 ∷ []) ∷ [])
+
+answered_once : answers_to sent_once (
+    back 4 (data_back 0x01000000 (0x02 ∷ 0x34 ∷ 0x0a ∷ []) 3 ∷ [])
+    ∷ back 4 (data_back 0x01000000 (0x02 ∷ 0x34 ∷ 0x0a ∷ []) 3 ∷ [])
+    ∷ SendsWrite
+    ∷ Reads 0
+    ∷ Reads 8
+    ∷ [])
+    ≡ answer.Answered (Inputs 0 0 ∷ [])
+    ∷ answer.Stale
+    ∷ answer.Refused NothingOwed
+    ∷ answer.Image 0 (Some (0x02 ∷ 0x34 ∷ 0x0a ∷ []) ∷ [])
+    ∷ answer.Refused NoSuchTask
+    ∷ []
+answered_once = refl
+
+abbrev answered_twice : Record
+answered_twice = entries_after_all sent_once (back 4 (data_back 0x01000000 (0x02 ∷ 0x34 ∷ 0x0a ∷ []) 3 ∷ []) ∷ SendsTasks (0 ∷ []) ∷ [])
+
+wrong_counters : answers_to answered_twice (
+    back 5 (data_back 0x01000000 (0x02 ∷ 0x55 ∷ 0x55 ∷ []) 2 ∷ [])
+    ∷ Reads 0
+    ∷ back 5 (data_back 0x01000000 (0x02 ∷ 0x66 ∷ 0x66 ∷ []) 3 ∷ [])
+    ∷ SendsTasks (0 ∷ [])
+    ∷ back 6 (data_back 0x01000000 (0x02 ∷ 0x77 ∷ 0x77 ∷ []) 4 ∷ [])
+    ∷ Reads 0
+    ∷ [])
+    ≡ answer.Answered (WrongCount 3 2 ∷ [])
+    ∷ answer.Image 0 (Some (0x02 ∷ 0x34 ∷ 0x0a ∷ []) ∷ [])
+    ∷ answer.Stale
+    ∷ answer.Sent ((head_of 6 0x0f ++ 0x0c ∷ 0x06 ∷ 0 ∷ 0 ∷ 0 ∷ 0x01 ∷ 0x03 ∷ 0 ∷ 0 ∷ 0 ∷ 0x02 ∷ replicate 33 0) ∷ [])
+    ∷ answer.Answered (WrongCount 3 4 ∷ [])
+    ∷ answer.Image 0 (Some (0x02 ∷ 0x34 ∷ 0x0a ∷ []) ∷ [])
+    ∷ []
+unfolding bit_of number_of
+wrong_counters = refl
+
+-- What is sent before anything was posted is 0, and what is sent to no task that there is is refused.
+
+unposted : answers_to written (SendsTasks (0 ∷ []) ∷ SendsTasks (8 ∷ []) ∷ SendsTasks (1 ∷ []) ∷ [])
+    ≡ answer.Sent ((head_of 4 0x0f ++ 0x0c ∷ 0x04 ∷ 0 ∷ 0 ∷ 0 ∷ 0x01 ∷ 0x03 ∷ replicate 37 0) ∷ [])
+    ∷ answer.Refused NoSuchTask
+    ∷ answer.Sent []
+    ∷ []
+unfolding bit_of number_of
+unposted = refl
+
+-- An edit that leaves the layout as it is begins an epoch all the same: frames that are under way answer nothing any more, and what was read is gone.
+
+abbrev same_inputs : Step
+same_inputs = Edits (Remap 1001 1 (0x1a00 ∷ []))
+
+three_epochs : answers_to written (same_inputs ∷ same_inputs ∷ same_inputs ∷ [])
+    ≡ answer.Edited 1 0 0 ∷ answer.Edited 2 0 0 ∷ answer.Edited 3 0 0 ∷ []
+three_epochs = refl
+
+abbrev three_epochs_on : Record
+three_epochs_on = entries_after_all written (same_inputs ∷ same_inputs ∷ same_inputs ∷ SendsTasks (0 ∷ []) ∷ [])
+
+fourth_epoch : answers_to three_epochs_on (same_inputs ∷ back 4 (data_back 0x01000000 (0x00 ∷ 0x34 ∷ 0x0a ∷ []) 3 ∷ []) ∷ Reads 0 ∷ [])
+    ≡ answer.Edited 4 0 0 ∷ answer.Stale ∷ answer.Image 4 (None ∷ []) ∷ []
+fourth_epoch = refl
+
+read_before_it : answers_to three_epochs_on (back 4 (data_back 0x01000000 (0x00 ∷ 0x34 ∷ 0x0a ∷ []) 3 ∷ []) ∷ same_inputs ∷ Reads 0 ∷ [])
+    ≡ answer.Answered (Inputs 0 0 ∷ []) ∷ answer.Edited 4 0 0 ∷ answer.Image 4 (None ∷ []) ∷ []
+read_before_it = refl
+
+-- The outputs move to another task, which is told to post for the new epoch; two blocks of the line are new.
+
+abbrev to_task_1 : Step
+to_task_1 = Edits (Move 1001 0 1)
+
+moved_answers : answers_to posted (to_task_1 ∷ Posts 1 0 (2 ∷ []) ∷ SendsTasks (1 ∷ []) ∷ [])
+    ≡ answer.Edited 1 2 2 ∷ answer.Refused StalePost ∷ answer.Refused (Unprogrammed 2) ∷ []
+moved_answers = refl
+
+abbrev moved : Record
+moved = entries_after_all posted (
+    to_task_1
+    ∷ SendsWrite ∷ write_back 4 0x0600 16 1
+    ∷ SendsWrite ∷ write_back 5 0x0610 16 1
+    ∷ [])
+
+-- its value goes with the variable
+
+moved_is_sent : answer_to moved (SendsTasks (1 ∷ []))
+    ≡ answer.Sent ((head_of 6 0x0d ++ 0x0c ∷ 0x06 ∷ 0 ∷ 0 ∷ 0 ∷ 0x02 ∷ 0x01 ∷ 0 ∷ 0 ∷ 0 ∷ 0x02 ∷ replicate 33 0) ∷ [])
+unfolding bit_of number_of
+moved_is_sent = refl
+
+-- and is gone once the variable had no place in between; the blocks are then known again as they were
+
+abbrev lost_and_found : Record
+lost_and_found = entries_after_all moved (SendsTasks (1 ∷ []) ∷ Edits (Remap 1001 0 []) ∷ Edits (Remap 1001 0 (0x1600 ∷ [])) ∷ [])
+
+zeros_are_sent : answer_to lost_and_found (SendsTasks (1 ∷ []))
+    ≡ answer.Sent ((head_of 7 0x0d ++ 0x0c ∷ 0x07 ∷ 0 ∷ 0 ∷ 0 ∷ 0x02 ∷ 0x01 ∷ 0 ∷ 0 ∷ 0 ∷ replicate 34 0) ∷ [])
+unfolding bit_of number_of
+zeros_are_sent = refl
+
+-- Two tasks share a frame, and each of its datagrams has a working counter of its own.
+
+abbrev shared_text : List ℕ
+shared_text =
+    head_of 6 0x1b
+    ++ 0x0c ∷ 0x06 ∷ 0 ∷ 0 ∷ 0 ∷ 0x01 ∷ 0x02 ∷ 0x80 ∷ 0 ∷ 0 ∷ 0 ∷ 0 ∷ 0 ∷ 0
+    ∷ 0x0c ∷ 0x06 ∷ 0 ∷ 0 ∷ 0 ∷ 0x02 ∷ 0x01 ∷ 0 ∷ 0 ∷ 0 ∷ 0x02 ∷ 0 ∷ 0
+    ∷ replicate 17 0
+
+abbrev first_back : ℕ → Part
+first_back counter = data_back 0x01000000 (0x34 ∷ 0x0a ∷ []) counter
+
+abbrev second_back : ℕ → Part
+second_back counter = data_back 0x02000000 (0x02 ∷ []) counter
+
+shared_frame : answers_to moved (SendsTasks (0 ∷ 1 ∷ []) ∷ back 6 (first_back 1 ∷ second_back 1 ∷ []) ∷ Reads 0 ∷ Reads 1 ∷ [])
+    ≡ answer.Sent (shared_text ∷ [])
+    ∷ answer.Answered (Inputs 0 0 ∷ WrongCount 2 1 ∷ [])
+    ∷ answer.Image 1 (Some (0x34 ∷ 0x0a ∷ []) ∷ [])
+    ∷ answer.Image 1 (None ∷ [])
+    ∷ []
+unfolding bit_of number_of
+shared_frame = refl
+
+-- a datagram that was sent again is stale in the older frame, and the other one isn't
+
+abbrev sent_again : Record
+sent_again = entries_after_all moved (
+    SendsTasks (0 ∷ 1 ∷ [])
+    ∷ back 6 (first_back 1 ∷ second_back 1 ∷ [])
+    ∷ SendsTasks (0 ∷ 1 ∷ [])
+    ∷ SendsTasks (0 ∷ [])
+    ∷ [])
+
+each_by_itself : answers_to sent_again (back 7 (first_back 1 ∷ second_back 2 ∷ []) ∷ back 8 (first_back 1 ∷ []) ∷ [])
+    ≡ answer.Answered (Stale ∷ Inputs 1 0 ∷ []) ∷ answer.Answered (Inputs 0 0 ∷ []) ∷ []
+each_by_itself = refl
+
+-- and a frame whose datagrams are exchanged, left out or repeated answers nothing and uses up nothing
+
+other_lists : answers_to sent_again (
+    back 7 (second_back 2 ∷ first_back 1 ∷ [])
+    ∷ back 7 (second_back 2 ∷ [])
+    ∷ back 7 (first_back 1 ∷ second_back 2 ∷ second_back 2 ∷ [])
+    ∷ back 7 (first_back 1 ∷ second_back 2 ∷ [])
+    ∷ [])
+    ≡ answer.Stale ∷ answer.Stale ∷ answer.Stale ∷ answer.Answered (Stale ∷ Inputs 1 0 ∷ []) ∷ []
+other_lists = refl
+
+-- The index is the serial's low byte: a frame with the index of the awaited one and another serial answers nothing.
+
+abbrev many_sent : ℕ → List Step
+many_sent count = replicate count (SendsTasks (0 ∷ []))
+
+abbrev later : Record
+later = entries_after_all written (many_sent 257)
+
+last_serial : next_serial later ≡ 261
+last_serial = refl
+
+same_index : answers_to later (back 4 (data_back 0x01000000 (0 ∷ 0x34 ∷ 0x0a ∷ []) 3 ∷ []) ∷ back 260 (data_back 0x01000000 (0 ∷ 0x34 ∷ 0x0a ∷ []) 3 ∷ []) ∷ [])
+    ≡ answer.Stale ∷ answer.Answered (Inputs 0 0 ∷ []) ∷ []
+same_index = refl
