@@ -2,6 +2,8 @@
 use Rattle.std.specs.Prelude.{ℕ}
 use Rattle.hc_records.specs.declared.faults.EditFault.{EditFault}
 use Rattle.hc_records.specs.declared.faults.EditFault.TheVariants as edit
+use Rattle.hc_frames.specs.declared.reading.faults.FrameFault.{FrameFault}
+use Rattle.hc_frames.specs.declared.reading.faults.FrameFault.TheVariants as frame
 use Rattle.hc_events.specs.declared.faults.CoreFault.{CoreFault}
 use Rattle.hc_events.specs.declared.faults.CoreFault.TheVariants.{UnknownAlias, AlreadyPresent, NotPresent, Mandatory, UnknownStation, Absent, NoSuchArea, NoSuchTask, UnknownPdo, RepeatedPdo, AreaTooBig, TooManyDatagrams, EpochsSpent, StalePost, PostLength, Unprogrammed, NothingOwed, SerialsSpent, Short, NotEtherCat, BadType, BadLength, Circulating, MoreFollows, UnknownCommand, IndexMismatch, Memory, Room}
 
@@ -52,3 +54,14 @@ edit_refusal edit.AreaTooBig = AreaTooBig
 edit_refusal (edit.TooManyDatagrams task) = TooManyDatagrams task
 edit_refusal edit.EpochsSpent = EpochsSpent
 edit_refusal edit.Memory = Memory
+
+-- and so is a frame that can't be read
+abbrev pub frame_refusal : FrameFault → CoreFault
+frame_refusal frame.Short = Short
+frame_refusal frame.NotEtherCat = NotEtherCat
+frame_refusal frame.BadType = BadType
+frame_refusal frame.BadLength = BadLength
+frame_refusal frame.Circulating = Circulating
+frame_refusal frame.MoreFollows = MoreFollows
+frame_refusal frame.UnknownCommand = UnknownCommand
+frame_refusal frame.IndexMismatch = IndexMismatch

@@ -6,7 +6,7 @@ use Rattle.hc_places.specs.Table.{datagram_of}
 use Rattle.hc_frames.specs.declared.commands.Command.{Command}
 use Rattle.hc_frames.specs.declared.commands.Command.TheVariants.{Fpwr, Lrw}
 use Rattle.hc_frames.specs.FrameText.{station_address}
-use Rattle.hc_events.specs.declared.limits.TheConstants.{WRITE_COUNT}
+use Rattle.hc_registers.specs.declared.counters.TheConstants.{WRITE_COUNT}
 use Rattle.hc_events.specs.Sendings.{Named}
 
 -- what a datagram carries: a task's datagram, by the task and its number; a register block, by the slave's station address and its number in the slave's order

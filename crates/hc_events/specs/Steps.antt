@@ -14,11 +14,14 @@ use Rattle.hc_events.specs.declared.answer.Answer.{Answer}
 use Rattle.hc_events.specs.declared.answer.Answer.TheVariants as answer
 use Rattle.hc_events.specs.declared.answer.Outcome.{Outcome}
 use Rattle.hc_events.specs.declared.answer.Outcome.TheVariants as outcome
+use Rattle.hc_events.specs.declared.event.Event.{Event}
+use Rattle.hc_events.specs.declared.event.Event.TheVariants as event
 use Rattle.hc_events.specs.declared.faults.CoreFault.{CoreFault}
 use Rattle.hc_events.specs.declared.faults.CoreFault.TheVariants.{NoSuchTask, NothingOwed, PostLength, SerialsSpent, StalePost, Unprogrammed}
-use Rattle.hc_events.specs.declared.limits.TheConstants.{SERIALS}
-use Rattle.hc_events.specs.Faults.{edit_refusal}
-use Rattle.hc_events.specs.Arrivals.{Arrival, Part}
+use Rattle.hc_frames.specs.declared.limits.TheConstants.{SETUP_SERIAL}
+use Rattle.hc_frames.specs.declared.reading.faults.FrameFault.{FrameFault}
+use Rattle.hc_events.specs.Faults.{edit_refusal, frame_refusal}
+use Rattle.hc_events.specs.Arrivals.{Arrival, Part, arrival_in}
 use Rattle.hc_events.specs.Entries.{Record, Edited, Posted, Sent, Wrote, Came}
 use Rattle.hc_events.specs.Points.{epoch_of, line_of, next_serial, state_of}
 use Rattle.hc_events.specs.Sendings.{Named, Sending, sendings_of}
@@ -28,13 +31,13 @@ use Rattle.hc_events.specs.Images.{slots_of}
 use Rattle.hc_events.specs.Outputs.{sent_data}
 use Rattle.hc_events.specs.Owed.{owed_blocks}
 
--- an event, without where it lies in memory; of an arrival what the reader makes of its bytes
+-- an event, without where it lies in memory
 pub data Step : Type 0 where
   Edits : Edit → Step
   Posts : ℕ → ℕ → List ℕ → Step
   SendsTasks : List ℕ → Step
   SendsWrite : Step
-  Arrives : Result Arrival CoreFault → Step
+  Arrives : List ℕ → Step
   Reads : ℕ → Step
 
 -- a refusal, or else this answer; the record unchanged, or else this one
@@ -68,8 +71,9 @@ post_faults past task epoch bytes =
 
 -- a sending of tasks: one frame or more, or none where the tasks have no datagram
 
+-- so many serials are left: sendings have those below the one of alias reads and station writes
 abbrev pub has_serials : Record → ℕ → Bool
-has_serials past sendings = not (nat_lt SERIALS (next_serial past + sendings))
+has_serials past sendings = not (nat_lt SETUP_SERIAL (next_serial past + sendings))
 
 abbrev pub proposal : Record → List ℕ → List Sending
 proposal past tasks = sendings_of (line_of past) (next_serial past) tasks
@@ -139,11 +143,11 @@ told_of (datagram ∷ datagrams) =
     if is_block datagram.head.item then told_of_block datagram.verdict
     else (if list_any is_news (datagram ∷ datagrams) then answer.Answered (map outcome_for (datagram ∷ datagrams)) else answer.Stale)
 
-abbrev pub told_of_arrival : Record → Result Arrival CoreFault → Answer
-told_of_arrival past (Err fault) = answer.Refused fault
+abbrev pub told_of_arrival : Record → Result Arrival FrameFault → Answer
+told_of_arrival past (Err fault) = answer.Refused (frame_refusal fault)
 told_of_arrival past (Ok arrival) = told_of (judged_by past arrival)
 
-abbrev pub with_arrival : Record → Result Arrival CoreFault → Record
+abbrev pub with_arrival : Record → Result Arrival FrameFault → Record
 with_arrival past (Err fault) = past
 with_arrival past (Ok arrival) = Came arrival ∷ past
 
@@ -155,13 +159,22 @@ read_faults task = (is_no_task task, NoSuchTask) ∷ []
 abbrev pub image_of : Record → ℕ → Answer
 image_of past task = answer.Image (epoch_of past) (slots_of past task)
 
+-- an event as the core is given it
+abbrev pub step_of : Event → Step
+step_of (event.Edit edit) = Edits edit.now
+step_of (event.Post task epoch bytes) = Posts task epoch bytes.now
+step_of (event.SendTasks tasks) = SendsTasks tasks.now
+step_of event.SendWrite = SendsWrite
+step_of (event.Arrive bytes) = Arrives bytes.now
+step_of (event.Read task) = Reads task
+
 -- the answer to an event; of several refusals the first that holds
 abbrev pub answer_to : Record → Step → Answer
 answer_to past (Edits edit) = unless (edit_refused past edit) (told_of_edit (state_of past) (state_after (state_of past) edit))
 answer_to past (Posts task epoch bytes) = unless (lowest (post_faults past task epoch bytes)) answer.Posted
 answer_to past (SendsTasks tasks) = unless (lowest (task_faults past tasks)) (answer.Sent (map (sent_text past) (proposal past tasks)))
 answer_to past SendsWrite = unless (lowest (write_faults past (owed_blocks past))) (told_of_write (next_serial past) (owed_blocks past))
-answer_to past (Arrives read) = told_of_arrival past read
+answer_to past (Arrives bytes) = told_of_arrival past (arrival_in bytes)
 answer_to past (Reads task) = unless (lowest (read_faults task)) (image_of past task)
 
 -- the record with what was accepted; a refused event leaves it as it was, and a read too
@@ -170,7 +183,7 @@ entries_after past (Edits edit) = kept_if (edit_refused past edit) past (Edited 
 entries_after past (Posts task epoch bytes) = kept_if (lowest (post_faults past task epoch bytes)) past (Posted task bytes ∷ past)
 entries_after past (SendsTasks tasks) = kept_if (lowest (task_faults past tasks)) past (with_sent past (proposal past tasks))
 entries_after past SendsWrite = kept_if (lowest (write_faults past (owed_blocks past))) past (with_write past (owed_blocks past))
-entries_after past (Arrives read) = with_arrival past read
+entries_after past (Arrives bytes) = with_arrival past (arrival_in bytes)
 entries_after past (Reads task) = past
 
 -- the answers to a list of events, each behind those before it, and the record that all of them leave

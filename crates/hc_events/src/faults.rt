@@ -3,6 +3,8 @@
 ghost use Rattle.std.specs.Prelude.{◌≡◌};
 ghost use Rattle.hc_events.specs.Faults.{core_fault_number};
 
+use hc_frames::building::Room;
+use hc_frames::reading::FrameFault;
 use hc_records::faults::EditFault;
 use std::alloc::AllocError;
 use thiserror::Error;
@@ -157,6 +159,37 @@ impl From<EditFault> for CoreFault {
             EditFault::EpochsSpent => CoreFault::EpochsSpent,
             EditFault::Memory => CoreFault::Memory,
         }
+    }
+}
+
+impl From<FrameFault> for CoreFault {
+    ghost use Rattle.std.specs.Prelude.{◌≡◌};
+    ghost use Rattle.hc_events.specs.Faults.{frame_refusal};
+
+    ghost from_gives = { λ fault refusal. refusal ≡ frame_refusal fault };
+
+    fn from(fault: FrameFault) -> CoreFault {
+        match fault {
+            FrameFault::Short => CoreFault::Short,
+            FrameFault::NotEtherCat => CoreFault::NotEtherCat,
+            FrameFault::BadType => CoreFault::BadType,
+            FrameFault::BadLength => CoreFault::BadLength,
+            FrameFault::Circulating => CoreFault::Circulating,
+            FrameFault::MoreFollows => CoreFault::MoreFollows,
+            FrameFault::UnknownCommand => CoreFault::UnknownCommand,
+            FrameFault::IndexMismatch => CoreFault::IndexMismatch,
+        }
+    }
+}
+
+impl From<Room> for CoreFault {
+    ghost use Rattle.std.specs.Prelude.{◌≡◌};
+    ghost use Rattle.hc_events.specs.declared.faults.CoreFault.TheVariants as fault;
+
+    ghost from_gives = { λ room refusal. refusal ≡ fault.Room room.0 };
+
+    fn from(room: Room) -> CoreFault {
+        CoreFault::Room(room.0)
     }
 }
 

@@ -8,5 +8,4 @@ pub mod answer;
 pub mod change;
 pub mod event;
 pub mod faults;
-pub mod limits;
 pub mod sending;
