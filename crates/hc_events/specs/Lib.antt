@@ -11,3 +11,5 @@ pub mod Owed
 pub mod Changes
 pub mod Steps
 pub mod WorkedRecords
+pub mod Awaited
+pub mod Stale

@@ -8,4 +8,5 @@ pub mod answer;
 pub mod change;
 pub mod event;
 pub mod faults;
+pub mod laws;
 pub mod sending;

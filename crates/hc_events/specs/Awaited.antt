@@ -1,0 +1,28 @@
+-- The sendings that an arrival can still be news for.
+use Rattle.std.specs.Prelude.{ℕ, ◌||◌, Bool, true, false, if◌then◌else◌, List, filter, Option, Some, None, option_and_then}
+use Rattle.std.specs.List.{list_all, list_any}
+use Rattle.hc_events.specs.Entries.{Entry, Record, Came}
+use Rattle.hc_events.specs.Heads.{Head}
+use Rattle.hc_events.specs.Answering.{Sending, ends, sending_of, sends}
+
+-- an accepted edit or an arrival that fits was recorded since
+abbrev pub is_ended : ℕ → Sending → Bool
+is_ended serial sending = list_any (ends serial sending.heads) sending.since
+
+-- all that these datagrams carry was sent again since
+abbrev pub all_sent_again : List Entry → List Head → Bool
+all_sent_again since heads = list_all (λ head. list_any (sends head.item) since) heads
+
+abbrev pub is_no_arrival : Entry → Bool
+is_no_arrival (Came arrival) = false
+is_no_arrival entry = true
+
+-- a sending that neither ended nor was wholly sent again, without the arrivals since then: those that don't end it say nothing of it
+abbrev pub alive : ℕ → Sending → Option Sending
+alive serial sending =
+    if is_ended serial sending || all_sent_again sending.since sending.heads then None
+    else Some (record { heads = sending.heads; since = filter is_no_arrival sending.since })
+
+-- what is awaited with a serial
+abbrev pub awaited : Record → ℕ → Option Sending
+awaited past serial = option_and_then (alive serial) (sending_of past serial)
