@@ -1,3 +1,5 @@
 -- What the crates above cite, a file a subject.
 pub mod Awaited
+pub mod SameBehind
+pub mod StaleStays
 pub mod WithoutStale

@@ -1,8 +1,7 @@
 -- A stale arrival changes nothing: what that says of records.
-use Rattle.std.specs.Prelude.{◌≡◌, ◌<◌, ℕ, true, if◌then◌else◌, IsErr, List, [], ◌∷◌, ◌++◌, Option}
-use Rattle.hc_records.specs.Line.{State}
+use Rattle.std.specs.Prelude.{◌≡◌, ◌<◌, ℕ, true, if◌then◌else◌, IsErr, List, [], ◌∷◌, ◌++◌}
 use Rattle.hc_events.specs.Arrivals.{Arrival, arrival_in}
-use Rattle.hc_events.specs.Entries.{Entry, Record, Came}
+use Rattle.hc_events.specs.Entries.{Record, Came}
 use Rattle.hc_events.specs.Points.{epoch_of, next_serial, state_of}
 use Rattle.hc_events.specs.Answering.{is_stale_to}
 use Rattle.hc_events.specs.Images.{slot_of}
@@ -50,11 +49,11 @@ abbrev pub StepsKeepWithout : Type 0
 StepsKeepWithout =
     (past : Record) (step : Step) → without_stale (entries_after past step) ≡ without_stale (entries_after (without_stale past) step)
 
--- an arrival that is stale once a sending with its serial was made stays stale; before that the very same frame may be the answer later
+-- an arrival that is stale once a sending with its serial was made stays stale, whatever comes; before that the very same frame may be the answer later
 abbrev pub StaleStaysStale : Type 0
 StaleStaysStale =
-    (since past : Record) (arrival : Arrival) → arrival.serial < next_serial past → is_stale_to past arrival ≡ true
-    → is_stale_to (since ++ past) arrival ≡ true
+    (past : Record) (steps : List Step) (arrival : Arrival) → arrival.serial < next_serial past → is_stale_to past arrival ≡ true
+    → is_stale_to (entries_after_all past steps) arrival ≡ true
 
 -- a frame that can't be read isn't even recorded
 abbrev pub UnreadableChangesNothing : Type 0

@@ -71,9 +71,12 @@ post_faults past task epoch bytes =
 
 -- a sending of tasks: one frame or more, or none where the tasks have no datagram
 
--- so many serials are left: sendings have those below the one of alias reads and station writes
+-- from a serial on so many are left: sendings have those below the one of alias reads and station writes
+abbrev pub serials_left : ℕ → ℕ → Bool
+serials_left serial sendings = not (nat_lt SETUP_SERIAL (serial + sendings))
+
 abbrev pub has_serials : Record → ℕ → Bool
-has_serials past sendings = not (nat_lt SETUP_SERIAL (next_serial past + sendings))
+has_serials past sendings = serials_left (next_serial past) sendings
 
 abbrev pub proposal : Record → List ℕ → List Sending
 proposal past tasks = sendings_of (line_of past) (next_serial past) tasks

@@ -1,8 +1,37 @@
 //! What follows from the definitions of `specs/`, so that a reader can trust them: each function here
 //! does nothing, and its contract is a law that holds of every record. Nobody calls it.
-ghost use Rattle.hc_events.specs.Stale.{StaleIsToldWithout};
+ghost use Rattle.hc_events.specs.Stale.{StaleArrivalsCanGo, StaleChangesNothing, StaleIsToldWithout, StaleStaysStale, StepsKeepWithout, UnreadableChangesNothing};
+
+/// A record with an arrival that was stale when it came, and the same record without it, whatever was
+/// recorded since: all later events have the same answers behind both, and lead to records that say the
+/// same of the line, the epoch, the next serial, the input images, the output values and the known bytes.
+pub fn stale_changes_nothing()
+    ensures { StaleChangesNothing }
+{}
+
+/// The same of a record and that record without any of its stale arrivals.
+pub fn stale_arrivals_can_go()
+    ensures { StaleArrivalsCanGo }
+{}
 
 /// Whether an arrival is stale can be told without the arrivals that were stale before it.
 pub fn stale_is_told_without()
     ensures { StaleIsToldWithout }
+{}
+
+/// An event leads from a record and from the same record without its stale arrivals to records that are
+/// the same without theirs.
+pub fn steps_keep_without()
+    ensures { StepsKeepWithout }
+{}
+
+/// An arrival that is stale although a sending with its serial was made is stale for good. One whose
+/// sending is still to come is stale too, and may be its answer later.
+pub fn stale_stays_stale()
+    ensures { StaleStaysStale }
+{}
+
+/// An arrival that can't be read leaves the record as it was.
+pub fn unreadable_changes_nothing()
+    ensures { UnreadableChangesNothing }
 {}

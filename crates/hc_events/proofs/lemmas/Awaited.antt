@@ -2,16 +2,14 @@
 use Rattle.std.proofs.Common.{◌≡◌, ℕ, Bool, true, false, cond, not, ◌&&◌, ◌||◌, ◌==◌, List, [], ◌∷◌, filter, refl, sym, ap, ◌∙◌, subst, arith, if◌then◌else◌, Option, Some, None}
 use Rattle.std.specs.Prelude.{map, option_map, option_and_then}
 use Rattle.std.specs.Option.{option_map_or}
-use Rattle.std.specs.List.{list_any, list_all, zip}
+use Rattle.std.specs.List.{list_any, zip}
 use Rattle.std.proofs.lemmas.Bool.Decides.{nat_tests}
-use Rattle.hc_frames.specs.FrameText.{Carried}
 use Rattle.hc_records.specs.declared.edit.Edit.{Edit}
-use Rattle.hc_records.specs.declared.records.Group.{Group}
 use Rattle.hc_events.specs.Arrivals.{Arrival, Part}
 use Rattle.hc_events.specs.Entries.{Entry, Record, Opened, Edited, Posted, Sent, Wrote, Came}
 use Rattle.hc_events.specs.Points.{line_of, next_serial}
 use Rattle.hc_events.specs.Heads.{Head, Item, data_heads, write_head}
-use Rattle.hc_events.specs.Answering.{Sending, Judged, Verdict, Good, Wrong, Stale, just_sent, followed_by, sending_of, has_head, has_heads, fits, ends, is_answer, only_if, answered_by, sends, is_stale, verdict, judge, judged, judged_by, is_news, has_good}
+use Rattle.hc_events.specs.Answering.{Sending, Judged, Good, Wrong, Stale, just_sent, followed_by, sending_of, has_heads, fits, ends, is_answer, only_if, sends, is_stale, judge, judged, judged_by, is_news}
 use Rattle.hc_events.specs.Awaited.{is_ended, all_sent_again, is_no_arrival, alive, awaited}
 
 pub by_bool : {P : Type 0} (b : Bool) → (b ≡ true → P) → (b ≡ false → P) → P

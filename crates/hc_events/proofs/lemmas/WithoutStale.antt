@@ -1,17 +1,17 @@
 -- What a record says is what it says without its stale arrivals.
-use Rattle.std.proofs.Common.{◌≡◌, ℕ, ◌+◌, ◌==◌, Bool, true, false, cond, not, ◌&&◌, ◌||◌, List, [], ◌∷◌, ◌++◌, length, filter, refl, sym, ap, ◌∙◌, if◌then◌else◌, Option, Some, None}
+use Rattle.std.proofs.Common.{◌≡◌, ℕ, ◌+◌, ◌==◌, Bool, true, false, cond, not, ◌&&◌, ◌||◌, List, [], ◌∷◌, filter, refl, sym, ap, ◌∙◌, Option, Some, None}
 use Rattle.std.specs.Prelude.{fold, is_some, option_and_then}
 use Rattle.std.specs.List.{filter_map, list_any}
 use Rattle.hc_records.specs.Image.{variable_place}
 use Rattle.hc_records.specs.Edits.{state_after, slave_at}
 use Rattle.hc_events.specs.Arrivals.{Arrival}
-use Rattle.hc_events.specs.Entries.{Entry, Record, Opened, Edited, Posted, Sent, Wrote, Came}
+use Rattle.hc_events.specs.Entries.{Record, Opened, Edited, Posted, Sent, Wrote, Came}
 use Rattle.hc_events.specs.Points.{epoch_of, line_of, next_serial, state_of}
 use Rattle.hc_records.specs.Line.{line}
-use Rattle.hc_events.specs.Heads.{Item, Datagram, Block, block_item, same_item}
+use Rattle.hc_events.specs.Heads.{Block, block_item, same_item}
 use Rattle.hc_events.specs.Answering.{Judged, Verdict, Good, Wrong, Stale, is_good, is_stale, is_news, has_good, judged_by, is_stale_to}
 use Rattle.hc_events.specs.Awaited.{awaited}
-use Rattle.hc_events.specs.Images.{Fresh, fresh, fresh_by, renewed, slot_of}
+use Rattle.hc_events.specs.Images.{fresh, fresh_by, renewed, slot_of}
 use Rattle.hc_events.specs.Outputs.{posted_bit, value_bit}
 use Rattle.hc_events.specs.Owed.{if_confirmed, is_in_line, known_bytes, last_write, was_confirmed}
 use Rattle.hc_events.specs.Stale.{SaysTheSame, without_stale}
