@@ -1,4 +1,5 @@
 -- What the crates above cite, a file a subject.
+pub mod Accepted
 pub mod Awaited
 pub mod SameBehind
 pub mod StaleStays

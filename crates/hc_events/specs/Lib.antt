@@ -13,3 +13,4 @@ pub mod Steps
 pub mod WorkedRecords
 pub mod Awaited
 pub mod Stale
+pub mod Accepted

@@ -1,5 +1,6 @@
 //! What follows from the definitions of `specs/`, so that a reader can trust them: each function here
 //! does nothing, and its contract is a law that holds of every record. Nobody calls it.
+ghost use Rattle.hc_events.specs.Accepted.{RecordsAreAccepted};
 ghost use Rattle.hc_events.specs.Stale.{StaleArrivalsCanGo, StaleChangesNothing, StaleIsToldWithout, StaleStaysStale, StepsKeepWithout, UnreadableChangesNothing};
 
 /// A record with an arrival that was stale when it came, and the same record without it, whatever was
@@ -34,4 +35,11 @@ pub fn stale_stays_stale()
 /// An arrival that can't be read leaves the record as it was.
 pub fn unreadable_changes_nothing()
     ensures { UnreadableChangesNothing }
+{}
+
+/// Each entry of a record that events led to was accepted when it came: an edit by the state, a post by its
+/// task and its length, a frame of tasks of the line's datagrams while nothing was owed, a register write as the first
+/// owed block.
+pub fn records_are_accepted()
+    ensures { RecordsAreAccepted }
 {}
