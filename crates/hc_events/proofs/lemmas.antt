@@ -1,6 +1,7 @@
 -- What the crates above cite, a file a subject.
 pub mod Accepted
 pub mod Awaited
+pub mod Once
 pub mod SameBehind
 pub mod StaleStays
 pub mod WithoutStale

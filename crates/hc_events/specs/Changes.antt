@@ -68,3 +68,16 @@ slot_behind task d slot [] = slot
 slot_behind task d slot (change.Swapped swap ∷ changes) = slot_behind task d None changes
 slot_behind task d slot (change.Good t e bytes ∷ changes) =
     slot_behind task d (renewed task d slot (record { task = t; datagram = e; bytes = bytes })) changes
+
+-- along the list each swap leads to the table of the next state
+abbrev pub SwapsLeadFrom : State → List Change → Type 0
+SwapsLeadFrom state [] = Unit {0}
+SwapsLeadFrom state (change.Swapped swap ∷ changes) =
+    (swapped swap.change (table_of (line state)) ≡ table_of (line (state_after state swap.edit)))
+    × SwapsLeadFrom (state_after state swap.edit) changes
+SwapsLeadFrom state (change.Good task d bytes ∷ changes) = SwapsLeadFrom state changes
+
+-- these are the changes that a record of a project tells
+pub record AreChangesOf (groups : List Group) (past : Record) (changes : List Change) : Type 0 where
+  pub told : map told_by changes ≡ news_of past
+  pub lead : SwapsLeadFrom (opened groups) changes

@@ -14,3 +14,4 @@ pub mod WorkedRecords
 pub mod Awaited
 pub mod Stale
 pub mod Accepted
+pub mod Laws

@@ -1,6 +1,7 @@
 //! What follows from the definitions of `specs/`, so that a reader can trust them: each function here
 //! does nothing, and its contract is a law that holds of every record. Nobody calls it.
 ghost use Rattle.hc_events.specs.Accepted.{RecordsAreAccepted};
+ghost use Rattle.hc_events.specs.Laws.{AnswersOnce, AnswersTheSerial, EditsLeaveNoSlot, SendingsHaveSerials};
 ghost use Rattle.hc_events.specs.Stale.{StaleArrivalsCanGo, StaleChangesNothing, StaleIsToldWithout, StaleStaysStale, StepsKeepWithout, UnreadableChangesNothing};
 
 /// A record with an arrival that was stale when it came, and the same record without it, whatever was
@@ -42,4 +43,25 @@ pub fn unreadable_changes_nothing()
 /// owed block.
 pub fn records_are_accepted()
     ensures { RecordsAreAccepted }
+{}
+
+/// An arrival answers at most one sending: the one with its serial.
+pub fn answers_the_serial()
+    ensures { AnswersTheSerial }
+{}
+
+/// A sending is answered at most once: behind an answer to it, no arrival with its serial answers anything,
+/// whatever events come in between.
+pub fn answers_once()
+    ensures { AnswersOnce }
+{}
+
+/// Behind an accepted edit no datagram has data, of any task, touched by the edit or not.
+pub fn edits_leave_no_slot()
+    ensures { EditsLeaveNoSlot }
+{}
+
+/// A sending of the record has a serial exactly where it is below the next one.
+pub fn sendings_have_serials()
+    ensures { SendingsHaveSerials }
 {}

@@ -1,5 +1,5 @@
 -- What is kept by each accepted entry is kept by each event.
-use Rattle.std.proofs.Common.{◌≡◌, ℕ, zero, suc, ◌+◌, ◌<◌, ◌≤◌, ◌==◌, nat_lt, Bool, true, false, cond, not, ◌||◌, List, [], ◌∷◌, ◌++◌, length, map, refl, sym, ap, ◌∙◌, subst, arith, if◌then◌else◌, Option, Some, None}
+use Rattle.std.proofs.Common.{◌≡◌, ℕ, zero, suc, ◌+◌, ◌<◌, ◌≤◌, ◌==◌, nat_lt, Bool, true, false, cond, not, List, [], ◌∷◌, length, map, refl, sym, ◌∙◌, subst, arith, Option, Some, None}
 use Rattle.std.specs.Prelude.{All, option_map, Result, Ok, Err}
 use Rattle.std.specs.List.{flat_map, list_any, range_with_len}
 use Rattle.std.proofs.lemmas.Bool.Decides.{nat_tests}
@@ -16,12 +16,12 @@ use Rattle.hc_events.specs.declared.faults.CoreFault.{CoreFault}
 use Rattle.hc_events.specs.declared.faults.CoreFault.TheVariants.{NoSuchTask, PostLength, SerialsSpent, StalePost, Unprogrammed}
 use Rattle.hc_events.specs.Faults.{edit_refusal}
 use Rattle.hc_events.specs.Arrivals.{Arrival, arrival_in}
-use Rattle.hc_events.specs.Entries.{Entry, Record, Opened, Edited, Posted, Sent, Wrote, Came}
+use Rattle.hc_events.specs.Entries.{Entry, Record, Edited, Posted, Sent, Wrote, Came}
 use Rattle.hc_events.specs.Points.{epoch_of, line_of, next_serial, state_of}
-use Rattle.hc_events.specs.Sendings.{Named, Sending, alone, framed, framed_behind, has_room, joined, length_of, sendings_of, task_datagrams}
+use Rattle.hc_events.specs.Sendings.{Named, Sending, alone, framed, framed_behind, has_room, joined, length_of, task_datagrams}
 use Rattle.hc_events.specs.Owed.{owed_blocks}
 use Rattle.hc_events.specs.Steps.{Step, Edits, Posts, SendsTasks, SendsWrite, Arrives, Reads, kept_if, edit_refused, is_no_task, post_faults, proposal, has_serials, task_faults, with_sent, write_faults, with_write, with_arrival, entries_after, entries_after_all}
-use Rattle.hc_events.specs.Accepted.{IsAccepted, IsFirst, IsFrame, IsPost, StandsIn}
+use Rattle.hc_events.specs.Accepted.{IsAccepted, IsPost, StandsIn}
 
 -- the datagrams of a proposal are those of the line
 

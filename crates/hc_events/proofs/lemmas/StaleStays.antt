@@ -1,22 +1,16 @@
 -- What is over stays over: an arrival that is stale once its sending was made is stale for good.
 use Rattle.std.proofs.Common.{◌≡◌, ℕ, ◌+◌, ◌<◌, ◌==◌, Bool, true, false, cond, not, List, [], ◌∷◌, refl, sym, ap, ◌∙◌, subst, arith, Option, Some, None}
-use Rattle.std.specs.Prelude.{option_map, option_and_then, Result, Ok, Err}
+use Rattle.std.specs.Prelude.{option_map, option_and_then}
 use Rattle.std.specs.List.{list_any}
 use Rattle.std.proofs.lemmas.Bool.Decides.{nat_tests}
-use Rattle.hc_records.specs.declared.edit.Edit.{Edit}
-use Rattle.hc_records.specs.Lists.{lowest}
-use Rattle.hc_registers.specs.Blocks.{LineBlock}
-use Rattle.hc_frames.specs.declared.reading.faults.FrameFault.{FrameFault}
-use Rattle.hc_events.specs.declared.faults.CoreFault.{CoreFault}
-use Rattle.hc_events.specs.Arrivals.{Arrival, arrival_in}
+use Rattle.hc_events.specs.Arrivals.{Arrival}
 use Rattle.hc_events.specs.Entries.{Entry, Record, Opened, Edited, Posted, Sent, Wrote, Came}
 use Rattle.hc_events.specs.Points.{line_of, next_serial}
-use Rattle.hc_events.specs.Sendings.{Sending as Sending'}
 use Rattle.hc_events.specs.Heads.{data_heads, write_head}
 use Rattle.hc_events.specs.Answering.{Sending, just_sent, followed_by, sending_of, has_heads, fits, is_news, is_stale_to, judged_by}
 use Rattle.hc_events.specs.Awaited.{all_sent_again, alive, awaited}
-use Rattle.hc_events.specs.Owed.{owed_blocks}
-use Rattle.hc_events.specs.Steps.{Step, Edits, Posts, SendsTasks, SendsWrite, Arrives, Reads, kept_if, edit_refused, post_faults, proposal, task_faults, with_sent, write_faults, with_write, with_arrival, entries_after, entries_after_all}
+use Rattle.hc_events.specs.Steps.{Step, entries_after_all}
+use Rattle.hc_events.proofs.lemmas.Accepted.{Keeps, kept-after_all}
 use Rattle.hc_events.proofs.lemmas.Awaited.{by_bool, news_from, news_is, awaited-any, again-more, unless_fits, unless_again, alive_edited, alive_came, alive_other}
 
 -- an arrival is no news for what is awaited
@@ -62,51 +56,18 @@ pub record IsOver (arrival : Arrival) (past : Record) : Type 0 where
   pub made : arrival.serial < next_serial past
   pub quiet_now : quiet arrival (awaited past arrival.serial)
 
-over_edited : (arrival : Arrival) (past : Record) (edit : Edit) → IsOver arrival past → IsOver arrival (Edited edit ∷ past)
-over_edited arrival past edit over = record { made = over.made; quiet_now = quiet_grows past (Edited edit) arrival over.made over.quiet_now }
-
-over_posted : (arrival : Arrival) (past : Record) (task : ℕ) (bytes : List ℕ) → IsOver arrival past → IsOver arrival (Posted task bytes ∷ past)
-over_posted arrival past task bytes over = record { made = over.made; quiet_now = quiet_grows past (Posted task bytes) arrival over.made over.quiet_now }
-
-over_came : (arrival other : Arrival) (past : Record) → IsOver arrival past → IsOver arrival (Came other ∷ past)
-over_came arrival other past over = record { made = over.made; quiet_now = quiet_grows past (Came other) arrival over.made over.quiet_now }
-
 one_more : (serial next : ℕ) → serial < next → serial < next + 1
 one_more serial next below = omega arith
 
-over_sent : (arrival : Arrival) (sendings : List Sending') (past : Record) → IsOver arrival past → IsOver arrival (with_sent past sendings)
-over_sent arrival [] past over = over
-over_sent arrival (sending ∷ sendings) past over =
-    over_sent arrival sendings (Sent sending.datagrams ∷ past)
-    (record { made = one_more arrival.serial (next_serial past) over.made; quiet_now = quiet_grows past (Sent sending.datagrams) arrival over.made over.quiet_now })
-
-over_write : (arrival : Arrival) (blocks : List LineBlock) (past : Record) → IsOver arrival past → IsOver arrival (with_write past blocks)
-over_write arrival [] past over = over
-over_write arrival (block ∷ blocks) past over =
+over_grows : (arrival : Arrival) → Keeps (IsOver arrival)
+over_grows arrival past (Opened groups) accepted over = absurd accepted
+over_grows arrival past (Edited edit) accepted over = record { made = over.made; quiet_now = quiet_grows past (Edited edit) arrival over.made over.quiet_now }
+over_grows arrival past (Posted task bytes) accepted over = record { made = over.made; quiet_now = quiet_grows past (Posted task bytes) arrival over.made over.quiet_now }
+over_grows arrival past (Sent frame) accepted over =
+    record { made = one_more arrival.serial (next_serial past) over.made; quiet_now = quiet_grows past (Sent frame) arrival over.made over.quiet_now }
+over_grows arrival past (Wrote block) accepted over =
     record { made = one_more arrival.serial (next_serial past) over.made; quiet_now = quiet_grows past (Wrote block) arrival over.made over.quiet_now }
-
-over_kept : (arrival : Arrival) (refused : Option CoreFault) (past next : Record) → IsOver arrival past → IsOver arrival next → IsOver arrival (kept_if refused past next)
-over_kept arrival None past next over then' = then'
-over_kept arrival (Some fault) past next over then' = over
-
-over_arrival : (arrival : Arrival) (read : Result Arrival FrameFault) (past : Record) → IsOver arrival past → IsOver arrival (with_arrival past read)
-over_arrival arrival (Err fault) past over = over
-over_arrival arrival (Ok other) past over = over_came arrival other past over
-
-over_after : (arrival : Arrival) (past : Record) (step : Step) → IsOver arrival past → IsOver arrival (entries_after past step)
-over_after arrival past (Edits edit) over = over_kept arrival (edit_refused past edit) past (Edited edit ∷ past) over (over_edited arrival past edit over)
-over_after arrival past (Posts task epoch bytes) over =
-    over_kept arrival (lowest (post_faults past task epoch bytes)) past (Posted task bytes ∷ past) over (over_posted arrival past task bytes over)
-over_after arrival past (SendsTasks tasks) over =
-    over_kept arrival (lowest (task_faults past tasks)) past (with_sent past (proposal past tasks)) over (over_sent arrival (proposal past tasks) past over)
-over_after arrival past SendsWrite over =
-    over_kept arrival (lowest (write_faults past (owed_blocks past))) past (with_write past (owed_blocks past)) over (over_write arrival (owed_blocks past) past over)
-over_after arrival past (Arrives bytes) over = over_arrival arrival (arrival_in bytes) past over
-over_after arrival past (Reads task) over = over
-
-over_all : (arrival : Arrival) (past : Record) (steps : List Step) → IsOver arrival past → IsOver arrival (entries_after_all past steps)
-over_all arrival past [] over = over
-over_all arrival past (step ∷ steps) over = over_all arrival (entries_after past step) steps (over_after arrival past step over)
+over_grows arrival past (Came other) accepted over = record { made = over.made; quiet_now = quiet_grows past (Came other) arrival over.made over.quiet_now }
 
 none_of : (b : Bool) → not b ≡ true → b ≡ false
 none_of true e = cc
@@ -115,5 +76,5 @@ none_of false e = refl
 pub stale-stays : (past : Record) (steps : List Step) (arrival : Arrival) → arrival.serial < next_serial past → is_stale_to past arrival ≡ true → is_stale_to (entries_after_all past steps) arrival ≡ true
 stale-stays past steps arrival below stale =
     let now : quiet arrival (awaited past arrival.serial) = sym (awaited-any past arrival) ∙ none_of (list_any is_news (judged_by past arrival)) stale in
-    let over = over_all arrival past steps (record { made = below; quiet_now = now }) in
+    let over = kept-after_all (IsOver arrival) (over_grows arrival) past steps (record { made = below; quiet_now = now }) in
     ap not (awaited-any (entries_after_all past steps) arrival ∙ over.quiet_now)

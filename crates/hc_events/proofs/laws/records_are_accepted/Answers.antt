@@ -1,4 +1,4 @@
-use Rattle.std.proofs.Common.{◌≡◌, ◌∷◌, refl}
+use Rattle.std.proofs.Common.{◌∷◌, refl}
 use Rattle.hc_events.specs.Entries.{Entry, Record, Opened, Edited, Posted, Sent, Wrote, Came}
 use Rattle.hc_events.specs.Accepted.{AreAccepted, IsAccepted, just_opened}
 use Rattle.hc_events.proofs.lemmas.Accepted.{kept-after_all}
