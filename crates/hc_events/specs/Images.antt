@@ -1,6 +1,6 @@
 -- What a task reads: for each datagram of the present epoch the data of its last good answer in it, or none.
-use Rattle.std.specs.Prelude.{ℕ, ◌==◌, ◌&&◌, Bool, if◌then◌else◌, List, [], ◌∷◌, filter, fold, map, Option, Some, None}
-use Rattle.std.specs.List.{filter_map, range_with_len}
+use Rattle.std.specs.Prelude.{ℕ, ◌==◌, ◌&&◌, Bool, if◌then◌else◌, List, [], ◌∷◌, fold, map, Option, Some, None}
+use Rattle.std.specs.List.{flat_map, range_with_len}
 use Rattle.hc_records.specs.Image.{datagram_count, task_places}
 use Rattle.hc_events.specs.Arrivals.{Arrival}
 use Rattle.hc_events.specs.Entries.{Record, Opened, Edited, Came}
@@ -14,16 +14,16 @@ pub record Fresh : Type 0 where
   pub datagram : ℕ
   pub bytes : List ℕ
 
-abbrev pub fresh_item : Item → List ℕ → Option Fresh
-fresh_item (Datagram task d) bytes = Some (record { task = task; datagram = d; bytes = bytes })
-fresh_item (Block station number) bytes = None
+abbrev pub fresh_item : Item → List ℕ → List Fresh
+fresh_item (Datagram task d) bytes = record { task = task; datagram = d; bytes = bytes } ∷ []
+fresh_item (Block station number) bytes = []
 
-abbrev pub fresh : Judged → Option Fresh
-fresh datagram = fresh_item datagram.head.item datagram.part.bytes
+abbrev pub fresh : Judged → List Fresh
+fresh datagram = if has_good datagram then fresh_item datagram.head.item datagram.part.bytes else []
 
 -- the good answers of an arrival for tasks' datagrams, in the frame's order
 abbrev pub fresh_by : Record → Arrival → List Fresh
-fresh_by past arrival = filter_map fresh (filter has_good (judged_by past arrival))
+fresh_by past arrival = flat_map fresh (judged_by past arrival)
 
 -- a datagram has the data of a good answer of it from then on
 abbrev pub is_for : ℕ → ℕ → Fresh → Bool

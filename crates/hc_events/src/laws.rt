@@ -1,7 +1,7 @@
 //! What follows from the definitions of `specs/`, so that a reader can trust them: each function here
 //! does nothing, and its contract is a law that holds of every record. Nobody calls it.
 ghost use Rattle.hc_events.specs.Accepted.{RecordsAreAccepted};
-ghost use Rattle.hc_events.specs.Laws.{AnswersOnce, AnswersTheSerial, EditsLeaveNoSlot, SendingsHaveSerials};
+ghost use Rattle.hc_events.specs.Laws.{AnswersOnce, AnswersTheSerial, ChangesTellAll, EditsLeaveNoSlot, SendingsHaveSerials, SlotsFit};
 ghost use Rattle.hc_events.specs.Stale.{StaleArrivalsCanGo, StaleChangesNothing, StaleIsToldWithout, StaleStaysStale, StepsKeepWithout, UnreadableChangesNothing};
 
 /// A record with an arrival that was stale when it came, and the same record without it, whatever was
@@ -64,4 +64,15 @@ pub fn edits_leave_no_slot()
 /// A sending of the record has a serial exactly where it is below the next one.
 pub fn sendings_have_serials()
     ensures { SendingsHaveSerials }
+{}
+
+/// What a task reads of a datagram has as many bytes as the datagram has in the present line.
+pub fn slots_fit()
+    ensures { SlotsFit }
+{}
+
+/// The changes that a record tells decide by themselves, without any event, what is read behind it: the
+/// table of the line, the epoch, and the data of each datagram.
+pub fn changes_tell_all()
+    ensures { ChangesTellAll }
 {}

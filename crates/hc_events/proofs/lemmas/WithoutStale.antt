@@ -1,7 +1,7 @@
 -- What a record says is what it says without its stale arrivals.
-use Rattle.std.proofs.Common.{◌≡◌, ℕ, ◌+◌, ◌==◌, Bool, true, false, cond, not, ◌&&◌, ◌||◌, List, [], ◌∷◌, filter, refl, sym, ap, ◌∙◌, Option, Some, None}
+use Rattle.std.proofs.Common.{◌≡◌, ℕ, ◌+◌, ◌==◌, Bool, true, false, cond, not, ◌&&◌, ◌||◌, List, [], ◌∷◌, ◌++◌, filter, refl, sym, ap, ◌∙◌, Option, Some, None}
 use Rattle.std.specs.Prelude.{fold, is_some, option_and_then}
-use Rattle.std.specs.List.{filter_map, list_any}
+use Rattle.std.specs.List.{flat_map, list_any}
 use Rattle.hc_records.specs.Image.{variable_place}
 use Rattle.hc_records.specs.Edits.{state_after, slave_at}
 use Rattle.hc_events.specs.Arrivals.{Arrival}
@@ -131,12 +131,14 @@ or_none : (a b : Bool) → (a || b) ≡ false → (a ≡ false) × (b ≡ false)
 or_none true b e = cc
 or_none false b e = (refl, e)
 
-goods_none : (datagrams : List Judged) → list_any is_news datagrams ≡ false → filter has_good datagrams ≡ []
+not_fresh : (datagram : Judged) → has_good datagram ≡ false → fresh datagram ≡ []
+not_fresh datagram e = rw e refl
+
+goods_none : (datagrams : List Judged) → list_any is_news datagrams ≡ false → flat_map fresh datagrams ≡ []
 goods_none [] e = refl
 goods_none (datagram ∷ datagrams) e =
     let parts = or_none (is_news datagram) (list_any is_news datagrams) e in
-    let bad : has_good datagram ≡ false = good_news datagram.verdict parts.0 in
-    rw bad (goods_none datagrams parts.1)
+    ap (λ goods. goods ++ flat_map fresh datagrams) (not_fresh datagram (good_news datagram.verdict parts.0)) ∙ goods_none datagrams parts.1
 
 any_none : (datagrams : List Judged) → list_any is_news datagrams ≡ false → list_any has_good datagrams ≡ false
 any_none [] e = refl
@@ -145,11 +147,11 @@ any_none (datagram ∷ datagrams) e =
     let bad : has_good datagram ≡ false = good_news datagram.verdict parts.0 in
     rw bad (any_none datagrams parts.1)
 
-goods_of_news : (datagrams : List Judged) → filter has_good datagrams ≡ filter has_good (news datagrams)
+goods_of_news : (datagrams : List Judged) → flat_map fresh datagrams ≡ flat_map fresh (news datagrams)
 goods_of_news datagrams =
     by_bool (list_any is_news datagrams)
     (λ t. rw t refl)
-    (λ t. goods_none datagrams t ∙ sym (ap (λ b. filter has_good (cond b datagrams [])) t))
+    (λ t. goods_none datagrams t ∙ sym (ap (λ b. flat_map fresh (cond b datagrams [])) t))
 
 any_of_news : (datagrams : List Judged) → list_any has_good datagrams ≡ list_any has_good (news datagrams)
 any_of_news datagrams =
@@ -160,9 +162,7 @@ any_of_news datagrams =
 -- so the good answers of an arrival
 pub without-fresh : (past : Record) (arrival : Arrival) → fresh_by (without_stale past) arrival ≡ fresh_by past arrival
 without-fresh past arrival =
-    ap (filter_map fresh) (goods_of_news (judged_by (without_stale past) arrival)
-    ∙ ap (filter has_good) (without-news past arrival)
-    ∙ sym (goods_of_news (judged_by past arrival)))
+    goods_of_news (judged_by (without_stale past) arrival) ∙ ap (flat_map fresh) (without-news past arrival) ∙ sym (goods_of_news (judged_by past arrival))
 
 pub without-good : (past : Record) (arrival : Arrival) → list_any has_good (judged_by (without_stale past) arrival) ≡ list_any has_good (judged_by past arrival)
 without-good past arrival =
@@ -179,7 +179,7 @@ without-slot (Sent frame ∷ past) task d = without-slot past task d
 without-slot (Wrote block ∷ past) task d = without-slot past task d
 without-slot (Came arrival ∷ past) task d =
     came_either (λ record'. slot_of record' task d) past (without_stale past) arrival (is_stale_to past arrival) refl
-    (λ none. without-slot past task d ∙ sym (ap (λ goods. fold (renewed task d) (slot_of past task d) (filter_map fresh goods)) (goods_none (judged_by past arrival) none)))
+    (λ none. without-slot past task d ∙ sym (ap (λ goods. fold (renewed task d) (slot_of past task d) goods) (goods_none (judged_by past arrival) none)))
     (ap (λ slot. fold (renewed task d) slot (fresh_by (without_stale past) arrival)) (without-slot past task d)
     ∙ ap (λ goods. fold (renewed task d) (slot_of past task d) goods) (without-fresh past arrival))
 
