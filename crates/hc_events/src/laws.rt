@@ -1,7 +1,7 @@
 //! What follows from the definitions of `specs/`, so that a reader can trust them: each function here
 //! does nothing, and its contract is a law that holds of every record. Nobody calls it.
 ghost use Rattle.hc_events.specs.Accepted.{RecordsAreAccepted};
-ghost use Rattle.hc_events.specs.Laws.{AnswersOnce, AnswersTheSerial, ChangesTellAll, EditsLeaveNoSlot, SendingsHaveSerials, SlotsFit};
+ghost use Rattle.hc_events.specs.Laws.{AnswersOnce, AnswersTheSerial, ChangesAreLegal, ChangesTellAll, EditsLeaveNoSlot, SendingsHaveSerials, SlotsFit};
 ghost use Rattle.hc_events.specs.Stale.{StaleArrivalsCanGo, StaleChangesNothing, StaleIsToldWithout, StaleStaysStale, StepsKeepWithout, UnreadableChangesNothing};
 
 /// A record with an arrival that was stale when it came, and the same record without it, whatever was
@@ -75,4 +75,11 @@ pub fn slots_fit()
 /// table of the line, the epoch, and the data of each datagram.
 pub fn changes_tell_all()
     ensures { ChangesTellAll }
+{}
+
+/// The changes that a project's record tells are legal for it: along their list each swap names an edit that
+/// is accepted and leads to the next state's places, and each good answer is of a datagram of the state so
+/// far and has its length.
+pub fn changes_are_legal()
+    ensures { ChangesAreLegal }
 {}

@@ -17,9 +17,10 @@ use Rattle.hc_events.specs.Points.{epoch_of, line_of, state_of}
 use Rattle.hc_events.specs.Images.{Fresh, fresh_by, renewed, slot_of}
 use Rattle.hc_events.specs.Changes.{AreChangesOf, AreLegalFrom, IsAnswerIn, News, Swapped, Answered, SwapsLeadFrom, epoch_behind, news_of, slot_behind, table_behind, told_by}
 use Rattle.hc_events.specs.Steps.{Step, entries_after_all}
-use Rattle.hc_events.specs.Accepted.{IsAccepted, just_opened, record_of}
+use Rattle.hc_events.specs.Accepted.{IsAccepted, StandsIn, just_opened, record_of}
 use Rattle.hc_events.specs.Laws.{TellsAll}
 use Rattle.hc_events.proofs.lemmas.Accepted.{Keeps, kept-after_all}
+use Rattle.hc_events.proofs.lemmas.Slots.{AllSent, FitsFresh, fresh-fits}
 
 -- what news lead to by themselves
 
@@ -127,3 +128,64 @@ changes-tell_all groups steps changes are =
       epoch = epoch_told 0 changes ∙ ap (epoch_by 0) are.told ∙ follows.epoch;
       slots = λ task d. slot_told task d None changes ∙ ap (slot_by task d None) are.told ∙ follows.slots task d;
     }
+
+-- news are legal along the list
+
+abbrev LegalNews : State → List News → Type 0
+LegalNews state [] = Unit {0}
+LegalNews state (Swapped edit ∷ news) = IsOk (edited state edit) × LegalNews (state_after state edit) news
+LegalNews state (Answered good ∷ news) = IsAnswerIn state good.task good.datagram good.bytes × LegalNews state news
+
+legal_joined : (state : State) (first second : List News) → LegalNews state first → LegalNews (state_by state first) second → LegalNews state (first ++ second)
+legal_joined state [] second a b = b
+legal_joined state (Swapped edit ∷ first) second a b = (a.0, legal_joined (state_after state edit) first second a.1 b)
+legal_joined state (Answered good ∷ first) second a b = (a.0, legal_joined state first second a.1 b)
+
+legal_goods : (state : State) (goods : List Fresh) → All (FitsFresh StandsIn (line state)) goods → LegalNews state (map Answered goods)
+legal_goods state [] all = tt
+legal_goods state (good ∷ goods) all =
+    let fit = All-head (FitsFresh StandsIn (line state)) good goods all in
+    (record { stands = fit.1; fits = fit.0 }, legal_goods state goods (All-tail (FitsFresh StandsIn (line state)) good goods all))
+
+not_refused : (fault : Option EditFault) (next : State) → fault ≡ None → IsOk (refused_by fault next)
+not_refused None next e = refl
+not_refused (Some fault) next e = cc
+
+record IsLegal (groups : List Group) (past : Record) : Type 0 where
+  follows : Follows groups past
+  sent : AllSent StandsIn past
+  legal : LegalNews (opened groups) (news_of past)
+
+legal_grows : (groups : List Group) → Keeps (IsLegal groups)
+legal_grows groups past (Opened others) accepted before = absurd accepted
+legal_grows groups past (Edited edit) accepted before = record {
+  follows = follows_grows groups past (Edited edit) accepted before.follows;
+  sent = before.sent;
+  legal = legal_joined (opened groups) (news_of past) (Swapped edit ∷ []) before.legal
+  (subst (λ state. IsOk (edited state edit)) (sym before.follows.state) (not_refused (lowest (edit_faults (state_of past) edit)) (changed (state_of past) edit) accepted), tt);
+}
+legal_grows groups past (Posted task bytes) accepted before =
+    record { follows = follows_grows groups past (Posted task bytes) accepted before.follows; sent = before.sent; legal = before.legal }
+legal_grows groups past (Sent frame) accepted before =
+    record { follows = follows_grows groups past (Sent frame) accepted before.follows; sent = (accepted.stands, before.sent); legal = before.legal }
+legal_grows groups past (Wrote block) accepted before =
+    record { follows = follows_grows groups past (Wrote block) accepted before.follows; sent = before.sent; legal = before.legal }
+legal_grows groups past (Came arrival) accepted before = record {
+  follows = follows_grows groups past (Came arrival) accepted before.follows;
+  sent = before.sent;
+  legal = legal_joined (opened groups) (news_of past) (map Answered (fresh_by past arrival)) before.legal
+  (subst (λ state. LegalNews state (map Answered (fresh_by past arrival))) (sym before.follows.state)
+  (legal_goods (state_of past) (fresh_by past arrival) (fresh-fits StandsIn past arrival before.sent)));
+}
+
+legal_told : (state : State) (changes : List Change) → LegalNews state (map told_by changes) → SwapsLeadFrom state changes → AreLegalFrom state changes
+legal_told state [] legal lead = tt
+legal_told state (change.Swapped swap ∷ changes) legal lead =
+    (record { accepted = legal.0; leads = lead.0 }, legal_told (state_after state swap.edit) changes legal.1 lead.1)
+legal_told state (change.Good t e bytes ∷ changes) legal lead = (legal.0, legal_told state changes legal.1 lead)
+
+pub changes-are_legal : (groups : List Group) (steps : List Step) (changes : List Change) → AreChangesOf groups (record_of groups steps) changes → AreLegalFrom (opened groups) changes
+changes-are_legal groups steps changes are =
+    let all = kept-after_all (IsLegal groups) (legal_grows groups) (just_opened groups) steps
+    (record { follows = record { slots = λ task d. refl; state = refl; epoch = refl }; sent = tt; legal = tt }) in
+    legal_told (opened groups) changes (subst (LegalNews (opened groups)) (sym are.told) all.legal) are.lead
