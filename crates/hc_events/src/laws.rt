@@ -1,7 +1,7 @@
 //! What follows from the definitions of `specs/`, so that a reader can trust them: each function here
 //! does nothing, and its contract is a law that holds of every record. Nobody calls it.
 ghost use Rattle.hc_events.specs.Accepted.{RecordsAreAccepted};
-ghost use Rattle.hc_events.specs.Laws.{AnswersOnce, AnswersTheSerial, ChangesAreLegal, ChangesTellAll, EditsLeaveNoSlot, SendingsHaveSerials, SlotsFit};
+ghost use Rattle.hc_events.specs.Laws.{AnswersOnce, AnswersTheSerial, ChangesAreLegal, ChangesTellAll, EditsLeaveNoSlot, IndexesComeAgain, ProposalsAreNumbered, SendingsHaveSerials, SlotsFit, UnmovedIsOwedAsBefore};
 ghost use Rattle.hc_events.specs.Stale.{StaleArrivalsCanGo, StaleChangesNothing, StaleIsToldWithout, StaleStaysStale, StepsKeepWithout, UnreadableChangesNothing};
 
 /// A record with an arrival that was stale when it came, and the same record without it, whatever was
@@ -82,4 +82,21 @@ pub fn changes_tell_all()
 /// far and has its length.
 pub fn changes_are_legal()
     ensures { ChangesAreLegal }
+{}
+
+/// The frames of tasks bear the next serials, one after another in their order.
+pub fn proposals_are_numbered()
+    ensures { ProposalsAreNumbered }
+{}
+
+/// A frame's index, the low byte of its serial, comes again with the 256th sending after it and with none
+/// before that. So an index names a sending only among 256.
+pub fn indexes_come_again()
+    ensures { IndexesComeAgain }
+{}
+
+/// A block with the same bytes at the same register of the same slave in the old line is owed behind an edit
+/// exactly where it was owed before it.
+pub fn unmoved_is_owed_as_before()
+    ensures { UnmovedIsOwedAsBefore }
 {}

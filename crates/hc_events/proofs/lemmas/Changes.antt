@@ -1,23 +1,21 @@
 -- The changes of a record are legal, and tell all that is read.
-use Rattle.std.proofs.Common.{◌≡◌, ℕ, ◌+◌, Bool, List, [], ◌∷◌, ◌++◌, length, map, refl, sym, ap, ◌∙◌, subst, Option, Some, None, append_assoc}
-use Rattle.std.specs.Prelude.{All, IsOk, fold, Result, Ok, Err}
-use Rattle.std.proofs.lemmas.List.Elements.{All-nil, All-cons, All-head, All-tail, All-append}
-use Rattle.hc_records.specs.declared.edit.Edit.{Edit}
+use Rattle.std.proofs.Common.{◌≡◌, ℕ, ◌+◌, List, [], ◌∷◌, ◌++◌, map, refl, sym, ap, ◌∙◌, subst, Option, Some, None}
+use Rattle.std.specs.Prelude.{All, IsOk, fold}
+use Rattle.std.proofs.lemmas.List.Elements.{All-head, All-tail}
 use Rattle.hc_records.specs.declared.faults.EditFault.{EditFault}
 use Rattle.hc_records.specs.declared.records.Group.{Group}
 use Rattle.hc_records.specs.Lists.{lowest}
 use Rattle.hc_records.specs.Line.{State, line, opened}
 use Rattle.hc_records.specs.Edits.{changed, edit_faults, edited, refused_by, state_after}
-use Rattle.hc_places.specs.Table.{Table, table_of}
-use Rattle.hc_places.specs.Swap.{swapped}
+use Rattle.hc_places.specs.Table.{table_of}
 use Rattle.hc_events.specs.declared.change.Change.{Change}
 use Rattle.hc_events.specs.declared.change.Change.TheVariants as change
-use Rattle.hc_events.specs.Entries.{Entry, Record, Opened, Edited, Posted, Sent, Wrote, Came}
-use Rattle.hc_events.specs.Points.{epoch_of, line_of, state_of}
+use Rattle.hc_events.specs.Entries.{Record, Opened, Edited, Posted, Sent, Wrote, Came}
+use Rattle.hc_events.specs.Points.{epoch_of, state_of}
 use Rattle.hc_events.specs.Images.{Fresh, fresh_by, renewed, slot_of}
 use Rattle.hc_events.specs.Changes.{AreChangesOf, AreLegalFrom, IsAnswerIn, News, Swapped, Answered, SwapsLeadFrom, epoch_behind, news_of, slot_behind, table_behind, told_by}
-use Rattle.hc_events.specs.Steps.{Step, entries_after_all}
-use Rattle.hc_events.specs.Accepted.{IsAccepted, StandsIn, just_opened, record_of}
+use Rattle.hc_events.specs.Steps.{Step}
+use Rattle.hc_events.specs.Accepted.{StandsIn, just_opened, record_of}
 use Rattle.hc_events.specs.Laws.{TellsAll}
 use Rattle.hc_events.proofs.lemmas.Accepted.{Keeps, kept-after_all}
 use Rattle.hc_events.proofs.lemmas.Slots.{AllSent, FitsFresh, fresh-fits}
@@ -89,12 +87,12 @@ follows_grows groups past (Sent frame) accepted follows = record { slots = follo
 follows_grows groups past (Wrote block) accepted follows = record { slots = follows.slots; state = follows.state; epoch = follows.epoch }
 follows_grows groups past (Came arrival) accepted follows = record {
   slots = λ task d. slot_joined task d None (news_of past) (map Answered (fresh_by past arrival))
-  ∙ slot_goods task d (slot_by task d None (news_of past)) (fresh_by past arrival)
-  ∙ ap (λ slot. fold (renewed task d) slot (fresh_by past arrival)) (follows.slots task d);
+      ∙ slot_goods task d (slot_by task d None (news_of past)) (fresh_by past arrival)
+      ∙ ap (λ slot. fold (renewed task d) slot (fresh_by past arrival)) (follows.slots task d);
   state = state_joined (opened groups) (news_of past) (map Answered (fresh_by past arrival))
-  ∙ state_goods (state_by (opened groups) (news_of past)) (fresh_by past arrival) ∙ follows.state;
+      ∙ state_goods (state_by (opened groups) (news_of past)) (fresh_by past arrival) ∙ follows.state;
   epoch = epoch_joined 0 (news_of past) (map Answered (fresh_by past arrival))
-  ∙ epoch_goods (epoch_by 0 (news_of past)) (fresh_by past arrival) ∙ follows.epoch;
+      ∙ epoch_goods (epoch_by 0 (news_of past)) (fresh_by past arrival) ∙ follows.epoch;
 }
 
 pub records-follow : (groups : List Group) (steps : List Step) → Follows groups (record_of groups steps)
@@ -162,7 +160,7 @@ legal_grows groups past (Edited edit) accepted before = record {
   follows = follows_grows groups past (Edited edit) accepted before.follows;
   sent = before.sent;
   legal = legal_joined (opened groups) (news_of past) (Swapped edit ∷ []) before.legal
-  (subst (λ state. IsOk (edited state edit)) (sym before.follows.state) (not_refused (lowest (edit_faults (state_of past) edit)) (changed (state_of past) edit) accepted), tt);
+      (subst (λ state. IsOk (edited state edit)) (sym before.follows.state) (not_refused (lowest (edit_faults (state_of past) edit)) (changed (state_of past) edit) accepted), tt);
 }
 legal_grows groups past (Posted task bytes) accepted before =
     record { follows = follows_grows groups past (Posted task bytes) accepted before.follows; sent = before.sent; legal = before.legal }
@@ -174,8 +172,8 @@ legal_grows groups past (Came arrival) accepted before = record {
   follows = follows_grows groups past (Came arrival) accepted before.follows;
   sent = before.sent;
   legal = legal_joined (opened groups) (news_of past) (map Answered (fresh_by past arrival)) before.legal
-  (subst (λ state. LegalNews state (map Answered (fresh_by past arrival))) (sym before.follows.state)
-  (legal_goods (state_of past) (fresh_by past arrival) (fresh-fits StandsIn past arrival before.sent)));
+      (subst (λ state. LegalNews state (map Answered (fresh_by past arrival))) (sym before.follows.state)
+      (legal_goods (state_of past) (fresh_by past arrival) (fresh-fits StandsIn past arrival before.sent)));
 }
 
 legal_told : (state : State) (changes : List Change) → LegalNews state (map told_by changes) → SwapsLeadFrom state changes → AreLegalFrom state changes

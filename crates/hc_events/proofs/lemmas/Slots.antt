@@ -1,5 +1,5 @@
 -- What is read of a datagram has its length, and whatever its sending had of the line, since no edit came between.
-use Rattle.std.proofs.Common.{◌≡◌, ℕ, ◌+◌, ◌<◌, ◌==◌, Bool, true, false, cond, not, ◌&&◌, ◌||◌, List, [], ◌∷◌, ◌++◌, length, map, refl, sym, ap, ◌∙◌, subst, arith, Option, Some, None}
+use Rattle.std.proofs.Common.{◌≡◌, ℕ, ◌==◌, Bool, true, false, cond, not, ◌&&◌, ◌||◌, List, [], ◌∷◌, length, map, refl, sym, ap, ◌∙◌, subst, arith, Option, Some, None}
 use Rattle.std.specs.Prelude.{All, fold, option_map, option_and_then}
 use Rattle.std.specs.Option.{option_map_or}
 use Rattle.std.specs.List.{flat_map, list_any, zip}
@@ -13,10 +13,9 @@ use Rattle.hc_events.specs.Entries.{Entry, Record, Opened, Edited, Posted, Sent,
 use Rattle.hc_events.specs.Points.{line_of, next_serial}
 use Rattle.hc_events.specs.Sendings.{Named, length_of}
 use Rattle.hc_events.specs.Heads.{Head, Item, Datagram, Block, data_head, data_heads, write_head}
-use Rattle.hc_events.specs.Answering.{Sending, Judged, just_sent, followed_by, sending_of, has_head, has_heads, fits, ends, is_answer, only_if, answered_by, has_good, judge, judged, judged_by}
+use Rattle.hc_events.specs.Answering.{Sending, just_sent, followed_by, sending_of, has_head, has_heads, fits, ends, is_answer, only_if, has_good, judge, judged}
 use Rattle.hc_events.specs.Images.{Fresh, fresh, fresh_by, fresh_item, is_for, renewed, slot_of}
 use Rattle.hc_events.proofs.lemmas.Awaited.{by_bool}
-use Rattle.hc_events.proofs.lemmas.Once.{only-if_some}
 
 or_none : (a b : Bool) → (a || b) ≡ false → (a ≡ false) × (b ≡ false)
 or_none true b e = cc
@@ -153,7 +152,7 @@ renewed_fits line task d good slot fit sized =
     by_bool (is_for task d good)
     (λ t. let both = and_true (good.task == task) _ t in
     let same : length good.bytes ≡ length_of line (task, d) =
-        fit.0 ∙ ap (λ n. length_of line (n, good.datagram)) (is_number good.task task both.0) ∙ ap (λ n. length_of line (task, n)) (is_number good.datagram d both.1) in
+    fit.0 ∙ ap (λ n. length_of line (n, good.datagram)) (is_number good.task task both.0) ∙ ap (λ n. length_of line (task, n)) (is_number good.datagram d both.1) in
     rw t same)
     (λ t. rw t sized)
 
