@@ -3,6 +3,7 @@ pub mod Accepted
 pub mod Awaited
 pub mod Changes
 pub mod Once
+pub mod OneWrite
 pub mod SameBehind
 pub mod Slots
 pub mod StaleStays

@@ -1,5 +1,5 @@
 -- What a sent frame says of each of its datagrams, and the working counter that is expected back.
-use Rattle.std.specs.Prelude.{ℕ, ◌==◌, ◌&&◌, Bool, false, List, length, map}
+use Rattle.std.specs.Prelude.{ℕ, ◌==◌, ◌&&◌, Bool, true, false, List, length, map}
 use Rattle.hc_records.specs.Line.{Member}
 use Rattle.hc_registers.specs.Blocks.{LineBlock}
 use Rattle.hc_places.specs.Table.{datagram_of}
@@ -19,6 +19,10 @@ same_item (Datagram task d) (Datagram other e) = (task == other) && (d == e)
 same_item (Block station number) (Block other n) = (station == other) && (number == n)
 same_item (Datagram task d) (Block other n) = false
 same_item (Block station number) (Datagram other e) = false
+
+abbrev pub is_block : Item → Bool
+is_block (Datagram task d) = false
+is_block (Block station number) = true
 
 -- what a datagram carries, its command, address and number of data bytes, and its expected working counter
 pub record Head : Type 0 where

@@ -1,5 +1,5 @@
 -- What the core answers to each event, and what it accepts of it. Want of memory aside, which may be answered to any event and changes nothing.
-use Rattle.std.specs.Prelude.{ℕ, ◌+◌, ◌==◌, not, nat_lt, Bool, true, false, if◌then◌else◌, List, [], ◌∷◌, length, map, Option, Some, None, option_map, Result, Ok, Err}
+use Rattle.std.specs.Prelude.{ℕ, ◌+◌, ◌==◌, not, nat_lt, Bool, if◌then◌else◌, List, [], ◌∷◌, length, map, Option, Some, None, option_map, Result, Ok, Err}
 use Rattle.std.specs.List.{list_any}
 use Rattle.hc_records.specs.declared.limits.TheConstants.{TASKS}
 use Rattle.hc_records.specs.declared.edit.Edit.{Edit}
@@ -25,7 +25,7 @@ use Rattle.hc_events.specs.Arrivals.{Arrival, Part, arrival_in}
 use Rattle.hc_events.specs.Entries.{Record, Edited, Posted, Sent, Wrote, Came}
 use Rattle.hc_events.specs.Points.{epoch_of, line_of, next_serial, state_of}
 use Rattle.hc_events.specs.Sendings.{Named, Sending, sendings_of}
-use Rattle.hc_events.specs.Heads.{Head, Item, Datagram as DatagramItem, Block}
+use Rattle.hc_events.specs.Heads.{Head, Item, Datagram as DatagramItem, Block, is_block}
 use Rattle.hc_events.specs.Answering.{Judged, Verdict, Good, Wrong, Stale, is_news, judged_by}
 use Rattle.hc_events.specs.Images.{slots_of}
 use Rattle.hc_events.specs.Outputs.{sent_data}
@@ -135,10 +135,6 @@ abbrev pub told_of_block : Verdict → Answer
 told_of_block Good = answer.WriteDone
 told_of_block Wrong = answer.WriteMissed
 told_of_block Stale = answer.Stale
-
-abbrev pub is_block : Item → Bool
-is_block (DatagramItem task d) = false
-is_block (Block station number) = true
 
 abbrev pub told_of : List Judged → Answer
 told_of [] = answer.Stale

@@ -1,6 +1,7 @@
 //! What follows from the definitions of `specs/`, so that a reader can trust them: each function here
 //! does nothing, and its contract is a law that holds of every record. Nobody calls it.
 ghost use Rattle.hc_events.specs.Accepted.{RecordsAreAccepted};
+ghost use Rattle.hc_events.specs.Awaited.{WritesAreAwaitedAlone};
 ghost use Rattle.hc_events.specs.Laws.{AnswersOnce, AnswersTheSerial, ChangesAreLegal, ChangesTellAll, EditsLeaveNoSlot, IndexesComeAgain, ProposalsAreNumbered, SendingsHaveSerials, SlotsFit, UnmovedIsOwedAsBefore};
 ghost use Rattle.hc_events.specs.Stale.{StaleArrivalsCanGo, StaleChangesNothing, StaleIsToldWithout, StaleStaysStale, StepsKeepWithout, UnreadableChangesNothing};
 
@@ -99,4 +100,10 @@ pub fn indexes_come_again()
 /// exactly where it was owed before it.
 pub fn unmoved_is_owed_as_before()
     ensures { UnmovedIsOwedAsBefore }
+{}
+
+/// Where a register write is awaited, nothing else is: no other write, and no frame of tasks. So at most one
+/// write is awaited at any time.
+pub fn writes_are_awaited_alone()
+    ensures { WritesAreAwaitedAlone }
 {}

@@ -24,7 +24,8 @@ use Rattle.hc_events.specs.Answering.{Judged, Verdict, Good, Wrong, Stale, is_ne
 use Rattle.hc_events.specs.Images.{slot_of, slots_of}
 use Rattle.hc_events.specs.Outputs.{byte_of, bytes_of, has_bit, outputs_in, sent_bit, sent_data, value_bit}
 use Rattle.hc_events.specs.Owed.{is_owed, known_bytes, owed_blocks}
-use Rattle.hc_events.specs.Steps.{Step, Edits, Posts, SendsTasks, SendsWrite, Arrives, Reads, unless, kept_if, edit_refused, told_of_edit, is_no_task, post_faults, has_serials, serials_left, proposal, task_faults, sent_datagram, sent_text, with_sent, write_faults, told_of_write, with_write, is_block, told_of_block, told_of, told_of_arrival, with_arrival, read_faults, answer_to, entries_after, answers_to, entries_after_all}
+use Rattle.hc_events.specs.Steps.{Step, Edits, Posts, SendsTasks, SendsWrite, Arrives, Reads, unless, kept_if, edit_refused, told_of_edit, is_no_task, post_faults, has_serials, serials_left, proposal, task_faults, sent_datagram, sent_text, with_sent, write_faults, told_of_write, with_write, told_of_block, told_of, told_of_arrival, with_arrival, read_faults, answer_to, entries_after, answers_to, entries_after_all}
+use Rattle.hc_events.specs.Heads.{is_block}
 use Rattle.hc_events.specs.Stale.{SameBehind, SaysTheSame, without_stale}
 use Rattle.hc_events.proofs.lemmas.Awaited.{by_bool, news}
 use Rattle.hc_events.proofs.lemmas.WithoutStale.{without-epoch, without-known, without-news, without-serial, without-slot, without-stale, without-state, without-value}
