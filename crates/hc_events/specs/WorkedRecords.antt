@@ -406,3 +406,48 @@ unreadable = refl
 unreadable_leaves : entries_after sent_once (Arrives (take 30 inputs_back)) ≡ sent_once
 unfolding bit_of number_of starts_within
 unreadable_leaves = refl
+
+-- Two tools with a byte of outputs each: a value goes with its variable to another place, and that of a variable whose tool comes again is 0.
+
+abbrev byte_slave : ℕ → ℕ → Slave
+byte_slave station variable = record { station = station; areas = area_of 2 Out 0x1100 0x1600 variable 8 ∷ [] }
+
+abbrev write_of : ℕ → ℕ → ℕ → ℕ → Step
+write_of station serial register size =
+    back serial (record { command = Fpwr; address = station_address station register; interrupt = 0; bytes = replicate size 0; counter = 1 } ∷ [])
+
+abbrev two_tools : Record
+two_tools = entries_after_all (Opened (
+    record { alias = 0; slaves = [] }
+    ∷ record { alias = 10; slaves = byte_slave 1001 1 ∷ [] }
+    ∷ record { alias = 20; slaves = byte_slave 1002 2 ∷ [] }
+    ∷ []) ∷ []) (
+    Edits (Connect 10)
+    ∷ Edits (Connect 20)
+    ∷ SendsWrite ∷ write_of 1001 0 0x0810 8
+    ∷ SendsWrite ∷ write_of 1001 1 0x0600 16
+    ∷ SendsWrite ∷ write_of 1002 2 0x0810 8
+    ∷ SendsWrite ∷ write_of 1002 3 0x0600 16
+    ∷ Posts 0 2 (0x11 ∷ 0x22 ∷ [])
+    ∷ [])
+
+both_values : map (sent_text two_tools) (proposal two_tools (0 ∷ []))
+    ≡ (head_of 4 0x0e ++ 0x0c ∷ 0x04 ∷ 0 ∷ 0 ∷ 0 ∷ 0x01 ∷ 0x02 ∷ 0 ∷ 0 ∷ 0 ∷ 0x11 ∷ 0x22 ∷ replicate 32 0) ∷ []
+unfolding bit_of number_of starts_within
+both_values = refl
+
+abbrev one_tool : Record
+one_tool = entries_after_all two_tools (Edits (Disconnect 10) ∷ SendsWrite ∷ write_of 1002 4 0x0600 16 ∷ [])
+
+value_moves : answer_to one_tool (SendsTasks (0 ∷ []))
+    ≡ answer.Sent ((head_of 5 0x0d ++ 0x0c ∷ 0x05 ∷ 0 ∷ 0 ∷ 0 ∷ 0x01 ∷ 0x01 ∷ 0 ∷ 0 ∷ 0 ∷ 0x22 ∷ replicate 33 0) ∷ [])
+unfolding bit_of number_of starts_within
+value_moves = refl
+
+abbrev two_again : Record
+two_again = entries_after_all one_tool (Edits (Connect 10) ∷ [])
+
+value_is_new : map (sent_text two_again) (proposal two_again (0 ∷ []))
+    ≡ (head_of 5 0x0e ++ 0x0c ∷ 0x05 ∷ 0 ∷ 0 ∷ 0 ∷ 0x01 ∷ 0x02 ∷ 0 ∷ 0 ∷ 0 ∷ 0x00 ∷ 0x22 ∷ replicate 32 0) ∷ []
+unfolding bit_of number_of starts_within
+value_is_new = refl
