@@ -1,5 +1,5 @@
 -- What follows from the definitions, so that a reader can trust them. Each is the contract of a function of `laws`.
-use Rattle.std.specs.Prelude.{◌≡◌, ◌≢◌, ◌↔◌, ℕ, ◌+◌, ◌%◌, ◌<◌, IsNone, IsSome, IsTrue, List, ◌∷◌, length, map, Some, None}
+use Rattle.std.specs.Prelude.{◌≡◌, ◌*◌, ◌≢◌, ◌↔◌, ℕ, ◌+◌, ◌%◌, ◌<◌, IsNone, IsSome, IsTrue, List, ◌∷◌, length, map, Some, None}
 use Rattle.std.specs.List.{list_any, range_with_len}
 use Rattle.hc_records.specs.declared.edit.Edit.{Edit}
 use Rattle.hc_records.specs.declared.records.Group.{Group}
@@ -13,6 +13,8 @@ use Rattle.hc_events.specs.Points.{epoch_of, line_of, next_serial}
 use Rattle.hc_events.specs.Sendings.{length_of}
 use Rattle.hc_events.specs.Answering.{Sending, answered_by, sending_of}
 use Rattle.hc_events.specs.Images.{slot_of}
+use Rattle.hc_bits.specs.Bits.{bit_of}
+use Rattle.hc_events.specs.Outputs.{outputs_in, sent_bit, sent_data}
 use Rattle.hc_events.specs.Owed.{is_owed}
 use Rattle.hc_events.specs.Changes.{AreChangesOf, AreLegal, epoch_behind, slot_behind, table_behind}
 use Rattle.hc_events.specs.Steps.{Step, Edits, edit_refused, entries_after, entries_after_all, proposal}
@@ -64,6 +66,14 @@ abbrev pub UnmovedIsOwedAsBefore : Type 0
 UnmovedIsOwedAsBefore =
     (past : Record) (edit : Edit) (block : LineBlock) → IsTrue (list_any (same_block block) (line_blocks (line_of past)))
     → is_owed (Edited edit ∷ past) block ≡ is_owed past block
+
+-- a datagram is sent with its length, and each bit of its data is that of the output variable to which it belongs, else 0
+pub record IsSentData (past : Record) (task d : ℕ) (bytes : List ℕ) : Type 0 where
+  pub size : length bytes ≡ length_of (line_of past) (task, d)
+  pub bits : (k : ℕ) → k < 8 * length_of (line_of past) (task, d) → bit_of bytes k ≡ sent_bit past (outputs_in (line_of past) task d) k
+
+abbrev pub SentDataAreValues : Type 0
+SentDataAreValues = (past : Record) (task d : ℕ) → IsSentData past task d (sent_data past task d)
 
 -- the changes that events lead to are legal for the project
 abbrev pub ChangesAreLegal : Type 0

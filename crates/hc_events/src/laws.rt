@@ -2,7 +2,7 @@
 //! does nothing, and its contract is a law that holds of every record. Nobody calls it.
 ghost use Rattle.hc_events.specs.Accepted.{RecordsAreAccepted};
 ghost use Rattle.hc_events.specs.Awaited.{WritesAreAwaitedAlone};
-ghost use Rattle.hc_events.specs.Laws.{AnswersOnce, AnswersTheSerial, ChangesAreLegal, ChangesTellAll, EditsLeaveNoSlot, IndexesComeAgain, ProposalsAreNumbered, SendingsHaveSerials, SlotsFit, UnmovedIsOwedAsBefore};
+ghost use Rattle.hc_events.specs.Laws.{AnswersOnce, AnswersTheSerial, ChangesAreLegal, ChangesTellAll, EditsLeaveNoSlot, IndexesComeAgain, ProposalsAreNumbered, SendingsHaveSerials, SentDataAreValues, SlotsFit, UnmovedIsOwedAsBefore};
 ghost use Rattle.hc_events.specs.Stale.{StaleArrivalsCanGo, StaleChangesNothing, StaleIsToldWithout, StaleStaysStale, StepsKeepWithout, UnreadableChangesNothing};
 
 /// A record with an arrival that was stale when it came, and the same record without it, whatever was
@@ -106,4 +106,10 @@ pub fn unmoved_is_owed_as_before()
 /// write is awaited at any time.
 pub fn writes_are_awaited_alone()
     ensures { WritesAreAwaitedAlone }
+{}
+
+/// A datagram is sent with its length, and each bit of its data is the bit of the output variable to which
+/// it belongs, or 0 where it belongs to none: a gap, or an input.
+pub fn sent_data_are_values()
+    ensures { SentDataAreValues }
 {}
