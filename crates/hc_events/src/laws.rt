@@ -1,6 +1,6 @@
 //! What follows from the definitions of `specs/`, so that a reader can trust them: each function here
 //! does nothing, and its contract is a law that holds of every record. Nobody calls it.
-ghost use Rattle.hc_events.specs.Accepted.{RecordsAreAccepted};
+ghost use Rattle.hc_events.specs.Accepted.{EpochsAreCounted, RecordsAreAccepted};
 ghost use Rattle.hc_events.specs.Awaited.{WritesAreAwaitedAlone};
 ghost use Rattle.hc_events.specs.Laws.{AnswersOnce, AnswersTheSerial, ChangesAreLegal, ChangesTellAll, EditsLeaveNoSlot, IndexesComeAgain, ProposalsAreNumbered, SendingsHaveSerials, SentDataAreValues, SlotsFit, UnmovedIsOwedAsBefore};
 ghost use Rattle.hc_events.specs.Stale.{StaleArrivalsCanGo, StaleChangesNothing, StaleIsToldWithout, StaleStaysStale, StepsKeepWithout, UnreadableChangesNothing};
@@ -112,4 +112,9 @@ pub fn writes_are_awaited_alone()
 /// it belongs, or 0 where it belongs to none: a gap, or an input.
 pub fn sent_data_are_values()
     ensures { SentDataAreValues }
+{}
+
+/// The epoch of the line's state is the number of edits that were accepted.
+pub fn epochs_are_counted()
+    ensures { EpochsAreCounted }
 {}
