@@ -1,0 +1,5 @@
+use Rattle.hc_events.proofs.Numbers.{proposals-numbered}
+use Rattle.hc_events.proofs.laws.proposals_are_numbered.Goals as goal
+
+pub returns : goal.returns
+returns c = proposals-numbered

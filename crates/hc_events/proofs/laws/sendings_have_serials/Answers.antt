@@ -1,0 +1,5 @@
+use Rattle.hc_events.proofs.lemmas.Once.{below-serial, serial-below}
+use Rattle.hc_events.proofs.laws.sendings_have_serials.Goals as goal
+
+pub returns : goal.returns
+returns c past serial = (below-serial past serial, serial-below past serial)

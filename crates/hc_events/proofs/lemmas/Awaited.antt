@@ -1,0 +1,208 @@
+-- What is awaited with a serial is all that arrivals with it can tell.
+use Rattle.std.proofs.Common.{◌≡◌, ℕ, Bool, true, false, cond, not, ◌&&◌, ◌||◌, ◌==◌, List, [], ◌∷◌, filter, refl, sym, ap, ◌∙◌, subst, arith, if◌then◌else◌, Option, Some, None}
+use Rattle.std.specs.Prelude.{map, option_map, option_and_then}
+use Rattle.std.specs.Option.{option_map_or}
+use Rattle.std.specs.List.{list_any, zip}
+use Rattle.std.proofs.lemmas.Bool.Decides.{nat_tests}
+use Rattle.hc_records.specs.declared.edit.Edit.{Edit}
+use Rattle.hc_events.specs.Arrivals.{Arrival, Part}
+use Rattle.hc_events.specs.Entries.{Entry, Record, Opened, Edited, Posted, Sent, Wrote, Came}
+use Rattle.hc_events.specs.Points.{line_of, next_serial}
+use Rattle.hc_events.specs.Heads.{Head, Item, data_heads, write_head}
+use Rattle.hc_events.specs.Answering.{Sending, Judged, Good, Wrong, Stale, just_sent, followed_by, sending_of, has_heads, fits, ends, is_answer, only_if, sends, is_stale, judge, judged, judged_by, is_news}
+use Rattle.hc_events.specs.Awaited.{is_ended, all_sent_again, is_no_arrival, alive, awaited}
+
+pub by_bool : {P : Type 0} (b : Bool) → (b ≡ true → P) → (b ≡ false → P) → P
+by_bool true f g = f refl
+by_bool false f g = g refl
+
+and_true : (a b : Bool) → (a && b) ≡ true → (a ≡ true) × (b ≡ true)
+and_true true b e = (refl, e)
+and_true false b e = cc
+
+or_right : (a b : Bool) → b ≡ true → (a || b) ≡ true
+or_right true b e = refl
+or_right false b e = e
+
+both : (a b : Bool) → a ≡ true → b ≡ true → (a && b) ≡ true
+both a b s t = rw s t
+
+not_both : (a b : Bool) → (not a || not b) ≡ not (a && b)
+not_both true b = refl
+not_both false b = refl
+
+pub same_is : (n : ℕ) → (n == n) ≡ true
+same_is n = grind (arith, nat_tests)
+
+same_number : (m n : ℕ) → (m == n) ≡ true → m ≡ n
+same_number m n e = grind (arith, nat_tests)
+
+-- judgements where one is news, else none
+abbrev pub news : List Judged → List Judged
+news datagrams = if list_any is_news datagrams then datagrams else []
+
+-- what an arrival is for what is awaited with its serial
+abbrev pub news_from : Option Sending → Arrival → List Judged
+news_from None arrival = []
+news_from (Some sending) arrival = if has_heads sending.heads arrival.parts then judged arrival sending else []
+
+-- sendings among entries
+
+sends_filter : (item : Item) (since : List Entry) → list_any (sends item) (filter is_no_arrival since) ≡ list_any (sends item) since
+sends_filter item [] = refl
+sends_filter item (Opened groups ∷ since) = sends_filter item since
+sends_filter item (Edited edit ∷ since) = sends_filter item since
+sends_filter item (Posted task bytes ∷ since) = sends_filter item since
+sends_filter item (Sent frame ∷ since) = ap (λ b. sends item (Sent frame) || b) (sends_filter item since)
+sends_filter item (Wrote block ∷ since) = ap (λ b. sends item (Wrote block) || b) (sends_filter item since)
+sends_filter item (Came arrival ∷ since) = sends_filter item since
+
+judge_filter : (since : List Entry) (pair : Head × Part) → judge (filter is_no_arrival since) pair ≡ judge since pair
+judge_filter since pair =
+    ap (λ b. record { head = pair.0; part = pair.1; verdict = cond b Stale (if pair.1.counter == pair.0.expected then Good else Wrong) })
+    (sends_filter pair.0.item since)
+
+judged_filter : (since : List Entry) (pairs : List (Head × Part)) → map (judge (filter is_no_arrival since)) pairs ≡ map (judge since) pairs
+judged_filter since [] = refl
+judged_filter since (pair ∷ pairs) =
+    ap (λ datagram. datagram ∷ map (judge (filter is_no_arrival since)) pairs) (judge_filter since pair)
+    ∙ ap (λ datagrams. judge since pair ∷ datagrams) (judged_filter since pairs)
+
+again_filter : (heads : List Head) (entry : Entry) (since : List Entry) → all_sent_again (entry ∷ filter is_no_arrival since) heads ≡ all_sent_again (entry ∷ since) heads
+again_filter [] entry since = refl
+again_filter (head ∷ heads) entry since =
+    ap (λ b. (sends head.item entry || b) && all_sent_again (entry ∷ filter is_no_arrival since) heads) (sends_filter head.item since)
+    ∙ ap (λ b. (sends head.item entry || list_any (sends head.item) since) && b) (again_filter heads entry since)
+
+-- what was sent again stays so
+pub again-more : (entry : Entry) (since : List Entry) (heads : List Head) → all_sent_again since heads ≡ true → all_sent_again (entry ∷ since) heads ≡ true
+again-more entry since [] e = refl
+again-more entry since (head ∷ heads) e =
+    by_bool (list_any (sends head.item) since)
+    (λ t. both _ _ (or_right (sends head.item entry) _ t) (again-more entry since heads (rw t at e)))
+    (λ t. let never : false ≡ true = rw t at e in cc)
+
+-- news and judgements
+
+is_news_of : (b c : Bool) → not (is_stale (cond b Stale (cond c Good Wrong))) ≡ not b
+is_news_of true c = refl
+is_news_of false true = refl
+is_news_of false false = refl
+
+-- a frame with the heads of a sending is news for it where something of it wasn't sent again
+pub news_is : (since : List Entry) (heads : List Head) (parts : List Part) → has_heads heads parts ≡ true → list_any is_news (map (judge since) (zip heads parts)) ≡ not (all_sent_again since heads)
+news_is since [] [] e = refl
+news_is since [] (part ∷ parts) e = cc
+news_is since (head ∷ heads) [] e = cc
+news_is since (head ∷ heads) (part ∷ parts) e =
+    let rest = (and_true _ _ e).1 in
+    ap (λ b. b || list_any is_news (map (judge since) (zip heads parts))) (is_news_of (list_any (sends head.item) since) (part.counter == head.expected))
+    ∙ ap (λ b. not (list_any (sends head.item) since) || b) (news_is since heads parts rest)
+    ∙ not_both (list_any (sends head.item) since) (all_sent_again since heads)
+
+pub news_any : (datagrams : List Judged) → list_any is_news (news datagrams) ≡ list_any is_news datagrams
+news_any datagrams = by_bool (list_any is_news datagrams) (λ t. rw t t) (λ t. rw t refl)
+
+news_told : (arrival : Arrival) (found : Option Sending) → news (option_map_or (judged arrival) (option_and_then (only_if (is_answer arrival)) found) []) ≡ news_from (option_and_then (alive arrival.serial) found) arrival
+news_told arrival None = refl
+news_told arrival (Some s) =
+    by_bool (has_heads s.heads arrival.parts)
+    (λ h. by_bool (is_ended arrival.serial s)
+    (λ e. rw (same_is arrival.serial, h, e) refl)
+    (λ e. by_bool (all_sent_again s.since s.heads)
+    (λ r. let none : list_any is_news (judged arrival s) ≡ false = news_is s.since s.heads arrival.parts h ∙ ap not r in
+    rw (same_is arrival.serial, h, e, r, none) refl)
+    (λ r. let some : list_any is_news (judged arrival s) ≡ true = news_is s.since s.heads arrival.parts h ∙ ap not r in
+    rw (same_is arrival.serial, h, e, r, some) (rw h (sym (judged_filter s.since (zip s.heads arrival.parts)))))))
+    (λ h. by_bool (is_ended arrival.serial s || all_sent_again s.since s.heads)
+    (λ e. rw (same_is arrival.serial, h, e) refl)
+    (λ e. rw (same_is arrival.serial, h, e) (rw h refl)))
+
+-- what an arrival is, where it is news, hangs on what is awaited with its serial
+pub awaited-news : (past : Record) (arrival : Arrival) → news (judged_by past arrival) ≡ news_from (awaited past arrival.serial) arrival
+awaited-news past arrival = news_told arrival (sending_of past arrival.serial)
+
+-- and whether it is news
+pub awaited-any : (past : Record) (arrival : Arrival) → list_any is_news (judged_by past arrival) ≡ list_any is_news (news_from (awaited past arrival.serial) arrival)
+awaited-any past arrival = sym (news_any (judged_by past arrival)) ∙ ap (list_any is_news) (awaited-news past arrival)
+
+-- what an entry makes of what is awaited
+
+abbrev pub unless_fits : ℕ → Arrival → Sending → Option Sending
+unless_fits serial arrival s = if fits serial s.heads arrival then None else Some s
+
+abbrev pub unless_again : Entry → Sending → Option Sending
+unless_again entry s = if all_sent_again (entry ∷ s.since) s.heads then None else Some (followed_by entry s)
+
+pub alive_edited : (serial : ℕ) (edit : Edit) (found : Option Sending) → option_and_then (alive serial) (option_map (followed_by (Edited edit)) found) ≡ None
+alive_edited serial edit None = refl
+alive_edited serial edit (Some s) = refl
+
+pub alive_came : (serial : ℕ) (arrival : Arrival) (found : Option Sending) → option_and_then (alive serial) (option_map (followed_by (Came arrival)) found) ≡ option_and_then (unless_fits serial arrival) (option_and_then (alive serial) found)
+alive_came serial arrival None = refl
+alive_came serial arrival (Some s) =
+    by_bool (fits serial s.heads arrival)
+    (λ t. by_bool (is_ended serial s || all_sent_again s.since s.heads) (λ e. rw (t, e) refl) (λ e. rw (t, e) (rw t refl)))
+    (λ t. by_bool (is_ended serial s || all_sent_again s.since s.heads) (λ e. rw (t, e) refl) (λ e. rw (t, e) (rw t refl)))
+
+pub alive_other : (serial : ℕ) (entry : Entry) → ((heads : List Head) → ends serial heads entry ≡ false) → is_no_arrival entry ≡ true → (found : Option Sending) → option_and_then (alive serial) (option_map (followed_by entry) found) ≡ option_and_then (unless_again entry) (option_and_then (alive serial) found)
+alive_other serial entry k c None = refl
+alive_other serial entry k c (Some s) =
+    by_bool (is_ended serial s)
+    (λ e. rw (k s.heads, e) refl)
+    (λ e. by_bool (all_sent_again s.since s.heads)
+    (λ r. rw (k s.heads, e, r, again-more entry s.since s.heads r) refl)
+    (λ r. rw (k s.heads, e, r, c, again_filter s.heads entry s.since) refl))
+
+other_grows : (a b : Record) (serial : ℕ) (entry : Entry) → ((heads : List Head) → ends serial heads entry ≡ false) → is_no_arrival entry ≡ true → awaited a serial ≡ awaited b serial → option_and_then (alive serial) (option_map (followed_by entry) (sending_of a serial)) ≡ option_and_then (alive serial) (option_map (followed_by entry) (sending_of b serial))
+other_grows a b serial entry k c same = alive_other serial entry k c (sending_of a serial) ∙ ap (option_and_then (unless_again entry)) same ∙ sym (alive_other serial entry k c (sending_of b serial))
+
+by_serial : (serial : ℕ) (c : Bool) (x y z : Option Sending) → option_and_then (alive serial) y ≡ option_and_then (alive serial) z → option_and_then (alive serial) (cond c x y) ≡ option_and_then (alive serial) (cond c x z)
+by_serial serial true x y z e = refl
+by_serial serial false x y z e = e
+
+-- what is awaited after one more entry hangs on what was awaited before it, on the line and on the next serial
+pub awaited-grows : (a b : Record) (serial : ℕ) (entry : Entry) → next_serial a ≡ next_serial b → line_of a ≡ line_of b → awaited a serial ≡ awaited b serial → awaited (entry ∷ a) serial ≡ awaited (entry ∷ b) serial
+awaited-grows a b serial (Opened groups) n l same = refl
+awaited-grows a b serial (Edited edit) n l same = alive_edited serial edit (sending_of a serial) ∙ sym (alive_edited serial edit (sending_of b serial))
+awaited-grows a b serial (Posted task bytes) n l same = other_grows a b serial (Posted task bytes) (λ heads. refl) refl same
+awaited-grows a b serial (Came arrival) n l same = alive_came serial arrival (sending_of a serial) ∙ ap (option_and_then (unless_fits serial arrival)) same ∙ sym (alive_came serial arrival (sending_of b serial))
+awaited-grows a b serial (Sent frame) n l same =
+    ap (λ m. option_and_then (alive serial) (cond (m == serial) (Some (just_sent (data_heads (line_of a) frame))) (option_map (followed_by (Sent frame)) (sending_of a serial)))) n
+    ∙ ap (λ line. option_and_then (alive serial) (cond (next_serial b == serial) (Some (just_sent (data_heads line frame))) (option_map (followed_by (Sent frame)) (sending_of a serial)))) l
+    ∙ by_serial serial (next_serial b == serial) _ _ _ (other_grows a b serial (Sent frame) (λ heads. refl) refl same)
+awaited-grows a b serial (Wrote block) n l same =
+    ap (λ m. option_and_then (alive serial) (cond (m == serial) (Some (just_sent (write_head block ∷ []))) (option_map (followed_by (Wrote block)) (sending_of a serial)))) n
+    ∙ by_serial serial (next_serial b == serial) _ _ _ (other_grows a b serial (Wrote block) (λ heads. refl) refl same)
+
+-- a stale arrival
+
+unless_other : (serial : ℕ) (arrival : Arrival) (found : Option Sending) → (serial == arrival.serial) ≡ false → option_and_then (unless_fits serial arrival) found ≡ found
+unless_other serial arrival None e = refl
+unless_other serial arrival (Some s) e = rw e refl
+
+unless_stale : (arrival : Arrival) (found : Option Sending) → list_any is_news (option_map_or (judged arrival) (option_and_then (only_if (is_answer arrival)) found) []) ≡ false → option_and_then (unless_fits arrival.serial arrival) (option_and_then (alive arrival.serial) found) ≡ option_and_then (alive arrival.serial) found
+unless_stale arrival None k = refl
+unless_stale arrival (Some s) k =
+    by_bool (is_ended arrival.serial s)
+    (λ e. rw e refl)
+    (λ e. by_bool (all_sent_again s.since s.heads)
+    (λ r. rw (e, r) refl)
+    (λ r. by_bool (has_heads s.heads arrival.parts)
+    (λ h. let some : list_any is_news (judged arrival s) ≡ true = news_is s.since s.heads arrival.parts h ∙ ap not r in
+    let never : true ≡ false = sym some ∙ rw (same_is arrival.serial, h, e) at k in cc)
+    (λ h. rw (e, r) (rw (same_is arrival.serial, h) refl))))
+
+came_stale : (arrival : Arrival) (serial : ℕ) (found : Option Sending) → (serial ≡ arrival.serial → list_any is_news (option_map_or (judged arrival) (option_and_then (only_if (is_answer arrival)) found) []) ≡ false) → option_and_then (unless_fits serial arrival) (option_and_then (alive serial) found) ≡ option_and_then (alive serial) found
+came_stale arrival serial found k =
+    by_bool (serial == arrival.serial)
+    (λ t. let same : serial ≡ arrival.serial = same_number serial arrival.serial t in
+    subst (λ m. option_and_then (unless_fits m arrival) (option_and_then (alive m) found) ≡ option_and_then (alive m) found) (sym same) (unless_stale arrival found (k same)))
+    (λ t. unless_other serial arrival (option_and_then (alive serial) found) t)
+
+-- a stale arrival ends nothing that is awaited
+pub awaited-stale : (past : Record) (arrival : Arrival) (serial : ℕ) → list_any is_news (judged_by past arrival) ≡ false → awaited (Came arrival ∷ past) serial ≡ awaited past serial
+awaited-stale past arrival serial k =
+    alive_came serial arrival (sending_of past serial)
+    ∙ came_stale arrival serial (sending_of past serial)
+    (λ same. ap (λ m. list_any is_news (option_map_or (judged arrival) (option_and_then (only_if (is_answer arrival)) (sending_of past m)) [])) same ∙ k)

@@ -1,0 +1,153 @@
+-- A sending is answered once, and serials are those of sendings.
+use Rattle.std.proofs.Common.{◌≡◌, ℕ, ◌+◌, ◌<◌, ◌==◌, Bool, true, false, cond, not, ◌&&◌, ◌||◌, List, [], ◌∷◌, refl, sym, ap, ◌∙◌, subst, arith, Option, Some, None}
+use Rattle.std.specs.Prelude.{is_some, nat_lt, option_map, option_and_then}
+use Rattle.std.specs.List.{list_any}
+use Rattle.std.proofs.lemmas.Bool.Decides.{nat_tests}
+use Rattle.hc_events.specs.Arrivals.{Arrival}
+use Rattle.hc_events.specs.Entries.{Entry, Record, Opened, Edited, Posted, Sent, Wrote, Came}
+use Rattle.hc_events.specs.Points.{line_of, next_serial}
+use Rattle.hc_events.specs.Heads.{data_heads, write_head}
+use Rattle.hc_events.specs.Answering.{Sending, just_sent, followed_by, sending_of, fits, ends, is_answer, only_if, answered_by}
+use Rattle.hc_events.specs.Steps.{Step, entries_after_all}
+use Rattle.hc_events.proofs.lemmas.Accepted.{Keeps, kept-after_all}
+use Rattle.hc_events.proofs.lemmas.Awaited.{by_bool}
+
+is_below : (m n : ℕ) → nat_lt m n ≡ true → m < n
+is_below m n e = grind (arith, nat_tests)
+
+below_is : (m n : ℕ) → m < n → nat_lt m n ≡ true
+below_is m n h = grind (arith, nat_tests)
+
+none_below : (serial : ℕ) → false ≡ nat_lt serial 0
+none_below serial = grind (arith, nat_tests)
+
+-- the sending that an arrival answers
+
+picked : (b : Bool) (other sending : Sending) → cond b (Some other) None ≡ Some sending → (b ≡ true) × (other ≡ sending)
+picked true other sending e = (refl, cc)
+picked false other sending e = cc
+
+pub only-if_some : (found : Option Sending) (test : Sending → Bool) (sending : Sending) → option_and_then (only_if test) found ≡ Some sending → (found ≡ Some sending) × (test sending ≡ true)
+only-if_some None test sending e = cc
+only-if_some (Some other) test sending e =
+    let found = picked (test other) other sending e in (ap Some found.1, ap test (sym found.1) ∙ found.0)
+
+-- a serial is below the next one exactly where a sending has it
+
+mapped_some : (entry : Entry) (found : Option Sending) → is_some (option_map (followed_by entry) found) ≡ is_some found
+mapped_some entry None = refl
+mapped_some entry (Some sending) = refl
+
+next_or_before : (serial next : ℕ) → nat_lt serial (next + 1) ≡ cond (next == serial) true (nat_lt serial next)
+next_or_before serial next =
+    by_bool (next == serial)
+    (λ t. let below : serial < next + 1 = grind (arith, nat_tests) in
+    let yes : nat_lt serial (next + 1) ≡ true = grind (arith, nat_tests) in
+    rw t yes)
+    (λ t. by_bool (nat_lt serial next)
+    (λ u. let yes : nat_lt serial (next + 1) ≡ true = grind (arith, nat_tests) in rw (t, u) yes)
+    (λ u. let no : nat_lt serial (next + 1) ≡ false = grind (arith, nat_tests) in rw (t, u) no))
+
+one_of : (c : Bool) (first : Option Sending) (rest : Option Sending) → is_some first ≡ true → is_some (cond c first rest) ≡ cond c true (is_some rest)
+one_of true first rest e = e
+one_of false first rest e = refl
+
+pub serial-made : (past : Record) (serial : ℕ) → is_some (sending_of past serial) ≡ nat_lt serial (next_serial past)
+serial-made [] serial = none_below serial
+serial-made (Opened groups ∷ past) serial = none_below serial
+serial-made (Edited edit ∷ past) serial = mapped_some (Edited edit) (sending_of past serial) ∙ serial-made past serial
+serial-made (Posted task bytes ∷ past) serial = mapped_some (Posted task bytes) (sending_of past serial) ∙ serial-made past serial
+serial-made (Came arrival ∷ past) serial = mapped_some (Came arrival) (sending_of past serial) ∙ serial-made past serial
+serial-made (Sent frame ∷ past) serial =
+    one_of (next_serial past == serial) (Some (just_sent (data_heads (line_of past) frame))) (option_map (followed_by (Sent frame)) (sending_of past serial)) refl
+    ∙ ap (λ b. cond (next_serial past == serial) true b) (mapped_some (Sent frame) (sending_of past serial) ∙ serial-made past serial)
+    ∙ sym (next_or_before serial (next_serial past))
+serial-made (Wrote block ∷ past) serial =
+    one_of (next_serial past == serial) (Some (just_sent (write_head block ∷ []))) (option_map (followed_by (Wrote block)) (sending_of past serial)) refl
+    ∙ ap (λ b. cond (next_serial past == serial) true b) (mapped_some (Wrote block) (sending_of past serial) ∙ serial-made past serial)
+    ∙ sym (next_or_before serial (next_serial past))
+
+pub serial-below : (past : Record) (serial : ℕ) → is_some (sending_of past serial) ≡ true → serial < next_serial past
+serial-below past serial some = is_below serial (next_serial past) (sym (serial-made past serial) ∙ some)
+
+pub below-serial : (past : Record) (serial : ℕ) → serial < next_serial past → is_some (sending_of past serial) ≡ true
+below-serial past serial below = serial-made past serial ∙ below_is serial (next_serial past) below
+
+-- a sending that ended: nothing answers it any more
+
+abbrev ended : ℕ → Option Sending → Type 0
+ended serial None = Unit {0}
+ended serial (Some sending) = list_any (ends serial sending.heads) sending.since ≡ true
+
+-- a sending with the serial was made, and it ended
+pub record HasEnded (serial : ℕ) (past : Record) : Type 0 where
+  pub made : serial < next_serial past
+  pub over : ended serial (sending_of past serial)
+
+or_right : (a b : Bool) → b ≡ true → (a || b) ≡ true
+or_right true b e = refl
+or_right false b e = e
+
+ended_still : (serial : ℕ) (entry : Entry) (found : Option Sending) → ended serial found → ended serial (option_map (followed_by entry) found)
+ended_still serial entry None over = over
+ended_still serial entry (Some sending) over = or_right (ends serial sending.heads entry) _ over
+
+is_other : (serial next : ℕ) → serial < next → (next == serial) ≡ false
+is_other serial next h = grind (arith, nat_tests)
+
+below_more : (serial next : ℕ) → serial < next → serial < next + 1
+below_more serial next below = omega arith
+
+ended_older : (serial next : ℕ) (first : Option Sending) (rest : Option Sending) → serial < next → ended serial rest → ended serial (cond (next == serial) first rest)
+ended_older serial next first rest below over = rw (is_other serial next below) over
+
+ended_grows : (serial : ℕ) → Keeps (HasEnded serial)
+ended_grows serial past (Opened groups) accepted over = absurd accepted
+ended_grows serial past (Edited edit) accepted over = record { made = over.made; over = ended_still serial (Edited edit) (sending_of past serial) over.over }
+ended_grows serial past (Posted task bytes) accepted over = record { made = over.made; over = ended_still serial (Posted task bytes) (sending_of past serial) over.over }
+ended_grows serial past (Came arrival) accepted over = record { made = over.made; over = ended_still serial (Came arrival) (sending_of past serial) over.over }
+ended_grows serial past (Sent frame) accepted over = record {
+  made = below_more serial (next_serial past) over.made;
+  over = ended_older serial (next_serial past) _ (option_map (followed_by (Sent frame)) (sending_of past serial)) over.made (ended_still serial (Sent frame) (sending_of past serial) over.over);
+}
+ended_grows serial past (Wrote block) accepted over = record {
+  made = below_more serial (next_serial past) over.made;
+  over = ended_older serial (next_serial past) _ (option_map (followed_by (Wrote block)) (sending_of past serial)) over.made (ended_still serial (Wrote block) (sending_of past serial) over.over);
+}
+
+not_true : (b : Bool) → b ≡ true → not b ≡ false
+not_true true e = refl
+not_true false e = cc
+
+and_right : (a b : Bool) → b ≡ false → (a && b) ≡ false
+and_right true b e = e
+and_right false b e = refl
+
+nothing_answers : (arrival : Arrival) (found : Option Sending) → ended arrival.serial found → option_and_then (only_if (is_answer arrival)) found ≡ None
+nothing_answers arrival None over = refl
+nothing_answers arrival (Some sending) over =
+    ap (λ b. cond b (Some sending) None) (and_right (fits arrival.serial sending.heads arrival) _ (not_true _ over))
+
+and_left : (a b : Bool) → (a && b) ≡ true → a ≡ true
+and_left true b e = refl
+and_left false b e = cc
+
+-- an answer ends what it answers
+ended_now : (arrival : Arrival) (found : Option Sending) → is_some (option_and_then (only_if (is_answer arrival)) found) ≡ true → ended arrival.serial (option_map (followed_by (Came arrival)) found)
+ended_now arrival None some = cc
+ended_now arrival (Some sending) some =
+    by_bool (is_answer arrival sending)
+    (λ t. let fit : fits arrival.serial sending.heads arrival ≡ true = and_left _ _ t in rw fit refl)
+    (λ t. let never : false ≡ true = rw t at some in cc)
+
+some_found : (arrival : Arrival) (found : Option Sending) → is_some (option_and_then (only_if (is_answer arrival)) found) ≡ true → is_some found ≡ true
+some_found arrival None some = some
+some_found arrival (Some sending) some = refl
+
+pub answers-once : (past : Record) (first second : Arrival) (steps : List Step) → is_some (answered_by past first) ≡ true → second.serial ≡ first.serial → answered_by (entries_after_all (Came first ∷ past) steps) second ≡ None
+answers-once past first second steps some same =
+    let made : first.serial < next_serial past = serial-below past first.serial (some_found first (sending_of past first.serial) some) in
+    let then' = kept-after_all (HasEnded first.serial) (ended_grows first.serial) (Came first ∷ past) steps
+    (record { made = made; over = ended_now first (sending_of past first.serial) some }) in
+    nothing_answers second (sending_of (entries_after_all (Came first ∷ past) steps) second.serial)
+    (subst (λ serial. ended serial (sending_of (entries_after_all (Came first ∷ past) steps) serial)) (sym same) then'.over)

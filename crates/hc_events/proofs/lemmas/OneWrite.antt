@@ -1,0 +1,449 @@
+-- Where a register write is awaited nothing else is: its block is the first owed one until it is answered or written again.
+use Rattle.std.proofs.Common.{◌≡◌, ℕ, ◌≤◌, ◌==◌, Bool, true, false, cond, not, ◌&&◌, ◌||◌, List, [], ◌∷◌, filter, refl, sym, ap, ◌∙◌, arith, Option, Some, None}
+use Rattle.std.specs.Prelude.{is_some, nat_lt, option_map, option_and_then}
+use Rattle.std.specs.Option.{option_map_or}
+use Rattle.std.specs.List.{list_any}
+use Rattle.std.specs.Str.{bytes_eq}
+use Rattle.std.proofs.lemmas.Bool.Decides.{nat_tests}
+use Rattle.hc_records.specs.declared.records.Group.{Group}
+use Rattle.hc_records.specs.Line.{Member}
+use Rattle.hc_registers.specs.Blocks.{LineBlock, line_blocks}
+use Rattle.hc_events.specs.Arrivals.{Arrival}
+use Rattle.hc_events.specs.Entries.{Entry, Record, Opened, Edited, Posted, Sent, Wrote, Came}
+use Rattle.hc_events.specs.Points.{line_of, next_serial}
+use Rattle.hc_events.specs.Sendings.{Named}
+use Rattle.hc_events.specs.Heads.{Head, block_item, data_heads, is_block, same_item, write_head}
+use Rattle.hc_events.specs.Answering.{Sending, Judged, Verdict, Good, Wrong, Stale, just_sent, followed_by, sending_of, has_heads, fits, ends, is_answer, only_if, sends, is_good, is_stale, is_news, has_good, judged, judged_by}
+use Rattle.hc_events.specs.Awaited.{all_sent_again, alive, awaited, is_ended, is_no_arrival, is_write}
+use Rattle.hc_events.specs.Owed.{if_confirmed, is_owed, last_write, owed_blocks, was_confirmed}
+use Rattle.hc_events.specs.Steps.{Step}
+use Rattle.hc_events.specs.Accepted.{just_opened, record_of}
+use Rattle.hc_events.proofs.lemmas.Accepted.{Keeps, kept-after_all}
+use Rattle.hc_events.proofs.lemmas.Awaited.{by_bool, news_from, same_is, awaited-any, unless_fits, unless_again, alive_edited, alive_came, alive_other}
+use Rattle.hc_events.proofs.lemmas.Once.{serial-made}
+
+or_right : (a b : Bool) → b ≡ true → (a || b) ≡ true
+or_right true b e = refl
+or_right false b e = e
+
+or_parts : (a b : Bool) → (a || b) ≡ false → (a ≡ false) × (b ≡ false)
+or_parts true b e = cc
+or_parts false b e = (refl, e)
+
+-- what is awaited behind an entry was awaited before it
+
+record Was (past : Record) (serial : ℕ) (now : Sending) : Type 0 where
+  before : Sending
+  there : awaited past serial ≡ Some before
+  heads : now.heads ≡ before.heads
+
+same_sending : (a b : Sending) → Some a ≡ Some b → a ≡ b
+same_sending a b e = cc
+
+-- an arrival
+
+record StillAwaited (past : Record) (serial : ℕ) (arrival : Arrival) (now : Sending) : Type 0 where
+  was : Was past serial now
+  other : fits serial now.heads arrival ≡ false
+
+still_fits : (past : Record) (serial : ℕ) (arrival : Arrival) (now : Sending) (found : Option Sending) → awaited past serial ≡ found → option_and_then (unless_fits serial arrival) found ≡ Some now → StillAwaited past serial arrival now
+still_fits past serial arrival now None there e = cc
+still_fits past serial arrival now (Some before) there e =
+    by_bool (fits serial before.heads arrival)
+    (λ t. let never : option_and_then (unless_fits serial arrival) (Some before) ≡ None = rw t refl in
+    let absurdly : is_some (Some now) ≡ false = ap is_some (sym e ∙ never) in cc)
+    (λ t. let stays : option_and_then (unless_fits serial arrival) (Some before) ≡ Some before = rw t refl in
+    let same = same_sending before now (sym stays ∙ e) in
+    record { was = record { before = before; there = there; heads = ap (λ s. s.heads) (sym same) }; other = ap (λ s. fits serial s.heads arrival) (sym same) ∙ t })
+
+still_came : (past : Record) (serial : ℕ) (arrival : Arrival) (now : Sending) → awaited (Came arrival ∷ past) serial ≡ Some now → StillAwaited past serial arrival now
+still_came past serial arrival now e =
+    still_fits past serial arrival now (awaited past serial) refl (sym (alive_came serial arrival (sending_of past serial)) ∙ e)
+
+-- another entry that isn't an edit
+
+record NotAgain (past : Record) (serial : ℕ) (entry : Entry) (now : Sending) : Type 0 where
+  was : Was past serial now
+  since : List Entry
+  other : all_sent_again (entry ∷ since) now.heads ≡ false
+
+still_again : (past : Record) (serial : ℕ) (entry : Entry) (now : Sending) (found : Option Sending) → awaited past serial ≡ found → option_and_then (unless_again entry) found ≡ Some now → NotAgain past serial entry now
+still_again past serial entry now None there e = cc
+still_again past serial entry now (Some before) there e =
+    by_bool (all_sent_again (entry ∷ before.since) before.heads)
+    (λ t. let never : option_and_then (unless_again entry) (Some before) ≡ None = rw t refl in
+    let absurdly : is_some (Some now) ≡ false = ap is_some (sym e ∙ never) in cc)
+    (λ t. let stays : option_and_then (unless_again entry) (Some before) ≡ Some (followed_by entry before) = rw t refl in
+    let same = same_sending (followed_by entry before) now (sym stays ∙ e) in
+    record {
+      was = record { before = before; there = there; heads = ap (λ s. s.heads) (sym same) };
+      since = before.since;
+      other = ap (λ s. all_sent_again (entry ∷ before.since) s.heads) (sym same) ∙ t;
+    })
+
+still_other : (past : Record) (serial : ℕ) (entry : Entry) (now : Sending) → ((heads : List Head) → ends serial heads entry ≡ false) → is_no_arrival entry ≡ true → option_and_then (alive serial) (option_map (followed_by entry) (sending_of past serial)) ≡ Some now → NotAgain past serial entry now
+still_other past serial entry now k c e =
+    still_again past serial entry now (awaited past serial) refl (sym (alive_other serial entry k c (sending_of past serial)) ∙ e)
+
+-- blocks that are owed
+
+-- what was known stays known with an arrival
+known_stays : (past : Record) (arrival : Arrival) (bytes : List ℕ) (write : Option (ℕ × List ℕ)) → option_map_or (bytes_eq bytes) (option_and_then (if_confirmed past) write) false ≡ true → option_map_or (bytes_eq bytes) (option_and_then (if_confirmed (Came arrival ∷ past)) write) false ≡ true
+known_stays past arrival bytes None e = e
+known_stays past arrival bytes (Some write) e =
+    by_bool (was_confirmed past write.0)
+    (λ t. let confirmed : was_confirmed (Came arrival ∷ past) write.0 ≡ true = or_right ((arrival.serial == write.0) && list_any has_good (judged_by past arrival)) _ t in
+    let same : bytes_eq bytes write.1 ≡ true = rw t at e in
+    rw confirmed same)
+    (λ t. let never : false ≡ true = rw t at e in cc)
+
+true_of : (b : Bool) → not b ≡ false → b ≡ true
+true_of true e = refl
+true_of false e = cc
+
+not_owed_stays : (past : Record) (arrival : Arrival) (block : LineBlock) → is_owed past block ≡ false → is_owed (Came arrival ∷ past) block ≡ false
+not_owed_stays past arrival block e =
+    ap not (known_stays past arrival block.block.bytes (last_write past block.station block.number) (true_of _ e))
+
+filter_none : (p q : LineBlock → Bool) → ((x : LineBlock) → p x ≡ false → q x ≡ false) → (xs : List LineBlock) → filter p xs ≡ [] → filter q xs ≡ []
+filter_none p q k [] e = refl
+filter_none p q k (x ∷ xs) e =
+    by_bool (p x)
+    (λ t. let never : x ∷ filter p xs ≡ [] = rw t at e in cc)
+    (λ t. let rest : filter p xs ≡ [] = rw t at e in
+    let out : q x ≡ false = k x t in
+    rw out (filter_none p q k xs rest))
+
+-- an arrival without a good answer leaves what is owed
+
+confirmed_same : (past : Record) (arrival : Arrival) (serial : ℕ) → list_any has_good (judged_by past arrival) ≡ false → was_confirmed (Came arrival ∷ past) serial ≡ was_confirmed past serial
+confirmed_same past arrival serial none =
+    by_bool (arrival.serial == serial)
+    (λ t. rw (t, none) refl)
+    (λ t. rw t refl)
+
+known_same : (past : Record) (arrival : Arrival) (write : Option (ℕ × List ℕ)) → list_any has_good (judged_by past arrival) ≡ false → option_and_then (if_confirmed (Came arrival ∷ past)) write ≡ option_and_then (if_confirmed past) write
+known_same past arrival None none = refl
+known_same past arrival (Some write) none = ap (λ b. cond b (Some write.1) None) (confirmed_same past arrival write.0 none)
+
+filter_same : (p q : LineBlock → Bool) → ((x : LineBlock) → p x ≡ q x) → (xs : List LineBlock) → filter p xs ≡ filter q xs
+filter_same p q k [] = refl
+filter_same p q k (x ∷ xs) = ap (λ b. cond b (x ∷ filter p xs) (filter p xs)) (k x) ∙ ap (λ ys. cond (q x) (x ∷ ys) ys) (filter_same p q k xs)
+
+owed_same : (past : Record) (arrival : Arrival) → list_any has_good (judged_by past arrival) ≡ false → owed_blocks (Came arrival ∷ past) ≡ owed_blocks past
+owed_same past arrival none =
+    filter_same (is_owed (Came arrival ∷ past)) (is_owed past)
+    (λ block. ap (λ known. not (option_map_or (bytes_eq block.block.bytes) known false)) (known_same past arrival (last_write past block.station block.number) none))
+    (line_blocks (line_of past))
+
+-- a good answer is one to what is awaited
+
+good_news : (verdict : Verdict) → is_good verdict ≡ true → not (is_stale verdict) ≡ true
+good_news Good e = refl
+good_news Wrong e = refl
+good_news Stale e = cc
+
+or_left : (a b : Bool) → a ≡ true → (a || b) ≡ true
+or_left true b e = refl
+or_left false b e = cc
+
+any_news : (datagrams : List Judged) → list_any has_good datagrams ≡ true → list_any is_news datagrams ≡ true
+any_news [] e = cc
+any_news (datagram ∷ datagrams) e =
+    by_bool (has_good datagram)
+    (λ t. or_left (is_news datagram) _ (good_news datagram.verdict t))
+    (λ t. or_right (is_news datagram) _ (any_news datagrams (sym (ap (λ b. b || list_any has_good datagrams) t) ∙ e)))
+
+record IsFor (past : Record) (arrival : Arrival) : Type 0 where
+  sending : Sending
+  there : awaited past arrival.serial ≡ Some sending
+  fit : has_heads sending.heads arrival.parts ≡ true
+
+is_for : (past : Record) (arrival : Arrival) (found : Option Sending) → awaited past arrival.serial ≡ found → list_any is_news (news_from found arrival) ≡ true → IsFor past arrival
+is_for past arrival None there e = cc
+is_for past arrival (Some sending) there e =
+    by_bool (has_heads sending.heads arrival.parts)
+    (λ t. record { sending = sending; there = there; fit = t })
+    (λ t. let never : false ≡ true = rw t at e in cc)
+
+good_for : (past : Record) (arrival : Arrival) → list_any has_good (judged_by past arrival) ≡ true → IsFor past arrival
+good_for past arrival e =
+    is_for past arrival (awaited past arrival.serial) refl (sym (awaited-any past arrival) ∙ any_news (judged_by past arrival) e)
+
+-- a write just sent isn't confirmed
+
+unanswered : (arrival : Arrival) (found : Option Sending) → is_some found ≡ false → option_map_or (judged arrival) (option_and_then (only_if (is_answer arrival)) found) [] ≡ []
+unanswered arrival None e = refl
+unanswered arrival (Some sending) e = cc
+
+not_below : (serial m n : ℕ) → (serial == n) ≡ true → m ≤ n → nat_lt serial m ≡ false
+not_below serial m n e above = grind (arith, nat_tests)
+
+unconfirmed : (past : Record) (serial : ℕ) → next_serial past ≤ serial → was_confirmed past serial ≡ false
+unconfirmed [] serial above = refl
+unconfirmed (Opened groups ∷ past) serial above = refl
+unconfirmed (Edited edit ∷ past) serial above = unconfirmed past serial above
+unconfirmed (Posted task bytes ∷ past) serial above = unconfirmed past serial above
+unconfirmed (Sent frame ∷ past) serial above = unconfirmed past serial (omega arith)
+unconfirmed (Wrote block ∷ past) serial above = unconfirmed past serial (omega arith)
+unconfirmed (Came arrival ∷ past) serial above =
+    by_bool (arrival.serial == serial)
+    (λ t. let nothing : judged_by past arrival ≡ [] =
+    unanswered arrival (sending_of past arrival.serial) (serial-made past arrival.serial ∙ not_below arrival.serial (next_serial past) serial t above) in
+    rw (t, nothing) (unconfirmed past serial above))
+    (λ t. rw t (unconfirmed past serial above))
+
+at_least : (n : ℕ) → n ≤ n
+at_least n = omega arith
+
+written_is_owed : (past : Record) (block other : LineBlock) → same_item (block_item other) (block_item block) ≡ true → is_owed (Wrote block ∷ past) other ≡ true
+written_is_owed past block other e =
+    let none : was_confirmed past (next_serial past) ≡ false = unconfirmed past (next_serial past) (at_least (next_serial past)) in
+    rw (e, none) refl
+
+others_as_before : (past : Record) (block other : LineBlock) → same_item (block_item other) (block_item block) ≡ false → is_owed (Wrote block ∷ past) other ≡ is_owed past other
+others_as_before past block other e = rw e refl
+
+numbers_turned : (a b c d : ℕ) → ((a == b) && (c == d)) ≡ true → ((b == a) && (d == c)) ≡ true
+numbers_turned a b c d e = grind (arith, nat_tests)
+
+-- behind a write of the first owed block, that block or an earlier one of the same name is the first owed one
+
+record FirstBehind (past : Record) (block : LineBlock) (blocks : List LineBlock) : Type 0 where
+  first : LineBlock
+  rest : List LineBlock
+  owed : filter (is_owed (Wrote block ∷ past)) blocks ≡ first ∷ rest
+  same : same_item (block_item block) (block_item first) ≡ true
+
+heads_same : (a b : LineBlock) (xs ys : List LineBlock) → a ∷ xs ≡ b ∷ ys → a ≡ b
+heads_same a b xs ys e = cc
+
+first_behind : (past : Record) (block : LineBlock) (blocks rest : List LineBlock) → filter (is_owed past) blocks ≡ block ∷ rest → FirstBehind past block blocks
+first_behind past block [] rest e = cc
+first_behind past block (x ∷ xs) rest e =
+    by_bool (same_item (block_item x) (block_item block))
+    (λ t. let owes : is_owed (Wrote block ∷ past) x ≡ true = written_is_owed past block x t in
+    record {
+      first = x;
+      rest = filter (is_owed (Wrote block ∷ past)) xs;
+      owed = ap (λ b. cond b (x ∷ filter (is_owed (Wrote block ∷ past)) xs) (filter (is_owed (Wrote block ∷ past)) xs)) owes;
+      same = numbers_turned x.station block.station x.number block.number t;
+    })
+    (λ t. by_bool (is_owed past x)
+    (λ u. let taken : x ∷ filter (is_owed past) xs ≡ block ∷ rest = sym (ap (λ b. cond b (x ∷ filter (is_owed past) xs) (filter (is_owed past) xs)) u) ∙ e in
+    let one : x ≡ block = heads_same x block (filter (is_owed past) xs) rest taken in
+    let itself : same_item (block_item block) (block_item block) ≡ true = rw (same_is block.station, same_is block.number) refl in
+    let never : true ≡ false = sym itself ∙ sym (ap (λ y. same_item (block_item y) (block_item block)) one) ∙ t in cc)
+    (λ u. let left : filter (is_owed past) xs ≡ block ∷ rest = sym (ap (λ b. cond b (x ∷ filter (is_owed past) xs) (filter (is_owed past) xs)) u) ∙ e in
+    let behind = first_behind past block xs rest left in
+    let not_owed : is_owed (Wrote block ∷ past) x ≡ false = others_as_before past block x t ∙ u in
+    record {
+      first = behind.first;
+      rest = behind.rest;
+      owed = ap (λ b. cond b (x ∷ filter (is_owed (Wrote block ∷ past)) xs) (filter (is_owed (Wrote block ∷ past)) xs)) not_owed ∙ behind.owed;
+      same = behind.same;
+    }))
+
+-- a write that is awaited: of the first owed block, and nothing else is awaited
+
+record IsAlone (past : Record) (serial : ℕ) (now : Sending) : Type 0 where
+  head : Head
+  heads : now.heads ≡ head ∷ []
+  first : LineBlock
+  rest : List LineBlock
+  owed : owed_blocks past ≡ first ∷ rest
+  same : same_item head.item (block_item first) ≡ true
+  alone : (other : ℕ) (sending : Sending) → awaited past other ≡ Some sending → other ≡ serial
+
+record WritesAlone (past : Record) : Type 0 where
+  writes : (serial : ℕ) (now : Sending) → awaited past serial ≡ Some now → is_write now ≡ true → IsAlone past serial now
+  frames : (serial : ℕ) (now : Sending) → awaited past serial ≡ Some now → is_write now ≡ false → owed_blocks past ≡ []
+
+write_was : (now before : Sending) → now.heads ≡ before.heads → is_write before ≡ is_write now
+write_was now before same = ap (list_any (λ head. is_block head.item)) (sym same)
+
+none_some : (now : Sending) → None ≡ Some now → ⊥
+none_some now e = let never : false ≡ true = ap is_some e in cc
+
+some_of_none : (block : LineBlock) (blocks : List LineBlock) → [] ≡ block ∷ blocks → ⊥
+some_of_none block blocks e = cc
+
+-- what an arrival leaves awaited
+
+same_one : (past : Record) (serial : ℕ) (arrival : Arrival) (a b : Sending) → awaited past serial ≡ Some a → awaited past serial ≡ Some b → has_heads b.heads arrival.parts ≡ true → has_heads a.heads arrival.parts ≡ true
+same_one past serial arrival a b first second fit = ap (λ s. has_heads s.heads arrival.parts) (same_sending a b (sym first ∙ second)) ∙ fit
+
+no_good : (past : Record) (serial : ℕ) (before : Sending) (arrival : Arrival) → awaited past serial ≡ Some before → ((other : ℕ) (sending : Sending) → awaited past other ≡ Some sending → other ≡ serial) → fits serial before.heads arrival ≡ false → list_any has_good (judged_by past arrival) ≡ false
+no_good past serial before arrival there alone other =
+    by_bool (list_any has_good (judged_by past arrival))
+    (λ t. let for = good_for past arrival t in
+    let same : arrival.serial ≡ serial = alone arrival.serial for.sending for.there in
+    let fit : has_heads before.heads arrival.parts ≡ true =
+    same_one past serial arrival before for.sending there (sym (ap (awaited past) same) ∙ for.there) for.fit in
+    let number : (serial == arrival.serial) ≡ true = ap (λ n. serial == n) same ∙ same_is serial in
+    let fitting : fits serial before.heads arrival ≡ true = rw (number, fit) refl in
+    let never : true ≡ false = sym fitting ∙ other in cc)
+    (λ t. t)
+
+came_write : (past : Record) (arrival : Arrival) (serial : ℕ) (now : Sending) → WritesAlone past → StillAwaited past serial arrival now → is_write now ≡ true → IsAlone (Came arrival ∷ past) serial now
+came_write past arrival serial now all still w =
+    let before = still.was.before in
+    let one = all.writes serial before still.was.there (write_was now before still.was.heads ∙ w) in
+    let none = no_good past serial before arrival still.was.there one.alone (ap (λ heads. fits serial heads arrival) (sym still.was.heads) ∙ still.other) in
+    record {
+      head = one.head;
+      heads = still.was.heads ∙ one.heads;
+      first = one.first;
+      rest = one.rest;
+      owed = owed_same past arrival none ∙ one.owed;
+      same = one.same;
+      alone = λ other sending e. let was = (still_came past other arrival sending e).was in one.alone other was.before was.there;
+    }
+
+came_frames : (past : Record) (arrival : Arrival) (serial : ℕ) (now : Sending) → WritesAlone past → StillAwaited past serial arrival now → is_write now ≡ false → owed_blocks (Came arrival ∷ past) ≡ []
+came_frames past arrival serial now all still w =
+    filter_none (is_owed past) (is_owed (Came arrival ∷ past)) (not_owed_stays past arrival) (line_blocks (line_of past))
+    (all.frames serial still.was.before still.was.there (write_was now still.was.before still.was.heads ∙ w))
+
+-- what a post leaves awaited
+
+posted_write : (past : Record) (task : ℕ) (bytes : List ℕ) (serial : ℕ) (now : Sending) → WritesAlone past → NotAgain past serial (Posted task bytes) now → is_write now ≡ true → IsAlone (Posted task bytes ∷ past) serial now
+posted_write past task bytes serial now all still w =
+    let one = all.writes serial still.was.before still.was.there (write_was now still.was.before still.was.heads ∙ w) in
+    record {
+      head = one.head;
+      heads = still.was.heads ∙ one.heads;
+      first = one.first;
+      rest = one.rest;
+      owed = one.owed;
+      same = one.same;
+      alone = λ other sending e. let was = (still_other past other (Posted task bytes) sending (λ heads. refl) refl e).was in one.alone other was.before was.there;
+    }
+
+-- a sending with a new serial, or an older one
+
+alive_heads : (serial : ℕ) (sending now : Sending) (over : Bool) → cond over None (Some (record { heads = sending.heads; since = filter is_no_arrival sending.since })) ≡ Some now → now.heads ≡ sending.heads
+alive_heads serial sending now true e = absurd (none_some now e)
+alive_heads serial sending now false e = ap (λ s. s.heads) (sym (same_sending _ now e))
+
+alive_same : (serial : ℕ) (sending now : Sending) → alive serial sending ≡ Some now → now.heads ≡ sending.heads
+alive_same serial sending now e = alive_heads serial sending now (is_ended serial sending || all_sent_again sending.since sending.heads) e
+
+no_blocks : (line : List Member) (frame : List Named) → list_any (λ head. is_block head.item) (data_heads line frame) ≡ false
+no_blocks line [] = refl
+no_blocks line (named ∷ frame) = no_blocks line frame
+
+new_or_older : (serial : ℕ) (c : Bool) (first older : Option Sending) (now : Sending) → option_and_then (alive serial) (cond c first older) ≡ Some now → c ≡ true → option_and_then (alive serial) first ≡ Some now
+new_or_older serial true first older now e t = e
+new_or_older serial false first older now e t = cc
+
+older_one : (serial : ℕ) (c : Bool) (first older : Option Sending) (now : Sending) → option_and_then (alive serial) (cond c first older) ≡ Some now → c ≡ false → option_and_then (alive serial) older ≡ Some now
+older_one serial true first older now e t = cc
+older_one serial false first older now e t = e
+
+older_sent : (past : Record) (frame : List Named) (serial : ℕ) (now : Sending) → awaited (Sent frame ∷ past) serial ≡ Some now → (next_serial past == serial) ≡ false → NotAgain past serial (Sent frame) now
+older_sent past frame serial now e t =
+    still_other past serial (Sent frame) now (λ heads. refl) refl
+    (older_one serial (next_serial past == serial) (Some (just_sent (data_heads (line_of past) frame))) (option_map (followed_by (Sent frame)) (sending_of past serial)) now e t)
+
+older_wrote : (past : Record) (block : LineBlock) (serial : ℕ) (now : Sending) → awaited (Wrote block ∷ past) serial ≡ Some now → (next_serial past == serial) ≡ false → NotAgain past serial (Wrote block) now
+older_wrote past block serial now e t =
+    still_other past serial (Wrote block) now (λ heads. refl) refl
+    (older_one serial (next_serial past == serial) (Some (just_sent (write_head block ∷ []))) (option_map (followed_by (Wrote block)) (sending_of past serial)) now e t)
+
+new_wrote : (past : Record) (block : LineBlock) (serial : ℕ) (now : Sending) → awaited (Wrote block ∷ past) serial ≡ Some now → (next_serial past == serial) ≡ true → now.heads ≡ write_head block ∷ []
+new_wrote past block serial now e t =
+    alive_same serial (just_sent (write_head block ∷ [])) now
+    (new_or_older serial (next_serial past == serial) (Some (just_sent (write_head block ∷ []))) (option_map (followed_by (Wrote block)) (sending_of past serial)) now e t)
+
+new_sent : (past : Record) (frame : List Named) (serial : ℕ) (now : Sending) → awaited (Sent frame ∷ past) serial ≡ Some now → (next_serial past == serial) ≡ true → now.heads ≡ data_heads (line_of past) frame
+new_sent past frame serial now e t =
+    alive_same serial (just_sent (data_heads (line_of past) frame)) now
+    (new_or_older serial (next_serial past == serial) (Some (just_sent (data_heads (line_of past) frame))) (option_map (followed_by (Sent frame)) (sending_of past serial)) now e t)
+
+-- frames are sent where nothing is owed, so no write is awaited then
+
+sent_write : (past : Record) (frame : List Named) (serial : ℕ) (now : Sending) → WritesAlone past → owed_blocks past ≡ [] → awaited (Sent frame ∷ past) serial ≡ Some now → is_write now ≡ true → ⊥
+sent_write past frame serial now all none e w =
+    by_bool (next_serial past == serial)
+    (λ t. let never : false ≡ true = sym (no_blocks (line_of past) frame) ∙ sym (ap (list_any (λ head. is_block head.item)) (new_sent past frame serial now e t)) ∙ w in cc)
+    (λ t. let still = older_sent past frame serial now e t in
+    let one = all.writes serial still.was.before still.was.there (write_was now still.was.before still.was.heads ∙ w) in
+    some_of_none one.first one.rest (sym none ∙ one.owed))
+
+-- and the first owed block is written where nothing else is awaited: an older write of it is over then
+
+again_alone : (entry : Entry) (since : List Entry) (head : Head) (heads : List Head) → heads ≡ head ∷ [] → sends head.item entry ≡ true → all_sent_again (entry ∷ since) heads ≡ true
+again_alone entry since head heads one again =
+    ap (all_sent_again (entry ∷ since)) one ∙ rw again refl
+
+nothing_older : (past : Record) (block : LineBlock) (rest : List LineBlock) (serial : ℕ) (now : Sending) → WritesAlone past → owed_blocks past ≡ block ∷ rest → NotAgain past serial (Wrote block) now → ⊥
+nothing_older past block rest serial now all owed still =
+    by_bool (is_write still.was.before)
+    (λ t. let one = all.writes serial still.was.before still.was.there t in
+    let same : one.first ≡ block = heads_same one.first block one.rest rest (sym one.owed ∙ owed) in
+    let again : same_item one.head.item (block_item block) ≡ true = ap (λ b. same_item one.head.item (block_item b)) (sym same) ∙ one.same in
+    let never : true ≡ false = sym (again_alone (Wrote block) still.since one.head now.heads (still.was.heads ∙ one.heads) again) ∙ still.other in cc)
+    (λ t. some_of_none block rest (sym (all.frames serial still.was.before still.was.there t) ∙ owed))
+
+same_number : (m n : ℕ) → (m == n) ≡ true → m ≡ n
+same_number m n e = grind (arith, nat_tests)
+
+wrote_write : (past : Record) (block : LineBlock) (rest : List LineBlock) (serial : ℕ) (now : Sending) → WritesAlone past → owed_blocks past ≡ block ∷ rest → awaited (Wrote block ∷ past) serial ≡ Some now → IsAlone (Wrote block ∷ past) serial now
+wrote_write past block rest serial now all owed e =
+    by_bool (next_serial past == serial)
+    (λ t. let behind = first_behind past block (line_blocks (line_of past)) rest owed in
+    record {
+      head = write_head block;
+      heads = new_wrote past block serial now e t;
+      first = behind.first;
+      rest = behind.rest;
+      owed = behind.owed;
+      same = behind.same;
+      alone = λ other sending e'.
+          by_bool (next_serial past == other)
+          (λ u. sym (same_number (next_serial past) other u) ∙ same_number (next_serial past) serial t)
+          (λ u. absurd (nothing_older past block rest other sending all owed (older_wrote past block other sending e' u)));
+    })
+    (λ t. absurd (nothing_older past block rest serial now all owed (older_wrote past block serial now e t)))
+
+wrote_frames : (past : Record) (block : LineBlock) (rest : List LineBlock) (serial : ℕ) (now : Sending) → WritesAlone past → owed_blocks past ≡ block ∷ rest → awaited (Wrote block ∷ past) serial ≡ Some now → is_write now ≡ false → ⊥
+wrote_frames past block rest serial now all owed e w =
+    by_bool (next_serial past == serial)
+    (λ t. let never : true ≡ false = sym (ap (list_any (λ head. is_block head.item)) (new_wrote past block serial now e t)) ∙ w in cc)
+    (λ t. nothing_older past block rest serial now all owed (older_wrote past block serial now e t))
+
+alone_grows : Keeps WritesAlone
+alone_grows past (Opened groups) accepted all = absurd accepted
+alone_grows past (Edited edit) accepted all = record {
+  writes = λ serial now e w. absurd (none_some now (sym (alive_edited serial edit (sending_of past serial)) ∙ e));
+  frames = λ serial now e w. absurd (none_some now (sym (alive_edited serial edit (sending_of past serial)) ∙ e));
+}
+alone_grows past (Posted task bytes) accepted all = record {
+  writes = λ serial now e w. posted_write past task bytes serial now all (still_other past serial (Posted task bytes) now (λ heads. refl) refl e) w;
+  frames = λ serial now e w.
+      let still = still_other past serial (Posted task bytes) now (λ heads. refl) refl e in
+      all.frames serial still.was.before still.was.there (write_was now still.was.before still.was.heads ∙ w);
+}
+alone_grows past (Sent frame) accepted all = record {
+  writes = λ serial now e w. absurd (sent_write past frame serial now all accepted.programmed e w);
+  frames = λ serial now e w. accepted.programmed;
+}
+alone_grows past (Wrote block) accepted all = record {
+  writes = λ serial now e w. wrote_write past block accepted.rest serial now all accepted.first e;
+  frames = λ serial now e w. absurd (wrote_frames past block accepted.rest serial now all accepted.first e w);
+}
+alone_grows past (Came arrival) accepted all = record {
+  writes = λ serial now e w. came_write past arrival serial now all (still_came past serial arrival now e) w;
+  frames = λ serial now e w. came_frames past arrival serial now all (still_came past serial arrival now e) w;
+}
+
+just_opened_alone : (groups : List Group) → WritesAlone (just_opened groups)
+just_opened_alone groups = record {
+  writes = λ serial now e w. absurd (none_some now e);
+  frames = λ serial now e w. absurd (none_some now e);
+}
+
+pub writes-alone : (groups : List Group) (steps : List Step) (serial other : ℕ) (write sending : Sending) → awaited (record_of groups steps) serial ≡ Some write → is_write write ≡ true → awaited (record_of groups steps) other ≡ Some sending → other ≡ serial
+writes-alone groups steps serial other write sending there w e =
+    ((kept-after_all WritesAlone alone_grows (just_opened groups) steps (just_opened_alone groups)).writes serial write there w).alone other sending e

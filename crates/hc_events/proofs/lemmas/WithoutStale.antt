@@ -1,0 +1,221 @@
+-- What a record says is what it says without its stale arrivals.
+use Rattle.std.proofs.Common.{◌≡◌, ℕ, ◌+◌, ◌==◌, Bool, true, false, cond, not, ◌&&◌, ◌||◌, List, [], ◌∷◌, ◌++◌, refl, sym, ap, ◌∙◌, Option, Some, None}
+use Rattle.std.specs.Prelude.{fold, is_some, option_and_then}
+use Rattle.std.specs.List.{flat_map, list_any}
+use Rattle.hc_records.specs.Image.{variable_place}
+use Rattle.hc_records.specs.Edits.{state_after, slave_at}
+use Rattle.hc_events.specs.Arrivals.{Arrival}
+use Rattle.hc_events.specs.Entries.{Record, Opened, Edited, Posted, Sent, Wrote, Came}
+use Rattle.hc_events.specs.Points.{epoch_of, line_of, next_serial, state_of}
+use Rattle.hc_records.specs.Line.{line}
+use Rattle.hc_events.specs.Heads.{Block, block_item, same_item}
+use Rattle.hc_events.specs.Answering.{Judged, Verdict, Good, Wrong, Stale, is_good, is_stale, is_news, has_good, judged_by, is_stale_to}
+use Rattle.hc_events.specs.Awaited.{awaited}
+use Rattle.hc_events.specs.Images.{fresh, fresh_by, renewed, slot_of}
+use Rattle.hc_events.specs.Outputs.{posted_bit, value_bit}
+use Rattle.hc_events.specs.Owed.{if_confirmed, is_in_line, known_bytes, last_write, was_confirmed}
+use Rattle.hc_events.specs.Stale.{SaysTheSame, without_stale}
+use Rattle.hc_events.proofs.lemmas.Awaited.{by_bool, news, news_from, awaited-any, awaited-grows, awaited-news, awaited-stale}
+
+-- definitions that skip arrivals
+
+came_skips : {X : Type 0} (k : Record → X) (b : Bool) (arrival : Arrival) (past : Record) → k (Came arrival ∷ past) ≡ k past → k (cond b past (Came arrival ∷ past)) ≡ k past
+came_skips k true arrival past e = refl
+came_skips k false arrival past e = e
+
+pub without-state : (past : Record) → state_of (without_stale past) ≡ state_of past
+without-state [] = refl
+without-state (Opened groups ∷ past) = refl
+without-state (Edited edit ∷ past) = ap (λ state. state_after state edit) (without-state past)
+without-state (Posted task bytes ∷ past) = without-state past
+without-state (Sent frame ∷ past) = without-state past
+without-state (Wrote block ∷ past) = without-state past
+without-state (Came arrival ∷ past) = came_skips state_of (is_stale_to past arrival) arrival (without_stale past) refl ∙ without-state past
+
+pub without-line : (past : Record) → line_of (without_stale past) ≡ line_of past
+without-line past = ap line (without-state past)
+
+pub without-epoch : (past : Record) → epoch_of (without_stale past) ≡ epoch_of past
+without-epoch [] = refl
+without-epoch (Opened groups ∷ past) = refl
+without-epoch (Edited edit ∷ past) = ap (λ n. n + 1) (without-epoch past)
+without-epoch (Posted task bytes ∷ past) = without-epoch past
+without-epoch (Sent frame ∷ past) = without-epoch past
+without-epoch (Wrote block ∷ past) = without-epoch past
+without-epoch (Came arrival ∷ past) = came_skips epoch_of (is_stale_to past arrival) arrival (without_stale past) refl ∙ without-epoch past
+
+pub without-serial : (past : Record) → next_serial (without_stale past) ≡ next_serial past
+without-serial [] = refl
+without-serial (Opened groups ∷ past) = refl
+without-serial (Edited edit ∷ past) = without-serial past
+without-serial (Posted task bytes ∷ past) = without-serial past
+without-serial (Sent frame ∷ past) = ap (λ n. n + 1) (without-serial past)
+without-serial (Wrote block ∷ past) = ap (λ n. n + 1) (without-serial past)
+without-serial (Came arrival ∷ past) = came_skips next_serial (is_stale_to past arrival) arrival (without_stale past) refl ∙ without-serial past
+
+pub without-value : (past : Record) (variable k : ℕ) → value_bit (without_stale past) variable k ≡ value_bit past variable k
+without-value [] variable k = refl
+without-value (Opened groups ∷ past) variable k = refl
+without-value (Edited edit ∷ past) variable k =
+    ap (λ line. cond (is_some (variable_place variable line)) (value_bit (without_stale past) variable k) 0) (without-line past)
+    ∙ ap (λ bit. cond (is_some (variable_place variable (line_of past))) bit 0) (without-value past variable k)
+without-value (Posted task bytes ∷ past) variable k =
+    ap (λ line. posted_bit line task bytes k (variable_place variable line) (value_bit (without_stale past) variable k)) (without-line past)
+    ∙ ap (λ bit. posted_bit (line_of past) task bytes k (variable_place variable (line_of past)) bit) (without-value past variable k)
+without-value (Sent frame ∷ past) variable k = without-value past variable k
+without-value (Wrote block ∷ past) variable k = without-value past variable k
+without-value (Came arrival ∷ past) variable k =
+    came_skips (λ record'. value_bit record' variable k) (is_stale_to past arrival) arrival (without_stale past) refl ∙ without-value past variable k
+
+pub without-write : (past : Record) (station number : ℕ) → last_write (without_stale past) station number ≡ last_write past station number
+without-write [] station number = refl
+without-write (Opened groups ∷ past) station number = refl
+without-write (Edited edit ∷ past) station number =
+    ap (λ state. cond (is_some (slave_at state station)) (last_write (without_stale past) station number) None) (without-state past)
+    ∙ ap (λ found. cond (is_in_line past station) found None) (without-write past station number)
+without-write (Posted task bytes ∷ past) station number = without-write past station number
+without-write (Sent frame ∷ past) station number = without-write past station number
+without-write (Wrote block ∷ past) station number =
+    ap (λ n. cond (same_item (Block station number) (block_item block)) (Some (n, block.block.bytes)) (last_write (without_stale past) station number)) (without-serial past)
+    ∙ ap (λ found. cond (same_item (Block station number) (block_item block)) (Some (next_serial past, block.block.bytes)) found) (without-write past station number)
+without-write (Came arrival ∷ past) station number =
+    came_skips (λ record'. last_write record' station number) (is_stale_to past arrival) arrival (without_stale past) refl ∙ without-write past station number
+
+-- definitions that ask what an arrival answers
+
+none_of : (b : Bool) → not b ≡ true → b ≡ false
+none_of true e = cc
+none_of false e = refl
+
+abbrev pub no_news : Record → Arrival → Type 0
+no_news past arrival = list_any is_news (judged_by past arrival) ≡ false
+
+-- what holds of a record without a stale arrival and of one with an arrival holds without the stale ones
+came_either : {X : Type 0} (k : Record → X) (past slim : Record) (arrival : Arrival) (b : Bool) → is_stale_to past arrival ≡ b → (no_news past arrival → k slim ≡ k (Came arrival ∷ past)) → k (Came arrival ∷ slim) ≡ k (Came arrival ∷ past) → k (cond b slim (Came arrival ∷ slim)) ≡ k (Came arrival ∷ past)
+came_either k past slim arrival true e stale other = stale (none_of (list_any is_news (judged_by past arrival)) e)
+came_either k past slim arrival false e stale other = other
+
+pub without-awaited : (past : Record) (serial : ℕ) → awaited (without_stale past) serial ≡ awaited past serial
+without-awaited [] serial = refl
+without-awaited (Opened groups ∷ past) serial = refl
+without-awaited (Edited edit ∷ past) serial = awaited-grows (without_stale past) past serial (Edited edit) (without-serial past) (without-line past) (without-awaited past serial)
+without-awaited (Posted task bytes ∷ past) serial = awaited-grows (without_stale past) past serial (Posted task bytes) (without-serial past) (without-line past) (without-awaited past serial)
+without-awaited (Sent frame ∷ past) serial = awaited-grows (without_stale past) past serial (Sent frame) (without-serial past) (without-line past) (without-awaited past serial)
+without-awaited (Wrote block ∷ past) serial = awaited-grows (without_stale past) past serial (Wrote block) (without-serial past) (without-line past) (without-awaited past serial)
+without-awaited (Came arrival ∷ past) serial =
+    came_either (λ record'. awaited record' serial) past (without_stale past) arrival (is_stale_to past arrival) refl
+    (λ none. without-awaited past serial ∙ sym (awaited-stale past arrival serial none))
+    (awaited-grows (without_stale past) past serial (Came arrival) (without-serial past) (without-line past) (without-awaited past serial))
+
+-- what an arrival is, where it is news
+pub without-news : (past : Record) (arrival : Arrival) → news (judged_by (without_stale past) arrival) ≡ news (judged_by past arrival)
+without-news past arrival =
+    awaited-news (without_stale past) arrival
+    ∙ ap (λ found. news_from found arrival) (without-awaited past arrival.serial)
+    ∙ sym (awaited-news past arrival)
+
+pub without-stale : (past : Record) (arrival : Arrival) → is_stale_to (without_stale past) arrival ≡ is_stale_to past arrival
+without-stale past arrival =
+    ap not (awaited-any (without_stale past) arrival
+    ∙ ap (λ found. list_any is_news (news_from found arrival)) (without-awaited past arrival.serial)
+    ∙ sym (awaited-any past arrival))
+
+-- what is good is news
+
+good_news : (verdict : Verdict) → not (is_stale verdict) ≡ false → is_good verdict ≡ false
+good_news Good e = cc
+good_news Wrong e = cc
+good_news Stale e = refl
+
+or_none : (a b : Bool) → (a || b) ≡ false → (a ≡ false) × (b ≡ false)
+or_none true b e = cc
+or_none false b e = (refl, e)
+
+not_fresh : (datagram : Judged) → has_good datagram ≡ false → fresh datagram ≡ []
+not_fresh datagram e = rw e refl
+
+goods_none : (datagrams : List Judged) → list_any is_news datagrams ≡ false → flat_map fresh datagrams ≡ []
+goods_none [] e = refl
+goods_none (datagram ∷ datagrams) e =
+    let parts = or_none (is_news datagram) (list_any is_news datagrams) e in
+    ap (λ goods. goods ++ flat_map fresh datagrams) (not_fresh datagram (good_news datagram.verdict parts.0)) ∙ goods_none datagrams parts.1
+
+any_none : (datagrams : List Judged) → list_any is_news datagrams ≡ false → list_any has_good datagrams ≡ false
+any_none [] e = refl
+any_none (datagram ∷ datagrams) e =
+    let parts = or_none (is_news datagram) (list_any is_news datagrams) e in
+    let bad : has_good datagram ≡ false = good_news datagram.verdict parts.0 in
+    rw bad (any_none datagrams parts.1)
+
+goods_of_news : (datagrams : List Judged) → flat_map fresh datagrams ≡ flat_map fresh (news datagrams)
+goods_of_news datagrams =
+    by_bool (list_any is_news datagrams)
+    (λ t. rw t refl)
+    (λ t. goods_none datagrams t ∙ sym (ap (λ b. flat_map fresh (cond b datagrams [])) t))
+
+any_of_news : (datagrams : List Judged) → list_any has_good datagrams ≡ list_any has_good (news datagrams)
+any_of_news datagrams =
+    by_bool (list_any is_news datagrams)
+    (λ t. rw t refl)
+    (λ t. any_none datagrams t ∙ sym (ap (λ b. list_any has_good (cond b datagrams [])) t))
+
+-- so the good answers of an arrival
+pub without-fresh : (past : Record) (arrival : Arrival) → fresh_by (without_stale past) arrival ≡ fresh_by past arrival
+without-fresh past arrival =
+    goods_of_news (judged_by (without_stale past) arrival) ∙ ap (flat_map fresh) (without-news past arrival) ∙ sym (goods_of_news (judged_by past arrival))
+
+pub without-good : (past : Record) (arrival : Arrival) → list_any has_good (judged_by (without_stale past) arrival) ≡ list_any has_good (judged_by past arrival)
+without-good past arrival =
+    any_of_news (judged_by (without_stale past) arrival)
+    ∙ ap (list_any has_good) (without-news past arrival)
+    ∙ sym (any_of_news (judged_by past arrival))
+
+pub without-slot : (past : Record) (task d : ℕ) → slot_of (without_stale past) task d ≡ slot_of past task d
+without-slot [] task d = refl
+without-slot (Opened groups ∷ past) task d = refl
+without-slot (Edited edit ∷ past) task d = refl
+without-slot (Posted t bytes ∷ past) task d = without-slot past task d
+without-slot (Sent frame ∷ past) task d = without-slot past task d
+without-slot (Wrote block ∷ past) task d = without-slot past task d
+without-slot (Came arrival ∷ past) task d =
+    came_either (λ record'. slot_of record' task d) past (without_stale past) arrival (is_stale_to past arrival) refl
+    (λ none. without-slot past task d ∙ sym (ap (λ goods. fold (renewed task d) (slot_of past task d) goods) (goods_none (judged_by past arrival) none)))
+    (ap (λ slot. fold (renewed task d) slot (fresh_by (without_stale past) arrival)) (without-slot past task d)
+    ∙ ap (λ goods. fold (renewed task d) (slot_of past task d) goods) (without-fresh past arrival))
+
+and_none : (a b : Bool) → b ≡ false → (a && b) ≡ false
+and_none true b e = e
+and_none false b e = refl
+
+pub without-confirmed : (past : Record) (serial : ℕ) → was_confirmed (without_stale past) serial ≡ was_confirmed past serial
+without-confirmed [] serial = refl
+without-confirmed (Opened groups ∷ past) serial = refl
+without-confirmed (Edited edit ∷ past) serial = without-confirmed past serial
+without-confirmed (Posted task bytes ∷ past) serial = without-confirmed past serial
+without-confirmed (Sent frame ∷ past) serial = without-confirmed past serial
+without-confirmed (Wrote block ∷ past) serial = without-confirmed past serial
+without-confirmed (Came arrival ∷ past) serial =
+    came_either (λ record'. was_confirmed record' serial) past (without_stale past) arrival (is_stale_to past arrival) refl
+    (λ none. without-confirmed past serial ∙ sym (ap (λ b. b || was_confirmed past serial) (and_none (arrival.serial == serial) _ (any_none (judged_by past arrival) none))))
+    (ap (λ b. ((arrival.serial == serial) && b) || was_confirmed (without_stale past) serial) (without-good past arrival)
+    ∙ ap (λ b. ((arrival.serial == serial) && list_any has_good (judged_by past arrival)) || b) (without-confirmed past serial))
+
+-- what follows from them
+
+known_either : (past : Record) (write : Option (ℕ × List ℕ)) → option_and_then (if_confirmed (without_stale past)) write ≡ option_and_then (if_confirmed past) write
+known_either past None = refl
+known_either past (Some write) = ap (λ b. cond b (Some write.1) None) (without-confirmed past write.0)
+
+pub without-known : (past : Record) (station number : ℕ) → known_bytes (without_stale past) station number ≡ known_bytes past station number
+without-known past station number =
+    ap (option_and_then (if_confirmed (without_stale past))) (without-write past station number) ∙ known_either past (last_write past station number)
+
+pub without-says : (past : Record) → SaysTheSame (without_stale past) past
+without-says past = record {
+  state = without-state past;
+  epoch = without-epoch past;
+  serial = without-serial past;
+  slots = without-slot past;
+  values = without-value past;
+  known = without-known past;
+}

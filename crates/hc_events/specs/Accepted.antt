@@ -1,0 +1,63 @@
+-- What is known of an entry by its being accepted, and of a record by the events that led to it.
+use Rattle.std.specs.Prelude.{◌≡◌, ℕ, ◌<◌, All, List, [], ◌∷◌, length, None}
+use Rattle.hc_records.specs.declared.limits.TheConstants.{TASKS}
+use Rattle.hc_records.specs.declared.records.Group.{Group}
+use Rattle.hc_records.specs.Lists.{lowest}
+use Rattle.hc_records.specs.Line.{Member}
+use Rattle.hc_records.specs.Image.{datagram_count, output_length, task_places}
+use Rattle.hc_records.specs.Edits.{edit_faults}
+use Rattle.hc_registers.specs.Blocks.{LineBlock}
+use Rattle.hc_events.specs.Entries.{Entry, Record, Opened, Edited, Posted, Sent, Wrote, Came}
+use Rattle.hc_events.specs.Points.{epoch_of, line_of, state_of}
+use Rattle.hc_events.specs.Sendings.{Named}
+use Rattle.hc_events.specs.Owed.{owed_blocks}
+use Rattle.hc_events.specs.Steps.{Step, entries_after_all}
+
+-- a datagram of the line
+abbrev pub StandsIn : List Member → Named → Type 0
+StandsIn line named = named.1 < datagram_count (task_places named.0 line)
+
+-- a post of a task that there is, with as many bytes as the task has outputs
+pub record IsPost (line : List Member) (task : ℕ) (bytes : List ℕ) : Type 0 where
+  pub stands : task < TASKS
+  pub fits : length bytes ≡ output_length (task_places task line)
+
+-- a frame of datagrams of the line, while nothing is owed
+pub record IsFrame (past : Record) (frame : List Named) : Type 0 where
+  pub programmed : owed_blocks past ≡ []
+  pub stands : All (StandsIn (line_of past)) frame
+
+-- the first of these blocks
+pub record IsFirst (block : LineBlock) (blocks : List LineBlock) : Type 0 where
+  pub rest : List LineBlock
+  pub first : blocks ≡ block ∷ rest
+
+-- an edit that the state accepts, such a post, such a frame, the first owed block, any arrival that can be read; a project is opened once
+abbrev pub IsAccepted : Record → Entry → Type 0
+IsAccepted past (Opened groups) = ⊥
+IsAccepted past (Edited edit) = lowest (edit_faults (state_of past) edit) ≡ None
+IsAccepted past (Posted task bytes) = IsPost (line_of past) task bytes
+IsAccepted past (Sent frame) = IsFrame past frame
+IsAccepted past (Wrote block) = IsFirst block (owed_blocks past)
+IsAccepted past (Came arrival) = Unit {0}
+
+-- the record of a project in which nothing has happened, and what events make of it
+abbrev pub just_opened : List Group → Record
+just_opened groups = Opened groups ∷ []
+
+abbrev pub record_of : List Group → List Step → Record
+record_of groups steps = entries_after_all (just_opened groups) steps
+
+-- each entry behind the opening was accepted when it came
+abbrev pub AreAccepted : Record → Type 0
+AreAccepted [] = ⊥
+AreAccepted (Opened groups ∷ past) = past ≡ []
+AreAccepted (entry ∷ past) = IsAccepted past entry × AreAccepted past
+
+abbrev pub RecordsAreAccepted : Type 0
+RecordsAreAccepted = (groups : List Group) (steps : List Step) → AreAccepted (record_of groups steps)
+
+-- the epoch of the state is the number of accepted edits
+abbrev pub EpochsAreCounted : Type 0
+EpochsAreCounted =
+    (groups : List Group) (steps : List Step) → (state_of (record_of groups steps)).epoch ≡ epoch_of (record_of groups steps)

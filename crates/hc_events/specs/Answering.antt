@@ -1,0 +1,117 @@
+-- Which sending an arrival answers, and what it is for each of the sending's datagrams (this project's profile; the working counter is that of ETG.1000.4, 5.4).
+use Rattle.std.specs.Prelude.{ℕ, ◌==◌, ◌&&◌, not, Bool, true, false, if◌then◌else◌, List, [], ◌∷◌, length, map, Option, Some, None, option_map, option_and_then}
+use Rattle.std.specs.Option.{option_map_or}
+use Rattle.std.specs.List.{list_any, zip}
+use Rattle.hc_frames.specs.Commands.{code_of}
+use Rattle.hc_events.specs.Arrivals.{Arrival, Part}
+use Rattle.hc_events.specs.Entries.{Entry, Record, Opened, Edited, Sent, Wrote, Came}
+use Rattle.hc_events.specs.Points.{line_of, next_serial}
+use Rattle.hc_events.specs.Heads.{Item, Head, same_item, item_of, block_item, data_heads, write_head}
+
+-- a sending as it is looked back upon: what it said of its datagrams, and the entries since, the newest first
+pub record Sending : Type 0 where
+  pub heads : List Head
+  pub since : List Entry
+
+abbrev pub just_sent : List Head → Sending
+just_sent heads = record { heads = heads; since = [] }
+
+abbrev pub followed_by : Entry → Sending → Sending
+followed_by entry sending = record { heads = sending.heads; since = entry ∷ sending.since }
+
+-- the sending with a serial, which is the number of sendings before it
+abbrev pub sending_of : Record → ℕ → Option Sending
+sending_of [] serial = None
+sending_of (Opened groups ∷ past) serial = None
+sending_of (Sent frame ∷ past) serial =
+    if next_serial past == serial then Some (just_sent (data_heads (line_of past) frame))
+    else option_map (followed_by (Sent frame)) (sending_of past serial)
+sending_of (Wrote block ∷ past) serial =
+    if next_serial past == serial then Some (just_sent (write_head block ∷ []))
+    else option_map (followed_by (Wrote block)) (sending_of past serial)
+sending_of (entry ∷ past) serial = option_map (followed_by entry) (sending_of past serial)
+
+-- a datagram came back with the command, the address and the length that it was sent with
+abbrev pub has_head : Head → Part → Bool
+has_head head part =
+    (code_of head.command == code_of part.command) && (head.address == part.address) && (head.length == length part.bytes)
+
+-- the same for each datagram, in order and none missing
+abbrev pub has_heads : List Head → List Part → Bool
+has_heads [] [] = true
+has_heads [] (part ∷ parts) = false
+has_heads (head ∷ heads) [] = false
+has_heads (head ∷ heads) (part ∷ parts) = has_head head part && has_heads heads parts
+
+-- the arrival has the sending's serial and its list of commands, addresses and lengths
+abbrev pub fits : ℕ → List Head → Arrival → Bool
+fits serial heads arrival = (serial == arrival.serial) && has_heads heads arrival.parts
+
+-- an accepted edit or such an arrival: no arrival behind it answers the sending
+abbrev pub ends : ℕ → List Head → Entry → Bool
+ends serial heads (Edited edit) = true
+ends serial heads (Came arrival) = fits serial heads arrival
+ends serial heads entry = false
+
+-- an arrival answers the sending with its serial where it fits it, and since then no edit was accepted and none that fits came
+abbrev pub is_answer : Arrival → Sending → Bool
+is_answer arrival sending =
+    fits arrival.serial sending.heads arrival && not (list_any (ends arrival.serial sending.heads) sending.since)
+
+abbrev pub only_if : {X : Type 0} → (X → Bool) → X → Option X
+only_if test x = if test x then Some x else None
+
+abbrev pub answered_by : Record → Arrival → Option Sending
+answered_by past arrival = option_and_then (only_if (is_answer arrival)) (sending_of past arrival.serial)
+
+-- a sending of the same datagram or block
+abbrev pub sends : Item → Entry → Bool
+sends item (Sent frame) = list_any (λ named. same_item item (item_of named)) frame
+sends item (Wrote block) = same_item item (block_item block)
+sends item entry = false
+
+-- what an answer is for a datagram: good by its working counter, wrong by it, or stale where the same datagram or block was sent again since
+pub data Verdict : Type 0 where
+  Good : Verdict
+  Wrong : Verdict
+  Stale : Verdict
+
+abbrev pub is_good : Verdict → Bool
+is_good Good = true
+is_good Wrong = false
+is_good Stale = false
+
+abbrev pub is_stale : Verdict → Bool
+is_stale Good = false
+is_stale Wrong = false
+is_stale Stale = true
+
+abbrev pub verdict : List Entry → Head → Part → Verdict
+verdict since head part =
+    if list_any (sends head.item) since then Stale else (if part.counter == head.expected then Good else Wrong)
+
+-- a datagram of a sending, what came back of it, and what that is
+pub record Judged : Type 0 where
+  pub head : Head
+  pub part : Part
+  pub verdict : Verdict
+
+abbrev pub judge : List Entry → Head × Part → Judged
+judge since pair = record { head = pair.0; part = pair.1; verdict = verdict since pair.0 pair.1 }
+
+abbrev pub judged : Arrival → Sending → List Judged
+judged arrival sending = map (judge sending.since) (zip sending.heads arrival.parts)
+
+-- the datagrams of the sending that an arrival answers; none where it answers none
+abbrev pub judged_by : Record → Arrival → List Judged
+judged_by past arrival = option_map_or (judged arrival) (answered_by past arrival) []
+
+abbrev pub is_news : Judged → Bool
+is_news datagram = not (is_stale datagram.verdict)
+
+abbrev pub has_good : Judged → Bool
+has_good datagram = is_good datagram.verdict
+
+-- an arrival is stale where it answers no sending, or each datagram is stale
+abbrev pub is_stale_to : Record → Arrival → Bool
+is_stale_to past arrival = not (list_any is_news (judged_by past arrival))

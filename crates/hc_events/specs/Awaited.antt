@@ -1,0 +1,42 @@
+-- The sendings that an arrival can still be news for.
+use Rattle.std.specs.Prelude.{◌≡◌, ℕ, ◌||◌, Bool, true, false, if◌then◌else◌, List, filter, Option, Some, None, option_and_then}
+use Rattle.std.specs.List.{list_all, list_any}
+use Rattle.hc_events.specs.Entries.{Entry, Record, Came}
+use Rattle.hc_events.specs.Heads.{Head, is_block}
+use Rattle.hc_events.specs.Accepted.{record_of}
+use Rattle.hc_events.specs.Steps.{Step}
+use Rattle.hc_records.specs.declared.records.Group.{Group}
+use Rattle.hc_events.specs.Answering.{Sending, ends, sending_of, sends}
+
+-- an accepted edit or an arrival that fits was recorded since
+abbrev pub is_ended : ℕ → Sending → Bool
+is_ended serial sending = list_any (ends serial sending.heads) sending.since
+
+-- all that these datagrams carry was sent again since
+abbrev pub all_sent_again : List Entry → List Head → Bool
+all_sent_again since heads = list_all (λ head. list_any (sends head.item) since) heads
+
+abbrev pub is_no_arrival : Entry → Bool
+is_no_arrival (Came arrival) = false
+is_no_arrival entry = true
+
+-- a sending that neither ended nor was wholly sent again, without the arrivals since then: those that don't end it say nothing of it
+abbrev pub alive : ℕ → Sending → Option Sending
+alive serial sending =
+    if is_ended serial sending || all_sent_again sending.since sending.heads then None
+    else Some (record { heads = sending.heads; since = filter is_no_arrival sending.since })
+
+-- what is awaited with a serial
+abbrev pub awaited : Record → ℕ → Option Sending
+awaited past serial = option_and_then (alive serial) (sending_of past serial)
+
+-- a register write
+abbrev pub is_write : Sending → Bool
+is_write sending = list_any (λ head. is_block head.item) sending.heads
+
+-- where a register write is awaited nothing else is, neither another write nor a frame of tasks
+abbrev pub WritesAreAwaitedAlone : Type 0
+WritesAreAwaitedAlone =
+    (groups : List Group) (steps : List Step) (serial other : ℕ) (write sending : Sending)
+    → awaited (record_of groups steps) serial ≡ Some write → is_write write ≡ true
+    → awaited (record_of groups steps) other ≡ Some sending → other ≡ serial

@@ -1,0 +1,19 @@
+-- What the core accepted since a project was opened. A record is a list of entries, the newest first.
+use Rattle.std.specs.Prelude.{ℕ, List}
+use Rattle.hc_records.specs.declared.records.Group.{Group}
+use Rattle.hc_records.specs.declared.edit.Edit.{Edit}
+use Rattle.hc_registers.specs.Blocks.{LineBlock}
+use Rattle.hc_events.specs.Arrivals.{Arrival}
+use Rattle.hc_events.specs.Sendings.{Named}
+
+-- the project's groups; an edit; a task and the bytes that it posted; a frame by its datagrams; a register block; a frame that arrived and could be read
+pub data Entry : Type 0 where
+  Opened : List Group → Entry
+  Edited : Edit → Entry
+  Posted : ℕ → List ℕ → Entry
+  Sent : List Named → Entry
+  Wrote : LineBlock → Entry
+  Came : Arrival → Entry
+
+abbrev pub Record : Type 0
+Record = List Entry

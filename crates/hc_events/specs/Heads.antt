@@ -1,0 +1,58 @@
+-- What a sent frame says of each of its datagrams, and the working counter that is expected back.
+use Rattle.std.specs.Prelude.{ℕ, ◌==◌, ◌&&◌, Bool, true, false, List, length, map}
+use Rattle.hc_records.specs.Line.{Member}
+use Rattle.hc_registers.specs.Blocks.{LineBlock}
+use Rattle.hc_places.specs.Table.{datagram_of}
+use Rattle.hc_frames.specs.declared.commands.Command.{Command}
+use Rattle.hc_frames.specs.declared.commands.Command.TheVariants.{Fpwr, Lrw}
+use Rattle.hc_frames.specs.FrameText.{station_address}
+use Rattle.hc_registers.specs.declared.counters.TheConstants.{WRITE_COUNT}
+use Rattle.hc_events.specs.Sendings.{Named}
+
+-- what a datagram carries: a task's datagram, by the task and its number; a register block, by the slave's station address and its number in the slave's order
+pub data Item : Type 0 where
+  Datagram : ℕ → ℕ → Item
+  Block : ℕ → ℕ → Item
+
+abbrev pub same_item : Item → Item → Bool
+same_item (Datagram task d) (Datagram other e) = (task == other) && (d == e)
+same_item (Block station number) (Block other n) = (station == other) && (number == n)
+same_item (Datagram task d) (Block other n) = false
+same_item (Block station number) (Datagram other e) = false
+
+abbrev pub is_block : Item → Bool
+is_block (Datagram task d) = false
+is_block (Block station number) = true
+
+-- what a datagram carries, its command, address and number of data bytes, and its expected working counter
+pub record Head : Type 0 where
+  pub item : Item
+  pub command : Command
+  pub address : ℕ
+  pub length : ℕ
+  pub expected : ℕ
+
+abbrev pub item_of : Named → Item
+item_of named = Datagram named.0 named.1
+
+-- process data: a logical read and write
+abbrev pub data_head : List Member → Named → Head
+data_head line named =
+    let found = datagram_of line named.0 named.1 in
+    record { item = item_of named; command = Lrw; address = found.address; length = found.length; expected = found.expected }
+
+abbrev pub data_heads : List Member → List Named → List Head
+data_heads line frame = map (data_head line) frame
+
+-- a register block: a write at the slave's station address
+abbrev pub block_item : LineBlock → Item
+block_item block = Block block.station block.number
+
+abbrev pub write_head : LineBlock → Head
+write_head block = record {
+  item = block_item block;
+  command = Fpwr;
+  address = station_address block.station block.block.register;
+  length = length block.block.bytes;
+  expected = WRITE_COUNT;
+}

@@ -1,0 +1,45 @@
+-- What a task reads: for each datagram of the present epoch the data of its last good answer in it, or none.
+use Rattle.std.specs.Prelude.{ℕ, ◌==◌, ◌&&◌, Bool, if◌then◌else◌, List, [], ◌∷◌, fold, map, Option, Some, None}
+use Rattle.std.specs.List.{flat_map, range_with_len}
+use Rattle.hc_records.specs.Image.{datagram_count, task_places}
+use Rattle.hc_events.specs.Arrivals.{Arrival}
+use Rattle.hc_events.specs.Entries.{Record, Opened, Edited, Came}
+use Rattle.hc_events.specs.Points.{line_of}
+use Rattle.hc_events.specs.Heads.{Item, Datagram, Block}
+use Rattle.hc_events.specs.Answering.{Judged, has_good, judged_by}
+
+-- a good answer of a task's datagram, with its data
+pub record Fresh : Type 0 where
+  pub task : ℕ
+  pub datagram : ℕ
+  pub bytes : List ℕ
+
+abbrev pub fresh_item : Item → List ℕ → List Fresh
+fresh_item (Datagram task d) bytes = record { task = task; datagram = d; bytes = bytes } ∷ []
+fresh_item (Block station number) bytes = []
+
+abbrev pub fresh : Judged → List Fresh
+fresh datagram = if has_good datagram then fresh_item datagram.head.item datagram.part.bytes else []
+
+-- the good answers of an arrival for tasks' datagrams, in the frame's order
+abbrev pub fresh_by : Record → Arrival → List Fresh
+fresh_by past arrival = flat_map fresh (judged_by past arrival)
+
+-- a datagram has the data of a good answer of it from then on
+abbrev pub is_for : ℕ → ℕ → Fresh → Bool
+is_for task d good = (good.task == task) && (good.datagram == d)
+
+abbrev pub renewed : ℕ → ℕ → Option (List ℕ) → Fresh → Option (List ℕ)
+renewed task d slot good = if is_for task d good then Some good.bytes else slot
+
+-- the data of a datagram's last good answer since the last accepted edit, or none
+abbrev pub slot_of : Record → ℕ → ℕ → Option (List ℕ)
+slot_of [] task d = None
+slot_of (Opened groups ∷ past) task d = None
+slot_of (Edited edit ∷ past) task d = None
+slot_of (Came arrival ∷ past) task d = fold (renewed task d) (slot_of past task d) (fresh_by past arrival)
+slot_of (entry ∷ past) task d = slot_of past task d
+
+-- those of all datagrams that a task has in the present epoch
+abbrev pub slots_of : Record → ℕ → List (Option (List ℕ))
+slots_of past task = map (slot_of past task) (range_with_len 0 (datagram_count (task_places task (line_of past))))

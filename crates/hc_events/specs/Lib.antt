@@ -1,0 +1,17 @@
+pub mod Faults
+pub mod Sendings
+pub mod Arrivals
+pub mod Entries
+pub mod Points
+pub mod Heads
+pub mod Answering
+pub mod Images
+pub mod Outputs
+pub mod Owed
+pub mod Changes
+pub mod Steps
+pub mod WorkedRecords
+pub mod Awaited
+pub mod Stale
+pub mod Accepted
+pub mod Laws

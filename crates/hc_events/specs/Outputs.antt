@@ -1,0 +1,61 @@
+-- The values of output variables, and the data that are sent.
+use Rattle.std.specs.Prelude.{ℕ, ◌+◌, ◌-◌, ◌*◌, ◌==◌, ◌&&◌, nat_le, nat_lt, is_some, Bool, if◌then◌else◌, List, [], ◌∷◌, filter, find, map, Option}
+use Rattle.std.specs.Option.{option_map_or}
+use Rattle.std.specs.List.{range_with_len}
+use Rattle.hc_bits.specs.Bits.{bit_of, number_of}
+use Rattle.hc_records.specs.declared.records.Dir.TheVariants.{Out}
+use Rattle.hc_records.specs.Keys.{same_dir}
+use Rattle.hc_records.specs.Line.{Member}
+use Rattle.hc_records.specs.Image.{VariablePlace, datagram_length, datagram_offset, task_places, task_variables, variable_place}
+use Rattle.hc_events.specs.Entries.{Record, Opened, Edited, Posted}
+use Rattle.hc_events.specs.Points.{line_of}
+
+-- where a bit of a variable stands in its task's image
+abbrev pub image_bit : List Member → VariablePlace → ℕ → ℕ
+image_bit line place k = 8 * datagram_offset (task_places place.task line) place.datagram + place.bit + k
+
+-- a post of a task has a value for the variables that the task has
+abbrev pub is_posted : ℕ → VariablePlace → Bool
+is_posted task place = place.task == task
+
+abbrev pub posted_bit : List Member → ℕ → List ℕ → ℕ → Option VariablePlace → ℕ → ℕ
+posted_bit line task bytes k place before =
+    option_map_or (λ found. if is_posted task found then bit_of bytes (image_bit line found k) else before) place before
+
+-- bit k of a placed output variable: its bit in the last accepted post of the task that it then had, since it got its place; 0 where there is none.
+-- A variable has no place while its slave isn't in the line
+abbrev pub value_bit : Record → ℕ → ℕ → ℕ
+value_bit [] variable k = 0
+value_bit (Opened groups ∷ past) variable k = 0
+value_bit (Posted task bytes ∷ past) variable k =
+    posted_bit (line_of past) task bytes k (variable_place variable (line_of past)) (value_bit past variable k)
+value_bit (Edited edit ∷ past) variable k =
+    if is_some (variable_place variable (line_of past)) then value_bit past variable k else 0
+value_bit (entry ∷ past) variable k = value_bit past variable k
+
+-- the output variables that stand in a datagram of a task
+abbrev pub is_output_in : ℕ → ℕ × VariablePlace → Bool
+is_output_in d found = same_dir found.1.dir Out && (found.1.datagram == d)
+
+abbrev pub outputs_in : List Member → ℕ → ℕ → List (ℕ × VariablePlace)
+outputs_in line task d = filter (is_output_in d) (task_variables line task)
+
+-- a bit of the datagram belongs to a variable
+abbrev pub has_bit : ℕ → ℕ × VariablePlace → Bool
+has_bit k found = nat_le found.1.bit k && nat_lt k (found.1.bit + found.1.bits)
+
+-- a bit as it is sent: that of the output variable to which it belongs, else 0
+abbrev pub sent_bit : Record → List (ℕ × VariablePlace) → ℕ → ℕ
+sent_bit past outputs k = option_map_or (λ found. value_bit past found.0 (k - found.1.bit)) (find (has_bit k) outputs) 0
+
+-- the bytes of which these are the bits, the least significant first
+abbrev pub byte_of : (ℕ → ℕ) → ℕ → ℕ
+byte_of bit n = number_of (map (λ k. bit (8 * n + k)) (range_with_len 0 8))
+
+abbrev pub bytes_of : (ℕ → ℕ) → ℕ → List ℕ
+bytes_of bit length = map (byte_of bit) (range_with_len 0 length)
+
+-- the data with which a datagram of a task is sent
+abbrev pub sent_data : Record → ℕ → ℕ → List ℕ
+sent_data past task d =
+    bytes_of (sent_bit past (outputs_in (line_of past) task d)) (datagram_length (task_places task (line_of past)) d)

@@ -1,0 +1,63 @@
+-- A frame of tasks: how datagrams share frames (this project's profile, within what a frame holds by ETG.1000.4, 5.3 and 5.4).
+use Rattle.std.specs.Prelude.{ℕ, ◌+◌, ◌*◌, ◌≤◌, ◌<◌, nat_le, Bool, if◌then◌else◌, List, [], ◌∷◌, ◌++◌, length, map}
+use Rattle.std.specs.List.{flat_map, range_with_len}
+use Rattle.hc_records.specs.Line.{Member}
+use Rattle.hc_records.specs.Image.{datagram_count, datagram_length, task_places}
+use Rattle.hc_frames.specs.declared.limits.TheConstants.{MAX_ETHERCAT}
+use Rattle.hc_frames.specs.Sizes.{frame_bytes}
+
+-- a datagram of a task: the task's number and the datagram's number in it
+abbrev pub Named : Type 0
+Named = ℕ × ℕ
+
+-- a frame of tasks: its serial, the bytes of its datagrams with their headers and counters, and the datagrams in order
+pub record Sending : Type 0 where
+  pub serial : ℕ
+  pub bytes : ℕ
+  pub datagrams : List Named
+
+-- the bytes of the whole frame
+abbrev pub size_of : Sending → ℕ
+size_of sending = frame_bytes sending.bytes
+
+-- beside so many bytes of datagrams a datagram with so many bytes of data is within the bytes that may follow the Ethernet header
+abbrev pub has_room : ℕ → ℕ → Bool
+has_room bytes length = nat_le (2 + bytes + 12 + length) MAX_ETHERCAT
+
+-- a frame of one datagram with so many bytes of data
+abbrev pub alone : ℕ → Named → ℕ → Sending
+alone serial datagram length = record { serial = serial; bytes = 12 + length; datagrams = datagram ∷ [] }
+
+-- the frame with a datagram of so many bytes of data behind its others
+abbrev pub joined : Sending → Named → ℕ → Sending
+joined sending datagram length =
+    record sending { bytes = sending.bytes + 12 + length; datagrams = sending.datagrams ++ datagram ∷ [] }
+
+-- each datagram has at least one byte of data, and all are within a frame
+pub record IsFilled (bytes : ℕ) (datagrams : List Named) : Type 0 where
+  pub some : 0 < length datagrams
+  pub filled : 13 * length datagrams ≤ bytes
+  pub within : 2 + bytes ≤ MAX_ETHERCAT
+
+-- the datagrams of a task, in order
+abbrev pub task_datagrams : List Member → ℕ → List Named
+task_datagrams line task = map (λ d. (task, d)) (range_with_len 0 (datagram_count (task_places task line)))
+
+abbrev pub length_of : List Member → Named → ℕ
+length_of line named = datagram_length (task_places named.0 line) named.1
+
+-- datagrams in frames: each joins the frame before it where there is room, else it begins a frame
+abbrev pub framed_behind : List Member → Sending → List Named → List Sending
+framed_behind line sending [] = sending ∷ []
+framed_behind line sending (datagram ∷ datagrams) =
+    if has_room sending.bytes (length_of line datagram)
+    then framed_behind line (joined sending datagram (length_of line datagram)) datagrams
+    else sending ∷ framed_behind line (alone (sending.serial + 1) datagram (length_of line datagram)) datagrams
+
+abbrev pub framed : List Member → ℕ → List Named → List Sending
+framed line serial [] = []
+framed line serial (datagram ∷ datagrams) = framed_behind line (alone serial datagram (length_of line datagram)) datagrams
+
+-- the frames in which the datagrams of tasks are sent, in the tasks' order, with serials from this one on
+abbrev pub sendings_of : List Member → ℕ → List ℕ → List Sending
+sendings_of line serial tasks = framed line serial (flat_map (task_datagrams line) tasks)

@@ -1,0 +1,195 @@
+-- What the core answers to each event, and what it accepts of it. Want of memory aside, which may be answered to any event and changes nothing.
+use Rattle.std.specs.Prelude.{ℕ, ◌+◌, ◌==◌, not, nat_lt, Bool, if◌then◌else◌, List, [], ◌∷◌, length, map, Option, Some, None, option_map, Result, Ok, Err}
+use Rattle.std.specs.List.{list_any}
+use Rattle.hc_records.specs.declared.limits.TheConstants.{TASKS}
+use Rattle.hc_records.specs.declared.edit.Edit.{Edit}
+use Rattle.hc_records.specs.Lists.{lowest}
+use Rattle.hc_records.specs.Line.{State, line}
+use Rattle.hc_records.specs.Image.{logical_address, output_length, task_places}
+use Rattle.hc_records.specs.Boundaries.{recut}
+use Rattle.hc_records.specs.Edits.{edit_faults, state_after}
+use Rattle.hc_registers.specs.Blocks.{LineBlock, moved}
+use Rattle.hc_frames.specs.FrameText.{Datagram, block_write, frame_text, lrw}
+use Rattle.hc_events.specs.declared.answer.Answer.{Answer}
+use Rattle.hc_events.specs.declared.answer.Answer.TheVariants as answer
+use Rattle.hc_events.specs.declared.answer.Outcome.{Outcome}
+use Rattle.hc_events.specs.declared.answer.Outcome.TheVariants as outcome
+use Rattle.hc_events.specs.declared.event.Event.{Event}
+use Rattle.hc_events.specs.declared.event.Event.TheVariants as event
+use Rattle.hc_events.specs.declared.faults.CoreFault.{CoreFault}
+use Rattle.hc_events.specs.declared.faults.CoreFault.TheVariants.{NoSuchTask, NothingOwed, PostLength, SerialsSpent, StalePost, Unprogrammed}
+use Rattle.hc_frames.specs.declared.limits.TheConstants.{SETUP_SERIAL}
+use Rattle.hc_frames.specs.declared.reading.faults.FrameFault.{FrameFault}
+use Rattle.hc_events.specs.Faults.{edit_refusal, frame_refusal}
+use Rattle.hc_events.specs.Arrivals.{Arrival, Part, arrival_in}
+use Rattle.hc_events.specs.Entries.{Record, Edited, Posted, Sent, Wrote, Came}
+use Rattle.hc_events.specs.Points.{epoch_of, line_of, next_serial, state_of}
+use Rattle.hc_events.specs.Sendings.{Named, Sending, sendings_of}
+use Rattle.hc_events.specs.Heads.{Head, Item, Datagram as DatagramItem, Block, is_block}
+use Rattle.hc_events.specs.Answering.{Judged, Verdict, Good, Wrong, Stale, is_news, judged_by}
+use Rattle.hc_events.specs.Images.{slots_of}
+use Rattle.hc_events.specs.Outputs.{sent_data}
+use Rattle.hc_events.specs.Owed.{owed_blocks}
+
+-- an event, without where it lies in memory
+pub data Step : Type 0 where
+  Edits : Edit → Step
+  Posts : ℕ → ℕ → List ℕ → Step
+  SendsTasks : List ℕ → Step
+  SendsWrite : Step
+  Arrives : List ℕ → Step
+  Reads : ℕ → Step
+
+-- a refusal, or else this answer; the record unchanged, or else this one
+abbrev pub unless : Option CoreFault → Answer → Answer
+unless None told = told
+unless (Some fault) told = answer.Refused fault
+
+abbrev pub kept_if : Option CoreFault → Record → Record → Record
+kept_if None past next = next
+kept_if (Some fault) past next = past
+
+-- an edit
+
+abbrev pub edit_refused : Record → Edit → Option CoreFault
+edit_refused past edit = option_map edit_refusal (lowest (edit_faults (state_of past) edit))
+
+abbrev pub told_of_edit : State → State → Answer
+told_of_edit old new = answer.Edited new.epoch (recut (line old) (line new)) (moved (line old) (line new))
+
+-- a post
+
+abbrev pub is_no_task : ℕ → Bool
+is_no_task task = not (nat_lt task TASKS)
+
+abbrev pub post_faults : Record → ℕ → ℕ → List ℕ → List (Bool × CoreFault)
+post_faults past task epoch bytes =
+    (is_no_task task, NoSuchTask)
+    ∷ (not (epoch == epoch_of past), StalePost)
+    ∷ (not (length bytes == output_length (task_places task (line_of past))), PostLength)
+    ∷ []
+
+-- a sending of tasks: one frame or more, or none where the tasks have no datagram
+
+-- from a serial on so many are left: sendings have those below the one of alias reads and station writes
+abbrev pub serials_left : ℕ → ℕ → Bool
+serials_left serial sendings = not (nat_lt SETUP_SERIAL (serial + sendings))
+
+abbrev pub has_serials : Record → ℕ → Bool
+has_serials past sendings = serials_left (next_serial past) sendings
+
+abbrev pub proposal : Record → List ℕ → List Sending
+proposal past tasks = sendings_of (line_of past) (next_serial past) tasks
+
+abbrev pub task_faults : Record → List ℕ → List (Bool × CoreFault)
+task_faults past tasks =
+    (list_any is_no_task tasks, NoSuchTask)
+    ∷ (nat_lt 0 (length (owed_blocks past)), Unprogrammed (length (owed_blocks past)))
+    ∷ (not (has_serials past (length (proposal past tasks))), SerialsSpent)
+    ∷ []
+
+-- the frame of a sending, with the data that its datagrams are sent with
+abbrev pub sent_datagram : Record → Named → Datagram
+sent_datagram past named = lrw (logical_address named.0 named.1) (sent_data past named.0 named.1)
+
+abbrev pub sent_text : Record → Sending → List ℕ
+sent_text past sending = frame_text sending.serial (map (sent_datagram past) sending.datagrams)
+
+-- with each frame an entry, the last frame newest
+abbrev pub with_sent : Record → List Sending → Record
+with_sent past [] = past
+with_sent past (sending ∷ sendings) = with_sent (Sent sending.datagrams ∷ past) sendings
+
+-- a register write: that of the first owed block
+
+abbrev pub write_faults : Record → List LineBlock → List (Bool × CoreFault)
+write_faults past blocks = (length blocks == 0, NothingOwed) ∷ (not (has_serials past 1), SerialsSpent) ∷ []
+
+abbrev pub write_text : ℕ → LineBlock → List ℕ
+write_text serial block = frame_text serial (block_write block.station block.block.register block.block.bytes ∷ [])
+
+abbrev pub told_of_write : ℕ → List LineBlock → Answer
+told_of_write serial [] = answer.Refused NothingOwed
+told_of_write serial (block ∷ blocks) = answer.WriteSent (write_text serial block)
+
+abbrev pub with_write : Record → List LineBlock → Record
+with_write past [] = past
+with_write past (block ∷ blocks) = Wrote block ∷ past
+
+-- an arrival: what it is for each datagram of the tasks, or for the register write; stale where it answers no sending or each datagram is stale
+
+-- a register block has no inputs: its verdict is told as below
+abbrev pub inputs_of : Item → Outcome
+inputs_of (DatagramItem task d) = outcome.Inputs task d
+inputs_of (Block station number) = outcome.Stale
+
+abbrev pub outcome_of : Head → Part → Verdict → Outcome
+outcome_of head part Good = inputs_of head.item
+outcome_of head part Wrong = outcome.WrongCount head.expected part.counter
+outcome_of head part Stale = outcome.Stale
+
+abbrev pub outcome_for : Judged → Outcome
+outcome_for datagram = outcome_of datagram.head datagram.part datagram.verdict
+
+abbrev pub told_of_block : Verdict → Answer
+told_of_block Good = answer.WriteDone
+told_of_block Wrong = answer.WriteMissed
+told_of_block Stale = answer.Stale
+
+abbrev pub told_of : List Judged → Answer
+told_of [] = answer.Stale
+told_of (datagram ∷ datagrams) =
+    if is_block datagram.head.item then told_of_block datagram.verdict
+    else (if list_any is_news (datagram ∷ datagrams) then answer.Answered (map outcome_for (datagram ∷ datagrams)) else answer.Stale)
+
+abbrev pub told_of_arrival : Record → Result Arrival FrameFault → Answer
+told_of_arrival past (Err fault) = answer.Refused (frame_refusal fault)
+told_of_arrival past (Ok arrival) = told_of (judged_by past arrival)
+
+abbrev pub with_arrival : Record → Result Arrival FrameFault → Record
+with_arrival past (Err fault) = past
+with_arrival past (Ok arrival) = Came arrival ∷ past
+
+-- what a task reads
+
+abbrev pub read_faults : ℕ → List (Bool × CoreFault)
+read_faults task = (is_no_task task, NoSuchTask) ∷ []
+
+abbrev pub image_of : Record → ℕ → Answer
+image_of past task = answer.Image (epoch_of past) (slots_of past task)
+
+-- an event as the core is given it
+abbrev pub step_of : Event → Step
+step_of (event.Edit edit) = Edits edit.now
+step_of (event.Post task epoch bytes) = Posts task epoch bytes.now
+step_of (event.SendTasks tasks) = SendsTasks tasks.now
+step_of event.SendWrite = SendsWrite
+step_of (event.Arrive bytes) = Arrives bytes.now
+step_of (event.Read task) = Reads task
+
+-- the answer to an event; of several refusals the first that holds
+abbrev pub answer_to : Record → Step → Answer
+answer_to past (Edits edit) = unless (edit_refused past edit) (told_of_edit (state_of past) (state_after (state_of past) edit))
+answer_to past (Posts task epoch bytes) = unless (lowest (post_faults past task epoch bytes)) answer.Posted
+answer_to past (SendsTasks tasks) = unless (lowest (task_faults past tasks)) (answer.Sent (map (sent_text past) (proposal past tasks)))
+answer_to past SendsWrite = unless (lowest (write_faults past (owed_blocks past))) (told_of_write (next_serial past) (owed_blocks past))
+answer_to past (Arrives bytes) = told_of_arrival past (arrival_in bytes)
+answer_to past (Reads task) = unless (lowest (read_faults task)) (image_of past task)
+
+-- the record with what was accepted; a refused event leaves it as it was, and a read too
+abbrev pub entries_after : Record → Step → Record
+entries_after past (Edits edit) = kept_if (edit_refused past edit) past (Edited edit ∷ past)
+entries_after past (Posts task epoch bytes) = kept_if (lowest (post_faults past task epoch bytes)) past (Posted task bytes ∷ past)
+entries_after past (SendsTasks tasks) = kept_if (lowest (task_faults past tasks)) past (with_sent past (proposal past tasks))
+entries_after past SendsWrite = kept_if (lowest (write_faults past (owed_blocks past))) past (with_write past (owed_blocks past))
+entries_after past (Arrives bytes) = with_arrival past (arrival_in bytes)
+entries_after past (Reads task) = past
+
+-- the answers to a list of events, each behind those before it, and the record that all of them leave
+abbrev pub answers_to : Record → List Step → List Answer
+answers_to past [] = []
+answers_to past (step ∷ steps) = answer_to past step ∷ answers_to (entries_after past step) steps
+
+abbrev pub entries_after_all : Record → List Step → Record
+entries_after_all past [] = past
+entries_after_all past (step ∷ steps) = entries_after_all (entries_after past step) steps

@@ -1,0 +1,62 @@
+//! What the core answers.
+use crate::faults::CoreFault;
+use hc_records::items::Items;
+
+/// What an arrival is for a datagram of the sending that it answers.
+#[derive(Clone, Copy, Debug, PartialEq, Eq)]
+pub enum Outcome {
+    /// The datagram has its expected working counter, and its data are the task's now.
+    Inputs {
+        /// The task, 0 to 7.
+        task: u8,
+        /// The datagram's number in the task, 0 to 15.
+        datagram: u8,
+    },
+    /// The datagram has another working counter, and nothing changed.
+    WrongCount {
+        /// The working counter of a datagram that every slave has processed.
+        expected: u16,
+        /// The one that it came back with.
+        got: u16,
+    },
+    /// The datagram was sent again since, and nothing changed.
+    Stale,
+}
+
+/// The answer to an event.
+#[derive(Debug, Drop)]
+pub enum Answer {
+    /// The edit was accepted.
+    Edited {
+        /// The epoch that begins with it.
+        epoch: u32,
+        /// How many spans of touched tasks aren't settled.
+        recut: u32,
+        /// How many blocks of the new line weren't blocks with the same bytes at the same register of
+        /// the same slave in the old line.
+        moved: u32,
+    },
+    /// The post was accepted.
+    Posted,
+    /// The frames to be sent, one after another; none where the tasks have no datagram.
+    Sent(Items<Items<u8>>),
+    /// The frame of a register write to be sent.
+    WriteSent(Items<u8>),
+    /// The arrival answers frames of tasks: what it is for each datagram, in the frame's order.
+    Answered(Items<Outcome>),
+    /// The arrival answers a register write, which its slave has processed.
+    WriteDone,
+    /// The arrival answers a register write, which no slave or more than one has processed.
+    WriteMissed,
+    /// The arrival answers no sending, or each of its datagrams was sent again since: nothing changed.
+    Stale,
+    /// What a task reads.
+    Image {
+        /// The epoch whose places the data are in.
+        epoch: u32,
+        /// For each datagram of the task the data of its last good answer in that epoch, if there is one.
+        slots: Items<Option<Items<u8>>>,
+    },
+    /// The event was refused, and nothing changed.
+    Refused(CoreFault),
+}

@@ -1,0 +1,27 @@
+//! What the core is asked.
+use hc_records::edit::Edit;
+
+/// One step of the core. Nothing of it is kept but what the record of `specs/Entries` says.
+#[derive(Clone, Copy, Debug)]
+pub enum Event<'a> {
+    /// A user edits the line.
+    Edit(&'a Edit),
+    /// A task posts its outputs.
+    Post {
+        /// The task, 0 to 7; a higher one is refused.
+        task: u8,
+        /// The epoch in which the task saw the places of its variables.
+        epoch: u32,
+        /// The output bytes of the task's image, as many as the task has in that epoch.
+        bytes: &'a [u8],
+    },
+    /// The process data of these tasks are sent: 1 to 8 distinct ones, in this order. One over 7 is
+    /// refused.
+    SendTasks(&'a [u8]),
+    /// The first owed register block is sent.
+    SendWrite,
+    /// A frame arrives: any bytes.
+    Arrive(&'a [u8]),
+    /// A task, 0 to 7, reads its input image; a higher one is refused.
+    Read(u8),
+}
