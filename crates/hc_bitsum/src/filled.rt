@@ -1,0 +1,32 @@
+//! How far a datagram is filled.
+ghost use Rattle.std.specs.Prelude.{◌≡◌, ◌+◌, ◌^◌, ◌<◌};
+ghost use Rattle.hc_bitsum.specs.Sums.{ended};
+
+use crate::sum::Sum;
+use hc_records::records::Dir;
+
+/// How far a datagram is filled: its first free bit, and the direction of the area before that bit.
+#[derive(Clone, Copy, Debug, PartialEq, Eq)]
+pub struct Filled {
+    /// The first free bit, counted from the least significant bit of byte 0.
+    pub bit: u32,
+    /// The direction of the area before that bit; of an empty datagram `Dir::Out`.
+    pub last: Dir,
+}
+
+impl Filled {
+    /// An empty datagram.
+    pub const EMPTY: Filled = Filled {
+        bit: 0,
+        last: Dir::Out,
+    };
+
+    /// How far it is filled once a run of areas stands behind what fills it.
+    pub fn after(self, run: &Sum) -> Filled
+        requires here { self.bit < 2 ^ 31 }
+        requires there { (ended run.now self).bit < 2 ^ 32 }
+        ensures { result ≡ ended run.now self }
+    {
+        run.ended(self)
+    }
+}

@@ -1,0 +1,7 @@
+//! Sums of what areas take of a datagram, and trees of such sums over a task's areas: a search in a
+//! tree finds the area that a datagram has no room for, without going over the areas before it.
+#![tactic(auto)]
+
+pub mod filled;
+pub mod laws;
+pub mod sum;
