@@ -1,1 +1,4 @@
 pub mod Ends
+pub mod Room
+pub mod Shape
+pub mod Scan

@@ -2,6 +2,8 @@
 //! tree finds the area that a datagram has no room for, without going over the areas before it.
 #![tactic(auto)]
 
+mod branch;
 pub mod filled;
 pub mod laws;
+pub mod steps;
 pub mod sum;
