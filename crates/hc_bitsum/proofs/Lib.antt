@@ -2,3 +2,5 @@ pub mod Ends
 pub mod Room
 pub mod Shape
 pub mod Scan
+pub mod Listed
+pub mod Halves

@@ -99,3 +99,12 @@ blank-fork dir place (suc height) half h e =
 pub halves : (height : ℕ) → height ≢ 0 → 2 ^ height ≡ 2 ^ (height - 1) + 2 ^ (height - 1)
 halves zero h = absurd (h refl)
 halves (suc height) h = let less : suc height - 1 ≡ height = omega arith in rw less (two-pow-succ height ∙ omega arith)
+
+-- two parts in a row end low, whatever their heights
+pub both-low : (left right : Slots) → IsShaped left → IsShaped right → EndsBelow (2 ^ 31) (joined (sum_of left.areas) (sum_of right.areas))
+both-low left right p q =
+    let l = few left p in
+    let r = few right q in
+    let many = length-append left.areas right.areas in
+    rw (← sum_of-append left.areas right.areas)
+    (EndsBelow-sum_of (2 ^ 31) (left.areas ++ right.areas) (All-append IsNarrow left.areas right.areas p.narrow q.narrow) (omega arith))

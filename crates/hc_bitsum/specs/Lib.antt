@@ -5,3 +5,5 @@ pub mod Search
 pub mod Slots
 pub mod Branch
 pub mod BranchFalls
+pub mod Tree
+pub mod Places

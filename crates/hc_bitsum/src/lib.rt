@@ -7,3 +7,4 @@ pub mod filled;
 pub mod laws;
 pub mod steps;
 pub mod sum;
+pub mod tree;
