@@ -4,3 +4,4 @@ pub mod Shape
 pub mod Scan
 pub mod Listed
 pub mod Halves
+pub mod From

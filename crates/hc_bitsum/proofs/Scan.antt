@@ -14,13 +14,13 @@ use Rattle.hc_bitsum.specs.Sums.{ended, sum_of}
 use Rattle.hc_bitsum.specs.Search.{scan, most_steps}
 use Rattle.hc_bitsum.proofs.Ends.{ended-sum_of, with_area-le}
 
-le-yes : (a b : ℕ) → a ≤ b → nat_le a b ≡ true
+pub le-yes : (a b : ℕ) → a ≤ b → nat_le a b ≡ true
 le-yes a b h = grind (arith, nat_tests)
 
 le-no : (a b : ℕ) → b < a → nat_le a b ≡ false
 le-no a b h = grind (arith, nat_tests)
 
-yes-le : (a b : ℕ) → nat_le a b ≡ true → a ≤ b
+pub yes-le : (a b : ℕ) → nat_le a b ≡ true → a ≤ b
 yes-le a b h = grind (arith, nat_tests)
 
 with_areas-le : (areas : List Keyed) (filled : Filled) → filled.bit ≤ (with_areas filled areas).bit

@@ -19,6 +19,10 @@ pub record HasPlace (slaves : ℕ) (key : Key) : Type 0 where
   pub last : key.rank ≤ slaves
   pub area : key.area < MOST_AREAS
 
+-- a search begins at the front of the list, or at a key that has a place
+abbrev pub CanBegin : ℕ → Key → Type 0
+CanBegin slaves key = (key ≡ START) ⊎ HasPlace slaves key
+
 abbrev pub has_width : Keyed → Bool
 has_width area = nat_lt 0 area.1
 

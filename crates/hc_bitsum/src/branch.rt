@@ -22,6 +22,21 @@ pub(crate) enum Fit {
     Through(Filled),
 }
 
+impl Fit {
+    ghost use Rattle.std.specs.Prelude.{◌≡◌};
+    ghost use Rattle.hc_bitsum.specs.Search.{key_or_end};
+
+    /// The key that was found, or `Key::END`.
+    pub(crate) fn key_or_end(self) -> Key
+        ensures { result ≡ key_or_end self }
+    {
+        match self {
+            Fit::Found(key) => key,
+            Fit::Through(_) => Key::END,
+        }
+    }
+}
+
 /// Areas in key order, as many as a power of two, with the sum of all of them.
 #[cycle(branch)]
 #[derive(Debug, Drop)]

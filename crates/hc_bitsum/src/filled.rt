@@ -1,5 +1,6 @@
 //! How far a datagram is filled.
 ghost use Rattle.std.specs.Prelude.{◌≡◌, ◌+◌, ◌^◌, ◌<◌};
+ghost use Rattle.hc_bitsum.specs.Search.{begun};
 ghost use Rattle.hc_bitsum.specs.Sums.{ended};
 
 use crate::sum::Sum;
@@ -10,16 +11,17 @@ use hc_records::records::Dir;
 pub struct Filled {
     /// The first free bit, counted from the least significant bit of byte 0.
     pub bit: u32,
-    /// The direction of the area before that bit; of an empty datagram `Dir::Out`.
+    /// The direction of the area before that bit.
     pub last: Dir,
 }
 
 impl Filled {
-    /// An empty datagram.
-    pub const EMPTY: Filled = Filled {
-        bit: 0,
-        last: Dir::Out,
-    };
+    /// A datagram in which a run begins at a bit: nothing before it makes a first input begin a byte.
+    pub fn begun(bit: u32) -> Filled
+        ensures { result ≡ begun bit }
+    {
+        Filled { bit, last: Dir::In }
+    }
 
     /// How far it is filled once a run of areas stands behind what fills it.
     pub fn after(self, run: &Sum) -> Filled

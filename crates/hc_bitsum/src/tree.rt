@@ -1,8 +1,9 @@
 //! A tree of sums over the areas of a task: those with a width, in key order.
-ghost use Rattle.std.specs.Prelude.{◌≡◌, ◌+◌, ◌*◌, ◌^◌, ◌<◌, ◌≤◌, length};
+ghost use Rattle.std.specs.Prelude.{◌≡◌, ◌+◌, ◌*◌, ◌^◌, ◌<◌, ◌≤◌, ◌++◌, drop, length};
 ghost use Rattle.hc_records.specs.declared.limits.TheConstants.{MOST_SLAVES};
-ghost use Rattle.hc_bitsum.specs.Tree.{HasPlace};
-ghost use Rattle.hc_bitsum.specs.Slots.{key_at};
+ghost use Rattle.hc_bitsum.specs.Tree.{CanBegin, HasPlace};
+ghost use Rattle.hc_bitsum.specs.Search.{scan};
+ghost use Rattle.hc_bitsum.specs.Slots.{IsShaped, key_at};
 
 use crate::branch::{Branch, Fit};
 use crate::filled::Filled;
@@ -59,6 +60,31 @@ fn place_of(key: Key) -> u32
     8 * (u32::from(key.rank) - 1) + u32::from(key.area)
 }
 
+/// Fills a datagram with the areas of two parts in a row, from the one behind `skip` others of the first
+/// part on, as long as each ends within the room, in bits.
+fn fit_both<L: Ledger>(
+    first: &Branch,
+    second: &Branch,
+    skip: u32,
+    filled: Filled,
+    room: u32,
+    steps: &mut Steps<L>,
+) -> Fit
+    requires within { skip < length first.now.areas }
+    requires first { IsShaped first.now }
+    requires second { IsShaped second.now }
+    requires here { filled.bit ≤ room }
+    requires room { room < 2 ^ 30 }
+    ensures fit { result ≡ scan room filled (drop skip (first.now.areas ++ second.now.areas)) }
+    ensures least { steps.old + 1 ≤ steps.new }
+    ensures most { steps.new ≤ steps.old + 62 }
+{
+    match first.fit(skip, filled, room, steps) {
+        Fit::Found(key) => Fit::Found(key),
+        Fit::Through(end) => second.fit(0, end, room, steps),
+    }
+}
+
 impl SumTree {
     ghost use Rattle.std.specs.Prelude.{◌≡◌, [], IfOk};
     ghost use Rattle.hc_records.specs.declared.keys.TheConstants.Key.{START};
@@ -100,5 +126,29 @@ impl SumTree {
         ensures { result ≡ sum_of self.now.list }
     {
         self.outputs.total().join(self.inputs.total())
+    }
+
+    /// The key behind the longest run of areas from a key on that ends within a room where it begins at
+    /// a bit: the key of the first area that would end past the room, or `Key::END` where none does.
+    /// The key is one that `set` takes, or `Key::START`, from which all areas are gone over; bit and
+    /// room are at most 11,888. Each node and area that is read is a step, at least 1 and at most 62.
+    /// It takes no memory.
+    pub fn last_fit<L: Ledger>(&self, from: Key, phase: u32, room: u32, steps: &mut Steps<L>) -> Key
+        requires from { CanBegin self.now.slaves from }
+        requires phase { phase ≤ room }
+        requires room { room ≤ MOST_AREA_BITS }
+        ensures key { result ≡ first_beyond room (begun phase) (list_from from self.now.list) }
+        ensures least { steps.old + 1 ≤ steps.new }
+        ensures most { steps.new ≤ steps.old + 62 }
+    {
+        let filled = Filled::begun(phase);
+        if from.rank == 0 {
+            return fit_both(&self.outputs, &self.inputs, 0, filled, room, steps).key_or_end();
+        }
+        let place = place_of(from);
+        match from.dir {
+            Dir::Out => fit_both(&self.outputs, &self.inputs, place, filled, room, steps).key_or_end(),
+            Dir::In => self.inputs.fit(place, filled, room, steps).key_or_end(),
+        }
     }
 }
