@@ -64,8 +64,8 @@ wide-drop dir place (suc skip) (area ∷ areas) stand =
     let there : place + suc skip ≡ place + 1 + skip = omega arith in
     rw there
     (wide-drop dir (place + 1) skip areas stand.1
-     ∙ sym (gone-by (has_width area) (λ other. not (is_before other.0 (key_at dir (place + 1 + skip)))) area (filter has_width areas)
-            (rw (stand.0, before-place dir place (place + 1 + skip) (omega arith)) refl)))
+    ∙ sym (gone-by (has_width area) (λ other. not (is_before other.0 (key_at dir (place + 1 + skip)))) area (filter has_width areas)
+    (rw (stand.0, before-place dir place (place + 1 + skip) (omega arith)) refl)))
 
 inputs-from : (place behind : ℕ) (areas : List Keyed) → StandFrom In behind areas → list_from (key_at Out place) (filter has_width areas) ≡ filter has_width areas
 inputs-from place behind [] stand = refl
@@ -88,8 +88,8 @@ output-from place outputs inputs out into h =
     ∙ filter-append has_width (drop place outputs) inputs
     ∙ ap (λ xs. xs ++ filter has_width inputs) (front ∙ ap (λ n. list_from (key_at Out n) (filter has_width outputs)) here)
     ∙ sym (ap (list_from (key_at Out place)) (filter-append has_width outputs inputs)
-           ∙ filter-append (λ area. not (is_before area.0 (key_at Out place))) (filter has_width outputs) (filter has_width inputs)
-           ∙ ap (λ xs. list_from (key_at Out place) (filter has_width outputs) ++ xs) (inputs-from place 0 inputs into))
+    ∙ filter-append (λ area. not (is_before area.0 (key_at Out place))) (filter has_width outputs) (filter has_width inputs)
+    ∙ ap (λ xs. list_from (key_at Out place) (filter has_width outputs) ++ xs) (inputs-from place 0 inputs into))
 
 pub input-from : (place : ℕ) (outputs inputs : List Keyed) → StandFrom Out 0 outputs → StandFrom In 0 inputs
     → filter has_width (drop place inputs) ≡ list_from (key_at In place) (filter has_width (outputs ++ inputs))
@@ -98,8 +98,8 @@ input-from place outputs inputs out into =
     let back = wide-drop In 0 place inputs into in
     back ∙ ap (λ n. list_from (key_at In n) (filter has_width inputs)) here
     ∙ sym (ap (list_from (key_at In place)) (filter-append has_width outputs inputs)
-           ∙ filter-append (λ area. not (is_before area.0 (key_at In place))) (filter has_width outputs) (filter has_width inputs)
-           ∙ ap (λ xs. xs ++ list_from (key_at In place) (filter has_width inputs)) (outputs-from place 0 outputs out))
+    ∙ filter-append (λ area. not (is_before area.0 (key_at In place))) (filter has_width outputs) (filter has_width inputs)
+    ∙ ap (λ xs. xs ++ list_from (key_at In place) (filter has_width inputs)) (outputs-from place 0 outputs out))
 
 not-before_start : (dir : Dir) (place : ℕ) → is_before (key_at dir place) START ≡ false
 not-before_start Out place = grind (arith, nat_tests)
@@ -116,6 +116,6 @@ pub all-from_start : (outputs inputs : List Keyed) → StandFrom Out 0 outputs �
 all-from_start outputs inputs out into =
     filter-append has_width outputs inputs
     ∙ sym (ap (list_from START) (filter-append has_width outputs inputs)
-           ∙ filter-append (λ area. not (is_before area.0 START)) (filter has_width outputs) (filter has_width inputs)
-           ∙ ap (λ xs. xs ++ list_from START (filter has_width inputs)) (start-from Out 0 outputs out)
-           ∙ ap (λ xs. filter has_width outputs ++ xs) (start-from In 0 inputs into))
+    ∙ filter-append (λ area. not (is_before area.0 START)) (filter has_width outputs) (filter has_width inputs)
+    ∙ ap (λ xs. xs ++ list_from START (filter has_width inputs)) (start-from Out 0 outputs out)
+    ∙ ap (λ xs. filter has_width outputs ++ xs) (start-from In 0 inputs into))

@@ -86,7 +86,7 @@ wide-outputs at bits outputs inputs out into h =
     filter-append has_width (set_at at bits outputs) inputs
     ∙ ap (λ xs. xs ++ filter has_width inputs) (own ∙ ap (λ n. with_width (key_at Out n) bits (filter has_width outputs)) here)
     ∙ sym (ap (with_width (key_at Out at) bits) (filter-append has_width outputs inputs)
-           ∙ width-front (key_at Out at) bits (filter has_width outputs) (filter has_width inputs) (inputs-not_before at 0 inputs into) (inputs-behind at 0 inputs into))
+    ∙ width-front (key_at Out at) bits (filter has_width outputs) (filter has_width inputs) (inputs-not_before at 0 inputs into) (inputs-behind at 0 inputs into))
 
 pub wide-inputs : (at bits : ℕ) (outputs inputs : List Keyed) → StandFrom Out 0 outputs → StandFrom In 0 inputs → at < length inputs
     → filter has_width (outputs ++ set_at at bits inputs) ≡ with_width (key_at In at) bits (filter has_width (outputs ++ inputs))
@@ -96,4 +96,4 @@ wide-inputs at bits outputs inputs out into h =
     filter-append has_width outputs (set_at at bits inputs)
     ∙ ap (λ xs. filter has_width outputs ++ xs) (own ∙ ap (λ n. with_width (key_at In n) bits (filter has_width inputs)) here)
     ∙ sym (ap (with_width (key_at In at) bits) (filter-append has_width outputs inputs)
-           ∙ width-back (key_at In at) bits (filter has_width outputs) (filter has_width inputs) (outputs-before at 0 outputs out) (outputs-not_behind at 0 outputs out))
+    ∙ width-back (key_at In at) bits (filter has_width outputs) (filter has_width inputs) (outputs-before at 0 outputs out) (outputs-not_behind at 0 outputs out))

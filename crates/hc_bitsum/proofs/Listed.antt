@@ -45,7 +45,7 @@ StandFrom-blank dir place zero = (refl, tt)
 StandFrom-blank dir place (suc height) =
     let many = blank-length dir place height in
     let back : StandFrom dir (place + length (blank_slots dir place height).areas) (blank_slots dir (place + 2 ^ height) height).areas =
-        rw many (StandFrom-blank dir (place + 2 ^ height) height) in
+    rw many (StandFrom-blank dir (place + 2 ^ height) height) in
     StandFrom-append dir place (blank_slots dir place height).areas (blank_slots dir (place + 2 ^ height) height).areas (StandFrom-blank dir place height) back
 
 -- areas of no bits have no width
@@ -112,13 +112,13 @@ wide-set_at dir place zero bits (area ∷ areas) stand h =
     let key = key_at dir place in
     let below : filter (λ other. is_before other.0 key) (filter has_width (area ∷ areas)) ≡ [] = none-before dir place place (area ∷ areas) stand (omega arith) in
     let above : filter (λ other. is_before key other.0) (filter has_width (area ∷ areas)) ≡ filter has_width areas =
-        above-by (has_width area) (λ other. is_before key other.0) area (filter has_width areas)
-        (rw stand.0 (before-not dir place place (omega arith))) (all-behind dir place (place + 1) areas stand.1 (omega arith)) in
+    above-by (has_width area) (λ other. is_before key other.0) area (filter has_width areas)
+    (rw stand.0 (before-not dir place place (omega arith))) (all-behind dir place (place + 1) areas stand.1 (omega arith)) in
     rw (here, below, above, stand.0) (own-first (nat_lt 0 bits) key bits (filter has_width areas) refl)
 wide-set_at dir place (suc at) bits (area ∷ areas) stand h =
     let there : place + suc at ≡ place + 1 + at = omega arith in
     let key = key_at dir (place + 1 + at) in
     rw there (before-by (has_width area) key bits area (filter has_width areas) (filter has_width (set_at at bits areas))
-        (rw stand.0 (before-place dir place (place + 1 + at) (omega arith)))
-        (rw stand.0 (before-not dir (place + 1 + at) place (omega arith)))
-        (wide-set_at dir (place + 1) at bits areas stand.1 (omega arith)))
+    (rw stand.0 (before-place dir place (place + 1 + at) (omega arith)))
+    (rw stand.0 (before-not dir (place + 1 + at) place (omega arith)))
+    (wide-set_at dir (place + 1) at bits areas stand.1 (omega arith)))

@@ -74,7 +74,7 @@ pub set-right : (left right : Slots) (at bits : ℕ) → length left.areas ≤ a
 set-right left right at bits h =
     let whole : length left.areas + (at - length left.areas) ≡ at = omega arith in
     let back : set_at at bits (left.areas ++ right.areas) ≡ left.areas ++ set_at (at - length left.areas) bits right.areas =
-        ap (λ n. set_at n bits (left.areas ++ right.areas)) (sym whole) ∙ set_at-back left.areas right.areas (at - length left.areas) bits in
+    ap (λ n. set_at n bits (left.areas ++ right.areas)) (sym whole) ∙ set_at-back left.areas right.areas (at - length left.areas) bits in
     ap (λ areas. let slots : Slots = record { height = left.height + 1; areas = areas } in slots) (sym back)
 
 pub blank-height : (dir : Dir) (place height : ℕ) → (blank_slots dir place height).height ≡ height

@@ -7,4 +7,6 @@ pub mod filled;
 pub mod laws;
 pub mod steps;
 pub mod sum;
+#[cfg(test)]
+mod tests;
 pub mod tree;

@@ -147,7 +147,14 @@ impl SumTree {
         }
         let place = place_of(from);
         match from.dir {
-            Dir::Out => fit_both(&self.outputs, &self.inputs, place, filled, room, steps).key_or_end(),
+            Dir::Out => fit_both(
+                &self.outputs,
+                &self.inputs,
+                place,
+                filled,
+                room,
+                steps,
+            ).key_or_end(),
             Dir::In => self.inputs.fit(place, filled, room, steps).key_or_end(),
         }
     }

@@ -18,5 +18,5 @@ pub returns : goal.returns
 returns c =
     c.join.ensures
     ∙ rw (c.total.ensures.sum, c.total-2.ensures.sum)
-      (sym (sum_of-append c.self.inside.outputs.areas c.self.inside.inputs.areas) ∙ sym (total-wide (c.self.inside.outputs.areas ++ c.self.inside.inputs.areas)))
+    (sym (sum_of-append c.self.inside.outputs.areas c.self.inside.inputs.areas) ∙ sym (total-wide (c.self.inside.outputs.areas ++ c.self.inside.inputs.areas)))
     ∙ ap (λ (tree : Tree). sum_of tree.list) c.self.view_is
