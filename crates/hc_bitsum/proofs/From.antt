@@ -1,0 +1,121 @@
+-- The areas of a list from a key on, and a scan of them.
+use Rattle.std.specs.Prelude.{filter, not}
+use Rattle.std.proofs.Common.{◌≡◌, ℕ, zero, suc, ◌+◌, ◌-◌, ◌*◌, ◌/◌, ◌<◌, ◌≤◌, ◌==◌, nat_le, nat_lt, Bool, true, false, List, [], ◌∷◌, ◌++◌, length, drop, refl, sym, ap, ◌∙◌, arith, if◌then◌else◌}
+use Rattle.std.proofs.lemmas.Bool.Decides.{nat_tests}
+use Rattle.std.proofs.lemmas.List.{drop-append-le}
+use Rattle.std.proofs.lemmas.List.Elements.{filter-append}
+use Rattle.hc_records.specs.declared.records.Dir.{Dir}
+use Rattle.hc_records.specs.declared.records.Dir.TheVariants.{Out, In}
+use Rattle.hc_records.specs.declared.keys.Key.{Key}
+use Rattle.hc_records.specs.declared.keys.TheConstants.Key.{START}
+use Rattle.hc_records.specs.Keys.{is_before}
+use Rattle.hc_records.specs.TaskList.{Keyed}
+use Rattle.hc_bitsum.specs.declared.filled.Filled.{Filled}
+use Rattle.hc_bitsum.specs.declared.branch.Fit.TheVariants.{Found}
+use Rattle.hc_bitsum.specs.Filling.{with_area}
+use Rattle.hc_bitsum.specs.Search.{list_from, scan}
+use Rattle.hc_bitsum.specs.Slots.{key_at}
+use Rattle.hc_bitsum.specs.Tree.{has_width}
+use Rattle.hc_bitsum.specs.Places.{StandFrom}
+use Rattle.hc_bitsum.proofs.Listed.{before-not, before-place, drops-by, keeps-by}
+use Rattle.hc_bitsum.proofs.Scan.{le-yes, yes-le}
+
+-- an area without a width changes no scan
+
+without-by : (fits : Bool) (room : ℕ) (filled : Filled) (x : Keyed) (xs : List Keyed) → nat_le (with_area filled x).bit room ≡ fits
+    → (fits ≡ true → scan room (with_area filled x) (filter has_width xs) ≡ scan room (with_area filled x) xs)
+    → (if fits then scan room (with_area filled x) (filter has_width xs) else Found x.0) ≡ (if fits then scan room (with_area filled x) xs else Found x.0)
+without-by true room filled x xs e h = h refl
+without-by false room filled x xs e h = refl
+
+wide-by : (wide : Bool) (room : ℕ) (filled : Filled) (x : Keyed) (xs : List Keyed) → has_width x ≡ wide → filled.bit ≤ room
+    → ((next : Filled) → next.bit ≤ room → scan room next (filter has_width xs) ≡ scan room next xs)
+    → scan room filled (if wide then x ∷ filter has_width xs else filter has_width xs) ≡ scan room filled (x ∷ xs)
+wide-by true room filled x xs e h rest =
+    without-by (nat_le (with_area filled x).bit room) room filled x xs refl (λ fits. rest (with_area filled x) (yes-le _ _ fits))
+wide-by false room filled x xs e h rest =
+    let none : (x.1 == 0) ≡ true = grind (arith, nat_tests) in
+    rw (none, le-yes filled.bit room h) (rest filled h)
+
+pub scan-wide : (room : ℕ) (filled : Filled) (xs : List Keyed) → filled.bit ≤ room → scan room filled (filter has_width xs) ≡ scan room filled xs
+scan-wide room filled [] h = refl
+scan-wide room filled (x ∷ xs) h = wide-by (has_width x) room filled x xs refl h (λ next fits. scan-wide room next xs fits)
+
+-- the areas of one direction from a key on are those behind the ones before its place
+
+all-from : (dir : Dir) (place behind : ℕ) (areas : List Keyed) → StandFrom dir behind areas → place ≤ behind
+    → list_from (key_at dir place) (filter has_width areas) ≡ filter has_width areas
+all-from dir place behind [] stand h = refl
+all-from dir place behind (area ∷ areas) stand h =
+    keeps-by (has_width area) (λ other. not (is_before other.0 (key_at dir place))) area (filter has_width areas)
+    (rw (stand.0, before-not dir behind place h) refl) (all-from dir place (behind + 1) areas stand.1 (omega arith))
+
+gone-by : (wide : Bool) (p : Keyed → Bool) (x : Keyed) (xs : List Keyed) → p x ≡ false → filter p (if wide then x ∷ xs else xs) ≡ filter p xs
+gone-by true p x xs own = rw own refl
+gone-by false p x xs own = refl
+
+wide-drop : (dir : Dir) (place skip : ℕ) (areas : List Keyed) → StandFrom dir place areas
+    → filter has_width (drop skip areas) ≡ list_from (key_at dir (place + skip)) (filter has_width areas)
+wide-drop dir place zero areas stand =
+    let here : place + 0 ≡ place = omega arith in
+    rw here (sym (all-from dir place place areas stand (omega arith)))
+wide-drop dir place (suc skip) [] stand = refl
+wide-drop dir place (suc skip) (area ∷ areas) stand =
+    let there : place + suc skip ≡ place + 1 + skip = omega arith in
+    rw there
+    (wide-drop dir (place + 1) skip areas stand.1
+    ∙ sym (gone-by (has_width area) (λ other. not (is_before other.0 (key_at dir (place + 1 + skip)))) area (filter has_width areas)
+    (rw (stand.0, before-place dir place (place + 1 + skip) (omega arith)) refl)))
+
+inputs-from : (place behind : ℕ) (areas : List Keyed) → StandFrom In behind areas → list_from (key_at Out place) (filter has_width areas) ≡ filter has_width areas
+inputs-from place behind [] stand = refl
+inputs-from place behind (area ∷ areas) stand =
+    keeps-by (has_width area) (λ other. not (is_before other.0 (key_at Out place))) area (filter has_width areas) (rw stand.0 refl) (inputs-from place (behind + 1) areas stand.1)
+
+outputs-from : (place behind : ℕ) (areas : List Keyed) → StandFrom Out behind areas → list_from (key_at In place) (filter has_width areas) ≡ []
+outputs-from place behind [] stand = refl
+outputs-from place behind (area ∷ areas) stand =
+    drops-by (has_width area) (λ other. not (is_before other.0 (key_at In place))) area (filter has_width areas) (rw stand.0 refl) (outputs-from place (behind + 1) areas stand.1)
+
+-- in both directions
+
+pub output-from : (place : ℕ) (outputs inputs : List Keyed) → StandFrom Out 0 outputs → StandFrom In 0 inputs → place < length outputs
+    → filter has_width (drop place (outputs ++ inputs)) ≡ list_from (key_at Out place) (filter has_width (outputs ++ inputs))
+output-from place outputs inputs out into h =
+    let here : 0 + place ≡ place = omega arith in
+    let front = wide-drop Out 0 place outputs out in
+    ap (filter has_width) (drop-append-le place outputs inputs (omega arith))
+    ∙ filter-append has_width (drop place outputs) inputs
+    ∙ ap (λ xs. xs ++ filter has_width inputs) (front ∙ ap (λ n. list_from (key_at Out n) (filter has_width outputs)) here)
+    ∙ sym (ap (list_from (key_at Out place)) (filter-append has_width outputs inputs)
+    ∙ filter-append (λ area. not (is_before area.0 (key_at Out place))) (filter has_width outputs) (filter has_width inputs)
+    ∙ ap (λ xs. list_from (key_at Out place) (filter has_width outputs) ++ xs) (inputs-from place 0 inputs into))
+
+pub input-from : (place : ℕ) (outputs inputs : List Keyed) → StandFrom Out 0 outputs → StandFrom In 0 inputs
+    → filter has_width (drop place inputs) ≡ list_from (key_at In place) (filter has_width (outputs ++ inputs))
+input-from place outputs inputs out into =
+    let here : 0 + place ≡ place = omega arith in
+    let back = wide-drop In 0 place inputs into in
+    back ∙ ap (λ n. list_from (key_at In n) (filter has_width inputs)) here
+    ∙ sym (ap (list_from (key_at In place)) (filter-append has_width outputs inputs)
+    ∙ filter-append (λ area. not (is_before area.0 (key_at In place))) (filter has_width outputs) (filter has_width inputs)
+    ∙ ap (λ xs. xs ++ list_from (key_at In place) (filter has_width inputs)) (outputs-from place 0 outputs out))
+
+not-before_start : (dir : Dir) (place : ℕ) → is_before (key_at dir place) START ≡ false
+not-before_start Out place = grind (arith, nat_tests)
+not-before_start In place = refl
+
+start-from : (dir : Dir) (behind : ℕ) (areas : List Keyed) → StandFrom dir behind areas → list_from START (filter has_width areas) ≡ filter has_width areas
+start-from dir behind [] stand = refl
+start-from dir behind (area ∷ areas) stand =
+    keeps-by (has_width area) (λ other. not (is_before other.0 START)) area (filter has_width areas)
+    (rw (stand.0, not-before_start dir behind) refl) (start-from dir (behind + 1) areas stand.1)
+
+pub all-from_start : (outputs inputs : List Keyed) → StandFrom Out 0 outputs → StandFrom In 0 inputs
+    → filter has_width (outputs ++ inputs) ≡ list_from START (filter has_width (outputs ++ inputs))
+all-from_start outputs inputs out into =
+    filter-append has_width outputs inputs
+    ∙ sym (ap (list_from START) (filter-append has_width outputs inputs)
+    ∙ filter-append (λ area. not (is_before area.0 START)) (filter has_width outputs) (filter has_width inputs)
+    ∙ ap (λ xs. xs ++ list_from START (filter has_width inputs)) (start-from Out 0 outputs out)
+    ∙ ap (λ xs. filter has_width outputs ++ xs) (start-from In 0 inputs into))

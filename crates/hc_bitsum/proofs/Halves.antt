@@ -1,0 +1,99 @@
+-- What the outputs and the inputs of a tree are together.
+use Rattle.std.specs.Prelude.{All, filter, not}
+use Rattle.std.proofs.Common.{◌≡◌, ℕ, zero, suc, ◌+◌, ◌-◌, ◌*◌, ◌^◌, ◌<◌, ◌≤◌, ◌==◌, Bool, true, false, List, [], ◌∷◌, ◌++◌, length, drop, refl, sym, ap, subst, ◌∙◌, arith, append_assoc, append-nil, if◌then◌else◌}
+use Rattle.std.proofs.lemmas.List.Elements.{All-nil, All-cons, All-append, filter-append}
+use Rattle.hc_records.specs.declared.records.Dir.{Dir}
+use Rattle.hc_records.specs.declared.records.Dir.TheVariants.{Out, In}
+use Rattle.hc_records.specs.declared.keys.Key.{Key}
+use Rattle.hc_records.specs.Keys.{is_before}
+use Rattle.hc_records.specs.TaskList.{Keyed}
+use Rattle.hc_bitsum.specs.Slots.{IsNarrow, IsShaped, Slots, blank_slots, key_at, set_at, with_bits}
+use Rattle.hc_bitsum.specs.Tree.{has_width, with_width}
+use Rattle.hc_bitsum.specs.Places.{KeepsSlaves, StandFrom}
+use Rattle.hc_bitsum.proofs.Shape.{blank-height, blank-length, length-set_at, with_bits-shaped}
+use Rattle.hc_bitsum.proofs.Listed.{StandFrom-blank, StandFrom-set_at, drops-by, keeps-by, wide-set_at}
+
+blank-narrow : (dir : Dir) (place height : ℕ) → All IsNarrow (blank_slots dir place height).areas
+blank-narrow dir place zero = All-cons IsNarrow (key_at dir place, 0) [] (omega arith) (All-nil IsNarrow)
+blank-narrow dir place (suc height) =
+    All-append IsNarrow (blank_slots dir place height).areas (blank_slots dir (place + 2 ^ height) height).areas
+    (blank-narrow dir place height) (blank-narrow dir (place + 2 ^ height) height)
+
+pub blank-keeps : (dir : Dir) (slaves height : ℕ) → 8 * slaves ≤ 2 ^ height → height ≤ 15 → KeepsSlaves dir slaves (blank_slots dir 0 height)
+blank-keeps dir slaves height room low =
+    let many = blank-length dir 0 height in
+    let high = blank-height dir 0 height in
+    record {
+      keys = StandFrom-blank dir 0 height;
+      room = omega arith;
+      shape = record { many = many ∙ ap (λ n. 2 ^ n) (sym high); low = omega arith; narrow = blank-narrow dir 0 height };
+    }
+
+pub with_bits-keeps : (dir : Dir) (slaves : ℕ) (part : Slots) (at bits : ℕ) → bits ≤ 11888 → KeepsSlaves dir slaves part → KeepsSlaves dir slaves (with_bits part at bits)
+with_bits-keeps dir slaves part at bits narrow keeps =
+    let many = length-set_at at bits part.areas in
+    let room = keeps.room in
+    record {
+      keys = StandFrom-set_at dir 0 at bits part.areas keeps.keys;
+      room = omega arith;
+      shape = with_bits-shaped part at bits keeps.shape narrow;
+    }
+
+-- inputs come behind outputs
+
+inputs-not_before : (place behind : ℕ) (areas : List Keyed) → StandFrom In behind areas
+    → filter (λ area. is_before area.0 (key_at Out place)) (filter has_width areas) ≡ []
+inputs-not_before place behind [] stand = refl
+inputs-not_before place behind (area ∷ areas) stand =
+    drops-by (has_width area) (λ other. is_before other.0 (key_at Out place)) area (filter has_width areas) (rw stand.0 refl) (inputs-not_before place (behind + 1) areas stand.1)
+
+inputs-behind : (place behind : ℕ) (areas : List Keyed) → StandFrom In behind areas
+    → filter (λ area. is_before (key_at Out place) area.0) (filter has_width areas) ≡ filter has_width areas
+inputs-behind place behind [] stand = refl
+inputs-behind place behind (area ∷ areas) stand =
+    keeps-by (has_width area) (λ other. is_before (key_at Out place) other.0) area (filter has_width areas) (rw stand.0 refl) (inputs-behind place (behind + 1) areas stand.1)
+
+outputs-before : (place behind : ℕ) (areas : List Keyed) → StandFrom Out behind areas
+    → filter (λ area. is_before area.0 (key_at In place)) (filter has_width areas) ≡ filter has_width areas
+outputs-before place behind [] stand = refl
+outputs-before place behind (area ∷ areas) stand =
+    keeps-by (has_width area) (λ other. is_before other.0 (key_at In place)) area (filter has_width areas) (rw stand.0 refl) (outputs-before place (behind + 1) areas stand.1)
+
+outputs-not_behind : (place behind : ℕ) (areas : List Keyed) → StandFrom Out behind areas
+    → filter (λ area. is_before (key_at In place) area.0) (filter has_width areas) ≡ []
+outputs-not_behind place behind [] stand = refl
+outputs-not_behind place behind (area ∷ areas) stand =
+    drops-by (has_width area) (λ other. is_before (key_at In place) other.0) area (filter has_width areas) (rw stand.0 refl) (outputs-not_behind place (behind + 1) areas stand.1)
+
+width-front : (key : Key) (bits : ℕ) (xs ys : List Keyed) → filter (λ area. is_before area.0 key) ys ≡ [] → filter (λ area. is_before key area.0) ys ≡ ys
+    → with_width key bits (xs ++ ys) ≡ with_width key bits xs ++ ys
+width-front key bits xs ys below above =
+    rw (filter-append (λ area. is_before area.0 key) xs ys, filter-append (λ area. is_before key area.0) xs ys, below, above)
+    (simp (append-nil, append_assoc))
+
+width-back : (key : Key) (bits : ℕ) (xs ys : List Keyed) → filter (λ area. is_before area.0 key) xs ≡ xs → filter (λ area. is_before key area.0) xs ≡ []
+    → with_width key bits (xs ++ ys) ≡ xs ++ with_width key bits ys
+width-back key bits xs ys below above =
+    rw (filter-append (λ area. is_before area.0 key) xs ys, filter-append (λ area. is_before key area.0) xs ys, below, above)
+    (simp append_assoc)
+
+-- a width set among the outputs, or among the inputs, is set in the list of both
+pub wide-outputs : (at bits : ℕ) (outputs inputs : List Keyed) → StandFrom Out 0 outputs → StandFrom In 0 inputs → at < length outputs
+    → filter has_width (set_at at bits outputs ++ inputs) ≡ with_width (key_at Out at) bits (filter has_width (outputs ++ inputs))
+wide-outputs at bits outputs inputs out into h =
+    let here : 0 + at ≡ at = omega arith in
+    let own = wide-set_at Out 0 at bits outputs out h in
+    filter-append has_width (set_at at bits outputs) inputs
+    ∙ ap (λ xs. xs ++ filter has_width inputs) (own ∙ ap (λ n. with_width (key_at Out n) bits (filter has_width outputs)) here)
+    ∙ sym (ap (with_width (key_at Out at) bits) (filter-append has_width outputs inputs)
+    ∙ width-front (key_at Out at) bits (filter has_width outputs) (filter has_width inputs) (inputs-not_before at 0 inputs into) (inputs-behind at 0 inputs into))
+
+pub wide-inputs : (at bits : ℕ) (outputs inputs : List Keyed) → StandFrom Out 0 outputs → StandFrom In 0 inputs → at < length inputs
+    → filter has_width (outputs ++ set_at at bits inputs) ≡ with_width (key_at In at) bits (filter has_width (outputs ++ inputs))
+wide-inputs at bits outputs inputs out into h =
+    let here : 0 + at ≡ at = omega arith in
+    let own = wide-set_at In 0 at bits inputs into h in
+    filter-append has_width outputs (set_at at bits inputs)
+    ∙ ap (λ xs. filter has_width outputs ++ xs) (own ∙ ap (λ n. with_width (key_at In n) bits (filter has_width inputs)) here)
+    ∙ sym (ap (with_width (key_at In at) bits) (filter-append has_width outputs inputs)
+    ∙ width-back (key_at In at) bits (filter has_width outputs) (filter has_width inputs) (outputs-before at 0 outputs out) (outputs-not_behind at 0 outputs out))

@@ -1,0 +1,124 @@
+-- The areas with a width among those of one direction.
+use Rattle.std.proofs.Common.{◌≡◌, ◌≢◌, ℕ, zero, suc, ◌+◌, ◌-◌, ◌*◌, ◌/◌, ◌%◌, ◌^◌, ◌<◌, ◌≤◌, ◌==◌, Bool, true, false, ◌&&◌, ◌||◌, nat_lt, List, [], ◌∷◌, ◌++◌, length, drop, refl, sym, ap, subst, ◌∙◌, arith, if◌then◌else◌, length-append}
+use Rattle.std.specs.Prelude.{filter, not}
+use Rattle.std.proofs.lemmas.Bool.Decides.{nat_tests}
+use Rattle.std.proofs.lemmas.List.Elements.{filter-append}
+use Rattle.hc_records.specs.declared.records.Dir.{Dir}
+use Rattle.hc_records.specs.declared.records.Dir.TheVariants.{Out, In}
+use Rattle.hc_records.specs.declared.keys.Key.{Key}
+use Rattle.hc_records.specs.Keys.{is_before}
+use Rattle.hc_records.specs.TaskList.{Keyed}
+use Rattle.hc_bitsum.specs.Search.{list_from}
+use Rattle.hc_bitsum.specs.Slots.{blank_slots, key_at, set_at}
+use Rattle.hc_bitsum.specs.Tree.{has_width, with_width}
+use Rattle.hc_bitsum.specs.Places.{StandFrom}
+use Rattle.hc_bitsum.specs.Sums.{joined, sum_of, sum_of_area}
+use Rattle.hc_bitsum.proofs.Shape.{blank-length}
+
+first-by : (a b : ℕ) → a < b → (nat_lt (a / 8 + 1) (b / 8 + 1) || ((a / 8 + 1 == b / 8 + 1) && nat_lt (a % 8) (b % 8))) ≡ true
+first-by a b h = grind (arith, nat_tests)
+
+last-by : (a b : ℕ) → b ≤ a → (nat_lt (a / 8 + 1) (b / 8 + 1) || ((a / 8 + 1 == b / 8 + 1) && nat_lt (a % 8) (b % 8))) ≡ false
+last-by a b h = grind (arith, nat_tests)
+
+pub before-place : (dir : Dir) (a b : ℕ) → a < b → is_before (key_at dir a) (key_at dir b) ≡ true
+before-place Out a b h = first-by a b h
+before-place In a b h = first-by a b h
+
+pub before-not : (dir : Dir) (a b : ℕ) → b ≤ a → is_before (key_at dir a) (key_at dir b) ≡ false
+before-not Out a b h = last-by a b h
+before-not In a b h = last-by a b h
+
+pub StandFrom-append : (dir : Dir) (place : ℕ) (xs ys : List Keyed) → StandFrom dir place xs → StandFrom dir (place + length xs) ys → StandFrom dir place (xs ++ ys)
+StandFrom-append dir place [] ys front back = let none : place + 0 ≡ place = omega arith in subst (λ p. StandFrom dir p ys) none back
+StandFrom-append dir place (x ∷ xs) ys front back =
+    let next : place + suc (length xs) ≡ place + 1 + length xs = omega arith in
+    (front.0, StandFrom-append dir (place + 1) xs ys front.1 (subst (λ p. StandFrom dir p ys) next back))
+
+pub StandFrom-set_at : (dir : Dir) (place at bits : ℕ) (areas : List Keyed) → StandFrom dir place areas → StandFrom dir place (set_at at bits areas)
+StandFrom-set_at dir place at bits [] stand = stand
+StandFrom-set_at dir place zero bits (area ∷ areas) stand = stand
+StandFrom-set_at dir place (suc at) bits (area ∷ areas) stand = (stand.0, StandFrom-set_at dir (place + 1) at bits areas stand.1)
+
+pub StandFrom-blank : (dir : Dir) (place height : ℕ) → StandFrom dir place (blank_slots dir place height).areas
+StandFrom-blank dir place zero = (refl, tt)
+StandFrom-blank dir place (suc height) =
+    let many = blank-length dir place height in
+    let back : StandFrom dir (place + length (blank_slots dir place height).areas) (blank_slots dir (place + 2 ^ height) height).areas =
+    rw many (StandFrom-blank dir (place + 2 ^ height) height) in
+    StandFrom-append dir place (blank_slots dir place height).areas (blank_slots dir (place + 2 ^ height) height).areas (StandFrom-blank dir place height) back
+
+-- areas of no bits have no width
+pub blank-empty : (dir : Dir) (place height : ℕ) → filter has_width (blank_slots dir place height).areas ≡ []
+blank-empty dir place zero = refl
+blank-empty dir place (suc height) =
+    filter-append has_width (blank_slots dir place height).areas (blank_slots dir (place + 2 ^ height) height).areas
+    ∙ rw (blank-empty dir place height, blank-empty dir (place + 2 ^ height) height) refl
+
+total-by : (wide : Bool) (x : Keyed) (xs : List Keyed) → has_width x ≡ wide → sum_of (filter has_width xs) ≡ sum_of xs
+    → sum_of (if wide then x ∷ filter has_width xs else filter has_width xs) ≡ joined (sum_of_area x.0.dir x.1) (sum_of xs)
+total-by true x xs e h = ap (joined (sum_of_area x.0.dir x.1)) h
+total-by false x xs e h = let none : (x.1 == 0) ≡ true = grind (arith, nat_tests) in rw none h
+
+-- an area without a width adds nothing
+pub total-wide : (xs : List Keyed) → sum_of (filter has_width xs) ≡ sum_of xs
+total-wide [] = refl
+total-wide (x ∷ xs) = total-by (has_width x) x xs refl (total-wide xs)
+
+-- a test that fails on each of a list, or passes on each
+
+pub drops-by : (wide : Bool) (p : Keyed → Bool) (x : Keyed) (xs : List Keyed) → p x ≡ false → filter p xs ≡ [] → filter p (if wide then x ∷ xs else xs) ≡ []
+drops-by true p x xs own rest = rw own rest
+drops-by false p x xs own rest = rest
+
+pub keeps-by : (wide : Bool) (p : Keyed → Bool) (x : Keyed) (xs : List Keyed) → p x ≡ true → filter p xs ≡ xs → filter p (if wide then x ∷ xs else xs) ≡ (if wide then x ∷ xs else xs)
+keeps-by true p x xs own rest = rw own (ap (λ ys. x ∷ ys) rest)
+keeps-by false p x xs own rest = rest
+
+-- areas that stand behind a place aren't before it, and it is before them
+pub none-before : (dir : Dir) (place behind : ℕ) (areas : List Keyed) → StandFrom dir behind areas → place ≤ behind
+    → filter (λ area. is_before area.0 (key_at dir place)) (filter has_width areas) ≡ []
+none-before dir place behind [] stand h = refl
+none-before dir place behind (area ∷ areas) stand h =
+    drops-by (has_width area) (λ other. is_before other.0 (key_at dir place)) area (filter has_width areas)
+    (rw stand.0 (before-not dir behind place h)) (none-before dir place (behind + 1) areas stand.1 (omega arith))
+
+pub all-behind : (dir : Dir) (place behind : ℕ) (areas : List Keyed) → StandFrom dir behind areas → place < behind
+    → filter (λ area. is_before (key_at dir place) area.0) (filter has_width areas) ≡ filter has_width areas
+all-behind dir place behind [] stand h = refl
+all-behind dir place behind (area ∷ areas) stand h =
+    keeps-by (has_width area) (λ other. is_before (key_at dir place) other.0) area (filter has_width areas)
+    (rw stand.0 (before-place dir place behind h)) (all-behind dir place (behind + 1) areas stand.1 (omega arith))
+
+own-first : (wide : Bool) (key : Key) (bits : ℕ) (xs : List Keyed) → nat_lt 0 bits ≡ wide → (if wide then (key, bits) ∷ xs else xs) ≡ (if bits == 0 then [] else (key, bits) ∷ []) ++ xs
+own-first true key bits xs e = let some : (bits == 0) ≡ false = grind (arith, nat_tests) in rw some refl
+own-first false key bits xs e = let none : (bits == 0) ≡ true = grind (arith, nat_tests) in rw none refl
+
+above-by : (wide : Bool) (p : Keyed → Bool) (x : Keyed) (xs : List Keyed) → p x ≡ false → filter p xs ≡ xs → filter p (if wide then x ∷ xs else xs) ≡ xs
+above-by true p x xs own rest = rw own rest
+above-by false p x xs own rest = rest
+
+before-by : (wide : Bool) (key : Key) (bits : ℕ) (x : Keyed) (xs changed : List Keyed) → is_before x.0 key ≡ true → is_before key x.0 ≡ false → changed ≡ with_width key bits xs
+    → (if wide then x ∷ changed else changed) ≡ with_width key bits (if wide then x ∷ xs else xs)
+before-by true key bits x xs changed first last h = rw (first, last) (ap (λ ys. x ∷ ys) h)
+before-by false key bits x xs changed first last h = h
+
+-- a width that is set at a place stands in the list under the place's key
+pub wide-set_at : (dir : Dir) (place at bits : ℕ) (areas : List Keyed) → StandFrom dir place areas → at < length areas
+    → filter has_width (set_at at bits areas) ≡ with_width (key_at dir (place + at)) bits (filter has_width areas)
+wide-set_at dir place at bits [] stand h = absurd (omega arith)
+wide-set_at dir place zero bits (area ∷ areas) stand h =
+    let here : place + 0 ≡ place = omega arith in
+    let key = key_at dir place in
+    let below : filter (λ other. is_before other.0 key) (filter has_width (area ∷ areas)) ≡ [] = none-before dir place place (area ∷ areas) stand (omega arith) in
+    let above : filter (λ other. is_before key other.0) (filter has_width (area ∷ areas)) ≡ filter has_width areas =
+    above-by (has_width area) (λ other. is_before key other.0) area (filter has_width areas)
+    (rw stand.0 (before-not dir place place (omega arith))) (all-behind dir place (place + 1) areas stand.1 (omega arith)) in
+    rw (here, below, above, stand.0) (own-first (nat_lt 0 bits) key bits (filter has_width areas) refl)
+wide-set_at dir place (suc at) bits (area ∷ areas) stand h =
+    let there : place + suc at ≡ place + 1 + at = omega arith in
+    let key = key_at dir (place + 1 + at) in
+    rw there (before-by (has_width area) key bits area (filter has_width areas) (filter has_width (set_at at bits areas))
+    (rw stand.0 (before-place dir place (place + 1 + at) (omega arith)))
+    (rw stand.0 (before-not dir (place + 1 + at) place (omega arith)))
+    (wide-set_at dir (place + 1) at bits areas stand.1 (omega arith)))

@@ -1,0 +1,123 @@
+-- What a scan finds in a list, and in two lists in a row.
+use Rattle.std.proofs.Common.{◌≡◌, ℕ, ◌+◌, ◌*◌, ◌-◌, ◌^◌, ◌<◌, ◌≤◌, zero, suc, Bool, true, false, List, [], ◌∷◌, ◌++◌, length, drop, refl, sym, ap, subst, ◌∙◌, arith, length-drop, nat_le, if◌then◌else◌}
+use Rattle.std.proofs.lemmas.Bool.Decides.{nat_tests}
+use Rattle.std.proofs.Math.Seq.{drop-append-add}
+use Rattle.std.proofs.lemmas.List.{drop-append-le}
+use Rattle.hc_records.specs.declared.keys.Key.{Key}
+use Rattle.hc_records.specs.TaskList.{Keyed}
+use Rattle.hc_bitsum.specs.declared.filled.Filled.{Filled}
+use Rattle.hc_bitsum.specs.declared.sum.Sum.{Sum}
+use Rattle.hc_bitsum.specs.declared.branch.Fit.{Fit}
+use Rattle.hc_bitsum.specs.declared.branch.Fit.TheVariants.{Found, Through}
+use Rattle.hc_bitsum.specs.Filling.{with_area, with_areas}
+use Rattle.hc_bitsum.specs.Sums.{ended, sum_of}
+use Rattle.hc_bitsum.specs.Search.{scan, most_steps}
+use Rattle.hc_bitsum.proofs.Ends.{ended-sum_of, with_area-le}
+
+pub le-yes : (a b : ℕ) → a ≤ b → nat_le a b ≡ true
+le-yes a b h = grind (arith, nat_tests)
+
+le-no : (a b : ℕ) → b < a → nat_le a b ≡ false
+le-no a b h = grind (arith, nat_tests)
+
+pub yes-le : (a b : ℕ) → nat_le a b ≡ true → a ≤ b
+yes-le a b h = grind (arith, nat_tests)
+
+with_areas-le : (areas : List Keyed) (filled : Filled) → filled.bit ≤ (with_areas filled areas).bit
+with_areas-le [] filled = omega arith
+with_areas-le (area ∷ areas) filled =
+    let one = with_area-le filled area in
+    let rest = with_areas-le areas (with_area filled area) in
+    omega arith
+
+-- where all end within the room, the scan goes through
+pub scan-all : (room : ℕ) (filled : Filled) (areas : List Keyed) → (with_areas filled areas).bit ≤ room → scan room filled areas ≡ Through (with_areas filled areas)
+scan-all room filled [] h = refl
+scan-all room filled (area ∷ areas) h =
+    let one : (with_area filled area).bit ≤ room = (let rest = with_areas-le areas (with_area filled area) in omega arith) in
+    rw (le-yes _ _ one) (scan-all room (with_area filled area) areas h)
+
+-- the next area ends within the room, and the rest goes through
+record Step (room : ℕ) (filled : Filled) (area : Keyed) (areas : List Keyed) (end : Filled) : Type 0 where
+  pub fits : (with_area filled area).bit ≤ room
+  pub rest : scan room (with_area filled area) areas ≡ Through end
+
+step-by : (fits : Bool) (room : ℕ) (filled : Filled) (area : Keyed) (areas : List Keyed) (end : Filled) → nat_le (with_area filled area).bit room ≡ fits
+    → (if fits then scan room (with_area filled area) areas else Found area.0) ≡ Through end → Step room filled area areas end
+step-by true room filled area areas end e h = record { fits = yes-le _ _ e; rest = h }
+step-by false room filled area areas end e h = cc
+
+-- where it goes through, all stand in the datagram
+pub scan-through : (room : ℕ) (filled : Filled) (areas : List Keyed) (end : Filled) → filled.bit ≤ room → scan room filled areas ≡ Through end
+    → (end ≡ with_areas filled areas) × (end.bit ≤ room)
+scan-through room filled [] end h e = let same : filled ≡ end = cc in (sym same, subst (λ (r : Filled). r.bit ≤ room) same h)
+scan-through room filled (area ∷ areas) end h e =
+    let step = step-by (nat_le (with_area filled area).bit room) room filled area areas end refl e in
+    scan-through room (with_area filled area) areas end step.fits step.rest
+
+found-by : (fits : Bool) (rest more : Fit) (own key : Key) → (rest ≡ Found key → more ≡ Found key) → (if fits then rest else Found own) ≡ Found key → (if fits then more else Found own) ≡ Found key
+found-by true rest more own key f h = f h
+found-by false rest more own key f h = h
+
+-- what is found in the first list is found in both
+scan-append-found : (room : ℕ) (filled : Filled) (xs ys : List Keyed) (key : Key) → scan room filled xs ≡ Found key → scan room filled (xs ++ ys) ≡ Found key
+scan-append-found room filled [] ys key h = cc
+scan-append-found room filled (x ∷ xs) ys key h =
+    found-by (nat_le (with_area filled x).bit room) (scan room (with_area filled x) xs) (scan room (with_area filled x) (xs ++ ys)) x.0 key
+    (scan-append-found room (with_area filled x) xs ys key) h
+
+-- where the first list goes through, the second is scanned from there
+scan-append-through : (room : ℕ) (filled : Filled) (xs ys : List Keyed) (end : Filled) → scan room filled xs ≡ Through end → scan room filled (xs ++ ys) ≡ scan room end ys
+scan-append-through room filled [] ys end h = let same : filled ≡ end = cc in rw same refl
+scan-append-through room filled (x ∷ xs) ys end h =
+    let step = step-by (nat_le (with_area filled x).bit room) room filled x xs end refl h in
+    rw (le-yes _ _ step.fits) (scan-append-through room (with_area filled x) xs ys end step.rest)
+
+-- the part of two lists from a place in the first, or in the second
+drop-left : (xs ys : List Keyed) (n : ℕ) → n < length xs → drop n (xs ++ ys) ≡ drop n xs ++ ys
+drop-left xs ys n h = drop-append-le n xs ys (omega arith)
+
+drop-right : (xs ys : List Keyed) (n : ℕ) → length xs ≤ n → drop n (xs ++ ys) ≡ drop (n - length xs) ys
+drop-right xs ys n h = let e : n ≡ length xs + (n - length xs) = omega arith in ap (λ m. drop m (xs ++ ys)) e ∙ drop-append-add xs ys (n - length xs)
+
+pub found-left : (xs ys : List Keyed) (skip room : ℕ) (filled : Filled) (key : Key) → skip < length xs
+    → Found key ≡ scan room filled (drop skip xs) → Found key ≡ scan room filled (drop skip (xs ++ ys))
+found-left xs ys skip room filled key h f = rw (drop-left xs ys skip h) (sym (scan-append-found room filled (drop skip xs) ys key (sym f)))
+
+pub through-left : (xs ys : List Keyed) (skip room : ℕ) (filled end : Filled) (answer : Fit) → skip < length xs
+    → Through end ≡ scan room filled (drop skip xs) → answer ≡ scan room end ys → answer ≡ scan room filled (drop skip (xs ++ ys))
+through-left xs ys skip room filled end answer h f g =
+    rw (drop-left xs ys skip h) (g ∙ sym (scan-append-through room filled (drop skip xs) ys end (sym f)))
+
+pub right-alone : (xs ys : List Keyed) (skip room : ℕ) (filled : Filled) (answer : Fit) → length xs ≤ skip
+    → answer ≡ scan room filled (drop (skip - length xs) ys) → answer ≡ scan room filled (drop skip (xs ++ ys))
+right-alone xs ys skip room filled answer h f = rw (drop-right xs ys skip h) f
+
+-- an area was found for which there is no room
+abbrev pub IsFound : Fit → Type 0
+IsFound (Found key) = Unit {0}
+IsFound (Through end) = ⊥
+
+pub not-through : (room : ℕ) (filled : Filled) (areas : List Keyed) (answer : Fit) → filled.bit ≤ room → room < (with_areas filled areas).bit
+    → answer ≡ scan room filled areas → IsFound answer
+not-through room filled areas (Found key) h more e = tt
+not-through room filled areas (Through end) h more e =
+    let through = scan-through room filled areas end h (sym e) in
+    let bits : end.bit ≡ (with_areas filled areas).bit = ap (λ (r : Filled). r.bit) through.0 in
+    let low = through.1 in
+    absurd (omega arith)
+
+-- one step at a node, the left part through, then the right part
+pub most-both : (front : Bool) (answer : Fit) (end : Filled) (height old middle new : ℕ) → middle ≤ old + 1 + most_steps front (Through end) height
+    → new ≤ middle + most_steps true answer height → (front ≡ true → IsFound answer) → new ≤ old + most_steps front answer (height + 1)
+most-both true (Found key) end height old middle new a b f = omega arith
+most-both true (Through x) end height old middle new a b f = absurd (f refl)
+most-both false (Found key) end height old middle new a b f = omega arith
+most-both false (Through x) end height old middle new a b f = omega arith
+
+-- what the kept sum says of the end
+pub kept-end : (sum : Sum) (areas : List Keyed) (filled : Filled) → sum ≡ sum_of areas → ended sum filled ≡ with_areas filled areas
+kept-end sum areas filled h = ap (λ (x : Sum). ended x filled) h ∙ ended-sum_of areas filled
+
+pub found-leaf : (area : Keyed) (room : ℕ) (filled : Filled) → room < (with_areas filled (area ∷ [])).bit → Found area.0 ≡ scan room filled (area ∷ [])
+found-leaf area room filled h = rw (le-no _ _ h) refl

@@ -1,0 +1,46 @@
+use Rattle.std.proofs.Common.{◌≡◌, ◌+◌, ◌*◌, ◌<◌, ◌≤◌, ◌++◌, ◌∙◌, List, length, ap, sym, arith}
+use Rattle.std.specs.Prelude.{filter}
+use Rattle.hc_records.specs.declared.records.Dir.{Dir}
+use Rattle.hc_records.specs.declared.records.Dir.TheVariants.{Out, In}
+use Rattle.hc_records.specs.declared.keys.Key.{Key}
+use Rattle.hc_records.specs.TaskList.{Keyed}
+use Rattle.hc_bitsum.specs.Slots.{key_at}
+use Rattle.hc_bitsum.specs.Tree.{Tree, has_width, with_width}
+use Rattle.hc_bitsum.proofs.Halves.{wide-inputs, wide-outputs, with_bits-keeps}
+use Rattle.hc_bitsum.proofs.tree.SumTree.set.Goals as goal
+
+pub invariant_of-self : goal.invariant_of-self
+invariant_of-self c =
+    (rw c.set.ensures (with_bits-keeps Out c.self.inside.slaves c.self.inside.outputs c.place_of-place.result c.args.bits c.requires.narrow c.self.invariant.0), c.self.invariant.1)
+
+pub invariant_of-self-in-In : goal.invariant_of-self-in-In
+invariant_of-self-in-In c =
+    (c.self.invariant.0, rw c.set-in-In.ensures (with_bits-keeps In c.self.inside.slaves c.self.inside.inputs c.place_of-place.result c.args.bits c.requires.narrow c.self.invariant.1))
+
+pub returns-in-Out : goal.returns-in-Out
+returns-in-Out c =
+    let place = c.place_of-place.result in
+    let key : c.args.key ≡ key_at Out place = c.place_of-place.ensures.value ∙ ap (λ (d : Dir). key_at d place) c.in-Out.is in
+    let slaves : c.self.inside.slaves ≡ c.args.self.now.slaves = ap (λ (tree : Tree). tree.slaves) c.self.view_is in
+    let room = c.self.invariant.0.room in
+    let within = c.place_of-place.ensures.within in
+    let last = c.requires.place.last in
+    let area = c.requires.place.area in
+    let inside : place < length c.self.inside.outputs.areas = omega arith in
+    let set = wide-outputs place c.args.bits c.self.inside.outputs.areas c.self.inside.inputs.areas c.self.invariant.0.keys c.self.invariant.1.keys inside in
+    rw (← c.self.view_is, c.set.ensures, key)
+    (ap (λ (list : List Keyed). let tree : Tree = record { slaves = c.self.inside.slaves; list = list } in tree) set)
+
+pub returns-in-In : goal.returns-in-In
+returns-in-In c =
+    let place = c.place_of-place.result in
+    let key : c.args.key ≡ key_at In place = c.place_of-place.ensures.value ∙ ap (λ (d : Dir). key_at d place) c.in-In.is in
+    let slaves : c.self.inside.slaves ≡ c.args.self.now.slaves = ap (λ (tree : Tree). tree.slaves) c.self.view_is in
+    let room = c.self.invariant.1.room in
+    let within = c.place_of-place.ensures.within in
+    let last = c.requires.place.last in
+    let area = c.requires.place.area in
+    let inside : place < length c.self.inside.inputs.areas = omega arith in
+    let set = wide-inputs place c.args.bits c.self.inside.outputs.areas c.self.inside.inputs.areas c.self.invariant.0.keys c.self.invariant.1.keys inside in
+    rw (← c.self.view_is, c.set-in-In.ensures, key)
+    (ap (λ (list : List Keyed). let tree : Tree = record { slaves = c.self.inside.slaves; list = list } in tree) set)

@@ -1,0 +1,19 @@
+-- How areas fill a datagram, one behind another, whatever its room (this project's profile).
+use Rattle.std.specs.Prelude.{ℕ, ◌+◌, ◌==◌, if◌then◌else◌, List, [], ◌∷◌}
+use Rattle.hc_records.specs.TaskList.{Keyed}
+use Rattle.hc_records.specs.Packing.{Front, beginning}
+use Rattle.hc_bitsum.specs.declared.filled.Filled.{Filled}
+
+-- the datagram that is filled so far, as packing has it
+abbrev pub front_of : Filled → Front
+front_of filled = record { datagram = 0; bit = filled.bit; last = filled.last }
+
+-- an area behind what fills the datagram; one of no bits takes no place
+abbrev pub with_area : Filled → Keyed → Filled
+with_area filled area =
+    if area.1 == 0 then filled else record { bit = beginning (front_of filled) area + area.1; last = area.0.dir }
+
+-- the areas of a list behind it, in their order
+abbrev pub with_areas : Filled → List Keyed → Filled
+with_areas filled [] = filled
+with_areas filled (area ∷ areas) = with_areas (with_area filled area) areas

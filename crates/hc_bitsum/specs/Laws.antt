@@ -1,0 +1,30 @@
+-- What follows from the definition of a sum. Each is the contract of a function of `laws`.
+use Rattle.std.specs.Prelude.{◌≡◌, ℕ, ◌≤◌, List, ◌++◌}
+use Rattle.hc_records.specs.TaskList.{Keyed}
+use Rattle.hc_bitsum.specs.declared.filled.Filled.{Filled}
+use Rattle.hc_bitsum.specs.declared.sum.Sum.{Sum}
+use Rattle.hc_bitsum.specs.declared.sum.Sum.TheVariants.{Empty}
+use Rattle.hc_bitsum.specs.Filling.{with_area, with_areas}
+use Rattle.hc_bitsum.specs.Sums.{ended, joined, sum_of}
+
+abbrev pub JoiningIsAssociative : Type 0
+JoiningIsAssociative = (a b c : Sum) → joined (joined a b) c ≡ joined a (joined b c)
+
+pub record IsNeutral (empty : Sum) : Type 0 where
+  pub before : (sum : Sum) → joined empty sum ≡ sum
+  pub behind : (sum : Sum) → joined sum empty ≡ sum
+
+abbrev pub EmptyIsNeutral : Type 0
+EmptyIsNeutral = IsNeutral Empty
+
+-- the sum of two lists in a row is the join of their sums
+abbrev pub SumsOfRowsAreJoined : Type 0
+SumsOfRowsAreJoined = (areas others : List Keyed) → sum_of (areas ++ others) ≡ joined (sum_of areas) (sum_of others)
+
+-- the sum of a list says how far a datagram is filled once the list's areas stand in it, however far it was filled before
+abbrev pub SumsTellEnds : Type 0
+SumsTellEnds = (areas : List Keyed) (filled : Filled) → ended (sum_of areas) filled ≡ with_areas filled areas
+
+-- an end never falls when an area is appended
+abbrev pub EndsNeverFall : Type 0
+EndsNeverFall = (filled : Filled) (area : Keyed) → filled.bit ≤ (with_area filled area).bit

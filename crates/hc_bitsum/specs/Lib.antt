@@ -1,0 +1,9 @@
+pub mod Filling
+pub mod Sums
+pub mod Laws
+pub mod Search
+pub mod Slots
+pub mod Branch
+pub mod BranchFalls
+pub mod Tree
+pub mod Places

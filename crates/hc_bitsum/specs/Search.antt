@@ -1,0 +1,45 @@
+-- The first area of a list for which a datagram has no room.
+use Rattle.std.specs.Prelude.{ℕ, ◌+◌, ◌*◌, ◌≤◌, nat_le, Bool, true, false, not, if◌then◌else◌, List, [], ◌∷◌, filter}
+use Rattle.hc_records.specs.declared.records.Dir.TheVariants.{In}
+use Rattle.hc_records.specs.declared.keys.Key.{Key}
+use Rattle.hc_records.specs.declared.keys.TheConstants.Key.{END}
+use Rattle.hc_records.specs.Keys.{is_before}
+use Rattle.hc_records.specs.TaskList.{Keyed}
+use Rattle.hc_bitsum.specs.declared.filled.Filled.{Filled}
+use Rattle.hc_bitsum.specs.declared.branch.Fit.{Fit}
+use Rattle.hc_bitsum.specs.declared.branch.Fit.TheVariants.{Found, Through}
+use Rattle.hc_bitsum.specs.Filling.{with_area}
+
+-- goes over the areas as long as each ends within the room
+abbrev pub scan : ℕ → Filled → List Keyed → Fit
+scan room filled [] = Through filled
+scan room filled (area ∷ areas) =
+    if nat_le (with_area filled area).bit room then scan room (with_area filled area) areas else Found area.0
+
+abbrev pub key_or_end : Fit → Key
+key_or_end (Found key) = key
+key_or_end (Through filled) = END
+
+-- the key of the first area that would end past the room, or END
+abbrev pub first_beyond : ℕ → Filled → List Keyed → Key
+first_beyond room filled areas = key_or_end (scan room filled areas)
+
+-- a datagram that a run begins at a bit: nothing before it makes a first input begin a byte
+abbrev pub begun : ℕ → Filled
+begun bit = record { bit = bit; last = In }
+
+-- the areas of a list from a key on
+abbrev pub list_from : Key → List Keyed → List Keyed
+list_from key list = filter (λ area. not (is_before area.0 key)) list
+
+-- the nodes and areas that a search of a part of this height reads at most, by whether it begins at the part's front
+abbrev pub most_steps : Bool → Fit → ℕ → ℕ
+most_steps true (Through filled) height = 1
+most_steps true (Found key) height = 2 * height + 1
+most_steps false (Through filled) height = 2 * height + 1
+most_steps false (Found key) height = 4 * height + 1
+
+-- a search that goes through all areas leaves the datagram within the room
+abbrev pub IsInRoom : ℕ → Fit → Type 0
+IsInRoom room (Found key) = Unit {0}
+IsInRoom room (Through filled) = filled.bit ≤ room

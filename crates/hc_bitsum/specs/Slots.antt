@@ -1,0 +1,43 @@
+-- What a part of a tree is seen as: areas of one direction, in key order, each with its width, which may be 0.
+use Rattle.std.specs.Prelude.{◌≡◌, ℕ, zero, suc, ◌+◌, ◌/◌, ◌%◌, ◌^◌, ◌≤◌, List, [], ◌∷◌, ◌++◌, All, length, map}
+use Rattle.hc_records.specs.declared.limits.TheConstants.{MOST_AREA_BITS}
+use Rattle.hc_records.specs.declared.records.Dir.{Dir}
+use Rattle.hc_records.specs.declared.keys.Key.{Key}
+use Rattle.hc_records.specs.Lists.{changed_at}
+use Rattle.hc_records.specs.TaskList.{Keyed}
+
+-- areas, as many as the height says
+pub record Slots : Type 0 where
+  pub height : ℕ
+  pub areas : List Keyed
+
+abbrev pub IsNarrow : Keyed → Type 0
+IsNarrow area = area.1 ≤ MOST_AREA_BITS
+
+-- 2 ^ height areas of at most 11,888 bits
+pub record IsShaped (slots : Slots) : Type 0 where
+  pub many : length slots.areas ≡ 2 ^ slots.height
+  pub low : slots.height ≤ 15
+  pub narrow : All IsNarrow slots.areas
+
+abbrev pub leaf_slots : Key → ℕ → Slots
+leaf_slots key bits = record { height = 0; areas = (key, bits) ∷ [] }
+
+abbrev pub fork_slots : Slots → Slots → Slots
+fork_slots left right = record { height = left.height + 1; areas = left.areas ++ right.areas }
+
+-- the width of the area at a place is set
+abbrev pub set_at : ℕ → ℕ → List Keyed → List Keyed
+set_at at bits areas = changed_at at (λ area. (area.0, bits)) areas
+
+abbrev pub with_bits : Slots → ℕ → ℕ → Slots
+with_bits slots at bits = record { height = slots.height; areas = set_at at bits slots.areas }
+
+-- the key at a place of a direction: 8 areas for each slave
+abbrev pub key_at : Dir → ℕ → Key
+key_at dir place = record { dir = dir; rank = place / 8 + 1; area = place % 8 }
+
+-- 2 ^ height areas of no bits, the first of them at a place
+abbrev pub blank_slots : Dir → ℕ → ℕ → Slots
+blank_slots dir place zero = leaf_slots (key_at dir place) 0
+blank_slots dir place (suc height) = fork_slots (blank_slots dir place height) (blank_slots dir (place + 2 ^ height) height)

@@ -1,0 +1,34 @@
+-- What a tree of sums is seen as.
+use Rattle.std.specs.Prelude.{◌≡◌, ℕ, ◌+◌, ◌*◌, ◌<◌, ◌≤◌, ◌==◌, ◌⊎◌, nat_lt, Bool, if◌then◌else◌, List, [], ◌∷◌, ◌++◌, filter, length}
+use Rattle.hc_records.specs.declared.records.Dir.{Dir}
+use Rattle.hc_records.specs.declared.records.Dir.TheVariants.{Out, In}
+use Rattle.hc_records.specs.declared.keys.Key.{Key}
+use Rattle.hc_records.specs.declared.keys.TheConstants.Key.{START}
+use Rattle.hc_records.specs.declared.limits.TheConstants.{MOST_AREAS, MOST_SLAVES}
+use Rattle.hc_records.specs.Keys.{is_before}
+use Rattle.hc_records.specs.TaskList.{Keyed}
+
+-- how many slaves it has places for, and the areas with a width, in key order
+pub record Tree : Type 0 where
+  pub slaves : ℕ
+  pub list : List Keyed
+
+-- there is a place for an area with the key
+pub record HasPlace (slaves : ℕ) (key : Key) : Type 0 where
+  pub first : 1 ≤ key.rank
+  pub last : key.rank ≤ slaves
+  pub area : key.area < MOST_AREAS
+
+-- a search begins at the front of the list, or at a key that has a place
+abbrev pub CanBegin : ℕ → Key → Type 0
+CanBegin slaves key = (key ≡ START) ⊎ HasPlace slaves key
+
+abbrev pub has_width : Keyed → Bool
+has_width area = nat_lt 0 area.1
+
+-- the list with the width of a key set: between those of lower and of higher keys, and not at all where it has no bits
+abbrev pub with_width : Key → ℕ → List Keyed → List Keyed
+with_width key bits list =
+    filter (λ area. is_before area.0 key) list
+    ++ (if bits == 0 then [] else (key, bits) ∷ [])
+    ++ filter (λ area. is_before key area.0) list

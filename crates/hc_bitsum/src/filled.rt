@@ -1,0 +1,34 @@
+//! How far a datagram is filled.
+ghost use Rattle.std.specs.Prelude.{◌≡◌, ◌+◌, ◌^◌, ◌<◌};
+ghost use Rattle.hc_bitsum.specs.Search.{begun};
+ghost use Rattle.hc_bitsum.specs.Sums.{ended};
+
+use crate::sum::Sum;
+use hc_records::records::Dir;
+
+/// How far a datagram is filled: its first free bit, and the direction of the area before that bit.
+#[derive(Clone, Copy, Debug, PartialEq, Eq)]
+pub struct Filled {
+    /// The first free bit, counted from the least significant bit of byte 0.
+    pub bit: u32,
+    /// The direction of the area before that bit.
+    pub last: Dir,
+}
+
+impl Filled {
+    /// A datagram in which a run begins at a bit: nothing before it makes a first input begin a byte.
+    pub fn begun(bit: u32) -> Filled
+        ensures { result ≡ begun bit }
+    {
+        Filled { bit, last: Dir::In }
+    }
+
+    /// How far it is filled once a run of areas stands behind what fills it.
+    pub fn after(self, run: &Sum) -> Filled
+        requires here { self.bit < 2 ^ 31 }
+        requires there { (ended run.now self).bit < 2 ^ 32 }
+        ensures { result ≡ ended run.now self }
+    {
+        run.ended(self)
+    }
+}

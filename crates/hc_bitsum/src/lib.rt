@@ -1,0 +1,12 @@
+//! Sums of what areas take of a datagram, and trees of such sums over a task's areas: a search in a
+//! tree finds the area that a datagram has no room for, without going over the areas before it.
+#![tactic(auto)]
+
+mod branch;
+pub mod filled;
+pub mod laws;
+pub mod steps;
+pub mod sum;
+#[cfg(test)]
+mod tests;
+pub mod tree;

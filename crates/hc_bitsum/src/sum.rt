@@ -1,0 +1,157 @@
+//! What a run of areas takes of a datagram.
+ghost use Rattle.std.specs.Prelude.{◌≡◌, ◌+◌, ◌^◌, ◌<◌, ◌≤◌, ℕ};
+ghost use Rattle.hc_records.specs.Keys.{is_turn};
+ghost use Rattle.hc_records.specs.Packing.{next_byte};
+ghost use Rattle.hc_records.specs.declared.limits.TheConstants.{MOST_AREA_BITS};
+ghost use Rattle.hc_bitsum.specs.Sums.{EndsBelow, end_from, ended, ends_by, joined, start_at, sum_of_area};
+
+use crate::filled::Filled;
+use hc_records::records::Dir;
+
+/// The sum of a run of areas.
+#[derive(Clone, Copy, Debug, PartialEq, Eq)]
+pub enum Sum {
+    /// No area with a width.
+    Empty,
+    /// The direction of the first area, that of the last one, and the bit behind the run where it
+    /// starts at each of the 8 bits of byte 0.
+    Run {
+        first: Dir,
+        last: Dir,
+        ends: [u32; 8],
+    },
+}
+
+/// The first byte border at or behind a bit.
+fn byte_border(bit: u32) -> u32
+    requires { bit < 2 ^ 31 }
+    ensures { result ≡ next_byte bit }
+{
+    (bit + 7) / 8 * 8
+}
+
+/// Whether an input comes behind an output.
+fn is_turning(last: Dir, dir: Dir) -> bool
+    ensures { result ≡ is_turn last dir }
+{
+    last == Dir::Out && dir == Dir::In
+}
+
+/// The bit from which a run starts behind another.
+fn start_at(turns: bool, bit: u32) -> u32
+    requires { bit < 2 ^ 31 }
+    ensures { result ≡ start_at turns bit }
+{
+    if turns { byte_border(bit) } else { bit }
+}
+
+/// The bit behind a run with these ends that starts at a bit.
+fn end_from(ends: &[u32; 8], bit: u32) -> u32
+    requires { end_from ends.now bit < 2 ^ 32 }
+    ensures { result ≡ end_from ends.now bit }
+{
+    bit / 8 * 8 + ends[(bit % 8) as usize]
+}
+
+/// The bit behind two runs of which the first starts at a bit.
+fn end_of_both(ends: &[u32; 8], turns: bool, laters: &[u32; 8], bit: u32) -> u32
+    requires first { end_from ends.now bit < 2 ^ 31 }
+    requires both { end_from laters.now (start_at turns (end_from ends.now bit)) < 2 ^ 31 }
+    ensures { result ≡ end_from laters.now (start_at turns (end_from ends.now bit)) }
+{
+    end_from(laters, start_at(turns, end_from(ends, bit)))
+}
+
+/// The ends of two runs in a row.
+fn ends_of_both(ends: &[u32; 8], turns: bool, laters: &[u32; 8]) -> [u32; 8]
+    requires first { (bit : ℕ) → bit < 8 → end_from ends.now bit < 2 ^ 31 }
+    requires both { (bit : ℕ) → bit < 8 → end_from laters.now (start_at turns (end_from ends.now bit)) < 2 ^ 31 }
+    ensures { result ≡ ends_by (λ bit. end_from laters.now (start_at turns (end_from ends.now bit))) }
+{
+    let mut both = [0; 8];
+    for bit in 0..8 {
+        both[bit] = end_of_both(ends, turns, laters, bit as u32);
+    }
+    both
+}
+
+impl Sum {
+    /// The sum of no area: joined to another, it changes nothing.
+    pub const EMPTY: Sum = Sum::Empty;
+
+    /// The sum of one area, of a width of at most 11,888 bits; an area of no bits takes no place.
+    pub fn of(dir: Dir, bits: u16) -> Sum
+        requires { bits ≤ MOST_AREA_BITS }
+        ensures { result ≡ sum_of_area dir bits }
+    {
+        if bits == 0 {
+            return Sum::Empty;
+        }
+        let bits = u32::from(bits);
+        let ends = if bits < 8 {
+            [
+                bits,
+                bits + 1,
+                bits + 2,
+                bits + 3,
+                bits + 4,
+                bits + 5,
+                bits + 6,
+                bits + 7,
+            ]
+        } else {
+            let later = bits + 8;
+            [bits, later, later, later, later, later, later, later]
+        };
+        Sum::Run {
+            first: dir,
+            last: dir,
+            ends,
+        }
+    }
+
+    /// The sum of this run and then another. Every end of both lies below bit 2^31: of at most 32,768
+    /// areas it does.
+    pub fn join(self, later: Sum) -> Sum
+        requires own { EndsBelow (2 ^ 31) self }
+        requires both { EndsBelow (2 ^ 31) (joined self later) }
+        ensures { result ≡ joined self later }
+    {
+        match self {
+            Sum::Empty => later,
+            Sum::Run { first, last, ends } => match later {
+                Sum::Empty => self,
+                Sum::Run {
+                    first: next,
+                    last: end,
+                    ends: laters,
+                } => {
+                    let turns = is_turning(last, next);
+                    Sum::Run {
+                        first,
+                        last: end,
+                        ends: ends_of_both(&ends, turns, &laters),
+                    }
+                }
+            },
+        }
+    }
+
+    /// How far a datagram is filled once this run stands behind what fills it.
+    pub(crate) fn ended(&self, filled: Filled) -> Filled
+        requires here { filled.bit < 2 ^ 31 }
+        requires there { (ended self.now filled).bit < 2 ^ 32 }
+        ensures { result ≡ ended self.now filled }
+    {
+        match self {
+            Sum::Empty => filled,
+            Sum::Run { first, last, ends } => {
+                let start = start_at(is_turning(filled.last, *first), filled.bit);
+                Filled {
+                    bit: end_from(ends, start),
+                    last: *last,
+                }
+            }
+        }
+    }
+}

@@ -1,0 +1,161 @@
+//! A tree of sums over the areas of a task: those with a width, in key order.
+ghost use Rattle.std.specs.Prelude.{◌≡◌, ◌+◌, ◌*◌, ◌^◌, ◌<◌, ◌≤◌, ◌++◌, drop, length};
+ghost use Rattle.hc_records.specs.declared.limits.TheConstants.{MOST_SLAVES};
+ghost use Rattle.hc_bitsum.specs.Tree.{CanBegin, HasPlace};
+ghost use Rattle.hc_bitsum.specs.Search.{scan};
+ghost use Rattle.hc_bitsum.specs.Slots.{IsShaped, key_at};
+
+use crate::branch::{Branch, Fit};
+use crate::filled::Filled;
+use crate::steps::Steps;
+use crate::sum::Sum;
+use hc_records::keys::Key;
+use hc_records::records::Dir;
+use std::alloc::{AllocError, Global};
+use std::marker::Model;
+use std::sync::ledger::Ledger;
+
+/// The areas of a task with their widths, in two halves: outputs and inputs.
+#[derive(Debug, Drop)]
+pub struct SumTree {
+    slaves: u16,
+    outputs: Branch,
+    inputs: Branch,
+}
+
+impl Model for SumTree {
+    ghost use Rattle.std.specs.Prelude.{◌++◌, filter};
+    ghost use Rattle.hc_records.specs.declared.records.Dir.TheVariants.{Out, In};
+    ghost use Rattle.hc_bitsum.specs.Tree.{Tree, has_width};
+    ghost use Rattle.hc_bitsum.specs.Places.{KeepsSlaves};
+
+    ghost Value = { Tree };
+
+    ghost view = { λ tree. record { slaves = tree.slaves; list = filter has_width (tree.outputs.areas ++ tree.inputs.areas) } };
+
+    ghost invariant = { λ tree. KeepsSlaves Out tree.slaves tree.outputs × KeepsSlaves In tree.slaves tree.inputs };
+}
+
+/// The least height whose areas are 8 for each slave.
+fn height_of(slaves: u16) -> u32
+    requires { slaves ≤ MOST_SLAVES }
+    ensures room { 8 * slaves ≤ 2 ^ result }
+    ensures low { result ≤ 14 }
+{
+    for height in 0..14 {
+        if 8 * u32::from(slaves) <= 1 << height {
+            return height;
+        }
+    }
+    14
+}
+
+/// The place of a key in its direction.
+fn place_of(key: Key) -> u32
+    requires first { 1 ≤ key.rank }
+    requires area { key.area < 8 }
+    ensures value { key ≡ key_at key.dir result }
+    ensures within { result + 8 ≡ 8 * key.rank + key.area }
+{
+    8 * (u32::from(key.rank) - 1) + u32::from(key.area)
+}
+
+/// Fills a datagram with the areas of two parts in a row, from the one behind `skip` others of the first
+/// part on, as long as each ends within the room, in bits.
+fn fit_both<L: Ledger>(
+    first: &Branch,
+    second: &Branch,
+    skip: u32,
+    filled: Filled,
+    room: u32,
+    steps: &mut Steps<L>,
+) -> Fit
+    requires within { skip < length first.now.areas }
+    requires first { IsShaped first.now }
+    requires second { IsShaped second.now }
+    requires here { filled.bit ≤ room }
+    requires room { room < 2 ^ 30 }
+    ensures fit { result ≡ scan room filled (drop skip (first.now.areas ++ second.now.areas)) }
+    ensures least { steps.old + 1 ≤ steps.new }
+    ensures most { steps.new ≤ steps.old + 62 }
+{
+    match first.fit(skip, filled, room, steps) {
+        Fit::Found(key) => Fit::Found(key),
+        Fit::Through(end) => second.fit(0, end, room, steps),
+    }
+}
+
+impl SumTree {
+    ghost use Rattle.std.specs.Prelude.{◌≡◌, [], IfOk};
+    ghost use Rattle.hc_records.specs.declared.keys.TheConstants.Key.{START};
+    ghost use Rattle.hc_records.specs.declared.limits.TheConstants.{MOST_AREA_BITS};
+    ghost use Rattle.hc_bitsum.specs.Search.{begun, first_beyond, list_from};
+    ghost use Rattle.hc_bitsum.specs.Sums.{sum_of};
+    ghost use Rattle.hc_bitsum.specs.Tree.{with_width};
+
+    /// A tree with places for the areas of so many slaves, at most 2,048, none of which has a width
+    /// yet. `AllocError` where a growth was refused.
+    pub fn new(alloc: Global, slaves: u16) -> Result<SumTree, AllocError>
+        requires { slaves ≤ MOST_SLAVES }
+        ensures { IfOk result (λ tree. tree ≡ record { slaves = slaves; list = [] }) }
+    {
+        let height = height_of(slaves);
+        Ok(SumTree {
+            slaves,
+            outputs: Branch::blank(alloc, Dir::Out, 0, height)?,
+            inputs: Branch::blank(alloc, Dir::In, 0, height)?,
+        })
+    }
+
+    /// Sets the width of an area of one of its slaves, at most 11,888 bits; an area of no bits takes no
+    /// place. It takes no memory.
+    pub fn set(&mut self, key: Key, bits: u16)
+        requires place { HasPlace self.old.slaves key }
+        requires narrow { bits ≤ MOST_AREA_BITS }
+        ensures { self.new ≡ record self.old { list = with_width key bits self.old.list } }
+    {
+        let place = place_of(key);
+        match key.dir {
+            Dir::Out => self.outputs.set(place, bits),
+            Dir::In => self.inputs.set(place, bits),
+        }
+    }
+
+    /// The sum of all its areas.
+    pub fn total(&self) -> Sum
+        ensures { result ≡ sum_of self.now.list }
+    {
+        self.outputs.total().join(self.inputs.total())
+    }
+
+    /// The key behind the longest run of areas from a key on that ends within a room where it begins at
+    /// a bit: the key of the first area that would end past the room, or `Key::END` where none does.
+    /// The key is one that `set` takes, or `Key::START`, from which all areas are gone over; bit and
+    /// room are at most 11,888. Each node and area that is read is a step, at least 1 and at most 62.
+    /// It takes no memory.
+    pub fn last_fit<L: Ledger>(&self, from: Key, phase: u32, room: u32, steps: &mut Steps<L>) -> Key
+        requires from { CanBegin self.now.slaves from }
+        requires phase { phase ≤ room }
+        requires room { room ≤ MOST_AREA_BITS }
+        ensures key { result ≡ first_beyond room (begun phase) (list_from from self.now.list) }
+        ensures least { steps.old + 1 ≤ steps.new }
+        ensures most { steps.new ≤ steps.old + 62 }
+    {
+        let filled = Filled::begun(phase);
+        if from.rank == 0 {
+            return fit_both(&self.outputs, &self.inputs, 0, filled, room, steps).key_or_end();
+        }
+        let place = place_of(from);
+        match from.dir {
+            Dir::Out => fit_both(
+                &self.outputs,
+                &self.inputs,
+                place,
+                filled,
+                room,
+                steps,
+            ).key_or_end(),
+            Dir::In => self.inputs.fit(place, filled, room, steps).key_or_end(),
+        }
+    }
+}
