@@ -2,10 +2,10 @@
 use Rattle.std.specs.Prelude.{◌+◌, ◌*◌, ◌<◌, ◌≤◌, All}
 use Rattle.hc_records.specs.declared.limits.TheConstants.{MOST_AREA_BITS, MOST_DATAGRAMS, MOST_DATAGRAM_BYTES, MOST_ENTRY_BITS, TASKS}
 use Rattle.hc_records.specs.declared.records.Area.{Area}
-use Rattle.hc_records.specs.Area.{Entry}
 use Rattle.hc_records.specs.Image.{VariablePlace}
 use Rattle.hc_records.specs.Laws.{IsDatagramLength}
 use Rattle.hc_places.specs.declared.table.Datagram.{Datagram}
+use Rattle.hc_records.specs.Limits.{IsEntryInside}
 
 -- a variable has 1 to 64 bits, within the bits of one of the 16 datagrams of one of the eight tasks
 pub record IsPlace (place : VariablePlace) : Type 0 where
@@ -20,11 +20,6 @@ pub record IsDatagram (datagram : Datagram) : Type 0 where
   pub sendable : IsDatagramLength datagram.length
   pub image : datagram.offset + datagram.length ≤ MOST_DATAGRAMS * MOST_DATAGRAM_BYTES
 
--- an entry has 1 to 64 bits
-pub record HasBits (entry : Entry) : Type 0 where
-  pub some : 1 ≤ entry.1
-  pub most : entry.1 ≤ MOST_ENTRY_BITS
-
--- and so has each that an area offers
+-- each entry that an area offers has 1 to 64 bits
 abbrev pub OffersBits : Area → Type 0
-OffersBits area = All (λ pdo. All HasBits pdo.entries) area.offered
+OffersBits area = All (λ pdo. All IsEntryInside pdo.entries) area.offered

@@ -6,7 +6,8 @@ ghost use Rattle.hc_records.specs.Image.{area_variables, variables_from};
 ghost use Rattle.hc_records.specs.TaskList.{keyed};
 ghost use Rattle.hc_records.specs.declared.limits.TheConstants.{MOST_AREA_BITS, MOST_DATAGRAMS, TASKS};
 ghost use Rattle.hc_places.specs.Parts.{AreSendable, row_at};
-ghost use Rattle.hc_places.specs.Ranges.{HasBits, OffersBits};
+ghost use Rattle.hc_records.specs.Limits.{IsEntryInside};
+ghost use Rattle.hc_places.specs.Ranges.{OffersBits};
 
 use crate::areas::Listed;
 use crate::table::Place;
@@ -33,7 +34,7 @@ fn add_entries(
     requires task { carrier.task < TASKS }
     requires datagram { carrier.datagram < MOST_DATAGRAMS }
     requires inside { first + bits_of entries.now ≤ MOST_AREA_BITS }
-    requires widths { All HasBits entries.now }
+    requires widths { All IsEntryInside entries.now }
     ensures rows { OnOk result (rows.new.items ≡ rows.old.items ++ map (row_at carrier.task carrier.datagram carrier.dir) (variables_from first entries.now)) }
     ensures behind { IfOk result (λ behind. behind ≡ first + bits_of entries.now) }
 {
