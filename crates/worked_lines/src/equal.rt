@@ -46,7 +46,7 @@ pub fn is_same_table(one: &Places, other: &Places, last: u32) -> bool {
 }
 
 /// Whether two blocks have the same bytes at the same register.
-fn is_same_block(one: &Block, other: &Block) -> bool {
+pub fn is_same_block(one: &Block, other: &Block) -> bool {
     one.register() == other.register() && one.bytes() == other.bytes()
 }
 

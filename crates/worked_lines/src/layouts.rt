@@ -1,5 +1,5 @@
 //! What the plans of worked lines answer at their opening: datagrams, parts, blocks and places.
-use crate::texts::{Refused, datagram, full_text, line_text, plan_of, seen};
+use crate::texts::{Refused, Width, datagram, plan_of, plan_of_widths, seen};
 use hc_places::table::{Datagram, Place};
 use hc_records::faults::EditFault;
 use hc_records::records::{Dir, VarId};
@@ -86,11 +86,10 @@ fn an_input_begins_the_next_byte(rt: HostRuntime) -> Result<(), Fail> {
 
 #[test]
 fn one_bit_more_begins_a_datagram(rt: HostRuntime) -> Result<(), Fail> {
-    let text = line_text(
+    let plan = plan_of_widths(
         rt.alloc(),
-        &[&[("out", 8 * 1485)], &[("out", 8)], &[("out", 1)]],
+        &[&[(Dir::Out, 8 * 1485)], &[(Dir::Out, 8)], &[(Dir::Out, 1)]],
     )?;
-    let plan = plan_of(rt.alloc(), text.as_str())?;
     let first = Datagram {
         address: 0x0100_0000,
         length: 1486,
@@ -111,15 +110,14 @@ fn one_bit_more_begins_a_datagram(rt: HostRuntime) -> Result<(), Fail> {
 
 #[test]
 fn eight_areas_fill_five_datagrams(rt: HostRuntime) -> Result<(), Fail> {
-    let small = [("out", 8 * 700)];
-    let large = [("out", 8 * 1400)];
-    let text = line_text(
+    let small = [(Dir::Out, 8 * 700)];
+    let large = [(Dir::Out, 8 * 1400)];
+    let plan = plan_of_widths(
         rt.alloc(),
         &[
             &small, &small, &small, &small, &small, &large, &small, &small,
         ],
     )?;
-    let plan = plan_of(rt.alloc(), text.as_str())?;
     let lengths = [seen(&plan, 0), seen(&plan, 1), seen(&plan, 2)];
     assert_eq!(rt; lengths, [(1400, 4), (1400, 4), (700, 2)]);
     let lengths = [seen(&plan, 3), seen(&plan, 4), seen(&plan, 5)];
@@ -135,11 +133,14 @@ fn eight_areas_fill_five_datagrams(rt: HostRuntime) -> Result<(), Fail> {
 
 #[test]
 fn an_area_that_does_not_fit_begins_a_datagram(rt: HostRuntime) -> Result<(), Fail> {
-    let text = line_text(
+    let plan = plan_of_widths(
         rt.alloc(),
-        &[&[("out", 8000)], &[("out", 5600)], &[("out", 5600)]],
+        &[
+            &[(Dir::Out, 8000)],
+            &[(Dir::Out, 5600)],
+            &[(Dir::Out, 5600)],
+        ],
     )?;
-    let plan = plan_of(rt.alloc(), text.as_str())?;
     let lengths = [seen(&plan, 0), seen(&plan, 1), seen(&plan, 2)];
     assert_eq!(rt; lengths, [(1000, 2), (1400, 4), (0, 0)]);
     Ok(())
@@ -147,11 +148,10 @@ fn an_area_that_does_not_fit_begins_a_datagram(rt: HostRuntime) -> Result<(), Fa
 
 #[test]
 fn inputs_stand_behind_all_outputs(rt: HostRuntime) -> Result<(), Fail> {
-    let gripper = [("out", 800), ("in", 800)];
-    let both = [("out", 11_200), ("in", 11_200)];
-    let output = [("out", 11_200)];
-    let text = line_text(rt.alloc(), &[&gripper, &both, &output, &output])?;
-    let plan = plan_of(rt.alloc(), text.as_str())?;
+    let gripper = [(Dir::Out, 800), (Dir::In, 800)];
+    let both = [(Dir::Out, 11_200), (Dir::In, 11_200)];
+    let output = [(Dir::Out, 11_200)];
+    let plan = plan_of_widths(rt.alloc(), &[&gripper, &both, &output, &output])?;
     let outputs = [
         seen(&plan, 0),
         seen(&plan, 1),
@@ -165,13 +165,14 @@ fn inputs_stand_behind_all_outputs(rt: HostRuntime) -> Result<(), Fail> {
     Ok(())
 }
 
+/// The areas of a slave with an output area of 1,400 bytes.
+const FULL: &[Width] = &[(Dir::Out, 8 * 1400)];
+
 #[test]
 fn a_seventeenth_datagram_is_refused(rt: HostRuntime) -> Result<(), Fail> {
-    let text = full_text(rt.alloc(), 16)?;
-    let plan = plan_of(rt.alloc(), text.as_str())?;
+    let plan = plan_of_widths(rt.alloc(), &[FULL; 16])?;
     assert_eq!(rt; seen(&plan, 15), (1400, 2));
-    let text = full_text(rt.alloc(), 17)?;
-    match plan_of(rt.alloc(), text.as_str()) {
+    match plan_of_widths(rt.alloc(), &[FULL; 17]) {
         Err(Refused::Opening(EditFault::TooManyDatagrams(task))) => assert_eq!(rt; task, 0),
         Err(Refused::Opening(EditFault::Memory)) => return Err(Fail::from("memory")),
         _ => assert!(rt; false),

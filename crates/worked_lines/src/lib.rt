@@ -11,6 +11,12 @@ mod equal;
 #[cfg(test)]
 mod layouts;
 #[cfg(test)]
+mod lines;
+#[cfg(test)]
 mod records;
 #[cfg(test)]
+mod spans;
+#[cfg(test)]
 mod texts;
+#[cfg(test)]
+mod told;

@@ -34,6 +34,22 @@ pub fn list(number: u8) -> (&'static [u16], Option<EditFault>) {
     }
 }
 
+/// The bits of the list of PDOs with a number, of one that an area can have assigned.
+fn bits_of(number: u8) -> u32 {
+    match number {
+        1 => 3,
+        2 => 3971,
+        3 => 3 + 3971,
+        4 => 3971 + 3 + 4035,
+        5 => 4035 + 4035,
+        _ => 0,
+    }
+}
+
+/// The bits of each key in a task's list, 0 where it isn't in it: first the keys of the 24 output areas,
+/// then those of the 24 input areas, each in the order of their slaves.
+pub type Widths = [u32; AREAS];
+
 /// An edit, by the number of its group or of its area, from 0 on. Past the last it is one that is not
 /// declared.
 #[derive(Clone, Copy, Debug)]
@@ -188,6 +204,28 @@ impl Records {
         let mut groups = Items::new(alloc);
         groups.push(Group { alias: 0, slaves })?;
         Ok(groups)
+    }
+
+    /// The bits that an area has in a task's list.
+    fn width(&self, area: u8, task: u8) -> u32 {
+        let index = usize::from(area);
+        if self.present.get(index / 8) == Some(&true) && self.tasks.get(index) == Some(&task) {
+            return bits_of(self.lists.get(index).copied().unwrap_or(0));
+        }
+        0
+    }
+
+    /// The widths of the keys in a task's list.
+    pub fn widths(&self, task: u8) -> Widths {
+        let mut widths = [0; AREAS];
+        for area in 0..48 {
+            put(
+                &mut widths,
+                area / 2 + 24 * (area % 2),
+                self.width(area, task),
+            );
+        }
+        widths
     }
 
     fn connect_fault(&self, group: u8) -> Option<EditFault> {

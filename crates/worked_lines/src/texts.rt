@@ -1,14 +1,19 @@
-//! Project texts of lines that are known by the widths of their areas, and their plans.
+//! The plans of project texts, and of lines that are known by the widths of their areas.
 use hc_places::table::Datagram;
 use hc_plan::plan::Plan;
 use hc_project::read_project;
 use hc_records::faults::{EditFault, ProjectFault};
+use hc_records::items::Items;
 use hc_records::project::Project;
+use hc_records::records::{Area, Dir, Entry, Group, Pdo, Slave};
 use std::alloc::{AllocError, Global};
 use thiserror::Error;
 
 /// The bits that a PDO of 64 entries holds.
-const PDO_BITS: u32 = 4096;
+const PDO_BITS: u16 = 4096;
+
+/// The direction and the bits of an area.
+pub type Width = (Dir, u16);
 
 /// Why a text has no plan.
 #[derive(Debug, Drop, Error)]
@@ -51,81 +56,82 @@ pub fn seen(plan: &Plan, number: u8) -> (u16, u16) {
     }
 }
 
-/// Adds entries without variables that have so many bits together.
-fn add_entries(text: &mut String, bits: u32) -> Result<(), AllocError> {
+/// Entries without variables that have so many bits together.
+fn entries(alloc: Global, bits: u16) -> Result<Items<Entry>, AllocError> {
+    let mut entries = Items::new(alloc);
     for _ in 0..bits / 64 {
-        text.push_str("[0, 64], ")?;
+        entries.push((None, 64))?;
     }
     let left = bits % 64;
     if left > 0 {
-        write!(text, "[0, {left}]")?;
+        entries.push((None, left as u8))?;
     }
-    Ok(())
+    Ok(entries)
 }
 
-/// Adds PDOs that have so many bits together, with the indexes from 0 on.
-fn add_pdos(text: &mut String, bits: u32) -> Result<(), AllocError> {
+/// PDOs that have so many bits together, with the indexes from 0 on.
+fn pdos(alloc: Global, bits: u16) -> Result<Items<Pdo>, AllocError> {
+    let mut pdos = Items::new(alloc);
     let mut left = bits;
     for index in 0..bits.div_ceil(PDO_BITS) {
         let own = left.min(PDO_BITS);
         left -= own;
-        write!(text, "{{ index = {index}, entries = [")?;
-        add_entries(text, own)?;
-        text.push_str("] }, ")?;
+        let entries = entries(alloc, own)?;
+        pdos.push(Pdo { index, entries })?;
     }
-    Ok(())
+    Ok(pdos)
 }
 
-/// Adds the indexes of these PDOs.
-fn add_indexes(text: &mut String, bits: u32) -> Result<(), AllocError> {
+/// The indexes of these PDOs.
+fn indexes(alloc: Global, bits: u16) -> Result<Items<u16>, AllocError> {
+    let mut indexes = Items::new(alloc);
     for index in 0..bits.div_ceil(PDO_BITS) {
-        write!(text, "{index}, ")?;
+        indexes.push(index)?;
     }
-    Ok(())
+    Ok(indexes)
 }
 
-/// Adds areas of task 0, each with its direction and its bits.
-fn add_areas(text: &mut String, areas: &[(&str, u32)]) -> Result<(), AllocError> {
-    for i in 0..areas.len() {
-        let (dir, bits) = areas[i];
-        let phys = if i == 0 { 0x1000 } else { 0x2000 };
-        write!(
-            text,
-            "{{ sm = {i}, dir = \"{dir}\", phys = {phys}, task = 0, pdo = ["
-        )?;
-        add_pdos(text, bits)?;
-        text.push_str("], assigned = [")?;
-        add_indexes(text, bits)?;
-        text.push_str("] }, ")?;
-    }
-    Ok(())
+/// An area of task 0 with a direction and so many bits, all of its PDOs assigned.
+fn area(alloc: Global, sm: u8, dir: Dir, bits: u16) -> Result<Area, AllocError> {
+    let offered = pdos(alloc, bits)?;
+    Ok(Area {
+        sm,
+        dir,
+        phys: if sm == 0 { 0x1000 } else { 0x2000 },
+        offered,
+        assigned: indexes(alloc, bits)?,
+        task: 0,
+    })
 }
 
-/// Adds a slave with at most two areas.
-fn add_slave(text: &mut String, station: usize, areas: &[(&str, u32)]) -> Result<(), AllocError> {
-    write!(text, "{{ station = {station}, area = [")?;
-    add_areas(text, areas)?;
-    text.push_str("] }, ")
+/// A slave with at most two areas, each with its direction and its bits.
+fn slave(alloc: Global, station: u16, widths: &[Width]) -> Result<Slave, AllocError> {
+    let mut areas = Items::new(alloc);
+    let mut sm = 0_u8;
+    for width in widths {
+        areas.push(area(alloc, sm, width.0, width.1)?)?;
+        sm = sm.saturating_add(1);
+    }
+    Ok(Slave { station, areas })
 }
 
-/// The text of a line of mandatory slaves with these areas and the stations from 1 on.
-pub fn line_text(alloc: Global, slaves: &[&[(&str, u32)]]) -> Result<String, AllocError> {
-    let mut text = String::new(alloc);
-    text.push_str("slave = [")?;
-    for i in 0..slaves.len() {
-        add_slave(&mut text, i + 1, slaves[i])?;
+/// The mandatory group of slaves with these areas and the stations from 1 on.
+fn mandatory(alloc: Global, line: &[&[Width]]) -> Result<Items<Group>, AllocError> {
+    let mut slaves = Items::new(alloc);
+    let mut station = 1_u16;
+    for widths in line {
+        slaves.push(slave(alloc, station, widths)?)?;
+        station = station.saturating_add(1);
     }
-    text.push_str("]")?;
-    Ok(text)
+    let mut groups = Items::new(alloc);
+    groups.push(Group { alias: 0, slaves })?;
+    Ok(groups)
 }
 
-/// The text of a line of so many mandatory slaves with one output area of 1,400 bytes each.
-pub fn full_text(alloc: Global, count: usize) -> Result<String, AllocError> {
-    let mut text = String::new(alloc);
-    text.push_str("slave = [")?;
-    for i in 0..count {
-        add_slave(&mut text, i + 1, &[("out", 8 * 1400)])?;
+/// The plan of a line of mandatory slaves with these areas and the stations from 1 on.
+pub fn plan_of_widths(alloc: Global, line: &[&[Width]]) -> Result<Plan, Refused> {
+    match mandatory(alloc, line) {
+        Ok(groups) => opened(alloc, Project::checked(alloc, groups)),
+        Err(_) => Err(Refused::Opening(EditFault::Memory)),
     }
-    text.push_str("]")?;
-    Ok(text)
 }
