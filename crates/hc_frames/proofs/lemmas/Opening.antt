@@ -7,7 +7,7 @@ use Rattle.std.proofs.lemmas.List.Sums.{sum_by-cons}
 use Rattle.std.proofs.lemmas.Grind.{common_steps}
 use Rattle.hc_frames.specs.FrameText.{datagram_text, datagrams_text, frame_head, frame_text, padding, blank_lrw, lrw}
 use Rattle.hc_frames.specs.Handing.{first_address, more_follow}
-use Rattle.hc_frames.specs.Opened.{first_size}
+use Rattle.hc_frames.specs.Standing.{StandOpen, first_size}
 use Rattle.hc_frames.specs.Sizes.{datagrams_size}
 use Rattle.hc_frames.proofs.Spelled.{datagram_length}
 
@@ -21,8 +21,8 @@ pub blank_length : (serial : ℕ) (more : Bool) (d : ℕ × ℕ) → length (dat
 blank_length serial more d = datagram_length serial d.0 d.1 more (replicate d.1 0) (length-replicate d.1 0)
 
 -- the others stand open where the first was cut off
-pub open_others : (serial : ℕ) (ds : List (ℕ × ℕ)) (rest : List ℕ) → rest ≡ datagrams_text serial (map blank_lrw ds) ++ drop (datagrams_size ds) rest
-    → let behind : List ℕ = drop (12 + first_size ds) rest in 0 < length ds → behind ≡ datagrams_text serial (map blank_lrw (drop 1 ds)) ++ drop (datagrams_size (drop 1 ds)) behind
+pub open_others : (serial : ℕ) (ds : List (ℕ × ℕ)) (rest : List ℕ) → StandOpen serial ds rest
+    → let behind : List ℕ = drop (12 + first_size ds) rest in 0 < length ds → StandOpen serial (drop 1 ds) behind
 open_others serial [] rest e some = absurd (omega arith)
 open_others serial (d ∷ []) rest e some = refl
 open_others serial (d ∷ f ∷ ds) rest e some =
@@ -55,7 +55,7 @@ frame_rest serial ds tail whole e =
 
 -- so the datagrams stand open there
 pub frame_opens : (serial : ℕ) (ds : List (ℕ × ℕ)) (tail rest : List ℕ) → rest ≡ datagrams_text serial (map blank_lrw ds) ++ padding (datagrams_size ds) ++ tail
-    → rest ≡ datagrams_text serial (map blank_lrw ds) ++ drop (datagrams_size ds) rest
+    → StandOpen serial ds rest
 frame_opens serial ds tail rest e =
     let texts : List ℕ = datagrams_text serial (map blank_lrw ds) in
     let behind : List ℕ = padding (datagrams_size ds) ++ tail in
@@ -63,7 +63,7 @@ frame_opens serial ds tail rest e =
     cut ∙ ap (λ (xs : List ℕ). texts ++ xs) (sym (ap (drop (datagrams_size ds)) cut ∙ drop_front texts behind (datagrams_size ds) (blank_lengths serial ds)))
 
 -- the first datagram, and what stands behind it, in the words of a loan
-pub first_text : (serial : ℕ) (ds : List (ℕ × ℕ)) (rest : List ℕ) → rest ≡ datagrams_text serial (map blank_lrw ds) ++ drop (datagrams_size ds) rest → 0 < length ds
+pub first_text : (serial : ℕ) (ds : List (ℕ × ℕ)) (rest : List ℕ) → StandOpen serial ds rest → 0 < length ds
     → take (12 + first_size ds) rest ≡ datagram_text serial (more_follow ds) (lrw (first_address ds) (replicate (first_size ds) 0))
 first_text serial [] rest e some = absurd (omega arith)
 first_text serial (d ∷ []) rest e some =
@@ -74,7 +74,7 @@ first_text serial (d ∷ f ∷ ds) rest e some =
     let tail : List ℕ = drop (datagrams_size (d ∷ f ∷ ds)) rest in
     ap (take (12 + d.1)) (e ∙ append_assoc first others tail) ∙ take_at first (others ++ tail) (12 + d.1) (blank_length serial true d)
 
-pub first_fits : (serial : ℕ) (ds : List (ℕ × ℕ)) (rest : List ℕ) → rest ≡ datagrams_text serial (map blank_lrw ds) ++ drop (datagrams_size ds) rest → 0 < length ds → 12 + first_size ds ≤ length rest
+pub first_fits : (serial : ℕ) (ds : List (ℕ × ℕ)) (rest : List ℕ) → StandOpen serial ds rest → 0 < length ds → 12 + first_size ds ≤ length rest
 first_fits serial ds rest e some =
     let text : length (take (12 + first_size ds) rest) ≡ 12 + first_size ds = ap length (first_text serial ds rest e some) ∙ datagram_length serial (first_address ds) (first_size ds) (more_follow ds) (replicate (first_size ds) 0) (length-replicate (first_size ds) 0) in
     omega (arith, length-take (12 + first_size ds) rest)
@@ -88,8 +88,8 @@ some_left zero t = absurd t
 some_left (suc n) t = omega arith
 
 -- the same, where the list that is left and the rest are known by equations
-pub open_rest : (serial : ℕ) (ds : List (ℕ × ℕ)) (rest : List ℕ) (es : List (ℕ × ℕ)) (behind : List ℕ) → rest ≡ datagrams_text serial (map blank_lrw ds) ++ drop (datagrams_size ds) rest → 0 < length ds
-    → es ≡ drop 1 ds → behind ≡ drop (12 + first_size ds) rest → behind ≡ datagrams_text serial (map blank_lrw es) ++ drop (datagrams_size es) behind
+pub open_rest : (serial : ℕ) (ds : List (ℕ × ℕ)) (rest : List ℕ) (es : List (ℕ × ℕ)) (behind : List ℕ) → StandOpen serial ds rest → 0 < length ds
+    → es ≡ drop 1 ds → behind ≡ drop (12 + first_size ds) rest → StandOpen serial es behind
 open_rest serial ds rest es behind e some left said =
     said ∙ open_others serial ds rest e some
     ∙ ap (λ (xs : List (ℕ × ℕ)). datagrams_text serial (map blank_lrw xs) ++ drop (datagrams_size xs) (drop (12 + first_size ds) rest)) (sym left)

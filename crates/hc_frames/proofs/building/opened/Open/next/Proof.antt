@@ -33,13 +33,12 @@ use Rattle.hc_frames.specs.Handing.{first_address, more_follow}
 use Rattle.hc_frames.specs.declared.commands.Command.TheVariants.{Lrw}
 use Rattle.hc_frames.specs.declared.building.opened.Open as declared
 use Rattle.std.proofs.lemmas.List.{length-replicate}
-use Rattle.hc_frames.specs.Opened.{first_size}
+use Rattle.hc_frames.specs.Standing.{first_size}
 use Rattle.hc_frames.specs.contracts.building.opened.cut as cuts
 use Rattle.hc_frames.proofs.building.opened.cut.Met as cuts_met
 use Rattle.hc_frames.specs.contracts.building.opened.first_and_others as firsts
 use Rattle.hc_frames.proofs.building.opened.first_and_others.Met as firsts_met
 use Rattle.hc_frames.proofs.Results.{makes_some, makes_none, makes_pair, says_three}
-use Rattle.hc_frames.specs.Opened.{IsOpen}
 use Rattle.hc_frames.specs.contracts.building.opened.Open as Open
 use Rattle.hc_frames.proofs.building.opened.Open.TheLaws.{lowers, lowered}
 use Rattle.hc_frames.specs.contracts.building.opened.Open.next as f
@@ -57,12 +56,12 @@ next_spec 𝓤 𝓛 𝓜 𝓡 wired =
     f.Key.name code.function (code.unfolded 𝓤 𝓛.H 𝓜 𝓡 wired)
     (λ κs. (λ x. lowered x ∷ [], tt)) (λ κs. ((lowers (named_lft 1 0 tt κs)).val_is, tt)) (λ κs qs bounds a _ are.
     let κ = κs.0 in let q = qs.0 in let self = a.0 in let o = named_lft 1 0 tt κs in
-    let rest = self.rest in let ds = self.datagrams.now in let serial = self.serial in
+    let rest = self.rest in let ds = self.datagrams.now in let serial = self.serial in let opened = self.standing in
     let Part = MutSlice (named 0) κ u8 in let Pairs = ShrSlice (named 0) κ (Tuple (u32 ∷ u16 ∷ [])) in
     let Frame = Open.the_row o in let Out = Tuple (Part ∷ Frame ∷ []) in
     let y : W.Ghost = ((κs, qs, bounds, a, (lowered self ∷ [], tt)), tt) in
-    qed 𝓛 (((‵ (flft κ q) ⊛ ‵ ftrue) ⊛ ‵ (owns (Frame ∷ []) a (lowered self ∷ [], tt))) ∷ raw (fact 𝓤 (IsOpen self)) ∷ []) ∵
-    move ! (1 ∷ []) $ heard ! _ (λ opened. split ! $ move ! (1 ∷ []) $ fsplit ! $ fpick ! (λ vss. fsplit ! $ feq_l ! (λ spelled. fsplit ! $
+    qed 𝓛 (((‵ (flft κ q) ⊛ ‵ ftrue) ⊛ ‵ (owns (Frame ∷ []) a (lowered self ∷ [], tt))) ∷ ‵ ftrue ∷ []) ∵
+    move ! (1 ∷ []) $ drop ! $ split ! $ move ! (1 ∷ []) $ fsplit ! $ fpick ! (λ vss. fsplit ! $ feq_l ! (λ spelled. fsplit ! $
     peeks ! Part _ (shows 𝓛 Part) rest vss.0 (λ rest_is. rewrite ! 0 (λ (vs : List Val). ‵ (Part.own_val rest vs)) rest_is.0.0 refl $ move ! (1 ∷ []) $ fsplit ! $
     peeks ! Pairs _ (shows 𝓛 Pairs) self.datagrams vss.1.0 (λ list_is. rewrite ! 0 (λ (vs : List Val). ‵ (Pairs.own_val self.datagrams vs)) list_is.0.0 refl $ move ! (1 ∷ []) $ fsplit ! $ fsplit ! $ feq_l ! (λ serial_is. flt_l ! (λ serial_fits.
     drop ! $ keep ! (0 ∷ 1 ∷ 3 ∷ []) $
@@ -151,7 +150,8 @@ next_spec 𝓤 𝓛 𝓜 𝓡 wired =
     let mid_n : length mid ≡ n = long ∙ sym sized in
     let room : Room u8 (length mid) = (omega arith, omega arith) in
     let part : ℕ → MutBor (List ℕ) = λ δ. record { ref_ptr = (b, p); ghost_name = δ; now = mid } in
-    let new : declared.Open = record { rest = two.1; datagrams = first.1; serial = serial } in
+    let behind_said : two.1.now ≡ drop_list (12 + first_size ds) rest.now = back_is ∙ ap (λ (k : ℕ). drop_list (12 + k) rest.now) sized in
+    let new : declared.Open = record { rest = two.1; datagrams = first.1; serial = serial; standing = open_rest serial ds rest.now first.1.now two.1.now opened some_there others behind_said } in
     let behind_val : Val = slice_val two.1.ref_ptr (length two.1.now) in let others_val : Val = slice_val first.1.ref_ptr (length first.1.now) in
     let part_val : Val = slice_val (b, p) n in
     let new_val : Val = vstruct (vcons behind_val (vcons others_val (vcons (vint w64 serial) vnil))) in
@@ -161,7 +161,6 @@ next_spec 𝓤 𝓛 𝓜 𝓡 wired =
     (lends_part 𝓛 (named 0) κ q b at_text two.0.ghost_name u8 two.0.now front mid back cut_text F fits p on room (mut_slice_vals two.0)) $ await ! tt $ pick ! (λ δ. split3 ! $
     rewrite ! 0 (λ (k : ℕ). ‵ (Part.own_val (part δ) (slice_val (b, p) k ∷ []))) mid_n refl $
     -- [the part; the token, in two; its tie; nothing; what stands behind; the tie; the datagrams left; nothing]
-    let behind_said : two.1.now ≡ drop_list (12 + first_size ds) rest.now = back_is ∙ ap (λ (k : ℕ). drop_list (12 + k) rest.now) sized in
     move ! (5 ∷ 2 ∷ []) $
     use2 𝓛 (‵ (follows_both (Array u8 0) (Array u8 0) (Array u8 0) rest.ghost_name δ two.1.ghost_name (λ bytes behind. F bytes ++ behind))) (both_through 𝓛 u8 F rest.ghost_name two.0.ghost_name two.1.ghost_name δ) $
     -- [the tie; the part; the token; nothing, twice; what stands behind; the datagrams left; nothing]
@@ -176,4 +175,4 @@ next_spec 𝓤 𝓛 𝓜 𝓡 wired =
     suffices ! _ (ends_at 𝓛 f.ended stayed c y (live 1 (of_list (out_val ∷ []))) (Some (part δ, new)) ((tt, tt), tt) (tt, tt)) $
     nothing ! $ nothing ! $ fjoin ! $ move ! (0 ∷ 2 ∷ []) $ join ! $ move ! (1 ∷ 0 ∷ []) $ join ! $ frame ! $ frame ! $
     by ! (says_three 𝓛 (λ none. cc, λ none. absurd (omega (arith, ap length none))) refl
-    (record { serial = refl; datagrams = others; rest = behind_said; open_still = open_rest serial ds rest.now first.1.now two.1.now opened some_there others behind_said }))))))))))))))))))))))))))))))))
+    (record { serial = refl; datagrams = others; rest = behind_said })))))))))))))))))))))))))))))))

@@ -35,13 +35,13 @@ use Rattle.hc_frames.specs.Sizes.{ShareFrame, datagrams_size, frame_bytes}
 use Rattle.hc_frames.specs.declared.building.opened.Open as declared
 use Rattle.hc_frames.specs.contracts.building.Room as Room
 use Rattle.hc_frames.specs.contracts.building.opened.Open as Open
-use Rattle.hc_frames.specs.contracts.building.opened.build_frame as f
-use Rattle.hc_frames.proofs.building.opened.build_frame.Statement.{statement}
-use Rattle.hc_frames.proofs.building.opened.build_frame.Code as code
-use Rattle.hc_frames.specs.contracts.building.opened.whole_size as sized
-use Rattle.hc_frames.proofs.building.opened.whole_size.Met as sized_met
-use Rattle.hc_frames.specs.contracts.building.opened.with_blank_frame as blank
-use Rattle.hc_frames.proofs.building.opened.with_blank_frame.Met as blank_met
+use Rattle.hc_frames.specs.contracts.building.opened.writing.build_frame as f
+use Rattle.hc_frames.proofs.building.opened.writing.build_frame.Statement.{statement}
+use Rattle.hc_frames.proofs.building.opened.writing.build_frame.Code as code
+use Rattle.hc_frames.specs.contracts.building.opened.writing.whole_size as sized
+use Rattle.hc_frames.proofs.building.opened.writing.whole_size.Met as sized_met
+use Rattle.hc_frames.specs.contracts.building.opened.writing.with_blank_frame as blank
+use Rattle.hc_frames.proofs.building.opened.writing.with_blank_frame.Met as blank_met
 
 abbrev stayed : Stays f.ended.signature.params f.ended.kept
 stayed = (stay_dropped (mut_slice_of (0 ∷ []) tt (plain (λ _. u8))) no, (stay_dropped (plain (λ _. u64)) yes, (stay_dropped (shr_slice_of (0 ∷ []) tt (plain (λ _. Tuple (u32 ∷ u16 ∷ [])))) yes, tt)))
@@ -74,7 +74,7 @@ build_frame_spec 𝓤 𝓛 𝓜 𝓡 wired =
     let G = triple_of 𝓛 sized.signature (sized.spec 𝓛 𝓜.mem 𝓡.returns) in
     let z : G.Ghost = (((κ, tt), (q, tt), tt, (list, tt), (shr_slice_vals list, tt)), tt) in
     nothing ! $ move ! (1 ∷ 0 ∷ []) $ fjoin ! $ move ! (4 ∷ 0 ∷ []) $ join ! $ use0 𝓛 (raw (fact 𝓤 (ShareFrame ds))) (fact_i 𝓤 _ (emp 𝓤) share) $ move ! (1 ∷ 0 ∷ []) $ use2 𝓛 (raw (G.pre z)) (id⊢ 𝓤 _) $
-    calls_at ! (framed 𝓤 𝓛.H 𝓜 𝓣) G (sized_met.met 𝓤 𝓛 𝓜 𝓡 (code.calls-hc_frames::building::opened::whole_size 𝓡.env wired)) z (and_then ! (get ! refl) (no_more !)) (λ v.
+    calls_at ! (framed 𝓤 𝓛.H 𝓜 𝓣) G (sized_met.met 𝓤 𝓛 𝓜 𝓡 (code.calls-hc_frames::building::opened::writing::whole_size 𝓡.env wired)) z (and_then ! (get ! refl) (no_more !)) (λ v.
     use1 𝓛 (later (some (λ (n : ℕ). ((‵ (flft κ q) ⊛ ‵ ftrue) ⊛ ‵ (usize.own_val n (v ∷ []))) ⊛ some (λ (ws : Lasts sized.ended (κ, tt) (list, tt)). ‵ (lasts sized.ended (κ, tt) (list, tt) ws) ⊛ raw (fact 𝓤 (n ≡ frame_bytes (datagrams_size ds))))))) (id⊢ 𝓤 _) $
     await ! tt $ pick ! (λ n. split ! $ move ! (1 ∷ []) $ pick ! (λ ws. split ! $ drop ! $ heard ! _ (λ needed. split ! $ move ! (1 ∷ []) $ fsplit ! $ feq_l ! (λ value. flt_l ! (λ fits.
     lands_as ! (ap only value) refl (tt, record { fits = fits }) $
@@ -106,7 +106,7 @@ build_frame_spec 𝓤 𝓛 𝓜 𝓡 wired =
     nothing ! $ move ! (2 ∷ 0 ∷ []) $ fjoin ! $ owned ! u64 _ (uint_Makes 𝓛 w64) serial _ (refl, serial_fits) $ fjoin ! $ move ! (3 ∷ 0 ∷ []) $ fjoin ! $ move ! (1 ∷ 0 ∷ []) $ join ! $
     use0 𝓛 (raw (fact 𝓤 (ShareFrame ds))) (fact_i 𝓤 _ (emp 𝓤) share) $ use0 𝓛 (raw (fact 𝓤 (serial < 2 ^ 40))) (fact_i 𝓤 _ (emp 𝓤) bounded) $ join ! $
     use0 𝓛 (raw (fact 𝓤 (frame_bytes (datagrams_size ds) ≤ length out.now))) (fact_i 𝓤 _ (emp 𝓤) room) $ join ! $ move ! (1 ∷ 0 ∷ []) $ use2 𝓛 (raw (B.pre x)) (id⊢ 𝓤 _) $
-    calls_at ! (framed 𝓤 𝓛.H 𝓜 𝓣) B (blank_met.met 𝓤 𝓛 𝓜 𝓡 (code.calls-hc_frames::building::opened::with_blank_frame 𝓡.env wired)) x
+    calls_at ! (framed 𝓤 𝓛.H 𝓜 𝓣) B (blank_met.met 𝓤 𝓛 𝓜 𝓡 (code.calls-hc_frames::building::opened::writing::with_blank_frame 𝓡.env wired)) x
     (and_then ! (get ! refl) (and_then ! (get ! refl) (and_then ! (get ! refl) (no_more !)))) (λ w.
     use1 𝓛 (later (some (λ (r : MutBor (List ℕ)). ((‵ (flft κ q) ⊛ ‵ ftrue) ⊛ ‵ (Part.own_val r (w ∷ []))) ⊛
     some (λ (ws : Lasts blank.ended κs a). ‵ (lasts blank.ended κs a ws) ⊛ (raw (fact 𝓤 (r.ghost_name ≡ out.ghost_name)) ⊛ raw (fact 𝓤 (r.now ≡ frame_text serial (map blank_lrw ds) ++ tail))))))) (id⊢ 𝓤 _) $
@@ -135,7 +135,7 @@ build_frame_spec 𝓤 𝓛 𝓜 𝓡 wired =
     sets ! (agg ! (and_then ! (get ! refl) (and_then ! (get ! refl) (and_then ! (get ! refl) (no_more !))))) refl (tt, ((tt, (record { fits = mid_fits }, tt)), ((tt, (record { fits = list_long }, tt)), (record { fits = serial_fits }, tt)))) $
     sets ! (agg ! (and_then ! (lit ! tt) (and_then ! (get ! refl) (no_more !)))) refl (tt, (record { fits = lit< tt }, (((tt, (record { fits = mid_fits }, tt)), ((tt, (record { fits = list_long }, tt)), (record { fits = serial_fits }, tt))), tt))) $
     let part : ℕ → MutBor (List ℕ) = λ δ. record { ref_ptr = (b, p); ghost_name = δ; now = mid } in
-    let new : ℕ → declared.Open = λ δ. record { rest = part δ; datagrams = list; serial = serial } in
+    let new : ℕ → declared.Open = λ δ. record { rest = part δ; datagrams = list; serial = serial; standing = frame_opens serial ds tail mid opened } in
     let part_val : Val = slice_val (b, p) (length r.now - 16) in let list_val : Val = slice_val list.ref_ptr (length ds) in
     let new_val : Val = vstruct (vcons part_val (vcons list_val (vcons (vint w64 serial) vnil))) in
     let whole_cut : (behind : List ℕ) → length behind ≡ length mid → F behind ≡ front ++ (behind ++ []) = λ behind e. ap F (sym (append-nil behind)) in
@@ -154,4 +154,4 @@ build_frame_spec 𝓤 𝓛 𝓜 𝓡 wired =
     suffices ! _ (ends_at 𝓛 f.ended stayed c y (live 0 (of_list (new_val ∷ []))) (Ok (new δ)) (tt, (tt, (tt, tt))) (tt, (tt, (tt, tt)))) $
     nothing ! $ nothing ! $ fjoin ! $ nothing ! $ fjoin ! $ nothing ! $ fjoin ! $ move ! (0 ∷ 2 ∷ []) $ join ! $ move ! (1 ∷ 0 ∷ []) $ join ! $ frame ! $ frame ! $
     by ! (says_three 𝓛 (λ none. cc, λ short. absurd (omega arith)) tt
-    (record { serial_kept = refl; datagrams_kept = refl; text = opened; opened = frame_opens serial ds tail mid opened }))))))))))))))))))))
+    (record { serial_kept = refl; datagrams_kept = refl; text = opened }))))))))))))))))))))
