@@ -101,6 +101,16 @@ fn faults(answers: Vec<Result<Report, EditFault>>) -> Result<Vec<Option<EditFaul
     Ok(found)
 }
 
+/// Want of memory, where an edit of a list was refused for it: the answers behind it aren't the list's.
+fn want_of(answers: &[Result<Report, EditFault>]) -> Result<(), EditFault> {
+    for answer in answers {
+        if let Err(EditFault::Memory) = answer {
+            return Err(EditFault::Memory);
+        }
+    }
+    Ok(())
+}
+
 #[test]
 fn a_list_of_edits_is_answered_in_its_order(rt: HostRuntime) -> Result<(), Fail> {
     let mut plan = one_group(rt.alloc())?;
@@ -115,6 +125,7 @@ fn a_list_of_edits_is_answered_in_its_order(rt: HostRuntime) -> Result<(), Fail>
     ];
     let answers = plan.run(rt.alloc(), &edits)?;
     assert_eq!(rt; answers.len(), 7);
+    want_of(answers.as_slice())?;
     let first = answers[0].as_ref().ok().ok_or("accepted")?;
     assert_eq!(rt; told(first), [1, 1, 4, 2]);
     let third = answers[2].as_ref().ok().ok_or("accepted")?;
