@@ -1,23 +1,27 @@
 -- What follows from the definitions, so that a reader can trust them. Each is the contract of a function of `laws`.
-use Rattle.std.specs.Prelude.{◌≡◌, ◌*◌, ◌≢◌, ◌↔◌, ℕ, ◌+◌, ◌%◌, ◌<◌, IsNone, IsSome, IsTrue, List, ◌∷◌, length, map, Some, None}
-use Rattle.std.specs.List.{list_any, range_with_len}
+use Rattle.std.specs.Prelude.{[], ◌≡◌, ◌*◌, ◌≢◌, ◌↔◌, ℕ, ◌+◌, ◌%◌, ◌<◌, IsNone, IsSome, IsTrue, List, ◌∷◌, length, map, Some, None, ◌==◌, if◌then◌else◌, Ok}
+use Rattle.std.specs.List.{flat_map, list_any, range_with_len, zip}
 use Rattle.hc_records.specs.declared.edit.Edit.{Edit}
 use Rattle.hc_records.specs.declared.records.Group.{Group}
-use Rattle.hc_records.specs.Line.{line, opened}
+use Rattle.hc_records.specs.Line.{Member, line, opened}
+use Rattle.hc_records.specs.Image.{expected_counter}
+use Rattle.hc_frames.specs.Laws.{CanBeCarried}
+use Rattle.hc_frames.specs.Returned.{IsReturned}
+use Rattle.hc_events.specs.Heads.{data_heads}
 use Rattle.hc_registers.specs.Blocks.{LineBlock, line_blocks, same_block}
 use Rattle.hc_places.specs.Table.{table_of}
 use Rattle.hc_events.specs.declared.change.Change.{Change}
-use Rattle.hc_events.specs.Arrivals.{Arrival}
-use Rattle.hc_events.specs.Entries.{Record, Edited, Came}
+use Rattle.hc_events.specs.Arrivals.{Arrival, Part, arrival_in}
+use Rattle.hc_events.specs.Entries.{Record, Edited, Sent, Came}
 use Rattle.hc_events.specs.Points.{epoch_of, line_of, next_serial}
-use Rattle.hc_events.specs.Sendings.{length_of}
-use Rattle.hc_events.specs.Answering.{Sending, answered_by, sending_of}
-use Rattle.hc_events.specs.Images.{slot_of}
+use Rattle.hc_events.specs.Sendings.{Named, length_of}
+use Rattle.hc_events.specs.Answering.{Sending, answered_by, just_sent, sending_of}
+use Rattle.hc_events.specs.Images.{Fresh, fresh_by, slot_of}
 use Rattle.hc_bits.specs.Bits.{bit_of}
 use Rattle.hc_events.specs.Outputs.{outputs_in, sent_bit, sent_data}
 use Rattle.hc_events.specs.Owed.{is_owed}
 use Rattle.hc_events.specs.Changes.{AreChangesOf, AreLegal, epoch_behind, slot_behind, table_behind}
-use Rattle.hc_events.specs.Steps.{Step, Edits, edit_refused, entries_after, entries_after_all, proposal}
+use Rattle.hc_events.specs.Steps.{Step, Edits, edit_refused, entries_after, entries_after_all, proposal, sent_datagram}
 use Rattle.hc_events.specs.Accepted.{record_of}
 
 -- an arrival answers no other sending than the one with its serial
@@ -74,6 +78,32 @@ pub record IsSentData (past : Record) (task d : ℕ) (bytes : List ℕ) : Type 0
 
 abbrev pub SentDataAreValues : Type 0
 SentDataAreValues = (past : Record) (task d : ℕ) → IsSentData past task d (sent_data past task d)
+
+-- of each datagram of a frame that came back with its expected working counter, the data that came back
+abbrev pub good_part : List Member → Named × Part → List Fresh
+good_part line pair =
+    if pair.1.counter == expected_counter pair.0.0 pair.0.1 line
+    then record { task = pair.0.0; datagram = pair.0.1; bytes = pair.1.bytes } ∷ []
+    else []
+
+abbrev pub good_parts : List Member → List Named → List Part → List Fresh
+good_parts line frame parts = flat_map (good_part line) (zip frame parts)
+
+-- an arrival answers the frame that was just sent, and these are its good answers
+pub record IsAnsweredWell (past : Record) (frame : List Named) (arrival : Arrival) : Type 0 where
+  pub answered : answered_by (Sent frame ∷ past) arrival ≡ Some (just_sent (data_heads (line_of past) frame))
+  pub goods : fresh_by (Sent frame ∷ past) arrival ≡ good_parts (line_of past) frame arrival.parts
+
+-- a frame of tasks that comes back from the line, whatever its slaves made of its data and its counters, is read and answers its sending with what came back
+pub record ReturnsWell (past : Record) (frame : List Named) (parts : List Part) (bytes : List ℕ) : Type 0 where
+  pub read : arrival_in bytes ≡ Ok (record { serial = next_serial past; parts = parts })
+  pub well : IsAnsweredWell past frame (record { serial = next_serial past; parts = parts })
+
+abbrev pub ReturnedFramesAnswer : Type 0
+ReturnedFramesAnswer =
+    (past : Record) (frame : List Named) (parts : List Part) (bytes : List ℕ)
+    → IsReturned (next_serial past) (map (sent_datagram past) frame) parts bytes → CanBeCarried (next_serial past) parts
+    → ReturnsWell past frame parts bytes
 
 -- the changes that events lead to are legal for the project
 abbrev pub ChangesAreLegal : Type 0

@@ -2,7 +2,7 @@
 //! does nothing, and its contract is a law that holds of every record. Nobody calls it.
 ghost use Rattle.hc_events.specs.Accepted.{EpochsAreCounted, RecordsAreAccepted};
 ghost use Rattle.hc_events.specs.Awaited.{WritesAreAwaitedAlone};
-ghost use Rattle.hc_events.specs.Laws.{AnswersOnce, AnswersTheSerial, ChangesAreLegal, ChangesTellAll, EditsLeaveNoSlot, IndexesComeAgain, ProposalsAreNumbered, SendingsHaveSerials, SentDataAreValues, SlotsFit, UnmovedIsOwedAsBefore};
+ghost use Rattle.hc_events.specs.Laws.{AnswersOnce, AnswersTheSerial, ChangesAreLegal, ChangesTellAll, EditsLeaveNoSlot, IndexesComeAgain, ProposalsAreNumbered, ReturnedFramesAnswer, SendingsHaveSerials, SentDataAreValues, SlotsFit, UnmovedIsOwedAsBefore};
 ghost use Rattle.hc_events.specs.Stale.{StaleArrivalsCanGo, StaleChangesNothing, StaleIsToldWithout, StaleStaysStale, StepsKeepWithout, UnreadableChangesNothing};
 
 /// A record with an arrival that was stale when it came, and the same record without it, whatever was
@@ -117,4 +117,10 @@ pub fn sent_data_are_values()
 /// The epoch of the line's state is the number of edits that were accepted.
 pub fn epochs_are_counted()
     ensures { EpochsAreCounted }
+{}
+
+/// A frame of tasks that comes back, whatever the slaves made of its data and its working counters, is read
+/// and answers its sending: of each datagram with the expected counter the data are those that came back.
+pub fn returned_frames_answer()
+    ensures { ReturnedFramesAnswer }
 {}
