@@ -1,11 +1,11 @@
 //! Blocks of worked lines, with the bytes that their registers must hold.
+use hc_records::items::Items;
+use hc_records::keys::Key;
+use hc_records::records::{Area, Dir, Pdo, VarId};
 use hc_registers::blocks::Block;
 use hc_registers::counters::{added_count, expected_count};
 use hc_registers::fmmu::{self, Mapping, fmmu_block};
 use hc_registers::sync_manager::{self, sync_block};
-use hc_records::items::Items;
-use hc_records::keys::Key;
-use hc_records::records::{Area, Dir, Pdo, VarId};
 use std::alloc::{AllocError, Global};
 use std::test::Fail;
 
