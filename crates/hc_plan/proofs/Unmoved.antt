@@ -11,7 +11,7 @@ use Rattle.hc_records.specs.declared.records.Declared.{Declared}
 use Rattle.hc_records.specs.Line.{Member, groups_of, line_from}
 use Rattle.hc_records.specs.Project.{lowest_fault}
 use Rattle.hc_records.proofs.lemmas.Lists.{All-from_filter, All-unmap}
-use Rattle.hc_registers.specs.Blocks.{LineBlock, RegisterBlock, line_blocks, moved_blocks, same_block, same_bytes}
+use Rattle.hc_registers.specs.Blocks.{LineBlock, line_blocks, moved_blocks, same_block, same_bytes}
 use Rattle.hc_plan.specs.Laws.{StandsIn}
 use Rattle.hc_plan.specs.Reports.{name_of}
 use Rattle.hc_plan.proofs.Registers.{one-block}

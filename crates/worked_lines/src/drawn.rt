@@ -14,7 +14,7 @@ use std::alloc::Global;
 use std::test::Fail;
 
 /// Numbers drawn one after another by a linear congruence.
-#[derive(Debug, Drop)]
+#[derive(Drop)]
 struct Draws {
     state: u64,
 }

@@ -52,7 +52,7 @@ pub type Widths = [u32; AREAS];
 
 /// An edit, by the number of its group or of its area, from 0 on. Past the last it is one that is not
 /// declared.
-#[derive(Clone, Copy, Debug)]
+#[derive(Clone, Copy)]
 pub enum Drawn {
     /// The group is connected.
     Connect(u8),
@@ -85,7 +85,7 @@ impl Drawn {
 }
 
 /// What the edits so far made of the line.
-#[derive(Clone, Copy, Debug)]
+#[derive(Clone, Copy)]
 pub struct Records {
     /// The list of PDOs that each area has assigned.
     lists: [u8; AREAS],

@@ -1,6 +1,6 @@
-use Rattle.std.proofs.Common.{◌≡◌, ◌∙◌, List, None, sym, ap, subst}
+use Rattle.std.proofs.Common.{◌∙◌, None, sym, ap, subst}
 use Rattle.std.specs.Prelude.{All}
-use Rattle.hc_records.specs.Line.{Member, line_from}
+use Rattle.hc_records.specs.Line.{line_from}
 use Rattle.hc_records.proofs.lemmas.Slaves.{project-counted}
 use Rattle.hc_plan.specs.Blocks.{IsMappedSlave, blocks_left}
 use Rattle.hc_plan.proofs.LineBlocks.{laid-out-all, walk-begins}
