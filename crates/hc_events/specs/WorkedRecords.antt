@@ -451,3 +451,20 @@ value_is_new : map (sent_text two_again) (proposal two_again (0 ∷ []))
     ≡ (head_of 5 0x0e ++ 0x0c ∷ 0x05 ∷ 0 ∷ 0 ∷ 0 ∷ 0x01 ∷ 0x02 ∷ 0 ∷ 0 ∷ 0 ∷ 0x00 ∷ 0x22 ∷ replicate 32 0) ∷ []
 unfolding bit_of number_of starts_within
 value_is_new = refl
+
+-- A post speaks for the variables that its task has when it is made, and for no others.
+
+other_posts : answers_to posted (Posts 1 0 [] ∷ SendsTasks (0 ∷ []) ∷ [])
+    ≡ answer.Posted
+    ∷ answer.Sent ((head_of 4 0x0f ++ 0x0c ∷ 0x04 ∷ 0 ∷ 0 ∷ 0 ∷ 0x01 ∷ 0x03 ∷ 0 ∷ 0 ∷ 0 ∷ 0x02 ∷ replicate 33 0) ∷ [])
+    ∷ []
+unfolding bit_of number_of starts_within
+other_posts = refl
+
+abbrev there_and_back : Record
+there_and_back = entries_after_all posted (to_task_1 ∷ Posts 1 1 (1 ∷ []) ∷ Edits (Move 1001 0 0) ∷ Posts 1 2 [] ∷ [])
+
+posted_elsewhere : map (sent_text there_and_back) (proposal there_and_back (0 ∷ []))
+    ≡ (head_of 4 0x0f ++ 0x0c ∷ 0x04 ∷ 0 ∷ 0 ∷ 0 ∷ 0x01 ∷ 0x03 ∷ 0 ∷ 0 ∷ 0 ∷ 0x01 ∷ replicate 33 0) ∷ []
+unfolding bit_of number_of starts_within
+posted_elsewhere = refl
