@@ -13,7 +13,7 @@ use arrayvec::ArrayVec;
 use hc_records::records::Area;
 use std::marker::Model;
 
-/// The 8 or 16 bytes of a sync manager or FMMU block, and the register at which they begin.
+/// The bytes of a sync manager or FMMU block, and the register at which they begin.
 #[derive(Clone, Debug, Drop)]
 pub struct Block {
     register: u16,
@@ -75,7 +75,7 @@ impl Block {
         self.register
     }
 
-    /// The block's bytes, 8 or 16.
+    /// The block's bytes.
     pub fn bytes(&self) -> &[u8]
         ensures { result.now ≡ self.now.bytes }
     {
