@@ -1,51 +1,36 @@
 -- An arrival answers a sending as its first answer, of the present line, and what is awaited is what is answered.
-use Rattle.std.proofs.Common.{◌≡◌, ℕ, ◌==◌, Bool, true, false, cond, not, ◌&&◌, ◌||◌, List, [], ◌∷◌, ◌++◌, filter, length, map, refl, sym, ap, ◌∙◌, subst, arith, Option, Some, None}
+use Rattle.std.proofs.Common.{◌≡◌, ℕ, ◌==◌, Bool, true, false, cond, not, ◌&&◌, ◌||◌, List, [], ◌∷◌, ◌++◌, filter, refl, sym, ap, ◌∙◌, subst, arith, Option, Some, None}
 use Rattle.std.specs.Prelude.{All, Contains, option_and_then}
 use Rattle.std.specs.Option.{option_map_or}
 use Rattle.std.specs.List.{list_any, zip}
-use Rattle.std.proofs.lemmas.Bool.Decides.{nat_tests}
-use Rattle.std.proofs.lemmas.List.Elements.{All-nil, All-cons, All-head, All-tail, All-contains_itself, All-contains}
+use Rattle.std.proofs.lemmas.Bool.{and_parts, eq-eqb, eqb-true, not-true, or_parts}
+use Rattle.std.proofs.lemmas.List.Elements.{All-nil, All-cons, All-head, All-tail, All-contains_itself}
 use Rattle.hc_records.specs.declared.records.Group.{Group}
 use Rattle.hc_records.specs.Line.{Member}
 use Rattle.hc_registers.specs.Blocks.{LineBlock, line_blocks}
 use Rattle.hc_records.proofs.lemmas.Lists.{All-passing}
-use Rattle.hc_events.specs.Arrivals.{Arrival, Part}
+use Rattle.hc_events.specs.Arrivals.{Arrival}
 use Rattle.hc_events.specs.Entries.{Entry, Record, Opened, Edited, Posted, Sent, Wrote, Came}
-use Rattle.hc_events.specs.Points.{line_of, next_serial}
+use Rattle.hc_events.specs.Points.{line_of}
 use Rattle.hc_events.specs.Sendings.{Named}
 use Rattle.hc_events.specs.Heads.{Head, data_head, data_heads, write_head}
-use Rattle.hc_events.specs.Answering.{Sending, answered_by, ends, fits, has_heads, is_answer, is_news, is_stale_to, judged, judged_by, only_if, sending_of}
-use Rattle.hc_events.specs.Awaited.{alive, all_sent_again, awaited, is_ended, is_no_arrival}
+use Rattle.hc_events.specs.Answering.{Sending, answered_by, ends, fits, has_heads, is_answer, is_news, is_stale_to, judged, only_if, sending_of}
+use Rattle.hc_events.specs.Awaited.{alive, all_sent_again, is_ended, is_no_arrival}
 use Rattle.hc_events.specs.Owed.{is_owed, owed_blocks}
 use Rattle.hc_events.specs.Steps.{Step}
 use Rattle.hc_events.specs.Accepted.{AreAccepted, IsAccepted, StandsIn, just_opened, record_of}
-use Rattle.hc_events.specs.SendingLaws.{StandsAt, heads_of, is_opening, is_sending}
+use Rattle.hc_events.specs.SendingLaws.{heads_of, is_opening, is_sending}
 use Rattle.hc_events.specs.AnswerLaws.{AnswersTheAwaited, IsAnsweredAs, IsAwaited, IsFirstAnswer, IsHeadOf, LeavesOpen}
 use Rattle.hc_events.proofs.lemmas.Accepted.{Keeps, kept-after_all}
 use Rattle.hc_events.proofs.lemmas.Awaited.{by_bool, judged-filter, news-is, same_is}
 use Rattle.hc_events.proofs.lemmas.Once.{only-if_some}
 use Rattle.hc_events.proofs.lemmas.Standing.{standing-found, stands-at}
 
-and_true : (a b : Bool) → (a && b) ≡ true → (a ≡ true) × (b ≡ true)
-and_true true b e = (refl, e)
-and_true false b e = cc
-
-or_none : (a b : Bool) → (a || b) ≡ false → (a ≡ false) × (b ≡ false)
-or_none true b e = cc
-or_none false b e = (refl, e)
-
-not_true : (b : Bool) → not b ≡ true → b ≡ false
-not_true true e = cc
-not_true false e = refl
-
 -- entries that leave a sending open are those that don't end it
-
-same_serial : (serial other : ℕ) → other ≡ serial → (serial == other) ≡ true
-same_serial serial other e = grind (arith, nat_tests)
 
 left_by_arrival : (serial : ℕ) (heads : List Head) (other : Arrival) → fits serial heads other ≡ false → LeavesOpen serial heads (Came other)
 left_by_arrival serial heads other none = λ same.
-    sym (ap (λ b. b && has_heads heads other.parts) (same_serial serial other.serial same)) ∙ none
+    sym (ap (λ b. b && has_heads heads other.parts) (eq-eqb serial other.serial (sym same))) ∙ none
 
 still_open : (serial : ℕ) (heads : List Head) (since : List Entry) → list_any is_opening since ≡ false → list_any (ends serial heads) since ≡ false → All (LeavesOpen serial heads) since
 still_open serial heads [] running none = All-nil (LeavesOpen serial heads)
@@ -55,16 +40,13 @@ still_open serial heads (Posted task bytes ∷ since) running none = All-cons (L
 still_open serial heads (Sent frame ∷ since) running none = All-cons (LeavesOpen serial heads) (Sent frame) since tt (still_open serial heads since running none)
 still_open serial heads (Wrote block ∷ since) running none = All-cons (LeavesOpen serial heads) (Wrote block) since tt (still_open serial heads since running none)
 still_open serial heads (Came other ∷ since) running none =
-    let parts = or_none (fits serial heads other) (list_any (ends serial heads) since) none in
+    let parts = or_parts (fits serial heads other) (list_any (ends serial heads) since) none in
     All-cons (LeavesOpen serial heads) (Came other) since (left_by_arrival serial heads other parts.0) (still_open serial heads since running parts.1)
-
-is_number : (m n : ℕ) → (m == n) ≡ true → n ≡ m
-is_number m n e = grind (arith, nat_tests)
 
 unfit : (serial : ℕ) (heads : List Head) (other : Arrival) → LeavesOpen serial heads (Came other) → fits serial heads other ≡ false
 unfit serial heads other leaves =
     by_bool (serial == other.serial)
-    (λ t. let none : has_heads heads other.parts ≡ false = leaves (is_number serial other.serial t) in rw (t, none) refl)
+    (λ t. let none : has_heads heads other.parts ≡ false = leaves (sym (eqb-true serial other.serial t)) in rw (t, none) refl)
     (λ t. rw t refl)
 
 pub none-ends : (serial : ℕ) (heads : List Head) (since : List Entry) → All (LeavesOpen serial heads) since → list_any (ends serial heads) since ≡ false
@@ -98,12 +80,12 @@ answer-is arrival sending fit none = rw (same_is arrival.serial, fit, none) refl
 first_answer : (past : Record) (arrival : Arrival) (sending : Sending) → answered_by past arrival ≡ Some sending → IsFirstAnswer past arrival sending
 first_answer past arrival sending e =
     let found = only-if_some (sending_of past arrival.serial) (is_answer arrival) sending e in
-    let both = and_true (fits arrival.serial sending.heads arrival) _ found.1 in
+    let both = and_parts (fits arrival.serial sending.heads arrival) _ found.1 in
     let at = stands-at past arrival.serial sending found.0 in
     record {
       stands = at;
-      fits = (and_true (arrival.serial == arrival.serial) _ both.0).1;
-      left_open = still_open arrival.serial sending.heads sending.since at.running (not_true _ both.1);
+      fits = (and_parts (arrival.serial == arrival.serial) _ both.0).1;
+      left_open = still_open arrival.serial sending.heads sending.since at.running (not-true _ both.1);
     }
 
 answer_first : (past : Record) (arrival : Arrival) (sending : Sending) → IsFirstAnswer past arrival sending → answered_by past arrival ≡ Some sending
@@ -252,9 +234,9 @@ fresh_one : (past : Record) (arrival : Arrival) (found : Option Sending) → sen
 fresh_one past arrival None there e = cc
 fresh_one past arrival (Some made) there e =
     by_bool (is_answer arrival made)
-    (λ t. let both = and_true (fits arrival.serial made.heads arrival) _ t in
-    let fit = (and_true (arrival.serial == arrival.serial) _ both.0).1 in
-    let goes_on : is_ended arrival.serial made ≡ false = not_true _ both.1 in
+    (λ t. let both = and_parts (fits arrival.serial made.heads arrival) _ t in
+    let fit = (and_parts (arrival.serial == arrival.serial) _ both.0).1 in
+    let goes_on : is_ended arrival.serial made ≡ false = not-true _ both.1 in
     let told : not (list_any is_news (judged arrival made)) ≡ false = rw t at e in
     let news : all_sent_again made.since made.heads ≡ false = twice (all_sent_again made.since made.heads) (sym (ap not (news-is made.since made.heads arrival.parts fit)) ∙ told) in
     record {

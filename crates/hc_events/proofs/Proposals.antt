@@ -1,31 +1,29 @@
 -- What the frames of an accepted event carry, and under which serials they are found.
-use Rattle.std.proofs.Common.{◌≡◌, ℕ, ◌+◌, Bool, true, false, cond, not, ◌==◌, nat_lt, ◌&&◌, ◌||◌, List, [], ◌∷◌, ◌++◌, length, map, refl, sym, ap, ◌∙◌, subst, arith, append_assoc, append-nil, Option, Some, None}
+use Rattle.std.proofs.Common.{◌≡◌, ℕ, ◌+◌, Bool, true, false, cond, ◌&&◌, List, [], ◌∷◌, ◌++◌, length, map, refl, sym, ap, ◌∙◌, subst, arith, append_assoc, Option, Some, None}
 use Rattle.std.specs.Prelude.{All, IsNone, sum_by}
 use Rattle.std.specs.List.{flat_map, list_all, list_any, range_with_len}
 use Rattle.std.proofs.lemmas.List.Elements.{All-nil, All-cons, All-head, All-tail}
 use Rattle.std.proofs.lemmas.List.Sums.{sum_by-cons, sum_by_push}
 use Rattle.hc_records.specs.Line.{Member}
-use Rattle.hc_records.specs.Image.{logical_address}
 use Rattle.hc_records.specs.Lists.{lowest}
 use Rattle.hc_registers.specs.Blocks.{LineBlock}
 use Rattle.hc_frames.specs.FrameText.{Carried, sent}
 use Rattle.hc_frames.specs.Sizes.{frame_bytes, text_size}
 use Rattle.hc_frames.proofs.lemmas.Texts.{length-frame_text}
 use Rattle.hc_events.specs.declared.faults.CoreFault.{CoreFault}
-use Rattle.hc_events.specs.declared.faults.CoreFault.TheVariants.{NothingOwed, SerialsSpent}
 use Rattle.hc_events.specs.declared.answer.Answer.{Answer}
 use Rattle.hc_events.specs.declared.answer.Answer.TheVariants as answer
 use Rattle.hc_events.specs.Entries.{Entry, Record, Opened, Edited, Posted, Sent, Wrote, Came}
 use Rattle.hc_events.specs.Points.{line_of, next_serial}
 use Rattle.hc_events.specs.Sendings.{Named, Sending as Frame, alone, framed, framed_behind, has_room, joined, length_of, size_of, task_datagrams}
-use Rattle.hc_events.specs.Heads.{data_heads, write_head}
-use Rattle.hc_events.specs.Answering.{Sending, just_sent, sending_of}
+use Rattle.hc_events.specs.Heads.{data_heads}
+use Rattle.hc_events.specs.Answering.{sending_of}
 use Rattle.hc_events.specs.Owed.{owed_blocks}
-use Rattle.hc_events.specs.Steps.{kept_if, has_serials, proposal, sent_datagram, sent_text, task_faults, unless, with_sent, with_write, write_faults, told_of_write, SendsWrite, answer_to, entries_after}
+use Rattle.hc_events.specs.Steps.{kept_if, proposal, sent_datagram, sent_text, task_faults, unless, with_sent, with_write, write_faults, told_of_write}
 use Rattle.hc_events.specs.SendingLaws.{AreSent, IsFound, IsWritten, is_frame, is_opening}
 use Rattle.hc_events.proofs.Numbers.{proposals-numbered}
 use Rattle.hc_events.proofs.SentBits.{sent-data}
-use Rattle.hc_events.proofs.lemmas.Standing.{found-under, sent_at}
+use Rattle.hc_events.proofs.lemmas.Standing.{found-under}
 
 -- in a row, the frames' datagrams are those that were framed
 

@@ -1,5 +1,5 @@
 -- A frame of tasks or a register write that comes back from the line answers its sending, and what is read of it is what came back.
-use Rattle.std.proofs.Common.{◌≡◌, ℕ, ◌<◌, ◌==◌, Bool, true, false, cond, not, ◌&&◌, List, [], ◌∷◌, ◌++◌, length, map, refl, ap, ◌∙◌, arith, Some}
+use Rattle.std.proofs.Common.{◌≡◌, ℕ, ◌<◌, ◌==◌, Bool, true, false, cond, not, ◌&&◌, List, [], ◌∷◌, ◌++◌, length, map, refl, ap, ◌∙◌, arith}
 use Rattle.std.specs.Prelude.{All, Ok}
 use Rattle.std.specs.Option.{option_map_or}
 use Rattle.std.specs.List.{flat_map, list_any, zip}
@@ -19,7 +19,7 @@ use Rattle.hc_events.specs.Entries.{Entry, Record, Opened, Edited, Posted, Sent,
 use Rattle.hc_events.specs.Points.{line_of, next_serial}
 use Rattle.hc_events.specs.Sendings.{Named, length_of}
 use Rattle.hc_events.specs.Heads.{data_head, data_heads, item_of, write_head}
-use Rattle.hc_events.specs.Answering.{Good, Stale, Wrong, answered_by, has_head, has_heads, is_answer, is_good, judge, judged, sending_of, sends}
+use Rattle.hc_events.specs.Answering.{Good, Stale, Wrong, has_head, has_heads, is_answer, is_good, judge, judged, sending_of, sends}
 use Rattle.hc_events.specs.Images.{Fresh, fresh}
 use Rattle.hc_events.specs.Steps.{sent_datagram, told_of, told_of_arrival}
 use Rattle.hc_events.specs.SendingLaws.{heads_of, is_sending}

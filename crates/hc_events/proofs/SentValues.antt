@@ -1,22 +1,19 @@
 -- In the line of a project each bit of sent data belongs to the one output variable in whose place it lies.
-use Rattle.std.proofs.Common.{◌≡◌, ◌⊎◌, inl, inr, ℕ, ◌+◌, ◌-◌, ◌*◌, ◌<◌, ◌≤◌, ◌==◌, nat_le, nat_lt, Bool, true, false, cond, ◌&&◌, get_or, List, [], ◌∷◌, filter, length, refl, sym, ap, ap₂, ◌∙◌, subst, arith, Option, Some, None}
+use Rattle.std.proofs.Common.{◌≡◌, ◌⊎◌, inl, inr, ℕ, ◌+◌, ◌-◌, ◌*◌, ◌<◌, ◌≤◌, ◌==◌, nat_le, nat_lt, Bool, true, false, cond, ◌&&◌, get_or, List, [], ◌∷◌, refl, sym, ap, ap₂, ◌∙◌, subst, arith, Option, Some, None}
 use Rattle.std.specs.Prelude.{All, find, option_map}
 use Rattle.std.specs.Option.{option_map_or}
-use Rattle.std.specs.List.{flat_map, zip}
-use Rattle.std.proofs.lemmas.Bool.{eqb-true}
+use Rattle.std.specs.List.{flat_map}
+use Rattle.std.proofs.lemmas.Bool.{and_from, and_parts, eq-eqb, eqb-true}
 use Rattle.std.proofs.lemmas.Bool.Decides.{nat_tests}
 use Rattle.std.proofs.lemmas.List.Elements.{All-nil, All-cons, All-map, All-weaker}
 use Rattle.hc_records.specs.declared.limits.TheConstants.{TASKS}
-use Rattle.hc_records.specs.declared.records.Dir.{Dir}
 use Rattle.hc_records.specs.declared.records.Dir.TheVariants.{Out}
 use Rattle.hc_records.specs.Keys.{same_dir}
 use Rattle.hc_records.specs.Area.{assigned_entries}
 use Rattle.hc_records.specs.Line.{Member, groups_of}
 use Rattle.hc_records.specs.Image.{VariablePlace, area_variables, datagram_length, task_places, task_variables, tasks, variable_place, variables_from}
-use Rattle.hc_records.specs.ImageLaws.{SharesNoBit}
 use Rattle.hc_records.specs.Project.{lowest_fault}
 use Rattle.hc_records.proofs.lemmas.Finds.{all-tasks, each-task, found-none, mapped-some}
-use Rattle.hc_records.proofs.lemmas.KeyOrder.{same_dir-refl}
 use Rattle.hc_records.proofs.lemmas.Lists.{All-append_left, All-append_right, All-flat_map, All-from_filter, All-passing, AllPairs-head, AllPairs-tail}
 use Rattle.hc_records.proofs.lemmas.VariableBits.{variables-apart}
 use Rattle.hc_records.proofs.lemmas.VariablePlaces.{variables-lie}
@@ -26,26 +23,12 @@ use Rattle.hc_places.proofs.lemmas.Ascends.{table-ascends}
 use Rattle.hc_places.proofs.lemmas.Found.{find-holds}
 use Rattle.hc_places.proofs.lemmas.Same.{same-dirs}
 use Rattle.hc_places.proofs.lemmas.Sorted.{filter-by_number, find-by_number}
-use Rattle.hc_bits.specs.Bits.{bit_of}
 use Rattle.hc_events.specs.Entries.{Record}
 use Rattle.hc_events.specs.Points.{line_of, state_of}
 use Rattle.hc_events.specs.Outputs.{has_bit, is_output_in, outputs_in, sent_bit, sent_data, value_bit}
 use Rattle.hc_events.specs.DataLaws.{IsOutputOf, IsSentData, LiesIn}
 use Rattle.hc_events.proofs.SentBits.{sent-data}
-
-by_bool : {P : Type 0} (b : Bool) → (b ≡ true → P) → (b ≡ false → P) → P
-by_bool true f g = f refl
-by_bool false f g = g refl
-
-and_true : (a b : Bool) → (a && b) ≡ true → (a ≡ true) × (b ≡ true)
-and_true true b e = (refl, e)
-and_true false b e = cc
-
-both : (a b : Bool) → a ≡ true → b ≡ true → (a && b) ≡ true
-both a b s t = rw (s, t) refl
-
-itself : (n : ℕ) → (n == n) ≡ true
-itself n = grind (arith, nat_tests)
+use Rattle.hc_events.proofs.lemmas.Awaited.{by_bool, same_is}
 
 below_number : (low high : ℕ) → low < high → (low == high) ≡ false
 below_number low high less = grind (arith, nat_tests)
@@ -66,7 +49,7 @@ found_in : (rows : List Row) → RowsAscend rows → All (IsFoundIn rows) rows
 found_in [] ascend = All-nil (IsFoundIn [])
 found_in (row ∷ rows) ascend =
     All-cons (IsFoundIn (row ∷ rows)) row rows
-    (ap (λ b. cond b (Some row) (find (numbered row.0) rows)) (itself row.0))
+    (ap (λ b. cond b (Some row) (find (numbered row.0) rows)) (same_is row.0))
     (λ k d within. first_found (row.0 == (get_or rows k d).0) row (find (numbered (get_or rows k d).0) rows) (get_or rows k d)
     (below_number row.0 (get_or rows k d).0 (AllPairs-head (λ (a b : Row). a.0 < b.0) row rows ascend k d within))
     (found_in rows (AllPairs-tail (λ (a b : Row). a.0 < b.0) row rows ascend) k d within))
@@ -77,7 +60,7 @@ found_before rows ascend = λ k d within.
     let number = (get_or rows k d).0 in
     let sorted = All-weaker (IsFoundIn (by_number rows)) (λ row. numbered number row ≡ true → IsFoundIn rows row) (λ row there passes. sym (find-by_number row.0 rows) ∙ there) (by_number rows) (found_in (by_number rows) ascend) in
     let kept = All-passing (IsFoundIn rows) (numbered number) (by_number rows) sorted in
-    All-from_filter (IsFoundIn rows) (numbered number) rows (subst (All (IsFoundIn rows)) (filter-by_number number rows) kept) k d within (itself number)
+    All-from_filter (IsFoundIn rows) (numbered number) rows (subst (All (IsFoundIn rows)) (filter-by_number number rows) kept) k d within (same_is number)
 
 -- a variable of a project's line has the place of its row
 
@@ -119,7 +102,7 @@ outputs_are line task d placed =
     (λ k e within passes. record { there = placed k e within; task_is = of_task line task k e within; output = passes })
 
 datagram_of : (d : ℕ) (row : Row) → is_output_in d row ≡ true → row.1.datagram ≡ d
-datagram_of d row output = eqb-true row.1.datagram d (and_true (same_dir row.1.dir Out) (row.1.datagram == d) output).1
+datagram_of d row output = eqb-true row.1.datagram d (and_parts (same_dir row.1.dir Out) (row.1.datagram == d) output).1
 
 is_least : (m n : ℕ) → nat_le m n ≡ true → m ≤ n
 is_least m n e = grind (arith, nat_tests)
@@ -129,7 +112,7 @@ is_below m n e = grind (arith, nat_tests)
 
 from_bit : (k : ℕ) (row : Row) → has_bit k row ≡ true → LiesIn row.1 k
 from_bit k row has =
-    let parts = and_true (nat_le row.1.bit k) (nat_lt k (row.1.bit + row.1.bits)) has in
+    let parts = and_parts (nat_le row.1.bit k) (nat_lt k (row.1.bit + row.1.bits)) has in
     let low = parts.0 in
     let high = parts.1 in
     record { from = is_least row.1.bit k low; below = is_below k (row.1.bit + row.1.bits) high }
@@ -194,16 +177,13 @@ below_is : (bit j bits : ℕ) → j < bits → nat_lt (bit + j) (bit + bits) ≡
 below_is bit j bits low = grind (arith, nat_tests)
 
 to_bit : (place : VariablePlace) (n j : ℕ) → j < place.bits → has_bit (place.bit + j) (n, place) ≡ true
-to_bit place n j low = both _ _ (least_is place.bit j) (below_is place.bit j place.bits low)
+to_bit place n j low = and_from _ _ (least_is place.bit j) (below_is place.bit j place.bits low)
 
 rest_of : (bit j : ℕ) → (bit + j) - bit ≡ j
 rest_of bit j = omega arith
 
-number_is : (m n : ℕ) → m ≡ n → (m == n) ≡ true
-number_is m n e = grind (arith, nat_tests)
-
 out_is : (place : VariablePlace) (n d : ℕ) → place.dir ≡ Out → place.datagram ≡ d → is_output_in d (n, place) ≡ true
-out_is place n d dir datagram = both _ _ (ap (λ x. same_dir x Out) dir) (number_is place.datagram d datagram)
+out_is place n d dir datagram = and_from _ _ (ap (λ x. same_dir x Out) dir) (eq-eqb place.datagram d datagram)
 
 found_variable : (past : Record) → lowest_fault (groups_of (state_of past).groups) ≡ None → (task d variable j : ℕ) (place : VariablePlace) → IsOutputOf (line_of past) task d variable place → j < place.bits
     → find (has_bit (place.bit + j)) (outputs_in (line_of past) task d) ≡ Some (variable, place)
@@ -227,7 +207,7 @@ no_variable past task d k all none (Some row) e =
     let holds = find-holds (IsRow (line_of past) task d) (has_bit k) (outputs_in (line_of past) task d) row e all in
     let is = holds.0 in
     absurd (none row.0 row.1
-    (record { there = is.there; task_is = is.task_is; datagram = datagram_of d row is.output; output = same-dirs row.1.dir Out (and_true (same_dir row.1.dir Out) (row.1.datagram == d) is.output).0 })
+    (record { there = is.there; task_is = is.task_is; datagram = datagram_of d row is.output; output = same-dirs row.1.dir Out (and_parts (same_dir row.1.dir Out) (row.1.datagram == d) is.output).0 })
     (from_bit k row holds.1))
 
 inside : (end size bit bits j : ℕ) → bit + bits ≤ end → end ≡ size → j < bits → bit + j < size

@@ -1,7 +1,8 @@
 -- Serials ascend, and stay below the setup serial.
-use Rattle.std.proofs.Common.{◌≡◌, ℕ, suc, ◌+◌, ◌<◌, ◌≤◌, ◌==◌, nat_lt, Bool, true, false, cond, not, List, [], ◌∷◌, length, refl, sym, ap, ◌∙◌, subst, arith, Option, Some, None}
+use Rattle.std.proofs.Common.{◌≡◌, ℕ, suc, ◌+◌, ◌<◌, ◌≤◌, ◌==◌, nat_lt, Bool, true, false, cond, not, List, [], ◌∷◌, length, refl, sym, subst, arith, Option, Some, None}
 use Rattle.std.specs.Prelude.{is_some, option_map, Result, Ok, Err}
 use Rattle.std.specs.List.{list_any}
+use Rattle.std.proofs.lemmas.Bool.{not-false}
 use Rattle.std.proofs.lemmas.Bool.Decides.{nat_tests}
 use Rattle.hc_records.specs.declared.records.Group.{Group}
 use Rattle.hc_records.specs.Lists.{lowest}
@@ -91,10 +92,6 @@ left_if : (refused : Option CoreFault) (past next : Record) → (refused ≡ Non
 left_if None past next then' before = then' refl
 left_if (Some fault) past next then' before = before
 
-not_false : (b : Bool) → not b ≡ false → b ≡ true
-not_false true e = refl
-not_false false e = cc
-
 enough : (serial sendings : ℕ) → not (nat_lt SETUP_SERIAL (serial + sendings)) ≡ true → serial + sendings ≤ SETUP_SERIAL
 enough serial sendings e = grind (arith, nat_tests)
 
@@ -115,14 +112,14 @@ left_sent past tasks e =
     let first = passed (list_any is_no_task tasks) NoSuchTask (owed ∷ serials) e in
     let second = passed owed.0 owed.1 serials first.1 in
     let third = passed (not (has_serials past (length (proposal past tasks)))) SerialsSpent [] second.1 in
-    subst (λ n. n ≤ SETUP_SERIAL) (sent_numbers past (proposal past tasks)) (enough (next_serial past) (length (proposal past tasks)) (not_false _ third.0))
+    subst (λ n. n ≤ SETUP_SERIAL) (sent_numbers past (proposal past tasks)) (enough (next_serial past) (length (proposal past tasks)) (not-false _ third.0))
 
 left_write : (past : Record) (blocks : List LineBlock) → lowest (write_faults past blocks) ≡ None → Left past → Left (with_write past blocks)
 left_write past [] e before = before
 left_write past (block ∷ blocks) e before =
     let first = passed (length (block ∷ blocks) == 0) NothingOwed ((not (has_serials past 1), SerialsSpent) ∷ []) e in
     let second = passed (not (has_serials past 1)) SerialsSpent [] first.1 in
-    enough (next_serial past) 1 (not_false _ second.0)
+    enough (next_serial past) 1 (not-false _ second.0)
 
 left_arrival : (past : Record) (read : Result Arrival FrameFault) → Left past → Left (with_arrival past read)
 left_arrival past (Err fault) before = before

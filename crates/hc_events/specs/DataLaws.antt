@@ -33,7 +33,7 @@ pub record IsSentData (past : Record) (task d : ℕ) (bytes : List ℕ) : Type 0
       (k : ℕ) → k < 8 * length bytes → ((variable : ℕ) (place : VariablePlace) → IsOutputOf (line_of past) task d variable place → ¬ (LiesIn place k))
       → bit_of bytes k ≡ 0
 
--- so it is for each task in the line of a project: `Project::groups` tells it of the opened groups, and each edit keeps it
+-- so it is for each task (a higher number is refused before anything is sent) where the state is one of a project: `Project::groups` tells that of the opened groups, and `Plan` of the state behind its edits
 abbrev pub SentDataAreValues : Type 0
 SentDataAreValues =
     (past : Record) (task d : ℕ) → lowest_fault (groups_of (state_of past).groups) ≡ None → task < TASKS

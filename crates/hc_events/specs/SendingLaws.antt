@@ -13,7 +13,7 @@ use Rattle.hc_events.specs.Sendings.{Sending as Frame, size_of, task_datagrams}
 use Rattle.hc_events.specs.Heads.{Head, data_heads, write_head}
 use Rattle.hc_events.specs.Answering.{Sending, just_sent, sending_of}
 use Rattle.hc_events.specs.Owed.{owed_blocks}
-use Rattle.hc_events.specs.Steps.{Step, SendsTasks, SendsWrite, answer_to, entries_after, entries_after_all, proposal, sent_text, task_faults, write_faults, write_text}
+use Rattle.hc_events.specs.Steps.{Step, SendsTasks, SendsWrite, answer_to, entries_after, proposal, sent_text, task_faults, write_faults, write_text}
 use Rattle.hc_events.specs.Accepted.{record_of}
 
 -- a frame of tasks or a register write

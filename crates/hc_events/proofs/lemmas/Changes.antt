@@ -2,7 +2,7 @@
 use Rattle.std.proofs.Common.{◌≡◌, ◌⊎◌, inl, inr, ℕ, ◌+◌, ◌==◌, Bool, true, false, cond, ◌&&◌, List, [], ◌∷◌, ◌++◌, map, refl, sym, ap, ◌∙◌, subst, arith, Option, Some, None}
 use Rattle.std.specs.Prelude.{All, IsOk, fold}
 use Rattle.std.specs.Result.{result_unwrap_or}
-use Rattle.std.proofs.lemmas.Bool.{eqb-true}
+use Rattle.std.proofs.lemmas.Bool.{and_parts, eqb-true}
 use Rattle.std.proofs.lemmas.Bool.Decides.{nat_tests}
 use Rattle.std.proofs.lemmas.List.Elements.{All-nil, All-cons, All-head, All-tail}
 use Rattle.hc_records.specs.declared.edit.Edit.{Edit}
@@ -165,14 +165,10 @@ made task d bytes = record { task = task; datagram = d; bytes = bytes }
 made_same : (t u d e : ℕ) (bytes : List ℕ) → t ≡ u → d ≡ e → made t d bytes ≡ made u e bytes
 made_same t u d e bytes task datagram = rw (task, datagram) refl
 
-and_true : (a b : Bool) → (a && b) ≡ true → (a ≡ true) × (b ≡ true)
-and_true true b e = (refl, e)
-and_true false b e = cc
-
 -- the datagram of a good answer
 is_of : (task d : ℕ) (good : Fresh) → is_for task d good ≡ true → record { task = task; datagram = d; bytes = good.bytes } ≡ good
 is_of task d good e =
-    let parts = and_true (good.task == task) (good.datagram == d) e in
+    let parts = and_parts (good.task == task) (good.datagram == d) e in
     made_same task good.task d good.datagram good.bytes (sym (eqb-true good.task task parts.0)) (sym (eqb-true good.datagram d parts.1))
 
 last_here : (task d : ℕ) (bytes : List ℕ) (slot : Option (List ℕ)) (good : Fresh) (news : List News) → All (LeavesData task d) news → (own : Bool) → is_for task d good ≡ own

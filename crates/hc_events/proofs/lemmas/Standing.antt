@@ -2,16 +2,14 @@
 use Rattle.std.proofs.Common.{◌≡◌, ℕ, ◌+◌, ◌<◌, ◌==◌, Bool, true, false, cond, ◌||◌, List, [], ◌∷◌, ◌++◌, refl, sym, ap, ◌∙◌, subst, arith, Option, Some, None}
 use Rattle.std.specs.Prelude.{option_map}
 use Rattle.std.specs.List.{list_any}
+use Rattle.std.proofs.lemmas.Bool.{eqb-true}
 use Rattle.std.proofs.lemmas.Bool.Decides.{nat_tests}
 use Rattle.hc_events.specs.Entries.{Entry, Record, Opened, Edited, Posted, Sent, Wrote, Came}
 use Rattle.hc_events.specs.Points.{line_of, next_serial}
 use Rattle.hc_events.specs.Heads.{data_heads, write_head}
 use Rattle.hc_events.specs.Answering.{Sending, just_sent, followed_by, sending_of}
 use Rattle.hc_events.specs.SendingLaws.{StandsAt, heads_of, is_opening, is_sending}
-use Rattle.hc_events.proofs.lemmas.Awaited.{by_bool, same_is}
-
-is_number : (m n : ℕ) → (m == n) ≡ true → m ≡ n
-is_number m n e = grind (arith, nat_tests)
+use Rattle.hc_events.proofs.lemmas.Awaited.{same_is}
 
 -- from what is found to where it stands
 
@@ -50,18 +48,14 @@ stands-at (Posted task bytes ∷ past) serial = moved_on (Posted task bytes) ref
 stands-at (Came arrival ∷ past) serial = moved_on (Came arrival) refl past serial (sending_of past serial) (stands-at past serial)
 stands-at (Sent frame ∷ past) serial =
     stands_either (Sent frame ∷ past) serial (next_serial past == serial) (Some (just_sent (data_heads (line_of past) frame))) (option_map (followed_by (Sent frame)) (sending_of past serial))
-    (λ t. made_now past (Sent frame) refl serial (is_number (next_serial past) serial t))
+    (λ t. made_now past (Sent frame) refl serial (eqb-true (next_serial past) serial t))
     (moved_on (Sent frame) refl past serial (sending_of past serial) (stands-at past serial))
 stands-at (Wrote block ∷ past) serial =
     stands_either (Wrote block ∷ past) serial (next_serial past == serial) (Some (just_sent (write_head block ∷ []))) (option_map (followed_by (Wrote block)) (sending_of past serial))
-    (λ t. made_now past (Wrote block) refl serial (is_number (next_serial past) serial t))
+    (λ t. made_now past (Wrote block) refl serial (eqb-true (next_serial past) serial t))
     (moved_on (Wrote block) refl past serial (sending_of past serial) (stands-at past serial))
 
 -- and back
-
-or_none : (a b : Bool) → (a || b) ≡ false → (a ≡ false) × (b ≡ false)
-or_none true b e = cc
-or_none false b e = (refl, e)
 
 one_more : (n : ℕ) → n < n + 1
 one_more n = omega arith
