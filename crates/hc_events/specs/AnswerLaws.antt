@@ -14,7 +14,7 @@ use Rattle.hc_events.specs.Points.{line_of, next_serial}
 use Rattle.hc_events.specs.Sendings.{Named}
 use Rattle.hc_events.specs.Heads.{Head, Item, Datagram as DatagramItem, Block, data_head, item_of, write_head}
 use Rattle.hc_events.specs.Answering.{Sending, answered_by, has_heads, is_stale_to, judge, judged, judged_by, sends}
-use Rattle.hc_events.specs.Awaited.{awaited}
+use Rattle.hc_events.specs.Awaited.{awaited, is_write}
 use Rattle.hc_events.specs.Images.{Fresh, fresh_by}
 use Rattle.hc_events.specs.Steps.{Step, Arrives, answer_to, sent_datagram, told_of}
 use Rattle.hc_events.specs.Accepted.{StandsIn, record_of}
@@ -73,6 +73,13 @@ pub record AnswersTheAwaited (past : Record) (arrival : Arrival) : Type 0 where
 
 abbrev pub AwaitedAreAnswered : Type 0
 AwaitedAreAnswered = (past : Record) (arrival : Arrival) → AnswersTheAwaited past arrival
+
+-- where a register write is awaited nothing else is, neither another write nor a frame of tasks
+abbrev pub WritesAreAwaitedAlone : Type 0
+WritesAreAwaitedAlone =
+    (groups : List Group) (steps : List Step) (serial other : ℕ) (write sending : Sending)
+    → awaited (record_of groups steps) serial ≡ Some write → is_write write ≡ true
+    → awaited (record_of groups steps) other ≡ Some sending → other ≡ serial
 
 -- the datagrams with which a sending goes out
 abbrev pub sent_datagrams : Record → Entry → List Datagram

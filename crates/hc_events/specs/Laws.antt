@@ -2,15 +2,17 @@
 use Rattle.std.specs.Prelude.{◌≡◌, ℕ, IsNone, IsSome, IsTrue, List, ◌∷◌, length, map, Some, None}
 use Rattle.std.specs.List.{list_any, range_with_len}
 use Rattle.hc_records.specs.declared.edit.Edit.{Edit}
+use Rattle.hc_records.specs.declared.records.Group.{Group}
 use Rattle.hc_registers.specs.Blocks.{LineBlock, line_blocks, same_block}
 use Rattle.hc_events.specs.Arrivals.{Arrival}
 use Rattle.hc_events.specs.Entries.{Record, Edited, Came}
-use Rattle.hc_events.specs.Points.{line_of, next_serial}
+use Rattle.hc_events.specs.Points.{epoch_of, line_of, next_serial, state_of}
 use Rattle.hc_events.specs.Sendings.{length_of}
 use Rattle.hc_events.specs.Answering.{answered_by}
 use Rattle.hc_events.specs.Images.{slot_of}
 use Rattle.hc_events.specs.Owed.{is_owed}
 use Rattle.hc_events.specs.Steps.{Step, Edits, edit_refused, entries_after, entries_after_all, proposal}
+use Rattle.hc_events.specs.Accepted.{record_of}
 
 -- no sending is answered twice: once an arrival has answered one, no arrival with its serial answers any, whatever comes in between
 abbrev pub AnswersOnce : Type 0
@@ -40,3 +42,8 @@ abbrev pub UnmovedIsOwedAsBefore : Type 0
 UnmovedIsOwedAsBefore =
     (past : Record) (edit : Edit) (block : LineBlock) → IsTrue (list_any (same_block block) (line_blocks (line_of past)))
     → is_owed (Edited edit ∷ past) block ≡ is_owed past block
+
+-- the epoch of the state is the number of accepted edits
+abbrev pub EpochsAreCounted : Type 0
+EpochsAreCounted =
+    (groups : List Group) (steps : List Step) → (state_of (record_of groups steps)).epoch ≡ epoch_of (record_of groups steps)

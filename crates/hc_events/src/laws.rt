@@ -1,11 +1,10 @@
 //! What follows from the definitions of `specs/`, so that a reader can trust them: each function here
 //! does nothing, and its contract is a law that holds of every record. Nobody calls it.
-ghost use Rattle.hc_events.specs.Accepted.{EpochsAreCounted, RecordsAreAccepted};
-ghost use Rattle.hc_events.specs.AnswerLaws.{AnsweredAreOfTheLine, AnswersTheSerial, AwaitedAreAnswered, ReturnedFramesAnswer};
-ghost use Rattle.hc_events.specs.Awaited.{WritesAreAwaitedAlone};
+ghost use Rattle.hc_events.specs.Accepted.{RecordsAreAccepted};
+ghost use Rattle.hc_events.specs.AnswerLaws.{AnsweredAreOfTheLine, AnswersTheSerial, AwaitedAreAnswered, ReturnedFramesAnswer, WritesAreAwaitedAlone};
 ghost use Rattle.hc_events.specs.DataLaws.{SentDataAreValues};
 ghost use Rattle.hc_events.specs.FaultLaws.{FaultsAreNumbered};
-ghost use Rattle.hc_events.specs.Laws.{AnswersOnce, EditsLeaveNoSlot, ProposalsAreNumbered, SlotsFit, UnmovedIsOwedAsBefore};
+ghost use Rattle.hc_events.specs.Laws.{AnswersOnce, EditsLeaveNoSlot, EpochsAreCounted, ProposalsAreNumbered, SlotsFit, UnmovedIsOwedAsBefore};
 ghost use Rattle.hc_events.specs.NewsLaws.{ChangesAreLegal, ChangesTellAll, LegalChangesAgree, LegalChangesDecide, NewsOnlyGrow, SlotsAreLastAnswers};
 ghost use Rattle.hc_events.specs.SendingLaws.{FramesHaveTheirSizes, IndexesComeAgain, ProposalsCarryTheTasks, SendingsHaveSerials, SentFramesAreFound, SentWritesAreFound, SerialsAscend, SerialsStayBelow};
 ghost use Rattle.hc_events.specs.Stale.{StaleArrivalsCanGo, StaleChangesNothing, StaleIsToldWithout, StaleStaysStale, StepsKeepWithout, UnreadableChangesNothing};
