@@ -10,7 +10,12 @@ pub mod Outputs
 pub mod Owed
 pub mod Changes
 pub mod Steps
+pub mod WorkedAxis
 pub mod WorkedRecords
+pub mod WorkedWrites
+pub mod WorkedFrames
+pub mod WorkedArrivals
+pub mod WorkedRefusals
 pub mod Awaited
 pub mod Stale
 pub mod Accepted
