@@ -1,15 +1,18 @@
 -- Worked frames of tasks, computed by the definitions: a wrong definition fails here.
 use Rattle.std.specs.Prelude.{◌≡◌, ℕ, ◌+◌, List, [], ◌∷◌, ◌++◌, map, replicate, slice_range, take, Some, None, refl}
 use Rattle.hc_bits.specs.Bits.{bit_of, number_of}
+use Rattle.hc_records.specs.Lists.{lowest}
 use Rattle.hc_records.specs.declared.records.Dir.TheVariants.{Out}
 use Rattle.hc_records.specs.declared.records.Pdo.{Pdo}
 use Rattle.hc_records.specs.declared.records.Slave.{Slave}
 use Rattle.hc_frames.specs.Arrived.{starts_within}
 use Rattle.hc_events.specs.declared.answer.Answer.TheVariants as answer
 use Rattle.hc_events.specs.declared.answer.Outcome.TheVariants.{Inputs, WrongCount, Stale}
+use Rattle.hc_events.specs.declared.faults.CoreFault.TheVariants.{Room}
 use Rattle.hc_events.specs.Arrivals.{Part}
 use Rattle.hc_events.specs.Entries.{Record, Opened}
 use Rattle.hc_events.specs.Sendings.{size_of}
+use Rattle.hc_events.specs.Calls.{send_into_faults}
 use Rattle.hc_events.specs.Steps.{Posts, SendsTasks, SendsWrite, Reads, answers_to, entries_after_all, proposal, sent_text}
 use Rattle.hc_events.specs.WorkedAxis.{area_of, back, data_back, head_of, moved, written_at}
 
@@ -196,6 +199,10 @@ long_posted = entries_after_all (Opened (record { alias = 0; slaves = long_slave
 two_sizes : sizes long_posted (0 ∷ []) ≡ 60 ∷ 1508 ∷ []
 unfolding bit_of number_of starts_within
 two_sizes = refl
+
+two_in_a_slice : map (λ bytes. lowest (send_into_faults long_posted (0 ∷ []) bytes)) (1567 ∷ 1568 ∷ []) ≡ Some (Room 1568) ∷ None ∷ []
+unfolding bit_of number_of starts_within
+two_in_a_slice = refl
 
 two_texts : map (λ sending. take 34 (sent_text long_posted sending)) (proposal long_posted (0 ∷ []))
     ≡ (head_of 4 0x14 ++ 0x0c ∷ 0x04 ∷ 0 ∷ 0 ∷ 0 ∷ 0x01 ∷ 0x08 ∷ 0 ∷ 0 ∷ 0 ∷ first_bytes)

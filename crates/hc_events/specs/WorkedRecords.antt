@@ -1,5 +1,5 @@
 -- Worked records of posts, sendings and edits, computed by the definitions: a wrong definition fails here.
-use Rattle.std.specs.Prelude.{◌≡◌, ℕ, ◌+◌, List, [], ◌∷◌, ◌++◌, map, replicate, Some, None, refl}
+use Rattle.std.specs.Prelude.{◌≡◌, ℕ, List, [], ◌∷◌, ◌++◌, map, replicate, Some, None, refl}
 use Rattle.hc_bits.specs.Bits.{bit_of, number_of}
 use Rattle.hc_records.specs.declared.records.Dir.TheVariants.{Out}
 use Rattle.hc_records.specs.declared.records.Slave.{Slave}
