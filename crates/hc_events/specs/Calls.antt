@@ -1,7 +1,8 @@
 -- What the calls of a core add to the answers: want of memory, a slice of the caller's that is too short, and what the caller keeps to.
-use Rattle.std.specs.Prelude.{◌≡◌, ℕ, ◌+◌, ◌<◌, ◌≤◌, ◌⊎◌, nat_lt, Bool, true, false, List, [], ◌∷◌, ◌++◌, length, sum_by}
+use Rattle.std.specs.Prelude.{◌≡◌, ℕ, ◌+◌, ◌<◌, ◌≤◌, ◌⊎◌, ◌&&◌, nat_lt, Bool, true, false, if◌then◌else◌, List, [], ◌∷◌, ◌++◌, length, sum_by, Option, Some, None}
 use Rattle.hc_records.specs.declared.limits.TheConstants.{TASKS}
 use Rattle.hc_records.specs.Lists.{has_repeat}
+use Rattle.hc_records.specs.Image.{datagram_count, task_places}
 use Rattle.hc_registers.specs.Blocks.{LineBlock}
 use Rattle.hc_frames.specs.Sizes.{frame_bytes}
 use Rattle.hc_events.specs.declared.answer.Answer.{Answer}
@@ -9,9 +10,10 @@ use Rattle.hc_events.specs.declared.answer.Answer.TheVariants as answer
 use Rattle.hc_events.specs.declared.faults.CoreFault.{CoreFault}
 use Rattle.hc_events.specs.declared.faults.CoreFault.TheVariants.{Memory, Room}
 use Rattle.hc_events.specs.Entries.{Record}
-use Rattle.hc_events.specs.Sendings.{size_of}
+use Rattle.hc_events.specs.Points.{line_of, next_serial}
+use Rattle.hc_events.specs.Sendings.{Sending, alone, length_of, size_of}
 use Rattle.hc_events.specs.Owed.{owed_blocks}
-use Rattle.hc_events.specs.Steps.{Step, Posts, answer_to, entries_after, proposal, task_faults, write_faults}
+use Rattle.hc_events.specs.Steps.{Step, Posts, answer_to, entries_after, has_serials, proposal, task_faults, write_faults}
 
 -- an event takes memory for what it answers or for what is kept behind it; a post takes none, since the room for its values was taken at the opening or by an accepted edit
 abbrev pub takes_memory : Step → Bool
@@ -59,3 +61,10 @@ pub record AreSentTogether (tasks : List ℕ) : Type 0 where
   pub some : 0 < length tasks
   pub most : length tasks ≤ TASKS
   pub distinct : has_repeat tasks ≡ false
+
+-- the frame of one datagram alone as it would be sent next, whether or not blocks are owed; none where the task has no such datagram or no serial is left
+abbrev pub preview : Record → ℕ → ℕ → Option Sending
+preview past task d =
+    if nat_lt d (datagram_count (task_places task (line_of past))) && has_serials past 1
+    then Some (alone (next_serial past) (task, d) (length_of (line_of past) (task, d)))
+    else None

@@ -1,5 +1,5 @@
 -- Worked frames of tasks, computed by the definitions: a wrong definition fails here.
-use Rattle.std.specs.Prelude.{◌≡◌, ℕ, ◌+◌, List, [], ◌∷◌, ◌++◌, map, replicate, slice_range, take, Some, None, refl}
+use Rattle.std.specs.Prelude.{◌≡◌, ℕ, ◌+◌, List, [], ◌∷◌, ◌++◌, map, replicate, slice_range, take, Some, None, option_map, refl}
 use Rattle.hc_bits.specs.Bits.{bit_of, number_of}
 use Rattle.hc_records.specs.Lists.{lowest}
 use Rattle.hc_records.specs.declared.records.Dir.TheVariants.{Out}
@@ -12,9 +12,16 @@ use Rattle.hc_events.specs.declared.faults.CoreFault.TheVariants.{Room}
 use Rattle.hc_events.specs.Arrivals.{Part}
 use Rattle.hc_events.specs.Entries.{Record, Opened}
 use Rattle.hc_events.specs.Sendings.{size_of}
-use Rattle.hc_events.specs.Calls.{send_into_faults}
+use Rattle.hc_events.specs.Calls.{preview, send_into_faults}
 use Rattle.hc_events.specs.Steps.{Posts, SendsTasks, SendsWrite, Reads, answers_to, entries_after_all, proposal, sent_text}
-use Rattle.hc_events.specs.WorkedAxis.{area_of, back, data_back, head_of, moved, written_at}
+use Rattle.hc_events.specs.WorkedAxis.{area_of, back, data_back, head_of, moved, opened, written_at}
+
+-- The frame that a task would be sent in, with nothing posted and nothing written yet.
+
+shown : map (option_map (sent_text opened)) (preview opened 0 0 ∷ preview opened 0 1 ∷ preview opened 1 0 ∷ [])
+    ≡ Some (head_of 0 0x0f ++ 0x0c ∷ 0x00 ∷ 0 ∷ 0 ∷ 0 ∷ 0x01 ∷ 0x03 ∷ replicate 37 0) ∷ None ∷ None ∷ []
+unfolding bit_of number_of starts_within
+shown = refl
 
 -- Two tasks share a frame, and each of its datagrams has a working counter of its own.
 
