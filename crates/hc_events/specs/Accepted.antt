@@ -8,7 +8,7 @@ use Rattle.hc_records.specs.Image.{datagram_count, output_length, task_places}
 use Rattle.hc_records.specs.Edits.{edit_faults}
 use Rattle.hc_registers.specs.Blocks.{LineBlock}
 use Rattle.hc_events.specs.Entries.{Entry, Record, Opened, Edited, Posted, Sent, Wrote, Came}
-use Rattle.hc_events.specs.Points.{epoch_of, line_of, state_of}
+use Rattle.hc_events.specs.Points.{line_of, state_of}
 use Rattle.hc_events.specs.Sendings.{Named, sendings_of}
 use Rattle.hc_events.specs.Owed.{owed_blocks}
 use Rattle.hc_events.specs.Steps.{Step, entries_after_all}
@@ -63,8 +63,3 @@ AreAccepted (entry ∷ past) = IsAccepted past entry × AreAccepted past
 
 abbrev pub RecordsAreAccepted : Type 0
 RecordsAreAccepted = (groups : List Group) (steps : List Step) → AreAccepted (record_of groups steps)
-
--- the epoch of the state is the number of accepted edits
-abbrev pub EpochsAreCounted : Type 0
-EpochsAreCounted =
-    (groups : List Group) (steps : List Step) → (state_of (record_of groups steps)).epoch ≡ epoch_of (record_of groups steps)

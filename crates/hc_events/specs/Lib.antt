@@ -21,3 +21,8 @@ pub mod Awaited
 pub mod Stale
 pub mod Accepted
 pub mod Laws
+pub mod SendingLaws
+pub mod AnswerLaws
+pub mod DataLaws
+pub mod NewsLaws
+pub mod FaultLaws
