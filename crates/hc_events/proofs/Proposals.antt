@@ -52,14 +52,14 @@ proposals-carry past tasks = row_of (line_of past) (next_serial past) (flat_map 
 
 -- a frame's bytes are those of its datagrams
 
-abbrev bytes_with : List Member → List Named → ℕ
+abbrev pub bytes_with : List Member → List Named → ℕ
 bytes_with line names = sum_by (λ (named : Named). 12 + length_of line named) names
 
-abbrev IsCounted : List Member → Frame → Type 0
+abbrev pub IsCounted : List Member → Frame → Type 0
 IsCounted line frame = frame.bytes ≡ bytes_with line frame.datagrams
 
-alone_counted : (line : List Member) (serial : ℕ) (datagram : Named) → IsCounted line (alone serial datagram (length_of line datagram))
-alone_counted line serial datagram = let sum = sum_by-cons (λ (named : Named). 12 + length_of line named) datagram [] in omega arith
+pub alone-counted : (line : List Member) (serial : ℕ) (datagram : Named) → IsCounted line (alone serial datagram (length_of line datagram))
+alone-counted line serial datagram = let sum = sum_by-cons (λ (named : Named). 12 + length_of line named) datagram [] in omega arith
 
 joined_counted : (line : List Member) (frame : Frame) (datagram : Named) → IsCounted line frame → IsCounted line (joined frame datagram (length_of line datagram))
 joined_counted line frame datagram counted =
@@ -76,11 +76,11 @@ counted_behind line frame (datagram ∷ datagrams) counted =
     counted_either line (has_room frame.bytes length) frame (framed_behind line (joined frame datagram length) datagrams) (framed_behind line (alone (frame.serial + 1) datagram length) datagrams)
     (counted_behind line (joined frame datagram length) datagrams (joined_counted line frame datagram counted))
     counted
-    (counted_behind line (alone (frame.serial + 1) datagram length) datagrams (alone_counted line (frame.serial + 1) datagram))
+    (counted_behind line (alone (frame.serial + 1) datagram length) datagrams (alone-counted line (frame.serial + 1) datagram))
 
 counted_frames : (line : List Member) (serial : ℕ) (datagrams : List Named) → All (IsCounted line) (framed line serial datagrams)
 counted_frames line serial [] = All-nil (IsCounted line)
-counted_frames line serial (datagram ∷ datagrams) = counted_behind line (alone serial datagram (length_of line datagram)) datagrams (alone_counted line serial datagram)
+counted_frames line serial (datagram ∷ datagrams) = counted_behind line (alone serial datagram (length_of line datagram)) datagrams (alone-counted line serial datagram)
 
 text_counted : (past : Record) (names : List Named) → text_size (map sent (map (sent_datagram past) names)) ≡ bytes_with (line_of past) names
 text_counted past [] = refl
@@ -91,15 +91,15 @@ text_counted past (named ∷ names) =
     let rest = text_counted past names in
     omega arith
 
-frame_sized : (past : Record) (frame : Frame) → IsCounted (line_of past) frame → length (sent_text past frame) ≡ size_of frame
-frame_sized past frame counted =
+pub frame-sized : (past : Record) (frame : Frame) → IsCounted (line_of past) frame → length (sent_text past frame) ≡ size_of frame
+frame-sized past frame counted =
     length-frame_text frame.serial (map (sent_datagram past) frame.datagrams) ∙ ap frame_bytes (text_counted past frame.datagrams ∙ sym counted)
 
 all_sized : (past : Record) (frames : List Frame) → All (IsCounted (line_of past)) frames → All (λ (frame : Frame). length (sent_text past frame) ≡ size_of frame) frames
 all_sized past [] all = All-nil (λ (frame : Frame). length (sent_text past frame) ≡ size_of frame)
 all_sized past (frame ∷ frames) all =
     All-cons (λ (frame : Frame). length (sent_text past frame) ≡ size_of frame) frame frames
-    (frame_sized past frame (All-head (IsCounted (line_of past)) frame frames all)) (all_sized past frames (All-tail (IsCounted (line_of past)) frame frames all))
+    (frame-sized past frame (All-head (IsCounted (line_of past)) frame frames all)) (all_sized past frames (All-tail (IsCounted (line_of past)) frame frames all))
 
 pub frames-sized : (past : Record) (tasks : List ℕ) → All (λ (frame : Frame). length (sent_text past frame) ≡ size_of frame) (proposal past tasks)
 frames-sized past tasks =

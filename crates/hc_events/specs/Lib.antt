@@ -10,7 +10,13 @@ pub mod Outputs
 pub mod Owed
 pub mod Changes
 pub mod Steps
+pub mod Calls
+pub mod WorkedAxis
 pub mod WorkedRecords
+pub mod WorkedWrites
+pub mod WorkedFrames
+pub mod WorkedArrivals
+pub mod WorkedRefusals
 pub mod Awaited
 pub mod Stale
 pub mod Accepted
@@ -20,3 +26,4 @@ pub mod AnswerLaws
 pub mod DataLaws
 pub mod NewsLaws
 pub mod FaultLaws
+pub mod CallLaws

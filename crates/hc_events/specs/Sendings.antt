@@ -33,7 +33,7 @@ abbrev pub joined : Sending → Named → ℕ → Sending
 joined sending datagram length =
     record sending { bytes = sending.bytes + 12 + length; datagrams = sending.datagrams ++ datagram ∷ [] }
 
--- each datagram has at least one byte of data, and all are within a frame
+-- at least one datagram; bytes for each one's header, its working counter and at least one byte of data; and no more bytes than a frame holds
 pub record IsFilled (bytes : ℕ) (datagrams : List Named) : Type 0 where
   pub some : 0 < length datagrams
   pub filled : 13 * length datagrams ≤ bytes

@@ -1,4 +1,4 @@
--- What the core answers to each event, and what it accepts of it. Want of memory aside, which may be answered to any event and changes nothing.
+-- What the core answers to each event, and what it accepts of it. `Calls` says to which events want of memory may be answered instead.
 use Rattle.std.specs.Prelude.{ℕ, ◌+◌, ◌==◌, not, nat_lt, Bool, if◌then◌else◌, List, [], ◌∷◌, length, map, Option, Some, None, option_map, Result, Ok, Err}
 use Rattle.std.specs.List.{list_any}
 use Rattle.hc_records.specs.declared.limits.TheConstants.{TASKS}

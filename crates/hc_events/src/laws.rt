@@ -2,6 +2,7 @@
 //! does nothing, and its contract is a law that holds of every record. Nobody calls it.
 ghost use Rattle.hc_events.specs.Accepted.{RecordsAreAccepted};
 ghost use Rattle.hc_events.specs.AnswerLaws.{AnsweredAreOfTheLine, AnswersTheSerial, AwaitedAreAnswered, ReturnedFramesAnswer, WritesAreAwaitedAlone};
+ghost use Rattle.hc_events.specs.CallLaws.{FramesFillTheirBytes, PreviewsAreFrames, WritesFillTheirBytes};
 ghost use Rattle.hc_events.specs.DataLaws.{SentDataAreValues};
 ghost use Rattle.hc_events.specs.FaultLaws.{FaultsAreNumbered};
 ghost use Rattle.hc_events.specs.Laws.{AnswersOnce, EditsLeaveNoSlot, EpochsAreCounted, ProposalsAreNumbered, SlotsFit, UnmovedIsOwedAsBefore};
@@ -182,6 +183,21 @@ pub fn proposals_carry_the_tasks()
 /// The size of a frame of tasks is the number of bytes that are sent.
 pub fn frames_have_their_sizes()
     ensures { FramesHaveTheirSizes }
+{}
+
+/// The frames of tasks, one after another, fill just the bytes that are asked for them.
+pub fn frames_fill_their_bytes()
+    ensures { FramesFillTheirBytes }
+{}
+
+/// So does the frame that writes the first owed block.
+pub fn writes_fill_their_bytes()
+    ensures { WritesFillTheirBytes }
+{}
+
+/// A preview is a frame of its datagram alone with the next serial, and has the bytes of its text.
+pub fn previews_are_frames()
+    ensures { PreviewsAreFrames }
 {}
 
 /// A frame's index, which stands in its byte 17, is the low byte of its serial. It comes again with the
