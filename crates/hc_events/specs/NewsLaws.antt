@@ -1,14 +1,18 @@
 -- What holds of news and of changes: what is read is the last good answer in them, and a legal list of changes decides what is read by itself.
-use Rattle.std.specs.Prelude.{◌≡◌, ◌↔◌, ℕ, false, All, List, [], ◌∷◌, ◌++◌, map, None, Some}
+use Rattle.std.specs.Prelude.{◌≡◌, ◌↔◌, ℕ, false, All, Contains, List, [], ◌∷◌, ◌++◌, map, None, Some}
+use Rattle.std.specs.List.{list_any, zip}
 use Rattle.hc_records.specs.declared.records.Group.{Group}
 use Rattle.hc_records.specs.Line.{State, line, opened}
 use Rattle.hc_records.specs.Edits.{state_after}
 use Rattle.hc_places.specs.Table.{table_of}
 use Rattle.hc_events.specs.declared.change.Change.{Change}
 use Rattle.hc_events.specs.declared.change.Change.TheVariants as change
-use Rattle.hc_events.specs.Entries.{Record}
+use Rattle.hc_events.specs.Arrivals.{Arrival, Part}
+use Rattle.hc_events.specs.Entries.{Entry, Record, Edited, Came}
 use Rattle.hc_events.specs.Points.{epoch_of, line_of}
-use Rattle.hc_events.specs.Images.{is_for, slot_of}
+use Rattle.hc_events.specs.Heads.{Datagram, Head}
+use Rattle.hc_events.specs.Answering.{Sending, answered_by, sends}
+use Rattle.hc_events.specs.Images.{Fresh, is_for, slot_of}
 use Rattle.hc_events.specs.Changes.{AreChangesOf, AreLegal, IsAnswerIn, News, Swapped, Answered, epoch_behind, news_of, slot_behind, table_behind, told_by}
 use Rattle.hc_events.specs.Steps.{Step, entries_after_all}
 use Rattle.hc_events.specs.Accepted.{record_of}
@@ -20,6 +24,30 @@ pub record Grows (old new : List News) : Type 0 where
 
 abbrev pub NewsOnlyGrow : Type 0
 NewsOnlyGrow = (past : Record) (steps : List Step) → Grows (news_of past) (news_of (entries_after_all past steps))
+
+-- a datagram of an arrival, good when it came: the arrival answered a sending with this datagram, which wasn't sent again since, and it came back with the expected working counter and these data
+pub record IsGoodAnswer (past : Record) (good : Fresh) : Type 0 where
+  pub since : List Entry
+  pub arrival : Arrival
+  pub before : Record
+  pub split : past ≡ since ++ Came arrival ∷ before
+  pub sending : Sending
+  pub answered : answered_by before arrival ≡ Some sending
+  pub head : Head
+  pub part : Part
+  pub stands : Contains (zip sending.heads arrival.parts) (head, part)
+  pub item : head.item ≡ Datagram good.task good.datagram
+  pub newest : list_any (sends head.item) sending.since ≡ false
+  pub counter : part.counter ≡ head.expected
+  pub bytes : good.bytes ≡ part.bytes
+
+-- each piece of news is an accepted edit of the record, or such a datagram
+abbrev pub IsNewsOf : Record → News → Type 0
+IsNewsOf past (Swapped edit) = Contains past (Edited edit)
+IsNewsOf past (Answered good) = IsGoodAnswer past good
+
+abbrev pub NewsAreOfTheRecord : Type 0
+NewsAreOfTheRecord = (past : Record) → All (IsNewsOf past) (news_of past)
 
 -- a piece of news leaves a datagram's data: no accepted edit, and no good answer of that datagram
 abbrev pub LeavesData : ℕ → ℕ → News → Type 0

@@ -5,7 +5,7 @@ ghost use Rattle.hc_events.specs.AnswerLaws.{AnsweredAreOfTheLine, AnswersTheSer
 ghost use Rattle.hc_events.specs.DataLaws.{SentDataAreValues};
 ghost use Rattle.hc_events.specs.FaultLaws.{FaultsAreNumbered};
 ghost use Rattle.hc_events.specs.Laws.{AnswersOnce, EditsLeaveNoSlot, EpochsAreCounted, ProposalsAreNumbered, SlotsFit, UnmovedIsOwedAsBefore};
-ghost use Rattle.hc_events.specs.NewsLaws.{ChangesAreLegal, ChangesTellAll, LegalChangesAgree, LegalChangesDecide, NewsOnlyGrow, SlotsAreLastAnswers};
+ghost use Rattle.hc_events.specs.NewsLaws.{ChangesAreLegal, ChangesTellAll, LegalChangesAgree, LegalChangesDecide, NewsAreOfTheRecord, NewsOnlyGrow, SlotsAreLastAnswers};
 ghost use Rattle.hc_events.specs.SendingLaws.{FramesHaveTheirSizes, IndexesComeAgain, ProposalsCarryTheTasks, SendingsHaveSerials, SentFramesAreFound, SentWritesAreFound, SerialsAscend, SerialsStayBelow};
 ghost use Rattle.hc_events.specs.Stale.{StaleArrivalsCanGo, StaleChangesNothing, StaleIsToldWithout, StaleStaysStale, StepsKeepWithout, UnreadableChangesNothing};
 
@@ -108,6 +108,12 @@ pub fn slots_are_last_answers()
 /// to tell, and take nothing of it away.
 pub fn news_only_grow()
     ensures { NewsOnlyGrow }
+{}
+
+/// What there is to tell are accepted edits and good answers alone: of datagrams of an arrival that
+/// answered their sending, that weren't sent again since, and that had the expected working counter.
+pub fn news_are_of_the_record()
+    ensures { NewsAreOfTheRecord }
 {}
 
 /// A legal list of changes decides by itself, without any event, what is read behind it: the table of
