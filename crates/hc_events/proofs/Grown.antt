@@ -7,7 +7,7 @@ use Rattle.hc_frames.specs.declared.reading.faults.FrameFault.{FrameFault}
 use Rattle.hc_events.specs.declared.faults.CoreFault.{CoreFault}
 use Rattle.hc_events.specs.Arrivals.{Arrival, arrival_in}
 use Rattle.hc_events.specs.Entries.{Record, Edited, Posted, Sent}
-use Rattle.hc_events.specs.Sendings.{Sending as Frame}
+use Rattle.hc_events.specs.Sendings.{Frame}
 use Rattle.hc_events.specs.Images.{fresh_by}
 use Rattle.hc_events.specs.Changes.{News, Swapped, Answered, news_of}
 use Rattle.hc_events.specs.Owed.{owed_blocks}

@@ -5,18 +5,18 @@ use Rattle.hc_records.specs.Line.{Member}
 use Rattle.hc_frames.specs.FrameText.{Datagram, frame_text}
 use Rattle.hc_events.specs.Entries.{Record}
 use Rattle.hc_events.specs.Points.{line_of, next_serial}
-use Rattle.hc_events.specs.Sendings.{Named, Sending, alone, framed, framed_behind, has_room, joined, length_of, task_datagrams}
+use Rattle.hc_events.specs.Sendings.{Frame, Named, alone, framed, framed_behind, has_room, joined, length_of, task_datagrams}
 use Rattle.hc_events.specs.Steps.{proposal}
 use Rattle.hc_events.specs.SendingLaws.{ComesAgain, index_in}
 
-abbrev Numbered : ℕ → List Sending → Type 0
+abbrev Numbered : ℕ → List Frame → Type 0
 Numbered serial frames = map (λ sending. sending.serial) frames ≡ range_with_len serial (length frames)
 
-numbered_either : (room : Bool) (sending : Sending) (rest other : List Sending) → Numbered sending.serial rest → Numbered (sending.serial + 1) other → Numbered sending.serial (cond room rest (sending ∷ other))
+numbered_either : (room : Bool) (sending : Frame) (rest other : List Frame) → Numbered sending.serial rest → Numbered (sending.serial + 1) other → Numbered sending.serial (cond room rest (sending ∷ other))
 numbered_either true sending rest other a b = a
 numbered_either false sending rest other a b = ap (λ serials. sending.serial ∷ serials) b
 
-numbered_behind : (line : List Member) (sending : Sending) (datagrams : List Named) → Numbered sending.serial (framed_behind line sending datagrams)
+numbered_behind : (line : List Member) (sending : Frame) (datagrams : List Named) → Numbered sending.serial (framed_behind line sending datagrams)
 numbered_behind line sending [] = refl
 numbered_behind line sending (datagram ∷ datagrams) =
     numbered_either (has_room sending.bytes (length_of line datagram)) sending

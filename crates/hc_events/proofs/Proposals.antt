@@ -15,7 +15,7 @@ use Rattle.hc_events.specs.declared.answer.Answer.{Answer}
 use Rattle.hc_events.specs.declared.answer.Answer.TheVariants as answer
 use Rattle.hc_events.specs.Entries.{Entry, Record, Opened, Edited, Posted, Sent, Wrote, Came}
 use Rattle.hc_events.specs.Points.{line_of, next_serial}
-use Rattle.hc_events.specs.Sendings.{Named, Sending as Frame, alone, framed, framed_behind, has_room, joined, length_of, size_of, task_datagrams}
+use Rattle.hc_events.specs.Sendings.{Frame, Named, alone, framed, framed_behind, has_room, joined, length_of, size_of, task_datagrams}
 use Rattle.hc_events.specs.Heads.{data_heads}
 use Rattle.hc_events.specs.Answering.{sending_of}
 use Rattle.hc_events.specs.Owed.{owed_blocks}

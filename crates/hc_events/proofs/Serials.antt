@@ -14,7 +14,7 @@ use Rattle.hc_events.specs.declared.faults.CoreFault.TheVariants.{NoSuchTask, No
 use Rattle.hc_events.specs.Arrivals.{Arrival, arrival_in}
 use Rattle.hc_events.specs.Entries.{Entry, Record, Opened, Edited, Posted, Sent, Wrote, Came}
 use Rattle.hc_events.specs.Points.{line_of, next_serial}
-use Rattle.hc_events.specs.Sendings.{Sending as Frame}
+use Rattle.hc_events.specs.Sendings.{Frame}
 use Rattle.hc_events.specs.Heads.{data_heads, write_head}
 use Rattle.hc_events.specs.Answering.{Sending, just_sent, followed_by, sending_of}
 use Rattle.hc_events.specs.Owed.{owed_blocks}

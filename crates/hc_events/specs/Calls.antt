@@ -11,7 +11,7 @@ use Rattle.hc_events.specs.declared.faults.CoreFault.{CoreFault}
 use Rattle.hc_events.specs.declared.faults.CoreFault.TheVariants.{Memory, Room}
 use Rattle.hc_events.specs.Entries.{Record}
 use Rattle.hc_events.specs.Points.{line_of, next_serial}
-use Rattle.hc_events.specs.Sendings.{Sending, alone, length_of, size_of}
+use Rattle.hc_events.specs.Sendings.{Frame, alone, length_of, size_of}
 use Rattle.hc_events.specs.Owed.{owed_blocks}
 use Rattle.hc_events.specs.Steps.{Step, Posts, answer_to, entries_after, has_serials, proposal, task_faults, write_faults}
 
@@ -63,7 +63,7 @@ pub record AreSentTogether (tasks : List ℕ) : Type 0 where
   pub distinct : has_repeat tasks ≡ false
 
 -- the frame of one datagram alone as it would be sent next, whether or not blocks are owed; none where the task has no such datagram or no serial is left
-abbrev pub preview : Record → ℕ → ℕ → Option Sending
+abbrev pub preview : Record → ℕ → ℕ → Option Frame
 preview past task d =
     if nat_lt d (datagram_count (task_places task (line_of past))) && has_serials past 1
     then Some (alone (next_serial past) (task, d) (length_of (line_of past) (task, d)))

@@ -9,7 +9,7 @@ use Rattle.hc_frames.specs.FrameText.{Datagram, frame_text}
 use Rattle.hc_events.specs.declared.answer.Answer.TheVariants as answer
 use Rattle.hc_events.specs.Entries.{Entry, Record, Opened, Sent, Wrote}
 use Rattle.hc_events.specs.Points.{line_of, next_serial}
-use Rattle.hc_events.specs.Sendings.{Sending as Frame, size_of, task_datagrams}
+use Rattle.hc_events.specs.Sendings.{Frame, size_of, task_datagrams}
 use Rattle.hc_events.specs.Heads.{Head, data_heads, write_head}
 use Rattle.hc_events.specs.Answering.{Sending, just_sent, sending_of}
 use Rattle.hc_events.specs.Owed.{owed_blocks}

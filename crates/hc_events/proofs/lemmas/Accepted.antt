@@ -18,7 +18,7 @@ use Rattle.hc_events.specs.Faults.{edit_refusal}
 use Rattle.hc_events.specs.Arrivals.{Arrival, arrival_in}
 use Rattle.hc_events.specs.Entries.{Entry, Record, Edited, Posted, Sent, Wrote, Came}
 use Rattle.hc_events.specs.Points.{epoch_of, line_of, next_serial, state_of}
-use Rattle.hc_events.specs.Sendings.{Named, Sending, alone, framed, framed_behind, has_room, joined, length_of, task_datagrams}
+use Rattle.hc_events.specs.Sendings.{Frame, Named, alone, framed, framed_behind, has_room, joined, length_of, task_datagrams}
 use Rattle.hc_events.specs.Owed.{owed_blocks}
 use Rattle.hc_events.specs.Steps.{Step, Edits, Posts, SendsTasks, SendsWrite, Arrives, Reads, kept_if, edit_refused, is_no_task, post_faults, proposal, has_serials, task_faults, with_sent, write_faults, with_write, with_arrival, entries_after, entries_after_all}
 use Rattle.hc_events.specs.Accepted.{IsAccepted, IsPost, StandsIn, frames_of}
@@ -39,14 +39,14 @@ all_stand line (task ∷ tasks) =
     All-append (StandsIn line) (task_datagrams line task) (flat_map (task_datagrams line) tasks)
     (stands_in line task 0 (datagram_count (task_places task line)) (zero_below (datagram_count (task_places task line)))) (all_stand line tasks)
 
-abbrev Stand : List Member → Sending → Type 0
+abbrev Stand : List Member → Frame → Type 0
 Stand line sending = All (StandsIn line) sending.datagrams
 
-frames_either : (line : List Member) (room : Bool) (sending next : Sending) (rest other : List Sending) → All (Stand line) rest → Stand line sending → All (Stand line) other → All (Stand line) (cond room rest (sending ∷ other))
+frames_either : (line : List Member) (room : Bool) (sending next : Frame) (rest other : List Frame) → All (Stand line) rest → Stand line sending → All (Stand line) other → All (Stand line) (cond room rest (sending ∷ other))
 frames_either line true sending next rest other a b c = a
 frames_either line false sending next rest other a b c = All-cons (Stand line) sending other b c
 
-frames_behind : (line : List Member) (sending : Sending) (datagrams : List Named) → Stand line sending → All (StandsIn line) datagrams → All (Stand line) (framed_behind line sending datagrams)
+frames_behind : (line : List Member) (sending : Frame) (datagrams : List Named) → Stand line sending → All (StandsIn line) datagrams → All (Stand line) (framed_behind line sending datagrams)
 frames_behind line sending [] stand all = All-cons (Stand line) sending [] stand (All-nil (Stand line))
 frames_behind line sending (datagram ∷ datagrams) stand all =
     let first = All-head (StandsIn line) datagram datagrams all in
@@ -117,10 +117,10 @@ keeps_if : (P : Record → Type 0) (refused : Option CoreFault) (past next : Rec
 keeps_if P None past next then' before = then' refl
 keeps_if P (Some fault) past next then' before = before
 
-abbrev AreOf : List Member → ℕ → List ℕ → List Sending → Type 0
+abbrev AreOf : List Member → ℕ → List ℕ → List Frame → Type 0
 AreOf line serial tasks sendings = All (Contains (frames_of line serial tasks)) (map (λ sending. sending.datagrams) sendings)
 
-keeps_sent : (P : Record → Type 0) → Keeps P → (line : List Member) (serial : ℕ) (tasks : List ℕ) (sendings : List Sending) (past : Record) → line_of past ≡ line → owed_blocks past ≡ [] → All (Stand line) sendings → AreOf line serial tasks sendings → P past → P (with_sent past sendings)
+keeps_sent : (P : Record → Type 0) → Keeps P → (line : List Member) (serial : ℕ) (tasks : List ℕ) (sendings : List Frame) (past : Record) → line_of past ≡ line → owed_blocks past ≡ [] → All (Stand line) sendings → AreOf line serial tasks sendings → P past → P (with_sent past sendings)
 keeps_sent P keeps line serial tasks [] past same none stand are before = before
 keeps_sent P keeps line serial tasks (sending ∷ sendings) past same none stand are before =
     let frames = map (λ other. other.datagrams) sendings in
