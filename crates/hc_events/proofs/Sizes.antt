@@ -11,7 +11,7 @@ use Rattle.hc_frames.specs.Sizes.{frame_bytes}
 use Rattle.hc_frames.proofs.lemmas.Texts.{length-frame_text}
 use Rattle.hc_events.specs.Entries.{Record}
 use Rattle.hc_events.specs.Points.{line_of, next_serial}
-use Rattle.hc_events.specs.Sendings.{Sending as Frame, alone, length_of, size_of}
+use Rattle.hc_events.specs.Sendings.{Frame, alone, length_of, size_of}
 use Rattle.hc_events.specs.Owed.{owed_blocks}
 use Rattle.hc_events.specs.Steps.{has_serials, proposal, sent_text, write_text}
 use Rattle.hc_events.specs.Calls.{frames_size, preview, write_size}

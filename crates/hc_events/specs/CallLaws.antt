@@ -4,7 +4,7 @@ use Rattle.std.specs.List.{flat_map}
 use Rattle.hc_registers.specs.Blocks.{LineBlock}
 use Rattle.hc_events.specs.Entries.{Record}
 use Rattle.hc_events.specs.Points.{next_serial}
-use Rattle.hc_events.specs.Sendings.{Sending, size_of}
+use Rattle.hc_events.specs.Sendings.{Frame, size_of}
 use Rattle.hc_events.specs.Owed.{owed_blocks}
 use Rattle.hc_events.specs.Steps.{proposal, sent_text, write_text}
 use Rattle.hc_events.specs.Calls.{frames_size, preview, write_size}
@@ -20,10 +20,10 @@ WritesFillTheirBytes =
     → length (write_text (next_serial past) block) ≡ write_size (owed_blocks past)
 
 -- a preview is a frame of this datagram alone with the next serial, and it has the bytes of its text
-pub record IsPreview (past : Record) (task d : ℕ) (frame : Sending) : Type 0 where
+pub record IsPreview (past : Record) (task d : ℕ) (frame : Frame) : Type 0 where
   pub serial : frame.serial ≡ next_serial past
   pub datagrams : frame.datagrams ≡ (task, d) ∷ []
   pub size : length (sent_text past frame) ≡ size_of frame
 
 abbrev pub PreviewsAreFrames : Type 0
-PreviewsAreFrames = (past : Record) (task d : ℕ) (frame : Sending) → preview past task d ≡ Some frame → IsPreview past task d frame
+PreviewsAreFrames = (past : Record) (task d : ℕ) (frame : Frame) → preview past task d ≡ Some frame → IsPreview past task d frame
