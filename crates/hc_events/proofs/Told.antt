@@ -1,5 +1,5 @@
 -- Each piece of news is of an entry of the record.
-use Rattle.std.proofs.Common.{◌≡◌, ℕ, suc, ◌==◌, Bool, true, false, cond, List, [], ◌∷◌, ◌++◌, length, map, refl, ap, arith, Option, Some, None}
+use Rattle.std.proofs.Common.{◌≡◌, suc, ◌==◌, Bool, true, false, cond, List, [], ◌∷◌, map, refl, ap, arith, Option, Some, None}
 use Rattle.std.specs.Prelude.{All, Contains}
 use Rattle.std.specs.Option.{option_map_or}
 use Rattle.std.specs.List.{flat_map, list_any, zip}
@@ -9,7 +9,7 @@ use Rattle.hc_records.proofs.lemmas.Lists.{All-flat_map}
 use Rattle.hc_events.specs.Arrivals.{Arrival, Part}
 use Rattle.hc_events.specs.Entries.{Entry, Record, Opened, Edited, Posted, Sent, Wrote, Came}
 use Rattle.hc_events.specs.Heads.{Block, Datagram, Head, Item}
-use Rattle.hc_events.specs.Answering.{Good, Judged, Sending, Stale, Wrong, answered_by, has_good, is_good, judge, judged, sends, verdict}
+use Rattle.hc_events.specs.Answering.{Good, Sending, Stale, Wrong, answered_by, has_good, is_good, judge, judged, sends, verdict}
 use Rattle.hc_events.specs.Images.{Fresh, fresh, fresh_by, fresh_item}
 use Rattle.hc_events.specs.Changes.{Answered, News, Swapped, news_of}
 use Rattle.hc_events.specs.NewsLaws.{IsGoodAnswer, IsNewsOf}
