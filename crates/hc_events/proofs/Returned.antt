@@ -1,27 +1,32 @@
--- A frame of tasks that comes back from the line answers its sending, and what is read of it is what came back.
-use Rattle.std.proofs.Common.{◌≡◌, ℕ, ◌==◌, Bool, true, false, cond, ◌&&◌, List, [], ◌∷◌, ◌++◌, length, map, refl, ap, ◌∙◌, arith, Some}
-use Rattle.std.specs.Prelude.{Ok}
+-- A frame of tasks or a register write that comes back from the line answers its sending, and what is read of it is what came back.
+use Rattle.std.proofs.Common.{◌≡◌, ℕ, ◌<◌, ◌==◌, Bool, true, false, cond, not, ◌&&◌, List, [], ◌∷◌, ◌++◌, length, map, refl, ap, ◌∙◌, arith}
+use Rattle.std.specs.Prelude.{All, Ok}
 use Rattle.std.specs.Option.{option_map_or}
-use Rattle.std.specs.List.{flat_map, zip}
+use Rattle.std.specs.List.{flat_map, list_any, zip}
 use Rattle.std.proofs.lemmas.Bool.Decides.{nat_tests}
 use Rattle.hc_records.specs.Line.{Member}
 use Rattle.hc_records.specs.Image.{expected_counter, logical_address}
-use Rattle.hc_frames.specs.declared.commands.Command.TheVariants.{Lrw}
+use Rattle.hc_registers.specs.Blocks.{LineBlock}
+use Rattle.hc_frames.specs.declared.commands.Command.TheVariants.{Fpwr, Lrw}
 use Rattle.hc_frames.specs.Arrived.{reading_of}
 use Rattle.hc_frames.specs.Commands.{code_of}
+use Rattle.hc_frames.specs.FrameText.{Datagram, block_write, station_address}
 use Rattle.hc_frames.specs.Laws.{CanBeCarried}
 use Rattle.hc_frames.specs.Returned.{AllComeBack, ComesBack, IsReturned}
 use Rattle.hc_frames.proofs.lemmas.Returns.{returned-read}
 use Rattle.hc_events.specs.Arrivals.{Arrival, Part, arrival_in, read_unless}
-use Rattle.hc_events.specs.Entries.{Record, Sent}
+use Rattle.hc_events.specs.Entries.{Entry, Record, Opened, Edited, Posted, Sent, Wrote, Came}
 use Rattle.hc_events.specs.Points.{line_of, next_serial}
 use Rattle.hc_events.specs.Sendings.{Named, length_of}
-use Rattle.hc_events.specs.Heads.{data_head, data_heads}
-use Rattle.hc_events.specs.Answering.{Good, Wrong, answered_by, has_head, has_heads, is_good, judge, judged, just_sent}
+use Rattle.hc_events.specs.Heads.{data_head, data_heads, item_of, write_head}
+use Rattle.hc_events.specs.Answering.{Good, Stale, Wrong, has_head, has_heads, is_answer, is_good, judge, judged, sending_of, sends}
 use Rattle.hc_events.specs.Images.{Fresh, fresh}
-use Rattle.hc_events.specs.Steps.{sent_datagram}
-use Rattle.hc_events.specs.Laws.{IsAnsweredWell, good_part, good_parts}
+use Rattle.hc_events.specs.Steps.{sent_datagram, told_of, told_of_arrival}
+use Rattle.hc_events.specs.SendingLaws.{heads_of, is_sending}
+use Rattle.hc_events.specs.AnswerLaws.{LeavesOpen, ReturnsWell, good_part, good_parts, sent_datagrams}
 use Rattle.hc_events.proofs.SentBits.{sent-data}
+use Rattle.hc_events.proofs.Answers.{answer-is, chosen, none-ends, none-opened}
+use Rattle.hc_events.proofs.lemmas.Standing.{found-under, sent_at}
 
 -- the frame fits
 
@@ -40,36 +45,92 @@ heads_back past (named ∷ frame) [] back = absurd back
 heads_back past (named ∷ frame) (part ∷ parts) back =
     ap (λ b. b && has_heads (data_heads (line_of past) frame) parts) (head_back past named part back.0) ∙ heads_back past frame parts back.1
 
+write_back : (block : LineBlock) (part : Part) → ComesBack (block_write block.station block.block.register block.block.bytes) part → has_head (write_head block) part ≡ true
+write_back block part back =
+    all_same (code_of Fpwr) (code_of part.command) (station_address block.station block.block.register) part.address (length block.block.bytes) (length part.bytes)
+    (ap code_of back.command) back.address back.size
+
+writes_back : (block : LineBlock) (parts : List Part) → AllComeBack (block_write block.station block.block.register block.block.bytes ∷ []) parts → has_heads (write_head block ∷ []) parts ≡ true
+writes_back block [] back = absurd back
+writes_back block (part ∷ []) back = ap (λ b. b && true) (write_back block part back.0)
+writes_back block (part ∷ other ∷ parts) back = absurd back.1
+
+-- what carries a datagram was sent
+
+none_carried : (parts : List Part) → AllComeBack [] parts → 0 < length parts → ⊥
+none_carried [] back some = omega arith
+none_carried (part ∷ parts) back some = back
+
+some_sent : (before : Record) (entry : Entry) (parts : List Part) → AllComeBack (sent_datagrams before entry) parts → 0 < length parts → is_sending entry ≡ true
+some_sent before (Opened groups) parts back some = absurd (none_carried parts back some)
+some_sent before (Edited edit) parts back some = absurd (none_carried parts back some)
+some_sent before (Posted task bytes) parts back some = absurd (none_carried parts back some)
+some_sent before (Came arrival) parts back some = absurd (none_carried parts back some)
+some_sent before (Sent frame) parts back some = refl
+some_sent before (Wrote block) parts back some = refl
+
+all_back : (before : Record) (entry : Entry) (parts : List Part) → AllComeBack (sent_datagrams before entry) parts → 0 < length parts → has_heads (heads_of before entry) parts ≡ true
+all_back before (Opened groups) parts back some = absurd (none_carried parts back some)
+all_back before (Edited edit) parts back some = absurd (none_carried parts back some)
+all_back before (Posted task bytes) parts back some = absurd (none_carried parts back some)
+all_back before (Came arrival) parts back some = absurd (none_carried parts back some)
+all_back before (Sent frame) parts back some = heads_back before frame parts back
+all_back before (Wrote block) parts back some = writes_back block parts back
+
 -- and its good data are what came back
 
-good_data : (same : Bool) (goods : List Fresh) → cond (is_good (cond same Good Wrong)) goods [] ≡ cond same goods []
-good_data true goods = refl
-good_data false goods = refl
+good_data : (again same : Bool) (goods : List Fresh) → cond (is_good (cond again Stale (cond same Good Wrong))) goods [] ≡ cond (not again && same) goods []
+good_data true same goods = refl
+good_data false true goods = refl
+good_data false false goods = refl
 
-data_back : (line : List Member) (frame : List Named) (parts : List Part) → flat_map fresh (map (judge []) (zip (data_heads line frame) parts)) ≡ good_parts line frame parts
-data_back line [] parts = refl
-data_back line (named ∷ frame) [] = refl
-data_back line (named ∷ frame) (part ∷ parts) =
-    ap (λ goods. goods ++ flat_map fresh (map (judge []) (zip (data_heads line frame) parts)))
-    (good_data (part.counter == expected_counter named.0 named.1 line) (record { task = named.0; datagram = named.1; bytes = part.bytes } ∷ []))
-    ∙ ap (λ goods. good_part line (named, part) ++ goods) (data_back line frame parts)
+data_back : (since : List Entry) (line : List Member) (frame : List Named) (parts : List Part) → flat_map fresh (map (judge since) (zip (data_heads line frame) parts)) ≡ flat_map (good_part since line) (zip frame parts)
+data_back since line [] parts = refl
+data_back since line (named ∷ frame) [] = refl
+data_back since line (named ∷ frame) (part ∷ parts) =
+    ap (λ goods. goods ++ flat_map fresh (map (judge since) (zip (data_heads line frame) parts)))
+    (good_data (list_any (sends (item_of named)) since) (part.counter == expected_counter named.0 named.1 line) (record { task = named.0; datagram = named.1; bytes = part.bytes } ∷ []))
+    ∙ ap (λ goods. good_part since line (named, part) ++ goods) (data_back since line frame parts)
 
-same_is : (n : ℕ) → (n == n) ≡ true
-same_is n = grind (arith, nat_tests)
+abbrev no_fresh : List Fresh
+no_fresh = []
 
-answer_found : (past : Record) (frame : List Named) (parts : List Part) → has_heads (data_heads (line_of past) frame) parts ≡ true → answered_by (Sent frame ∷ past) (record { serial = next_serial past; parts = parts }) ≡ Some (just_sent (data_heads (line_of past) frame))
-answer_found past frame parts fit = rw (same_is (next_serial past), same_is (next_serial past), fit) refl
+nothing_of : (good : Bool) → cond good no_fresh no_fresh ++ no_fresh ≡ no_fresh
+nothing_of true = refl
+nothing_of false = refl
 
-pub answered-well : (past : Record) (frame : List Named) (parts : List Part) → AllComeBack (map (sent_datagram past) frame) parts → IsAnsweredWell past frame (record { serial = next_serial past; parts = parts })
-answered-well past frame parts back =
-    let arrival : Arrival = record { serial = next_serial past; parts = parts } in
-    let found = answer_found past frame parts (heads_back past frame parts back) in
-    record {
-      answered = found;
-      goods = ap (λ sending. flat_map fresh (option_map_or (judged arrival) sending [])) found ∙ data_back (line_of past) frame parts;
-    }
+write_data : (since : List Entry) (block : LineBlock) (parts : List Part) → flat_map fresh (map (judge since) (zip (write_head block ∷ []) parts)) ≡ []
+write_data since block [] = refl
+write_data since block (part ∷ parts) = nothing_of (is_good (judge since (write_head block, part)).verdict)
 
-pub returned-is_read : (serial : ℕ) (past : Record) (frame : List Named) (parts : List Part) (bytes : List ℕ) → IsReturned serial (map (sent_datagram past) frame) parts bytes → CanBeCarried serial parts → arrival_in bytes ≡ Ok (record { serial = serial; parts = parts })
-returned-is_read serial past frame parts bytes back can =
-    let read = returned-read serial (map (sent_datagram past) frame) parts bytes back can in
+entry_data : (since : List Entry) (before : Record) (entry : Entry) (parts : List Part) → flat_map fresh (map (judge since) (zip (heads_of before entry) parts)) ≡ good_parts since (line_of before) entry parts
+entry_data since before (Opened groups) parts = refl
+entry_data since before (Edited edit) parts = refl
+entry_data since before (Posted task bytes) parts = refl
+entry_data since before (Came arrival) parts = refl
+entry_data since before (Sent frame) parts = data_back since (line_of before) frame parts
+entry_data since before (Wrote block) parts = write_data since block parts
+
+read_back : (serial : ℕ) (ds : List Datagram) (parts : List Part) (bytes : List ℕ) → IsReturned serial ds parts bytes → CanBeCarried serial parts → arrival_in bytes ≡ Ok (record { serial = serial; parts = parts })
+read_back serial ds parts bytes back can =
+    let read = returned-read serial ds parts bytes back can in
     ap (λ fault. read_unless fault (reading_of bytes)) read.0 ∙ ap Ok read.1
+
+pub returns-well : (since : List Entry) (entry : Entry) (before : Record) (parts : List Part) (bytes : List ℕ) → IsReturned (next_serial before) (sent_datagrams before entry) parts bytes → CanBeCarried (next_serial before) parts
+    → All (LeavesOpen (next_serial before) (heads_of before entry)) since → ReturnsWell since entry before parts bytes
+returns-well since entry before parts bytes back can leaves =
+    let arrival : Arrival = record { serial = next_serial before; parts = parts } in
+    let sending = sent_at since before entry in
+    let sends = some_sent before entry parts back.back can.some in
+    let there = found-under since before entry sends (none-opened (next_serial before) (heads_of before entry) since leaves) in
+    let answers = answer-is arrival sending (all_back before entry parts back.back can.some) (none-ends (next_serial before) (heads_of before entry) since leaves) in
+    let found = chosen (is_answer arrival) (sending_of (since ++ entry ∷ before) (next_serial before)) sending there answers in
+    let read = read_back (next_serial before) (sent_datagrams before entry) parts bytes back can in
+    let judged_so = ap (λ answer. option_map_or (judged arrival) answer []) found in
+    record {
+      read = read;
+      answered = found;
+      judged = judged_so;
+      told = ap (told_of_arrival (since ++ entry ∷ before)) read ∙ ap told_of judged_so;
+      goods = ap (λ answer. flat_map fresh (option_map_or (judged arrival) answer [])) found ∙ entry_data since before entry parts;
+    }

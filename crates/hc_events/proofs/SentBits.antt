@@ -1,5 +1,5 @@
 -- The bits of sent data.
-use Rattle.std.proofs.Common.{◌≡◌, ℕ, zero, suc, ◌+◌, ◌-◌, ◌*◌, ◌/◌, ◌%◌, ◌<◌, Bool, true, false, cond, get_or, List, [], ◌∷◌, map, ap, ◌∙◌, arith, Option, Some, None}
+use Rattle.std.proofs.Common.{◌≡◌, ℕ, zero, suc, ◌+◌, ◌-◌, ◌*◌, ◌/◌, ◌%◌, ◌<◌, Bool, true, false, cond, get_or, List, [], ◌∷◌, length, map, ap, ◌∙◌, arith, Option, Some, None}
 use Rattle.std.specs.Prelude.{find, is_some}
 use Rattle.std.specs.Option.{option_map_or}
 use Rattle.std.specs.Int.{bit_at}
@@ -13,7 +13,6 @@ use Rattle.hc_events.specs.Entries.{Record, Opened, Edited, Posted, Sent, Wrote,
 use Rattle.hc_events.specs.Points.{line_of}
 use Rattle.hc_events.specs.Sendings.{length_of}
 use Rattle.hc_events.specs.Outputs.{byte_of, bytes_of, has_bit, image_bit, is_posted, outputs_in, posted_bit, sent_bit, sent_data, value_bit}
-use Rattle.hc_events.specs.Laws.{IsSentData}
 
 -- each bit is 0 or 1
 
@@ -84,7 +83,12 @@ made_bit bit small size k below =
     ∙ byte_bit bit small (k / 8) (k % 8) low
     ∙ ap bit whole
 
-pub sent-data : (past : Record) (task d : ℕ) → IsSentData past task d (sent_data past task d)
+-- the bytes that are made of sent bits
+pub record HasBits (past : Record) (task d : ℕ) (bytes : List ℕ) : Type 0 where
+  pub size : length bytes ≡ length_of (line_of past) (task, d)
+  pub bits : (k : ℕ) → k < 8 * length_of (line_of past) (task, d) → bit_of bytes k ≡ sent_bit past (outputs_in (line_of past) task d) k
+
+pub sent-data : (past : Record) (task d : ℕ) → HasBits past task d (sent_data past task d)
 sent-data past task d =
     let outputs = outputs_in (line_of past) task d in
     let size = length_of (line_of past) (task, d) in

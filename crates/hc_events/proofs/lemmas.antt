@@ -7,4 +7,5 @@ pub mod OneWrite
 pub mod SameBehind
 pub mod Slots
 pub mod StaleStays
+pub mod Standing
 pub mod WithoutStale

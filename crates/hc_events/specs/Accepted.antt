@@ -1,5 +1,5 @@
 -- What is known of an entry by its being accepted, and of a record by the events that led to it.
-use Rattle.std.specs.Prelude.{◌≡◌, ℕ, ◌<◌, All, List, [], ◌∷◌, length, None}
+use Rattle.std.specs.Prelude.{◌≡◌, ℕ, ◌<◌, All, Contains, List, [], ◌∷◌, length, map, None}
 use Rattle.hc_records.specs.declared.limits.TheConstants.{TASKS}
 use Rattle.hc_records.specs.declared.records.Group.{Group}
 use Rattle.hc_records.specs.Lists.{lowest}
@@ -8,8 +8,8 @@ use Rattle.hc_records.specs.Image.{datagram_count, output_length, task_places}
 use Rattle.hc_records.specs.Edits.{edit_faults}
 use Rattle.hc_registers.specs.Blocks.{LineBlock}
 use Rattle.hc_events.specs.Entries.{Entry, Record, Opened, Edited, Posted, Sent, Wrote, Came}
-use Rattle.hc_events.specs.Points.{epoch_of, line_of, state_of}
-use Rattle.hc_events.specs.Sendings.{Named}
+use Rattle.hc_events.specs.Points.{line_of, state_of}
+use Rattle.hc_events.specs.Sendings.{Named, sendings_of}
 use Rattle.hc_events.specs.Owed.{owed_blocks}
 use Rattle.hc_events.specs.Steps.{Step, entries_after_all}
 
@@ -22,10 +22,17 @@ pub record IsPost (line : List Member) (task : ℕ) (bytes : List ℕ) : Type 0 
   pub stands : task < TASKS
   pub fits : length bytes ≡ output_length (task_places task line)
 
--- a frame of datagrams of the line, while nothing is owed
+-- the frames in which tasks are sent, by their datagrams
+abbrev pub frames_of : List Member → ℕ → List ℕ → List (List Named)
+frames_of line serial tasks = map (λ sending. sending.datagrams) (sendings_of line serial tasks)
+
+-- one of the frames in which a list of tasks is sent, of datagrams of the line, while nothing is owed
 pub record IsFrame (past : Record) (frame : List Named) : Type 0 where
   pub programmed : owed_blocks past ≡ []
   pub stands : All (StandsIn (line_of past)) frame
+  pub tasks : List ℕ
+  pub serial : ℕ
+  pub one : Contains (frames_of (line_of past) serial tasks) frame
 
 -- the first of these blocks
 pub record IsFirst (block : LineBlock) (blocks : List LineBlock) : Type 0 where
@@ -56,8 +63,3 @@ AreAccepted (entry ∷ past) = IsAccepted past entry × AreAccepted past
 
 abbrev pub RecordsAreAccepted : Type 0
 RecordsAreAccepted = (groups : List Group) (steps : List Step) → AreAccepted (record_of groups steps)
-
--- the epoch of the state is the number of accepted edits
-abbrev pub EpochsAreCounted : Type 0
-EpochsAreCounted =
-    (groups : List Group) (steps : List Step) → (state_of (record_of groups steps)).epoch ≡ epoch_of (record_of groups steps)

@@ -1,11 +1,8 @@
 -- The sendings that an arrival can still be news for.
-use Rattle.std.specs.Prelude.{◌≡◌, ℕ, ◌||◌, Bool, true, false, if◌then◌else◌, List, filter, Option, Some, None, option_and_then}
+use Rattle.std.specs.Prelude.{ℕ, ◌||◌, Bool, true, false, if◌then◌else◌, List, filter, Option, Some, None, option_and_then}
 use Rattle.std.specs.List.{list_all, list_any}
 use Rattle.hc_events.specs.Entries.{Entry, Record, Came}
 use Rattle.hc_events.specs.Heads.{Head, is_block}
-use Rattle.hc_events.specs.Accepted.{record_of}
-use Rattle.hc_events.specs.Steps.{Step}
-use Rattle.hc_records.specs.declared.records.Group.{Group}
 use Rattle.hc_events.specs.Answering.{Sending, ends, sending_of, sends}
 
 -- an accepted edit or an arrival that fits was recorded since
@@ -33,10 +30,3 @@ awaited past serial = option_and_then (alive serial) (sending_of past serial)
 -- a register write
 abbrev pub is_write : Sending → Bool
 is_write sending = list_any (λ head. is_block head.item) sending.heads
-
--- where a register write is awaited nothing else is, neither another write nor a frame of tasks
-abbrev pub WritesAreAwaitedAlone : Type 0
-WritesAreAwaitedAlone =
-    (groups : List Group) (steps : List Step) (serial other : ℕ) (write sending : Sending)
-    → awaited (record_of groups steps) serial ≡ Some write → is_write write ≡ true
-    → awaited (record_of groups steps) other ≡ Some sending → other ≡ serial

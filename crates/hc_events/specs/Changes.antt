@@ -35,8 +35,8 @@ pub record IsAnswerIn (state : State) (task d : ℕ) (bytes : List ℕ) : Type 0
   pub stands : d < datagram_count (task_places task (line state))
   pub fits : length bytes ≡ datagram_length (task_places task (line state)) d
 
--- an edit that the state accepts, and a swap that leads from its table to that of the next state
-pub record IsSwapOf (state : State) (edit : Edit) (old new : Table) : Type 0 where
+-- an edit that the state accepts, and the table of the state that it leads to
+pub record IsSwapOf (state : State) (edit : Edit) (new : Table) : Type 0 where
   pub accepted : IsOk (edited state edit)
   pub leads : new ≡ table_of (line (state_after state edit))
 
@@ -44,7 +44,7 @@ pub record IsSwapOf (state : State) (edit : Edit) (old new : Table) : Type 0 whe
 abbrev pub AreLegalFrom : State → List Change → Type 0
 AreLegalFrom state [] = Unit {0}
 AreLegalFrom state (change.Swapped swap ∷ changes) =
-    IsSwapOf state swap.edit (table_of (line state)) (swapped swap.change (table_of (line state)))
+    IsSwapOf state swap.edit (swapped swap.change (table_of (line state)))
     × AreLegalFrom (state_after state swap.edit) changes
 AreLegalFrom state (change.Good task d bytes ∷ changes) = IsAnswerIn state task d bytes × AreLegalFrom state changes
 

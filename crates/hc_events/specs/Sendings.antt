@@ -11,13 +11,13 @@ abbrev pub Named : Type 0
 Named = ℕ × ℕ
 
 -- a frame of tasks: its serial, the bytes of its datagrams with their headers and counters, and the datagrams in order
-pub record Sending : Type 0 where
+pub record Frame : Type 0 where
   pub serial : ℕ
   pub bytes : ℕ
   pub datagrams : List Named
 
 -- the bytes of the whole frame
-abbrev pub size_of : Sending → ℕ
+abbrev pub size_of : Frame → ℕ
 size_of sending = frame_bytes sending.bytes
 
 -- beside so many bytes of datagrams a datagram with so many bytes of data is within the bytes that may follow the Ethernet header
@@ -25,15 +25,15 @@ abbrev pub has_room : ℕ → ℕ → Bool
 has_room bytes length = nat_le (2 + bytes + 12 + length) MAX_ETHERCAT
 
 -- a frame of one datagram with so many bytes of data
-abbrev pub alone : ℕ → Named → ℕ → Sending
+abbrev pub alone : ℕ → Named → ℕ → Frame
 alone serial datagram length = record { serial = serial; bytes = 12 + length; datagrams = datagram ∷ [] }
 
 -- the frame with a datagram of so many bytes of data behind its others
-abbrev pub joined : Sending → Named → ℕ → Sending
+abbrev pub joined : Frame → Named → ℕ → Frame
 joined sending datagram length =
     record sending { bytes = sending.bytes + 12 + length; datagrams = sending.datagrams ++ datagram ∷ [] }
 
--- each datagram has at least one byte of data, and all are within a frame
+-- at least one datagram; bytes for each one's header, its working counter and at least one byte of data; and no more bytes than a frame holds
 pub record IsFilled (bytes : ℕ) (datagrams : List Named) : Type 0 where
   pub some : 0 < length datagrams
   pub filled : 13 * length datagrams ≤ bytes
@@ -47,17 +47,17 @@ abbrev pub length_of : List Member → Named → ℕ
 length_of line named = datagram_length (task_places named.0 line) named.1
 
 -- datagrams in frames: each joins the frame before it where there is room, else it begins a frame
-abbrev pub framed_behind : List Member → Sending → List Named → List Sending
+abbrev pub framed_behind : List Member → Frame → List Named → List Frame
 framed_behind line sending [] = sending ∷ []
 framed_behind line sending (datagram ∷ datagrams) =
     if has_room sending.bytes (length_of line datagram)
     then framed_behind line (joined sending datagram (length_of line datagram)) datagrams
     else sending ∷ framed_behind line (alone (sending.serial + 1) datagram (length_of line datagram)) datagrams
 
-abbrev pub framed : List Member → ℕ → List Named → List Sending
+abbrev pub framed : List Member → ℕ → List Named → List Frame
 framed line serial [] = []
 framed line serial (datagram ∷ datagrams) = framed_behind line (alone serial datagram (length_of line datagram)) datagrams
 
 -- the frames in which the datagrams of tasks are sent, in the tasks' order, with serials from this one on
-abbrev pub sendings_of : List Member → ℕ → List ℕ → List Sending
+abbrev pub sendings_of : List Member → ℕ → List ℕ → List Frame
 sendings_of line serial tasks = framed line serial (flat_map (task_datagrams line) tasks)

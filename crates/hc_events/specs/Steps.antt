@@ -1,4 +1,4 @@
--- What the core answers to each event, and what it accepts of it. Want of memory aside, which may be answered to any event and changes nothing.
+-- What the core answers to each event, and what it accepts of it. `Calls` says to which events want of memory may be answered instead.
 use Rattle.std.specs.Prelude.{ℕ, ◌+◌, ◌==◌, not, nat_lt, Bool, if◌then◌else◌, List, [], ◌∷◌, length, map, Option, Some, None, option_map, Result, Ok, Err}
 use Rattle.std.specs.List.{list_any}
 use Rattle.hc_records.specs.declared.limits.TheConstants.{TASKS}
@@ -24,7 +24,7 @@ use Rattle.hc_events.specs.Faults.{edit_refusal, frame_refusal}
 use Rattle.hc_events.specs.Arrivals.{Arrival, Part, arrival_in}
 use Rattle.hc_events.specs.Entries.{Record, Edited, Posted, Sent, Wrote, Came}
 use Rattle.hc_events.specs.Points.{epoch_of, line_of, next_serial, state_of}
-use Rattle.hc_events.specs.Sendings.{Named, Sending, sendings_of}
+use Rattle.hc_events.specs.Sendings.{Frame, Named, sendings_of}
 use Rattle.hc_events.specs.Heads.{Head, Item, Datagram as DatagramItem, Block, is_block}
 use Rattle.hc_events.specs.Answering.{Judged, Verdict, Good, Wrong, Stale, is_news, judged_by}
 use Rattle.hc_events.specs.Images.{slots_of}
@@ -78,7 +78,7 @@ serials_left serial sendings = not (nat_lt SETUP_SERIAL (serial + sendings))
 abbrev pub has_serials : Record → ℕ → Bool
 has_serials past sendings = serials_left (next_serial past) sendings
 
-abbrev pub proposal : Record → List ℕ → List Sending
+abbrev pub proposal : Record → List ℕ → List Frame
 proposal past tasks = sendings_of (line_of past) (next_serial past) tasks
 
 abbrev pub task_faults : Record → List ℕ → List (Bool × CoreFault)
@@ -92,11 +92,11 @@ task_faults past tasks =
 abbrev pub sent_datagram : Record → Named → Datagram
 sent_datagram past named = lrw (logical_address named.0 named.1) (sent_data past named.0 named.1)
 
-abbrev pub sent_text : Record → Sending → List ℕ
+abbrev pub sent_text : Record → Frame → List ℕ
 sent_text past sending = frame_text sending.serial (map (sent_datagram past) sending.datagrams)
 
 -- with each frame an entry, the last frame newest
-abbrev pub with_sent : Record → List Sending → Record
+abbrev pub with_sent : Record → List Frame → Record
 with_sent past [] = past
 with_sent past (sending ∷ sendings) = with_sent (Sent sending.datagrams ∷ past) sendings
 

@@ -44,11 +44,12 @@ pub enum Answer {
     WriteSent(Items<u8>),
     /// The arrival answers frames of tasks: what it is for each datagram, in the frame's order.
     Answered(Items<Outcome>),
-    /// The arrival answers a register write, which its slave has processed.
+    /// The arrival answers a register write, with a working counter of 1: the block is known now.
     WriteDone,
-    /// The arrival answers a register write, which no slave or more than one has processed.
+    /// The arrival answers a register write, with another working counter: the block stays owed.
     WriteMissed,
-    /// The arrival answers no sending, or each of its datagrams was sent again since: nothing changed.
+    /// The arrival answers no sending, or one of which each datagram or the register block was sent
+    /// again since: nothing changed.
     Stale,
     /// What a task reads.
     Image {

@@ -15,8 +15,8 @@ pub enum Event<'a> {
         /// The output bytes of the task's image, as many as the task has in that epoch.
         bytes: &'a [u8],
     },
-    /// The process data of these tasks are sent: 1 to 8 distinct ones, in this order. One over 7 is
-    /// refused.
+    /// The process data of these tasks are sent, in this order: 1 to 8 distinct ones, which is the
+    /// caller's condition. One over 7 is refused.
     SendTasks(&'a [u8]),
     /// The first owed register block is sent.
     SendWrite,

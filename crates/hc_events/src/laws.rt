@@ -1,8 +1,13 @@
 //! What follows from the definitions of `specs/`, so that a reader can trust them: each function here
 //! does nothing, and its contract is a law that holds of every record. Nobody calls it.
-ghost use Rattle.hc_events.specs.Accepted.{EpochsAreCounted, RecordsAreAccepted};
-ghost use Rattle.hc_events.specs.Awaited.{WritesAreAwaitedAlone};
-ghost use Rattle.hc_events.specs.Laws.{AnswersOnce, AnswersTheSerial, ChangesAreLegal, ChangesTellAll, EditsLeaveNoSlot, IndexesComeAgain, ProposalsAreNumbered, ReturnedFramesAnswer, SendingsHaveSerials, SentDataAreValues, SlotsFit, UnmovedIsOwedAsBefore};
+ghost use Rattle.hc_events.specs.Accepted.{RecordsAreAccepted};
+ghost use Rattle.hc_events.specs.AnswerLaws.{AnsweredAreOfTheLine, AnswersTheSerial, AwaitedAreAnswered, ReturnedFramesAnswer, WritesAreAwaitedAlone};
+ghost use Rattle.hc_events.specs.CallLaws.{FramesFillTheirBytes, PreviewsAreFrames, WritesFillTheirBytes};
+ghost use Rattle.hc_events.specs.DataLaws.{SentDataAreValues};
+ghost use Rattle.hc_events.specs.FaultLaws.{FaultsAreNumbered};
+ghost use Rattle.hc_events.specs.Laws.{AnswersOnce, EditsLeaveNoSlot, EpochsAreCounted, ProposalsAreNumbered, SlotsFit, UnmovedIsOwedAsBefore};
+ghost use Rattle.hc_events.specs.NewsLaws.{ChangesAreLegal, ChangesTellAll, LegalChangesAgree, LegalChangesDecide, NewsAreOfTheRecord, NewsOnlyGrow, SlotsAreLastAnswers};
+ghost use Rattle.hc_events.specs.SendingLaws.{FramesHaveTheirSizes, IndexesComeAgain, ProposalsCarryTheTasks, SendingsHaveSerials, SentFramesAreFound, SentWritesAreFound, SerialsAscend, SerialsStayBelow};
 ghost use Rattle.hc_events.specs.Stale.{StaleArrivalsCanGo, StaleChangesNothing, StaleIsToldWithout, StaleStaysStale, StepsKeepWithout, UnreadableChangesNothing};
 
 /// A record with an arrival that was stale when it came, and the same record without it, whatever was
@@ -39,14 +44,15 @@ pub fn unreadable_changes_nothing()
     ensures { UnreadableChangesNothing }
 {}
 
-/// Each entry of a record that events led to was accepted when it came: an edit by the state, a post by its
-/// task and its length, a frame of tasks of the line's datagrams while nothing was owed, a register write as the first
-/// owed block.
+/// Each entry of a record that events led to was accepted when it came: an edit by the state, a post by
+/// its task and its length, a frame of tasks because all its datagrams are the line's and nothing was
+/// owed, a register write as that of the first owed block.
 pub fn records_are_accepted()
     ensures { RecordsAreAccepted }
 {}
 
-/// An arrival answers at most one sending: the one with its serial.
+/// An arrival answers a sending just where it has the sending's serial and, datagram for datagram, its
+/// commands, addresses and lengths, and since the sending no edit was accepted and no such arrival came.
 pub fn answers_the_serial()
     ensures { AnswersTheSerial }
 {}
@@ -57,14 +63,35 @@ pub fn answers_once()
     ensures { AnswersOnce }
 {}
 
+/// A sending that is answered is of the present line: each of its datagrams has there the command, the
+/// address, the length and the expected working counter with which it was sent.
+pub fn answered_are_of_the_line()
+    ensures { AnsweredAreOfTheLine }
+{}
+
+/// An arrival is no stale one just where something is awaited with its serial and it has the commands,
+/// addresses and lengths of that; then the sending that it answers is the awaited one.
+pub fn awaited_are_answered()
+    ensures { AwaitedAreAnswered }
+{}
+
+/// Where a register write is awaited, nothing else is: no other write, and no frame of tasks. So at most one
+/// write is awaited at any time.
+pub fn writes_are_awaited_alone()
+    ensures { WritesAreAwaitedAlone }
+{}
+
+/// A frame of tasks or a register write that comes back, whatever the slaves made of its data and its
+/// working counters, and whatever came in between, as long as no edit was accepted and it wasn't
+/// answered yet: it is read and answers its sending. Each datagram that was sent again since is stale;
+/// of each other one with the expected counter the data are those that came back.
+pub fn returned_frames_answer()
+    ensures { ReturnedFramesAnswer }
+{}
+
 /// Behind an accepted edit no datagram has data, of any task, touched by the edit or not.
 pub fn edits_leave_no_slot()
     ensures { EditsLeaveNoSlot }
-{}
-
-/// A sending of the record has a serial exactly where it is below the next one.
-pub fn sendings_have_serials()
-    ensures { SendingsHaveSerials }
 {}
 
 /// What a task reads of a datagram has as many bytes as the datagram has in the present line.
@@ -72,8 +99,39 @@ pub fn slots_fit()
     ensures { SlotsFit }
 {}
 
-/// The changes that a record tells decide by themselves, without any event, what is read behind it: the
-/// table of the line, the epoch, and the data of each datagram.
+/// What a task reads of a datagram is the data of its last good answer, where no edit was accepted since,
+/// and there is none else.
+pub fn slots_are_last_answers()
+    ensures { SlotsAreLastAnswers }
+{}
+
+/// Accepted edits and good answers are told in the order in which they came: events add to what there is
+/// to tell, and take nothing of it away.
+pub fn news_only_grow()
+    ensures { NewsOnlyGrow }
+{}
+
+/// What there is to tell are accepted edits and good answers alone: of datagrams of an arrival that
+/// answered their sending, that weren't sent again since, and that had the expected working counter.
+pub fn news_are_of_the_record()
+    ensures { NewsAreOfTheRecord }
+{}
+
+/// A legal list of changes decides by itself, without any event, what is read behind it: the table of
+/// the line to which its edits lead, the epoch, and for each datagram the data of its last good answer
+/// behind the last swap.
+pub fn legal_changes_decide()
+    ensures { LegalChangesDecide }
+{}
+
+/// Two legal lists of changes of a project that name the same edits and the same good answers lead to the
+/// same table, epoch and data.
+pub fn legal_changes_agree()
+    ensures { LegalChangesAgree }
+{}
+
+/// A legal list of changes that tells the edits and the good answers of a project's record leads to what is
+/// read behind that record: the table of the line, the epoch, and the data of each datagram.
 pub fn changes_tell_all()
     ensures { ChangesTellAll }
 {}
@@ -85,13 +143,65 @@ pub fn changes_are_legal()
     ensures { ChangesAreLegal }
 {}
 
+/// A sending of the record has a serial exactly where it is below the next one, and it is the one before
+/// which so many sendings were made.
+pub fn sendings_have_serials()
+    ensures { SendingsHaveSerials }
+{}
+
+/// Of two sendings the one with the greater serial was made later.
+pub fn serials_ascend()
+    ensures { SerialsAscend }
+{}
+
+/// No sending of a project's record has the serial of alias reads and station writes, or one above it.
+pub fn serials_stay_below()
+    ensures { SerialsStayBelow }
+{}
+
+/// Behind an accepted sending of tasks each frame of the answer is the sending with its own serial.
+pub fn sent_frames_are_found()
+    ensures { SentFramesAreFound }
+{}
+
+/// An accepted register write is that of the first owed block, and is the sending with the serial that was
+/// the next one.
+pub fn sent_writes_are_found()
+    ensures { SentWritesAreFound }
+{}
+
 /// The frames of tasks bear the next serials, one after another in their order.
 pub fn proposals_are_numbered()
     ensures { ProposalsAreNumbered }
 {}
 
-/// A frame's index, the low byte of its serial, comes again with the 256th sending after it and with none
-/// before that. So an index names a sending only among 256.
+/// The frames of tasks carry, one after another, just the datagrams of the tasks in the tasks' order.
+pub fn proposals_carry_the_tasks()
+    ensures { ProposalsCarryTheTasks }
+{}
+
+/// The size of a frame of tasks is the number of bytes that are sent.
+pub fn frames_have_their_sizes()
+    ensures { FramesHaveTheirSizes }
+{}
+
+/// The frames of tasks, one after another, fill just the bytes that are asked for them.
+pub fn frames_fill_their_bytes()
+    ensures { FramesFillTheirBytes }
+{}
+
+/// So does the frame that writes the first owed block.
+pub fn writes_fill_their_bytes()
+    ensures { WritesFillTheirBytes }
+{}
+
+/// A preview is a frame of its datagram alone with the next serial, and has the bytes of its text.
+pub fn previews_are_frames()
+    ensures { PreviewsAreFrames }
+{}
+
+/// A frame's index, which stands in its byte 17, is the low byte of its serial. It comes again with the
+/// 256th sending after it and with none before that, so an index names a sending only among 256.
 pub fn indexes_come_again()
     ensures { IndexesComeAgain }
 {}
@@ -102,14 +212,8 @@ pub fn unmoved_is_owed_as_before()
     ensures { UnmovedIsOwedAsBefore }
 {}
 
-/// Where a register write is awaited, nothing else is: no other write, and no frame of tasks. So at most one
-/// write is awaited at any time.
-pub fn writes_are_awaited_alone()
-    ensures { WritesAreAwaitedAlone }
-{}
-
-/// A datagram is sent with its length, and each bit of its data is the bit of the output variable to which
-/// it belongs, or 0 where it belongs to none: a gap, or an input.
+/// In the line of a project a datagram of a task is sent with its length. At the place of each of its output
+/// variables stand the bits of that variable's value, and every other bit is 0: gaps and inputs.
 pub fn sent_data_are_values()
     ensures { SentDataAreValues }
 {}
@@ -119,8 +223,8 @@ pub fn epochs_are_counted()
     ensures { EpochsAreCounted }
 {}
 
-/// A frame of tasks that comes back, whatever the slaves made of its data and its working counters, is read
-/// and answers its sending: of each datagram with the expected counter the data are those that came back.
-pub fn returned_frames_answer()
-    ensures { ReturnedFramesAnswer }
+/// The faults have the numbers 1 to 29 but 14: 1 to 13 those of edits, 15 to 19 the core's own, 20 to 27
+/// those of frames, 28 want of memory, 29 want of room.
+pub fn faults_are_numbered()
+    ensures { FaultsAreNumbered }
 {}

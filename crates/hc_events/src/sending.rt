@@ -18,9 +18,9 @@ pub struct Sending {
 }
 
 impl Model for Sending {
-    ghost use Rattle.hc_events.specs.Sendings.{IsFilled, Sending};
+    ghost use Rattle.hc_events.specs.Sendings.{Frame, IsFilled};
 
-    ghost Value = { Sending };
+    ghost Value = { Frame };
 
     ghost view = { λ sending. record { serial = sending.serial; bytes = sending.bytes; datagrams = sending.datagrams.items } };
 

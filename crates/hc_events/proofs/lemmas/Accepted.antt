@@ -1,9 +1,9 @@
 -- What is kept by each accepted entry is kept by each event.
 use Rattle.std.proofs.Common.{◌≡◌, ℕ, zero, suc, ◌+◌, ◌<◌, ◌≤◌, ◌==◌, nat_lt, Bool, true, false, cond, not, List, [], ◌∷◌, length, map, refl, sym, ◌∙◌, subst, arith, Option, Some, None}
-use Rattle.std.specs.Prelude.{All, option_map, Result, Ok, Err}
+use Rattle.std.specs.Prelude.{All, Contains, option_map, Result, Ok, Err}
 use Rattle.std.specs.List.{flat_map, list_any, range_with_len}
 use Rattle.std.proofs.lemmas.Bool.Decides.{nat_tests}
-use Rattle.std.proofs.lemmas.List.Elements.{All-nil, All-cons, All-head, All-tail, All-append}
+use Rattle.std.proofs.lemmas.List.Elements.{All-nil, All-cons, All-head, All-tail, All-append, All-contains_itself}
 use Rattle.hc_records.specs.declared.limits.TheConstants.{TASKS}
 use Rattle.hc_records.specs.declared.faults.EditFault.{EditFault}
 use Rattle.hc_records.specs.Lists.{lowest}
@@ -18,10 +18,10 @@ use Rattle.hc_events.specs.Faults.{edit_refusal}
 use Rattle.hc_events.specs.Arrivals.{Arrival, arrival_in}
 use Rattle.hc_events.specs.Entries.{Entry, Record, Edited, Posted, Sent, Wrote, Came}
 use Rattle.hc_events.specs.Points.{epoch_of, line_of, next_serial, state_of}
-use Rattle.hc_events.specs.Sendings.{Named, Sending, alone, framed, framed_behind, has_room, joined, length_of, task_datagrams}
+use Rattle.hc_events.specs.Sendings.{Frame, Named, alone, framed, framed_behind, has_room, joined, length_of, task_datagrams}
 use Rattle.hc_events.specs.Owed.{owed_blocks}
 use Rattle.hc_events.specs.Steps.{Step, Edits, Posts, SendsTasks, SendsWrite, Arrives, Reads, kept_if, edit_refused, is_no_task, post_faults, proposal, has_serials, task_faults, with_sent, write_faults, with_write, with_arrival, entries_after, entries_after_all}
-use Rattle.hc_events.specs.Accepted.{IsAccepted, IsPost, StandsIn}
+use Rattle.hc_events.specs.Accepted.{IsAccepted, IsPost, StandsIn, frames_of}
 
 -- the datagrams of a proposal are those of the line
 
@@ -39,14 +39,14 @@ all_stand line (task ∷ tasks) =
     All-append (StandsIn line) (task_datagrams line task) (flat_map (task_datagrams line) tasks)
     (stands_in line task 0 (datagram_count (task_places task line)) (zero_below (datagram_count (task_places task line)))) (all_stand line tasks)
 
-abbrev Stand : List Member → Sending → Type 0
+abbrev Stand : List Member → Frame → Type 0
 Stand line sending = All (StandsIn line) sending.datagrams
 
-frames_either : (line : List Member) (room : Bool) (sending next : Sending) (rest other : List Sending) → All (Stand line) rest → Stand line sending → All (Stand line) other → All (Stand line) (cond room rest (sending ∷ other))
+frames_either : (line : List Member) (room : Bool) (sending next : Frame) (rest other : List Frame) → All (Stand line) rest → Stand line sending → All (Stand line) other → All (Stand line) (cond room rest (sending ∷ other))
 frames_either line true sending next rest other a b c = a
 frames_either line false sending next rest other a b c = All-cons (Stand line) sending other b c
 
-frames_behind : (line : List Member) (sending : Sending) (datagrams : List Named) → Stand line sending → All (StandsIn line) datagrams → All (Stand line) (framed_behind line sending datagrams)
+frames_behind : (line : List Member) (sending : Frame) (datagrams : List Named) → Stand line sending → All (StandsIn line) datagrams → All (Stand line) (framed_behind line sending datagrams)
 frames_behind line sending [] stand all = All-cons (Stand line) sending [] stand (All-nil (Stand line))
 frames_behind line sending (datagram ∷ datagrams) stand all =
     let first = All-head (StandsIn line) datagram datagrams all in
@@ -117,12 +117,23 @@ keeps_if : (P : Record → Type 0) (refused : Option CoreFault) (past next : Rec
 keeps_if P None past next then' before = then' refl
 keeps_if P (Some fault) past next then' before = before
 
-keeps_sent : (P : Record → Type 0) → Keeps P → (line : List Member) (sendings : List Sending) (past : Record) → line_of past ≡ line → owed_blocks past ≡ [] → All (Stand line) sendings → P past → P (with_sent past sendings)
-keeps_sent P keeps line [] past same none stand before = before
-keeps_sent P keeps line (sending ∷ sendings) past same none stand before =
-    keeps_sent P keeps line sendings (Sent sending.datagrams ∷ past) same none (All-tail (Stand line) sending sendings stand)
+abbrev AreOf : List Member → ℕ → List ℕ → List Frame → Type 0
+AreOf line serial tasks sendings = All (Contains (frames_of line serial tasks)) (map (λ sending. sending.datagrams) sendings)
+
+keeps_sent : (P : Record → Type 0) → Keeps P → (line : List Member) (serial : ℕ) (tasks : List ℕ) (sendings : List Frame) (past : Record) → line_of past ≡ line → owed_blocks past ≡ [] → All (Stand line) sendings → AreOf line serial tasks sendings → P past → P (with_sent past sendings)
+keeps_sent P keeps line serial tasks [] past same none stand are before = before
+keeps_sent P keeps line serial tasks (sending ∷ sendings) past same none stand are before =
+    let frames = map (λ other. other.datagrams) sendings in
+    keeps_sent P keeps line serial tasks sendings (Sent sending.datagrams ∷ past) same none (All-tail (Stand line) sending sendings stand)
+    (All-tail (Contains (frames_of line serial tasks)) sending.datagrams frames are)
     (keeps past (Sent sending.datagrams)
-    (record { programmed = none; stands = subst (λ members. All (StandsIn members) sending.datagrams) (sym same) (All-head (Stand line) sending sendings stand) })
+    (record {
+      programmed = none;
+      stands = subst (λ members. All (StandsIn members) sending.datagrams) (sym same) (All-head (Stand line) sending sendings stand);
+      tasks = tasks;
+      serial = serial;
+      one = subst (λ members. Contains (frames_of members serial tasks) sending.datagrams) (sym same) (All-head (Contains (frames_of line serial tasks)) sending.datagrams frames are);
+    })
     before)
 
 keeps_write : (P : Record → Type 0) → Keeps P → (past : Record) (blocks : List LineBlock) → owed_blocks past ≡ blocks → P past → P (with_write past blocks)
@@ -140,7 +151,7 @@ kept-after P keeps past (Posts task epoch bytes) before =
     keeps_if P (lowest (post_faults past task epoch bytes)) past (Posted task bytes ∷ past) (λ e. keeps past (Posted task bytes) (accepted_post past task epoch bytes e) before) before
 kept-after P keeps past (SendsTasks tasks) before =
     keeps_if P (lowest (task_faults past tasks)) past (with_sent past (proposal past tasks))
-    (λ e. keeps_sent P keeps (line_of past) (proposal past tasks) past refl (nothing_owed past tasks e) (proposal-stands past tasks) before) before
+    (λ e. keeps_sent P keeps (line_of past) (next_serial past) tasks (proposal past tasks) past refl (nothing_owed past tasks e) (proposal-stands past tasks) (All-contains_itself (frames_of (line_of past) (next_serial past) tasks)) before) before
 kept-after P keeps past SendsWrite before =
     keeps_if P (lowest (write_faults past (owed_blocks past))) past (with_write past (owed_blocks past)) (λ e. keeps_write P keeps past (owed_blocks past) refl before) before
 kept-after P keeps past (Arrives bytes) before = keeps_arrival P keeps past (arrival_in bytes) before

@@ -62,11 +62,11 @@ judge_filter since pair =
     ap (λ b. record { head = pair.0; part = pair.1; verdict = cond b Stale (if pair.1.counter == pair.0.expected then Good else Wrong) })
     (sends_filter pair.0.item since)
 
-judged_filter : (since : List Entry) (pairs : List (Head × Part)) → map (judge (filter is_no_arrival since)) pairs ≡ map (judge since) pairs
-judged_filter since [] = refl
-judged_filter since (pair ∷ pairs) =
+pub judged-filter : (since : List Entry) (pairs : List (Head × Part)) → map (judge (filter is_no_arrival since)) pairs ≡ map (judge since) pairs
+judged-filter since [] = refl
+judged-filter since (pair ∷ pairs) =
     ap (λ datagram. datagram ∷ map (judge (filter is_no_arrival since)) pairs) (judge_filter since pair)
-    ∙ ap (λ datagrams. judge since pair ∷ datagrams) (judged_filter since pairs)
+    ∙ ap (λ datagrams. judge since pair ∷ datagrams) (judged-filter since pairs)
 
 again_filter : (heads : List Head) (entry : Entry) (since : List Entry) → all_sent_again (entry ∷ filter is_no_arrival since) heads ≡ all_sent_again (entry ∷ since) heads
 again_filter [] entry since = refl
@@ -90,14 +90,14 @@ is_news_of false true = refl
 is_news_of false false = refl
 
 -- a frame with the heads of a sending is news for it where something of it wasn't sent again
-pub news_is : (since : List Entry) (heads : List Head) (parts : List Part) → has_heads heads parts ≡ true → list_any is_news (map (judge since) (zip heads parts)) ≡ not (all_sent_again since heads)
-news_is since [] [] e = refl
-news_is since [] (part ∷ parts) e = cc
-news_is since (head ∷ heads) [] e = cc
-news_is since (head ∷ heads) (part ∷ parts) e =
+pub news-is : (since : List Entry) (heads : List Head) (parts : List Part) → has_heads heads parts ≡ true → list_any is_news (map (judge since) (zip heads parts)) ≡ not (all_sent_again since heads)
+news-is since [] [] e = refl
+news-is since [] (part ∷ parts) e = cc
+news-is since (head ∷ heads) [] e = cc
+news-is since (head ∷ heads) (part ∷ parts) e =
     let rest = (and_true _ _ e).1 in
     ap (λ b. b || list_any is_news (map (judge since) (zip heads parts))) (is_news_of (list_any (sends head.item) since) (part.counter == head.expected))
-    ∙ ap (λ b. not (list_any (sends head.item) since) || b) (news_is since heads parts rest)
+    ∙ ap (λ b. not (list_any (sends head.item) since) || b) (news-is since heads parts rest)
     ∙ not_both (list_any (sends head.item) since) (all_sent_again since heads)
 
 pub news_any : (datagrams : List Judged) → list_any is_news (news datagrams) ≡ list_any is_news datagrams
@@ -110,10 +110,10 @@ news_told arrival (Some s) =
     (λ h. by_bool (is_ended arrival.serial s)
     (λ e. rw (same_is arrival.serial, h, e) refl)
     (λ e. by_bool (all_sent_again s.since s.heads)
-    (λ r. let none : list_any is_news (judged arrival s) ≡ false = news_is s.since s.heads arrival.parts h ∙ ap not r in
+    (λ r. let none : list_any is_news (judged arrival s) ≡ false = news-is s.since s.heads arrival.parts h ∙ ap not r in
     rw (same_is arrival.serial, h, e, r, none) refl)
-    (λ r. let some : list_any is_news (judged arrival s) ≡ true = news_is s.since s.heads arrival.parts h ∙ ap not r in
-    rw (same_is arrival.serial, h, e, r, some) (rw h (sym (judged_filter s.since (zip s.heads arrival.parts)))))))
+    (λ r. let some : list_any is_news (judged arrival s) ≡ true = news-is s.since s.heads arrival.parts h ∙ ap not r in
+    rw (same_is arrival.serial, h, e, r, some) (rw h (sym (judged-filter s.since (zip s.heads arrival.parts)))))))
     (λ h. by_bool (is_ended arrival.serial s || all_sent_again s.since s.heads)
     (λ e. rw (same_is arrival.serial, h, e) refl)
     (λ e. rw (same_is arrival.serial, h, e) (rw h refl)))
@@ -189,7 +189,7 @@ unless_stale arrival (Some s) k =
     (λ e. by_bool (all_sent_again s.since s.heads)
     (λ r. rw (e, r) refl)
     (λ r. by_bool (has_heads s.heads arrival.parts)
-    (λ h. let some : list_any is_news (judged arrival s) ≡ true = news_is s.since s.heads arrival.parts h ∙ ap not r in
+    (λ h. let some : list_any is_news (judged arrival s) ≡ true = news-is s.since s.heads arrival.parts h ∙ ap not r in
     let never : true ≡ false = sym some ∙ rw (same_is arrival.serial, h, e) at k in cc)
     (λ h. rw (e, r) (rw (same_is arrival.serial, h) refl))))
 

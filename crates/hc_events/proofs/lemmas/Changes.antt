@@ -1,7 +1,11 @@
 -- The changes of a record are legal, and tell all that is read.
-use Rattle.std.proofs.Common.{◌≡◌, ℕ, ◌+◌, List, [], ◌∷◌, ◌++◌, map, refl, sym, ap, ◌∙◌, subst, Option, Some, None}
+use Rattle.std.proofs.Common.{◌≡◌, ◌⊎◌, inl, inr, ℕ, ◌+◌, ◌==◌, Bool, true, false, cond, List, [], ◌∷◌, ◌++◌, map, refl, sym, ap, ◌∙◌, subst, arith, Option, Some, None}
 use Rattle.std.specs.Prelude.{All, IsOk, fold}
-use Rattle.std.proofs.lemmas.List.Elements.{All-head, All-tail}
+use Rattle.std.specs.Result.{result_unwrap_or}
+use Rattle.std.proofs.lemmas.Bool.{and_parts, eqb-true}
+use Rattle.std.proofs.lemmas.Bool.Decides.{nat_tests}
+use Rattle.std.proofs.lemmas.List.Elements.{All-nil, All-cons, All-head, All-tail}
+use Rattle.hc_records.specs.declared.edit.Edit.{Edit}
 use Rattle.hc_records.specs.declared.faults.EditFault.{EditFault}
 use Rattle.hc_records.specs.declared.records.Group.{Group}
 use Rattle.hc_records.specs.Lists.{lowest}
@@ -12,11 +16,11 @@ use Rattle.hc_events.specs.declared.change.Change.{Change}
 use Rattle.hc_events.specs.declared.change.Change.TheVariants as change
 use Rattle.hc_events.specs.Entries.{Record, Opened, Edited, Posted, Sent, Wrote, Came}
 use Rattle.hc_events.specs.Points.{epoch_of, state_of}
-use Rattle.hc_events.specs.Images.{Fresh, fresh_by, renewed, slot_of}
+use Rattle.hc_events.specs.Images.{Fresh, fresh_by, is_for, renewed, slot_of}
 use Rattle.hc_events.specs.Changes.{AreChangesOf, AreLegalFrom, IsAnswerIn, News, Swapped, Answered, SwapsLeadFrom, epoch_behind, news_of, slot_behind, table_behind, told_by}
 use Rattle.hc_events.specs.Steps.{Step}
 use Rattle.hc_events.specs.Accepted.{StandsIn, just_opened, record_of}
-use Rattle.hc_events.specs.Laws.{TellsAll}
+use Rattle.hc_events.specs.NewsLaws.{DecidesAll, IsLastAnswer, LeadToTheSame, LeavesData, TellsAll, state_behind}
 use Rattle.hc_events.proofs.lemmas.Accepted.{Keeps, kept-after_all}
 use Rattle.hc_events.proofs.lemmas.Slots.{AllSent, FitsFresh, fresh-fits}
 
@@ -118,14 +122,162 @@ table_told state (change.Swapped swap ∷ changes) lead =
     ap (λ table. table_behind table changes) lead.0 ∙ table_told (state_after state swap.edit) changes lead.1
 table_told state (change.Good t e bytes ∷ changes) lead = table_told state changes lead
 
-pub changes-tell_all : (groups : List Group) (steps : List Step) (changes : List Change) → AreChangesOf groups (record_of groups steps) changes → TellsAll groups (record_of groups steps) changes
-changes-tell_all groups steps changes are =
+-- along a legal list the swaps lead to the next states' tables
+
+legal_leads : (state : State) (changes : List Change) → AreLegalFrom state changes → SwapsLeadFrom state changes
+legal_leads state [] legal = tt
+legal_leads state (change.Swapped swap ∷ changes) legal = (legal.0.leads, legal_leads (state_after state swap.edit) changes legal.1)
+legal_leads state (change.Good t e bytes ∷ changes) legal = legal_leads state changes legal.1
+
+pub changes-tell_all : (groups : List Group) (steps : List Step) (changes : List Change) → AreLegalFrom (opened groups) changes → map told_by changes ≡ news_of (record_of groups steps) → TellsAll groups (record_of groups steps) changes
+changes-tell_all groups steps changes legal told =
     let follows = records-follow groups steps in
+    let lead = legal_leads (opened groups) changes legal in
     record {
-      table = table_told (opened groups) changes are.lead ∙ ap (λ news. table_of (line (state_by (opened groups) news))) are.told ∙ ap (λ state. table_of (line state)) follows.state;
-      epoch = epoch_told 0 changes ∙ ap (epoch_by 0) are.told ∙ follows.epoch;
-      slots = λ task d. slot_told task d None changes ∙ ap (slot_by task d None) are.told ∙ follows.slots task d;
+      table = table_told (opened groups) changes lead ∙ ap (λ news. table_of (line (state_by (opened groups) news))) told ∙ ap (λ state. table_of (line state)) follows.state;
+      epoch = epoch_told 0 changes ∙ ap (epoch_by 0) told ∙ follows.epoch;
+      slots = λ task d. slot_told task d None changes ∙ ap (slot_by task d None) told ∙ follows.slots task d;
     }
+
+pub changes-agree : (groups : List Group) (first second : List Change) → AreLegalFrom (opened groups) first → AreLegalFrom (opened groups) second → map told_by first ≡ map told_by second → LeadToTheSame groups first second
+changes-agree groups first second legal legal' same = record {
+  table = table_told (opened groups) first (legal_leads (opened groups) first legal)
+      ∙ ap (λ news. table_of (line (state_by (opened groups) news))) same
+      ∙ sym (table_told (opened groups) second (legal_leads (opened groups) second legal'));
+  epoch = epoch_told 0 first ∙ ap (epoch_by 0) same ∙ sym (epoch_told 0 second);
+  slots = λ task d. slot_told task d None first ∙ ap (slot_by task d None) same ∙ sym (slot_told task d None second);
+}
+
+-- what news lead to is the last good answer in them
+
+abbrev LastOr : ℕ → ℕ → List ℕ → Option (List ℕ) → List News → Type 0
+LastOr task d bytes slot news = IsLastAnswer task d bytes news ⊎ ((slot ≡ Some bytes) × All (LeavesData task d) news)
+
+last_later : (task d : ℕ) (bytes : List ℕ) (one : News) (news : List News) → IsLastAnswer task d bytes news → IsLastAnswer task d bytes (one ∷ news)
+last_later task d bytes one news last = record { before = one ∷ last.before; behind = last.behind; split = ap (λ more. one ∷ more) last.split; leaves = last.leaves }
+
+same_bytes : (a b : List ℕ) → Some a ≡ Some b → a ≡ b
+same_bytes a b e = cc
+
+abbrev made : ℕ → ℕ → List ℕ → Fresh
+made task d bytes = record { task = task; datagram = d; bytes = bytes }
+
+made_same : (t u d e : ℕ) (bytes : List ℕ) → t ≡ u → d ≡ e → made t d bytes ≡ made u e bytes
+made_same t u d e bytes task datagram = rw (task, datagram) refl
+
+-- the datagram of a good answer
+is_of : (task d : ℕ) (good : Fresh) → is_for task d good ≡ true → record { task = task; datagram = d; bytes = good.bytes } ≡ good
+is_of task d good e =
+    let parts = and_parts (good.task == task) (good.datagram == d) e in
+    made_same task good.task d good.datagram good.bytes (sym (eqb-true good.task task parts.0)) (sym (eqb-true good.datagram d parts.1))
+
+last_here : (task d : ℕ) (bytes : List ℕ) (slot : Option (List ℕ)) (good : Fresh) (news : List News) → All (LeavesData task d) news → (own : Bool) → is_for task d good ≡ own
+    → cond own (Some good.bytes) slot ≡ Some bytes → LastOr task d bytes slot (Answered good ∷ news)
+last_here task d bytes slot good news leaves true own e =
+    let one : record { task = task; datagram = d; bytes = bytes } ≡ good =
+    ap (λ read. record { task = task; datagram = d; bytes = read }) (sym (same_bytes good.bytes bytes e)) ∙ is_of task d good own in
+    inl (record { before = []; behind = news; split = ap (λ g. Answered g ∷ news) (sym one); leaves = leaves })
+last_here task d bytes slot good news leaves false own e = inr (e, All-cons (LeavesData task d) (Answered good) news own leaves)
+
+no_slot : (task d : ℕ) (bytes : List ℕ) (edit : Edit) (news : List News) → LastOr task d bytes None news → IsLastAnswer task d bytes (Swapped edit ∷ news)
+no_slot task d bytes edit news (inl last) = last_later task d bytes (Swapped edit) news last
+no_slot task d bytes edit news (inr (e, leaves)) = cc
+
+last_next : (task d : ℕ) (bytes : List ℕ) (slot : Option (List ℕ)) (good : Fresh) (news : List News) → LastOr task d bytes (renewed task d slot good) news → LastOr task d bytes slot (Answered good ∷ news)
+last_next task d bytes slot good news (inl last) = inl (last_later task d bytes (Answered good) news last)
+last_next task d bytes slot good news (inr (e, leaves)) = last_here task d bytes slot good news leaves (is_for task d good) refl e
+
+last_of : (task d : ℕ) (bytes : List ℕ) (slot : Option (List ℕ)) (news : List News) → slot_by task d slot news ≡ Some bytes → LastOr task d bytes slot news
+last_of task d bytes slot [] e = inr (e, All-nil (LeavesData task d))
+last_of task d bytes slot (Swapped edit ∷ news) e = inl (no_slot task d bytes edit news (last_of task d bytes None news e))
+last_of task d bytes slot (Answered good ∷ news) e = last_next task d bytes slot good news (last_of task d bytes (renewed task d slot good) news e)
+
+from_none : (task d : ℕ) (bytes : List ℕ) (news : List News) → LastOr task d bytes None news → IsLastAnswer task d bytes news
+from_none task d bytes news (inl last) = last
+from_none task d bytes news (inr (e, leaves)) = cc
+
+kept_slot : (task d : ℕ) (slot : Option (List ℕ)) (news : List News) → All (LeavesData task d) news → slot_by task d slot news ≡ slot
+kept_slot task d slot [] leaves = refl
+kept_slot task d slot (Swapped edit ∷ news) leaves = absurd (All-head (LeavesData task d) (Swapped edit) news leaves)
+kept_slot task d slot (Answered good ∷ news) leaves =
+    ap (λ b. slot_by task d (cond b (Some good.bytes) slot) news) (All-head (LeavesData task d) (Answered good) news leaves)
+    ∙ kept_slot task d slot news (All-tail (LeavesData task d) (Answered good) news leaves)
+
+for_itself : (task d : ℕ) (bytes : List ℕ) → is_for task d (record { task = task; datagram = d; bytes = bytes }) ≡ true
+for_itself task d bytes = grind (arith, nat_tests)
+
+last_slot : (task d : ℕ) (bytes : List ℕ) (news : List News) → IsLastAnswer task d bytes news → slot_by task d None news ≡ Some bytes
+last_slot task d bytes news last =
+    let good : Fresh = record { task = task; datagram = d; bytes = bytes } in
+    ap (slot_by task d None) last.split
+    ∙ slot_joined task d None last.before (Answered good ∷ last.behind)
+    ∙ ap (λ b. slot_by task d (cond b (Some bytes) (slot_by task d None last.before)) last.behind) (for_itself task d bytes)
+    ∙ kept_slot task d (Some bytes) last.behind last.leaves
+
+slots_last : (task d : ℕ) (bytes : List ℕ) (news : List News) (slot : Option (List ℕ)) → slot ≡ slot_by task d None news
+    → (slot ≡ Some bytes → IsLastAnswer task d bytes news) × (IsLastAnswer task d bytes news → slot ≡ Some bytes)
+slots_last task d bytes news slot same = (
+  λ e. from_none task d bytes news (last_of task d bytes None news (sym same ∙ e)),
+  λ last. same ∙ last_slot task d bytes news last,
+)
+
+slot_news : (task d : ℕ) (past : Record) → slot_of past task d ≡ slot_by task d None (news_of past)
+slot_news task d [] = refl
+slot_news task d (Opened groups ∷ past) = refl
+slot_news task d (Edited edit ∷ past) = sym (slot_joined task d None (news_of past) (Swapped edit ∷ []))
+slot_news task d (Posted t bytes ∷ past) = slot_news task d past
+slot_news task d (Sent frame ∷ past) = slot_news task d past
+slot_news task d (Wrote block ∷ past) = slot_news task d past
+slot_news task d (Came arrival ∷ past) =
+    ap (λ slot. fold (renewed task d) slot (fresh_by past arrival)) (slot_news task d past)
+    ∙ sym (slot_joined task d None (news_of past) (map Answered (fresh_by past arrival)) ∙ slot_goods task d (slot_by task d None (news_of past)) (fresh_by past arrival))
+
+pub slots-last : (past : Record) (task d : ℕ) (bytes : List ℕ) → (slot_of past task d ≡ Some bytes → IsLastAnswer task d bytes (news_of past)) × (IsLastAnswer task d bytes (news_of past) → slot_of past task d ≡ Some bytes)
+slots-last past task d bytes = slots_last task d bytes (news_of past) (slot_of past task d) (slot_news task d past)
+
+-- a legal list decides all by itself
+
+state_told : (state : State) (changes : List Change) → state_by state (map told_by changes) ≡ state_behind state changes
+state_told state [] = refl
+state_told state (change.Swapped swap ∷ changes) = state_told (state_after state swap.edit) changes
+state_told state (change.Good t e bytes ∷ changes) = state_told state changes
+
+one_epoch : (fault : Option EditFault) (state next : State) → IsOk (refused_by fault next) → result_unwrap_or (refused_by fault next) state ≡ next
+one_epoch None state next ok = refl
+one_epoch (Some fault) state next ok = cc
+
+epoch_legal : (state : State) (changes : List Change) → AreLegalFrom state changes → epoch_behind state.epoch changes ≡ (state_behind state changes).epoch
+epoch_legal state [] legal = refl
+epoch_legal state (change.Swapped swap ∷ changes) legal =
+    let next : state_after state swap.edit ≡ changed state swap.edit = one_epoch (lowest (edit_faults state swap.edit)) state (changed state swap.edit) legal.0.accepted in
+    ap (λ s. epoch_behind s.epoch changes) (sym next) ∙ epoch_legal (state_after state swap.edit) changes legal.1
+epoch_legal state (change.Good t e bytes ∷ changes) legal = epoch_legal state changes legal.1
+
+-- each slot is of a datagram of the state and has its length
+abbrev FitsSlot : State → ℕ → ℕ → Option (List ℕ) → Type 0
+FitsSlot state task d slot = (bytes : List ℕ) → slot ≡ Some bytes → IsAnswerIn state task d bytes
+
+renewed_slot : (state : State) (task d : ℕ) (slot : Option (List ℕ)) (good : Fresh) (own : Bool) → is_for task d good ≡ own → IsAnswerIn state good.task good.datagram good.bytes → FitsSlot state task d slot
+    → FitsSlot state task d (cond own (Some good.bytes) slot)
+renewed_slot state task d slot good true own is before = λ bytes e.
+    let one = is_of task d good own in
+    subst (IsAnswerIn state task d) (same_bytes good.bytes bytes e) (subst (λ g. IsAnswerIn state g.task g.datagram g.bytes) (sym one) is)
+renewed_slot state task d slot good false own is before = before
+
+slots_fit : (state : State) (changes : List Change) (task d : ℕ) (slot : Option (List ℕ)) → AreLegalFrom state changes → FitsSlot state task d slot → FitsSlot (state_behind state changes) task d (slot_behind task d slot changes)
+slots_fit state [] task d slot legal fit = fit
+slots_fit state (change.Swapped swap ∷ changes) task d slot legal fit = slots_fit (state_after state swap.edit) changes task d None legal.1 (λ bytes e. cc)
+slots_fit state (change.Good t e bytes ∷ changes) task d slot legal fit =
+    let good : Fresh = record { task = t; datagram = e; bytes = bytes } in
+    slots_fit state changes task d (renewed task d slot good) legal.1 (renewed_slot state task d slot good (is_for task d good) refl legal.0 fit)
+
+pub changes-decide : (groups : List Group) (changes : List Change) → AreLegalFrom (opened groups) changes → DecidesAll groups changes
+changes-decide groups changes legal = record {
+  table = table_told (opened groups) changes (legal_leads (opened groups) changes legal) ∙ ap (λ state. table_of (line state)) (state_told (opened groups) changes);
+  epoch = epoch_legal (opened groups) changes legal;
+  slots = λ task d bytes. slots_last task d bytes (map told_by changes) (slot_behind task d None changes) (slot_told task d None changes);
+  fits = λ task d. slots_fit (opened groups) changes task d None legal (λ bytes e. cc);
+}
 
 -- news are legal along the list
 

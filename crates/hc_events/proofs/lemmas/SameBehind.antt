@@ -19,7 +19,7 @@ use Rattle.hc_events.specs.Faults.{edit_refusal}
 use Rattle.hc_events.specs.Arrivals.{Arrival, arrival_in}
 use Rattle.hc_events.specs.Entries.{Entry, Record, Opened, Edited, Posted, Sent, Wrote, Came}
 use Rattle.hc_events.specs.Points.{epoch_of, line_of, next_serial, state_of}
-use Rattle.hc_events.specs.Sendings.{Sending, sendings_of}
+use Rattle.hc_events.specs.Sendings.{Frame, sendings_of}
 use Rattle.hc_events.specs.Answering.{Judged, Verdict, Good, Wrong, Stale, is_news, is_stale, is_stale_to, judged_by}
 use Rattle.hc_events.specs.Images.{slot_of, slots_of}
 use Rattle.hc_events.specs.Outputs.{byte_of, bytes_of, has_bit, outputs_in, sent_bit, sent_data, value_bit}
@@ -117,7 +117,7 @@ same-data a b task d says =
     bytes_alike (sent_bit a (outputs_in (line_of a) task d)) (sent_bit b (outputs_in (line_of a) task d)) (λ k. found_alike a b k says (find (has_bit k) (outputs_in (line_of a) task d))) (datagram_length (task_places task (line_of a)) d)
     ∙ ap (λ members. bytes_of (sent_bit b (outputs_in members task d)) (datagram_length (task_places task members) d)) (same-line a b says)
 
-pub same-text : (a b : Record) (sending : Sending) → SaysTheSame a b → sent_text a sending ≡ sent_text b sending
+pub same-text : (a b : Record) (sending : Frame) → SaysTheSame a b → sent_text a sending ≡ sent_text b sending
 same-text a b sending says =
     ap (frame_text sending.serial) (map_alike (sent_datagram a) (sent_datagram b) (λ named. ap (lrw (logical_address named.0 named.1)) (same-data a b named.0 named.1 says)) sending.datagrams)
 
@@ -197,7 +197,7 @@ same_kept : (refused : Option CoreFault) (a b c d : Record) → SameWithout a b 
 same_kept None a b c d same next = next
 same_kept (Some fault) a b c d same next = same
 
-same_sent : (sendings : List Sending) (a b : Record) → SameWithout a b → SameWithout (with_sent a sendings) (with_sent b sendings)
+same_sent : (sendings : List Frame) (a b : Record) → SameWithout a b → SameWithout (with_sent a sendings) (with_sent b sendings)
 same_sent [] a b same = same
 same_sent (sending ∷ sendings) a b same = same_sent sendings (Sent sending.datagrams ∷ a) (Sent sending.datagrams ∷ b) (same-grows (Sent sending.datagrams) a b same)
 

@@ -11,7 +11,7 @@ use Rattle.hc_events.specs.Answering.{Sending, just_sent, followed_by, sending_o
 use Rattle.hc_events.specs.Awaited.{all_sent_again, alive, awaited}
 use Rattle.hc_events.specs.Steps.{Step, entries_after_all}
 use Rattle.hc_events.proofs.lemmas.Accepted.{Keeps, kept-after_all}
-use Rattle.hc_events.proofs.lemmas.Awaited.{by_bool, news_from, news_is, awaited-any, again-more, unless_fits, unless_again, alive_edited, alive_came, alive_other}
+use Rattle.hc_events.proofs.lemmas.Awaited.{by_bool, news_from, news-is, awaited-any, again-more, unless_fits, unless_again, alive_edited, alive_came, alive_other}
 
 -- an arrival is no news for what is awaited
 abbrev pub quiet : Arrival → Option Sending → Type 0
@@ -29,7 +29,7 @@ quiet_other : (entry : Entry) (arrival : Arrival) (found : Option Sending) → q
 quiet_other entry arrival None q = q
 quiet_other entry arrival (Some s) q =
     by_bool (has_heads s.heads arrival.parts)
-    (λ h. let all : all_sent_again s.since s.heads ≡ true = again_if _ (sym (news_is s.since s.heads arrival.parts h) ∙ rw h at q) in
+    (λ h. let all : all_sent_again s.since s.heads ≡ true = again_if _ (sym (news-is s.since s.heads arrival.parts h) ∙ rw h at q) in
     rw (again-more entry s.since s.heads all) refl)
     (λ h. by_bool (all_sent_again (entry ∷ s.since) s.heads) (λ t. rw t refl) (λ t. rw t (rw h refl)))
 

@@ -1,0 +1,5 @@
+use Rattle.hc_events.proofs.Answers.{answered-of_line}
+use Rattle.hc_events.proofs.laws.answered_are_of_the_line.Goals as goal
+
+pub returns : goal.returns
+returns c = answered-of_line

@@ -1,0 +1,5 @@
+use Rattle.hc_events.proofs.Answers.{awaited-answered}
+use Rattle.hc_events.proofs.laws.awaited_are_answered.Goals as goal
+
+pub returns : goal.returns
+returns c = awaited-answered

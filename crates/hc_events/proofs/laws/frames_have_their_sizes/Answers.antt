@@ -1,0 +1,5 @@
+use Rattle.hc_events.proofs.Proposals.{frames-sized}
+use Rattle.hc_events.proofs.laws.frames_have_their_sizes.Goals as goal
+
+pub returns : goal.returns
+returns c = frames-sized

@@ -1,0 +1,5 @@
+use Rattle.hc_events.proofs.Proposals.{proposals-carry}
+use Rattle.hc_events.proofs.laws.proposals_carry_the_tasks.Goals as goal
+
+pub returns : goal.returns
+returns c = proposals-carry

@@ -1,0 +1,5 @@
+use Rattle.hc_events.proofs.Serials.{serials-ascend}
+use Rattle.hc_events.proofs.laws.serials_ascend.Goals as goal
+
+pub returns : goal.returns
+returns c past low high = serials-ascend past low high

@@ -1,0 +1,70 @@
+-- What the calls of a core add to the answers: want of memory, a slice of the caller's that is too short, and what the caller keeps to.
+use Rattle.std.specs.Prelude.{◌≡◌, ℕ, ◌+◌, ◌<◌, ◌≤◌, ◌⊎◌, ◌&&◌, nat_lt, Bool, true, false, if◌then◌else◌, List, [], ◌∷◌, ◌++◌, length, sum_by, Option, Some, None}
+use Rattle.hc_records.specs.declared.limits.TheConstants.{TASKS}
+use Rattle.hc_records.specs.Lists.{has_repeat}
+use Rattle.hc_records.specs.Image.{datagram_count, task_places}
+use Rattle.hc_registers.specs.Blocks.{LineBlock}
+use Rattle.hc_frames.specs.Sizes.{frame_bytes}
+use Rattle.hc_events.specs.declared.answer.Answer.{Answer}
+use Rattle.hc_events.specs.declared.answer.Answer.TheVariants as answer
+use Rattle.hc_events.specs.declared.faults.CoreFault.{CoreFault}
+use Rattle.hc_events.specs.declared.faults.CoreFault.TheVariants.{Memory, Room}
+use Rattle.hc_events.specs.Entries.{Record}
+use Rattle.hc_events.specs.Points.{line_of, next_serial}
+use Rattle.hc_events.specs.Sendings.{Frame, alone, length_of, size_of}
+use Rattle.hc_events.specs.Owed.{owed_blocks}
+use Rattle.hc_events.specs.Steps.{Step, Posts, answer_to, entries_after, has_serials, proposal, task_faults, write_faults}
+
+-- an event takes memory for what it answers or for what is kept behind it; a post takes none, since the room for its values was taken at the opening or by an accepted edit
+abbrev pub takes_memory : Step → Bool
+takes_memory (Posts task epoch bytes) = false
+takes_memory step = true
+
+-- the event's answer, and the record behind it
+pub record IsAnswered (past : Record) (step : Step) (told : Answer) (next : Record) : Type 0 where
+  pub answer : told ≡ answer_to past step
+  pub entries : next ≡ entries_after past step
+
+-- want of memory, and the record as it was
+pub record IsWanting (past : Record) (step : Step) (told : Answer) (next : Record) : Type 0 where
+  pub takes : takes_memory step ≡ true
+  pub answer : told ≡ answer.Refused Memory
+  pub entries : next ≡ past
+
+-- what may be answered to an event, and the record that is then left: want of memory may stand in place of any answer to an event that takes some
+abbrev pub MayAnswer : Record → Step → Answer → Record → Type 0
+MayAnswer past step told next = IsAnswered past step told next ⊎ IsWanting past step told next
+
+-- so many bytes are needed, and the slice has fewer
+abbrev pub room_faults : ℕ → ℕ → List (Bool × CoreFault)
+room_faults needed bytes = (nat_lt bytes needed, Room needed) ∷ []
+
+-- the bytes of the frame that writes the first of these blocks
+abbrev pub write_size : List LineBlock → ℕ
+write_size [] = 0
+write_size (block ∷ blocks) = frame_bytes (12 + length block.block.bytes)
+
+-- it goes into a slice of so many bytes: refused as the event is, and behind that where the slice is too short
+abbrev pub write_into_faults : Record → ℕ → List (Bool × CoreFault)
+write_into_faults past bytes = write_faults past (owed_blocks past) ++ room_faults (write_size (owed_blocks past)) bytes
+
+-- the bytes of the frames in which tasks are sent
+abbrev pub frames_size : Record → List ℕ → ℕ
+frames_size past tasks = sum_by size_of (proposal past tasks)
+
+-- they go into one slice of so many bytes, one after another: refused in the same way
+abbrev pub send_into_faults : Record → List ℕ → ℕ → List (Bool × CoreFault)
+send_into_faults past tasks bytes = task_faults past tasks ++ room_faults (frames_size past tasks) bytes
+
+-- what the caller keeps to who sends tasks: at least one, as many as there are tasks at most, and none twice; whether there is such a task is judged by the event
+pub record AreSentTogether (tasks : List ℕ) : Type 0 where
+  pub some : 0 < length tasks
+  pub most : length tasks ≤ TASKS
+  pub distinct : has_repeat tasks ≡ false
+
+-- the frame of one datagram alone as it would be sent next, whether or not blocks are owed; none where the task has no such datagram or no serial is left
+abbrev pub preview : Record → ℕ → ℕ → Option Frame
+preview past task d =
+    if nat_lt d (datagram_count (task_places task (line_of past))) && has_serials past 1
+    then Some (alone (next_serial past) (task, d) (length_of (line_of past) (task, d)))
+    else None
