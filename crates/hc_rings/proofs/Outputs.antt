@@ -1,5 +1,5 @@
 -- What a sender that holds a buffer of zeros ends as, once the bytes that were lent of it were left.
-use Rattle.std.proofs.Common.{◌≡◌, ℕ, List, Bool, true, false, not, T, replicate, refl, sym, ap, subst, true≢false}
+use Rattle.std.proofs.Common.{◌≡◌, ℕ, List, Bool, true, false, not, T, replicate, refl, sym, ap, ◌∙◌, subst, true≢false}
 use seplogic.Ra.Ura.{Ura}
 use base.Fml.{GName}
 use base.Logic.{ent, ex_i}
@@ -7,10 +7,10 @@ use denote.Follow.{follows_if, follows_so, such_by}
 use denote.RattleType.{RattleType}
 use mathlib.Core.Option as maybe
 use types.Logic.{Logic, sem}
-use Rattle.std.specs.Prelude.{Option, Some, IfSome}
+use Rattle.std.specs.Prelude.{Option, None, Some, IfSome, length, ◌+◌}
 use Rattle.std.specs.Option.{option_map}
-use Rattle.hc_rings.specs.Post.{Post, blank_post, with_written}
-use Rattle.hc_rings.specs.Ring.{held, HoldsOutputs}
+use Rattle.hc_rings.specs.Post.{Post, blank_post, count_of, with_written}
+use Rattle.hc_rings.specs.Ring.{posted, HoldsPost}
 use Rattle.hc_rings.specs.declared.posts.PostSender.{PostSender}
 
 pub is_true : (b : Bool) → T b → b ≡ true
@@ -21,13 +21,22 @@ pub is_false : (b : Bool) → T (not b) → b ≡ false
 is_false true t = absurd t
 is_false false t = refl
 
-pub left_outputs : (old now : PostSender) (epoch size : ℕ) (written : List ℕ) → HoldsOutputs old now (blank_post epoch size)
-    → HoldsOutputs old (record now { held = option_map (λ post. with_written post written) now.held }) (with_written (blank_post epoch size) written)
-left_outputs old now epoch size written h = (h.0, h.1, (ap (option_map (λ post. with_written post written)) h.2.0, h.2.1))
+one_as_before : (f : Post → Post) (held : Option Post) → count_of held ≡ count_of (option_map f held)
+one_as_before f None = refl
+one_as_before f (Some post) = refl
 
+-- the sender still holds such a post, whatever is written over its bytes
+pub left_outputs : (old now : PostSender) (epoch size : ℕ) (written : List ℕ) → HoldsPost old now (blank_post epoch size)
+    → HoldsPost old (record now { held = option_map (λ post. with_written post written) now.held }) (with_written (blank_post epoch size) written)
+left_outputs old now epoch size written h =
+    let write : Post → Post = λ post. with_written post written in
+    (h.0, h.1, (ap (option_map write) h.2.0, h.2.1), λ each. h.3 each ∙ ap (λ (k : ℕ). length (posted now) + k) (one_as_before write now.held))
+
+-- what is lent of a blank post
 pub zeros : (now : Option Post) (epoch size : ℕ) (bytes : List ℕ) → now ≡ Some (blank_post epoch size) → IfSome now (λ post. bytes ≡ post.bytes) → bytes ≡ replicate size 0
 zeros now epoch size bytes e h = subst (λ (x : Option Post). IfSome x (λ post. bytes ≡ post.bytes)) e h
 
+-- no answer is both
 pub never : {A : Type 0} → false ≡ true → A
 never e = absurd (true≢false (sym e))
 

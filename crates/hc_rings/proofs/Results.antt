@@ -15,10 +15,11 @@ use types.Kit.{‵, raw, ◌$◌, ◌∵◌, !, qed, move, use0, join, fjoin, fp
 use types.Logic.{Logic, sem}
 use types.Match.{live}
 
--- two facts, which need nothing
-pub says_two : {M : Type 1} {𝓤 : Ura M} (𝓛 : Logic 𝓤) {A B : Type 0} → A → B → ent 𝓤 (emp 𝓤) (sep 𝓤 (fact 𝓤 A) (fact 𝓤 B))
-says_two {𝓤 = 𝓤} 𝓛 {A} {B} a b =
-    qed 𝓛 [] ∵ use0 𝓛 (raw (fact 𝓤 B)) (fact_i 𝓤 B (emp 𝓤) b) $ use0 𝓛 (raw (fact 𝓤 A)) (fact_i 𝓤 A (emp 𝓤) a) $ join ! $ done !
+-- three facts, which need nothing
+pub says_three : {M : Type 1} {𝓤 : Ura M} (𝓛 : Logic 𝓤) {A B C : Type 0} → A → B → C → ent 𝓤 (emp 𝓤) (sep 𝓤 (fact 𝓤 A) (sep 𝓤 (fact 𝓤 B) (fact 𝓤 C)))
+says_three {𝓤 = 𝓤} 𝓛 {A} {B} {C} a b c =
+    qed 𝓛 [] ∵ use0 𝓛 (raw (fact 𝓤 C)) (fact_i 𝓤 C (emp 𝓤) c) $ use0 𝓛 (raw (fact 𝓤 B)) (fact_i 𝓤 B (emp 𝓤) b) $ join ! $
+    use0 𝓛 (raw (fact 𝓤 A)) (fact_i 𝓤 A (emp 𝓤) a) $ join ! $ done !
 
 module _ {M : Type 1} {𝓤 : Ura M} (𝓛 : Logic 𝓤) (X Y : RattleType) where
   pub makes_ok : (x : X.Denot) (v : Val) → ent 𝓤 (sem 𝓛 (X.own_val x (v ∷ []))) (sem 𝓛 ((result.the_row X Y).own_val (Ok x) (live 0 (of_list (v ∷ [])) ∷ [])))

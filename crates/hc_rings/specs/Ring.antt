@@ -59,10 +59,10 @@ SameSender old new = SameProducer old.posts.ring new.posts.ring × SameConsumer 
 abbrev pub SameReceiver : PostReceiver → PostReceiver → Type 0
 SameReceiver old new = SameConsumer old.posts.ring new.posts.ring × SameProducer old.spares new.spares
 
--- the sender as before, but for the post that it now holds
-abbrev pub HoldsOutputs : PostSender → PostSender → Post → Type 0
-HoldsOutputs old new post = SameSender old new × (posted new ≡ posted old) × Holds old new post
+-- the sender is as it was before, but for the post that it now holds
+abbrev pub HoldsPost : PostSender → PostSender → Post → Type 0
+HoldsPost old new post = SameSender old new × (posted new ≡ posted old) × Holds old new post × (PostsEach old → PostsEach new)
 
--- the sender as before, and it holds nothing
+-- the sender is as it was before, and it holds nothing
 abbrev pub HoldsNothing : PostSender → PostSender → Type 0
 HoldsNothing old new = SameSender old new × (posted new ≡ posted old) × (handed_out new ≡ handed_out old) × (held old ≡ None) × (held new ≡ None)

@@ -5,11 +5,11 @@ use mathlib.Core.Option as maybe
 use Rattle.std.specs.Prelude.{length, Result, IsOk, OnErr, IsSome, IfSome}
 use Rattle.std.specs.declared.result.Result.TheVariants.{Ok, Err}
 use Rattle.std.specs.contracts.result.Result as result
-use Rattle.hc_rings.proofs.Results.{says_two, makes_ok, makes_err}
+use Rattle.hc_rings.proofs.Results.{says_three, makes_ok, makes_err}
 use Rattle.hc_rings.proofs.Outputs.{is_true, is_false, left_outputs, zeros, never, lends_so}
 use Rattle.hc_rings.specs.Post.{blank_post, with_written}
 use Rattle.hc_rings.specs.Lending.{LendsHeld, LendsOutputs}
-use Rattle.hc_rings.specs.Ring.{handed_out, held, HoldsOutputs, HoldsNothing}
+use Rattle.hc_rings.specs.Ring.{handed_out, held, posted, HoldsPost, HoldsNothing, PostsEach}
 use Rattle.std.specs.Option.{option_map}
 use Rattle.hc_rings.specs.declared.posts.PostSender.{PostSender}
 use Rattle.hc_rings.specs.declared.posts.TheConstants.{SPARE_BUFFERS}
@@ -20,8 +20,8 @@ use Rattle.hc_rings.specs.declared.posts.sending.NoSpare as declared
 use Rattle.hc_rings.specs.contracts.posts.PostSender.outputs as f
 use Rattle.hc_rings.proofs.posts.PostSender.outputs.Statement.{statement}
 use Rattle.hc_rings.proofs.posts.PostSender.outputs.Code as code
-use Rattle.hc_rings.specs.contracts.posts.PostSender.holds as g
-use Rattle.hc_rings.proofs.posts.PostSender.holds.Met as g_met
+use Rattle.hc_rings.specs.contracts.posts.PostSender.holds_zeros as g
+use Rattle.hc_rings.proofs.posts.PostSender.holds_zeros.Met as g_met
 use Rattle.hc_rings.specs.contracts.posts.PostSender.held_mut as lent
 use Rattle.hc_rings.proofs.posts.PostSender.held_mut.Met as lent_met
 
@@ -56,15 +56,16 @@ outputs_spec 𝓤 𝓛 𝓜 𝓡 wired =
     nothing ! $ owned ! usize _ (uint_Makes 𝓛 w64) size _ (refl, are.1.1.0.1) $ fjoin ! $ owned ! u32 _ (uint_Makes 𝓛 w32) epoch _ (refl, are.1.0.1) $ fjoin ! $
     move ! (1 ∷ 0 ∷ []) $ fjoin ! $ nothing ! $ move ! (3 ∷ 0 ∷ []) $ join ! $ join ! $
     use0 𝓛 (raw (fact 𝓤 (size ≤ LARGEST_IMAGE))) (fact_i 𝓤 _ (emp 𝓤) small) $ move ! (1 ∷ 0 ∷ []) $ use2 𝓛 (raw (G.pre z)) (id⊢ 𝓤 _) $
-    calls_at ! (framed 𝓤 𝓛.H 𝓜 𝓣) G (g_met.met 𝓤 𝓛 𝓜 𝓡 (code.calls-hc_rings::posts::PostSender::holds 𝓡.env wired)) z
+    calls_at ! (framed 𝓤 𝓛.H 𝓜 𝓣) G (g_met.met 𝓤 𝓛 𝓜 𝓡 (code.calls-hc_rings::posts::PostSender::holds_zeros 𝓡.env wired)) z
     (and_then ! (get ! refl) (and_then ! (get ! refl) (and_then ! (get ! refl) (no_more !)))) (λ v.
     use1 𝓛 (later (some (λ (ok : Bool). ((‵ (flft (α ∷ []) full_share) ⊛ ‵ ftrue) ⊛ ‵ (bool.own_val ok (v ∷ []))) ⊛
     some (λ (ws : Lasts g.ended z.0.0 z.0.3). ‵ (lasts g.ended z.0.0 z.0.3 ws) ⊛
-    (raw (fact 𝓤 (ok ≡ true → HoldsOutputs self.now ws.0 (blank_post epoch size) × IsSome (held ws.0))) ⊛
-    raw (fact 𝓤 (ok ≡ false → HoldsNothing self.now ws.0 × (SPARE_BUFFERS ≤ handed_out self.now)))))))) (id⊢ 𝓤 _) $
+    (raw (fact 𝓤 (ok ≡ true → HoldsPost self.now ws.0 (blank_post epoch size) × IsSome (held ws.0))) ⊛
+    (raw (fact 𝓤 (ok ≡ false → HoldsNothing self.now ws.0 × (SPARE_BUFFERS ≤ handed_out self.now))) ⊛
+    raw (fact 𝓤 (PostsEach self.now → ok ≡ false → SPARE_BUFFERS ≤ length (posted self.now))))))))) (id⊢ 𝓤 _) $
     await ! tt $ pick ! (λ ok. split ! $ split ! $ split ! $ lft_end ! tt $ move ! (2 ∷ []) $ feq_l ! (λ value.
     lands_as ! (ap only value) refl (tt, tt) $
-    move ! (2 ∷ []) $ pick ! (λ ws. split ! $ move ! (1 ∷ []) $ split ! $ heard ! _ (λ held_one. heard ! _ (λ held_none. fsplit ! $ fsplit ! $
+    move ! (2 ∷ []) $ pick ! (λ ws. split ! $ move ! (1 ∷ []) $ split ! $ heard ! _ (λ held_one. split ! $ heard ! _ (λ held_none. heard ! _ (λ after_four. fsplit ! $ fsplit ! $
     move ! (3 ∷ 5 ∷ 0 ∷ []) $ use3 𝓛 (later (‵ (Ref κ (record self { now = ws.0 })) ⊛ ‵ (flft κ q)))
     (comes_back 𝓛 sender.the_row (named 0) κ (α ∷ []) q self.ghost_name b o δ self.now ws.0) $ await ! tt $ split ! $
     let self' : MutBor PostSender = record self { now = ws.0 } in
@@ -81,7 +82,7 @@ outputs_spec 𝓤 𝓛 𝓜 𝓡 wired =
     some (λ (us : Lasts lent.ended κs (self', tt)). ‵ (lasts lent.ended κs (self', tt) us) ⊛ (‵ (LendsHeld self' r) ⊛ raw (fact 𝓤 (IfSome (held ws.0) (λ post. r.now ≡ post.bytes)))))))) (id⊢ 𝓤 _) $
     await ! tt $ pick ! (λ r. split ! $ move ! (1 ∷ []) $ pick ! (λ us. split ! $ drop ! $ split ! $ move ! (1 ∷ []) $ heard ! _ (λ bytes.
     let F : List ℕ → PostSender = λ written. record ws.0 { held = option_map (λ post. with_written post written) ws.0.held } in
-    let P : List ℕ → PostSender → Type 0 = λ written n. HoldsOutputs self.now n (with_written (blank_post epoch size) written) in
+    let P : List ℕ → PostSender → Type 0 = λ written n. HoldsPost self.now n (with_written (blank_post epoch size) written) in
     move ! (1 ∷ []) $ split ! $ move ! (1 ∷ []) $ peeks ! (MutSlice (named 0) κ u8) _ (shows 𝓛 (MutSlice (named 0) κ u8)) r (w ∷ []) (λ tells.
     let part : Val = slice_val r.ref_ptr (length r.now) in
     let answer : Result (MutBor (List ℕ)) declared.NoSpare = Ok r in
@@ -94,7 +95,7 @@ outputs_spec 𝓤 𝓛 𝓜 𝓡 wired =
     returns_within ! (W.post y) refl (look_at ! 0 refl) $ free_all ! refl $ keep ! (1 ∷ 2 ∷ 0 ∷ []) $
     suffices ! _ (ends_at 𝓛 f.ended stayed c y (live 0 (of_list (part ∷ []))) (Ok r) (tt, (tt, (tt, tt))) (tt, (tt, (tt, tt)))) $
     nothing ! $ nothing ! $ fjoin ! $ nothing ! $ fjoin ! $ nothing ! $ fjoin ! $ join ! $ move ! (1 ∷ 0 ∷ []) $ join ! $ frame ! $ frame ! $
-    by ! (says_two 𝓛 (zeros (held ws.0) epoch size r.now found.0.2.0 bytes) tt)))))))
+    by ! (says_three 𝓛 (zeros (held ws.0) epoch size r.now found.0.2.0 bytes) tt (λ _. tt))))))))
     (λ none.
     let nothing_held = held_none (is_false ok none) in
     skips ! $ exec ! 𝓣.C 𝓣.Λ (env code.Mir.locals l) code.Mir.t-4 (at_ret _ (W.post y)) $
@@ -102,10 +103,10 @@ outputs_spec 𝓤 𝓛 𝓜 𝓡 wired =
     sets ! (agg ! (and_then ! (lit ! tt) (and_then ! (get ! refl) (no_more !)))) refl (tt, (record { fits = lit< tt }, (tt, tt))) $
     fsplit3 ! $ drop ! $ name_done ! tt $
     use1 𝓛 (‵ (LendsOutputs self epoch size (Err none_spare)))
-    (lends_so 𝓛 sender.the_row (Array u8 0) self.ghost_name maybe.none (λ _. ws.0) ws.0 (λ written n. IsOk refused → HoldsOutputs self.now n (with_written (blank_post epoch size) written)) (λ n. OnErr refused (HoldsNothing self.now n)) (λ written ok. never ok) nothing_held.0) $
+    (lends_so 𝓛 sender.the_row (Array u8 0) self.ghost_name maybe.none (λ _. ws.0) ws.0 (λ written n. IsOk refused → HoldsPost self.now n (with_written (blank_post epoch size) written)) (λ n. OnErr refused (HoldsNothing self.now n)) (λ written ok. never ok) nothing_held.0) $
     use0 𝓛 (‵ (NoSpare.the_row.own_val none_spare (vstruct vnil ∷ []))) (makes_shadow 𝓛 (NoSpare.the_row.own_val none_spare (vstruct vnil ∷ [])) (λ vals. (tt, tt)) (tt, (refl, tt))) $
     use1 𝓛 (‵ (Out.own_val (Err none_spare) (live 1 (of_list (vstruct vnil ∷ [])) ∷ []))) (makes_err 𝓛 (MutSlice (named 0) κ u8) NoSpare.the_row none_spare (vstruct vnil)) $
     returns ! (look_at ! 0 refl) $ free_all ! refl $ keep ! (0 ∷ 3 ∷ 1 ∷ []) $ nothing ! $ move ! (2 ∷ 0 ∷ []) $ join ! $ move ! (1 ∷ 0 ∷ []) $
     suffices ! _ (ends_at 𝓛 f.ended stayed c y (live 1 (of_list (vstruct vnil ∷ []))) (Err none_spare) (tt, (tt, (tt, tt))) (tt, (tt, (tt, tt)))) $
     nothing ! $ nothing ! $ fjoin ! $ nothing ! $ fjoin ! $ nothing ! $ fjoin ! $ join ! $ move ! (1 ∷ 0 ∷ []) $ join ! $ frame ! $ frame ! $
-    by ! (says_two 𝓛 tt nothing_held.1)))))))))))))
+    by ! (says_three 𝓛 tt (nothing_held.0.3, nothing_held.1) (λ each. after_four each (is_false ok none))))))))))))))))
