@@ -42,7 +42,7 @@ never e = absurd (true≢false (sym e))
 
 -- a loan by a function is one by what holds of it
 pub lends_so : {M : Type 1} {𝓤 : Ura M} (𝓛 : Logic 𝓤) (R U : RattleType) (γ : GName) (m : maybe.Option GName) (F : U.Denot → R.Denot) (v : R.Denot)
-      (P : U.Denot → R.Denot → Type 0) (P₀ : R.Denot → Type 0) → ((w : U.Denot) → P w (F w)) → P₀ v
+    (P : U.Denot → R.Denot → Type 0) (P₀ : R.Denot → Type 0) → ((w : U.Denot) → P w (F w)) → P₀ v
     → ent 𝓤 (sem 𝓛 (follows_if R U γ m F v)) (sem 𝓛 (follows_so R U γ m P P₀))
 unfolding such_by
 lends_so {𝓤 = 𝓤} 𝓛 R U γ m F v P P₀ p p₀ =
