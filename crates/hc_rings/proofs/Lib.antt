@@ -3,3 +3,6 @@ pub mod Prefixes
 pub mod Rest
 pub mod Whole
 pub mod lemmas
+pub mod Outputs
+pub mod Results
+pub mod Steps

@@ -1,9 +1,11 @@
 -- What a lender ends as, once the loan of a buffer or of bytes is over.
-use Rattle.std.specs.Prelude.{ℕ, List, Option, Some}
+use Rattle.std.specs.Prelude.{ℕ, List, Option, Some, Result}
 use Rattle.std.specs.Option.{option_map}
-use Rattle.std.specs.Borrow.{Lends, MutBor, Fml, Array, u8}
+use Rattle.std.specs.Borrow.{Lends, LendsSoOk, MutBor, Fml, Array, u8}
 use Rattle.std.specs.contracts.option.Option as option
-use Rattle.hc_rings.specs.Post.{Post, overwritten, with_written}
+use Rattle.hc_rings.specs.Post.{Post, blank_post, overwritten, with_written}
+use Rattle.hc_rings.specs.Ring.{HoldsPost, HoldsNothing}
+use Rattle.hc_rings.specs.declared.posts.sending.NoSpare.{NoSpare}
 use Rattle.hc_rings.specs.contracts.post_buffer.PostBuffer as buffer
 use Rattle.hc_rings.specs.contracts.frames.frame_box.FrameBox as frame
 use Rattle.hc_rings.specs.contracts.posts.PostSender as sender
@@ -28,3 +30,8 @@ LendsBytes place lent = Lends (option.the_row buffer.the_row) (Array u8 0) place
 -- the sender, whose buffer for the next post has what was left written over its bytes
 abbrev pub LendsHeld : MutBor PostSender → MutBor (List ℕ) → Fml
 LendsHeld s lent = Lends sender.the_row (Array u8 0) s lent (λ written. record s.now { held = option_map (λ post. with_written post written) s.now.held })
+
+-- the sender, which holds a post for this epoch with what was left written over `size` zeros; or, where none was held and
+-- no spare was found, it is as it was before
+abbrev pub LendsOutputs : MutBor PostSender → ℕ → ℕ → Result (MutBor (List ℕ)) NoSpare → Fml
+LendsOutputs s epoch size lent = LendsSoOk sender.the_row (Array u8 0) s lent (λ n written. HoldsPost s.now n (with_written (blank_post epoch size) written)) (HoldsNothing s.now)

@@ -1,5 +1,5 @@
 -- What contracts see of the two ends of a ring of posts: what was posted, what was taken, and what is left.
-use Rattle.std.specs.Prelude.{◌≡◌, ◌+◌, ℕ, List, ◌++◌, length, true, Option, Some}
+use Rattle.std.specs.Prelude.{◌≡◌, ◌+◌, ℕ, List, ◌++◌, length, true, Option, Some, None}
 use Rattle.rtrb.specs.Ring.{sent, received, known_free, IsPair, SameProducer, SameConsumer}
 use Rattle.hc_rings.specs.Post.{Post, count_of}
 use Rattle.hc_rings.specs.Items.{items_of}
@@ -58,3 +58,11 @@ SameSender old new = SameProducer old.posts.ring new.posts.ring × SameConsumer 
 
 abbrev pub SameReceiver : PostReceiver → PostReceiver → Type 0
 SameReceiver old new = SameConsumer old.posts.ring new.posts.ring × SameProducer old.spares new.spares
+
+-- the sender is as it was before, but for the post that it now holds
+abbrev pub HoldsPost : PostSender → PostSender → Post → Type 0
+HoldsPost old new post = SameSender old new × (posted new ≡ posted old) × Holds old new post × (PostsEach old → PostsEach new)
+
+-- the sender is as it was before, and it holds nothing
+abbrev pub HoldsNothing : PostSender → PostSender → Type 0
+HoldsNothing old new = SameSender old new × (posted new ≡ posted old) × (handed_out new ≡ handed_out old) × (held old ≡ None) × (held new ≡ None)

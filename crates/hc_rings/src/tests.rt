@@ -295,6 +295,7 @@ fn held_buffers_are_posted(rt: HostRuntime) -> Result<(), Fail> {
         );
     }
     assert_eq!(rt; sender.hold(9, 5), Err(NoSpare));
+    assert!(rt; sender.outputs(9, 5).is_err());
     assert_eq!(rt; sender.post_held(), Err(PostFault::NoBuffer));
     for epoch in 0..4 {
         assert!(rt;
@@ -310,12 +311,18 @@ fn held_buffers_are_posted(rt: HostRuntime) -> Result<(), Fail> {
 fn a_held_buffer_is_begun_anew(rt: HostRuntime) -> Result<(), Fail> {
     let (mut sender, mut receiver) = post_ring(rt.alloc())?;
     for _ in 0..6 {
-        assert!(rt; sender.hold(7, LARGEST_IMAGE).is_ok());
-        sender.held_mut().fill(255);
+        match sender.outputs(7, LARGEST_IMAGE) {
+            Ok(outputs) => outputs.fill(255),
+            Err(NoSpare) => return Err("no spare".into()),
+        }
     }
-    assert!(rt; sender.hold(8, 3).is_ok());
-    assert_eq!(rt; &*sender.held_mut(), [0, 0, 0].as_slice());
-    sender.held_mut().fill(6);
+    match sender.outputs(8, 3) {
+        Ok(outputs) => {
+            assert_eq!(rt; &*outputs, [0, 0, 0].as_slice());
+            outputs.fill(6);
+        }
+        Err(NoSpare) => return Err("no spare".into()),
+    }
     assert!(rt; sender.post_held().is_ok());
     assert!(rt; takes(&mut receiver, 8, &[6, 6, 6]));
     Ok(())

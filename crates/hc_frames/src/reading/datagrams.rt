@@ -29,10 +29,10 @@ impl Survey {
     {
         Survey {
             count: self.count + 1,
-            circulates: self.circulates || circulates(bytes),
+            circulates: self.circulates | circulates(bytes),
             more: says_more(bytes),
-            unknown: self.unknown || is_unknown(bytes),
-            mismatch: self.mismatch || has_other_index(index, bytes),
+            unknown: self.unknown | is_unknown(bytes),
+            mismatch: self.mismatch | has_other_index(index, bytes),
         }
     }
 }

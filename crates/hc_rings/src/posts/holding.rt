@@ -1,9 +1,9 @@
 //! The buffer that a task seat holds for its next post: its bytes are lent for writing, and then it is posted.
-ghost use Rattle.std.specs.Prelude.{◌≡◌, ◌≤◌, ◌↔◌, [], ◌∷◌, ◌++◌, length, None, Some, IsSome, IfSome, OnOk, OnErr, IsErrOf};
+ghost use Rattle.std.specs.Prelude.{◌≡◌, ◌≤◌, ◌↔◌, [], ◌∷◌, ◌++◌, length, None, Some, IsSome, IfSome, OnOk, OnErr, IsErrOf, IfOk, replicate, true, false};
 ghost use Rattle.std.specs.Borrow.{sem};
 ghost use Rattle.hc_rings.specs.Post.{blank_post};
-ghost use Rattle.hc_rings.specs.Ring.{posted, handed_out, held, PostsEach, Holds, SameSender};
-ghost use Rattle.hc_rings.specs.Lending.{LendsBuffer, LendsBytes, LendsHeld};
+ghost use Rattle.hc_rings.specs.Ring.{posted, handed_out, held, PostsEach, Holds, HoldsPost, HoldsNothing, SameSender};
+ghost use Rattle.hc_rings.specs.Lending.{LendsBuffer, LendsBytes, LendsHeld, LendsOutputs};
 
 use super::{NoSpare, POSTS_WAITING, PostSender, SPARE_BUFFERS};
 use crate::post_buffer::{LARGEST_IMAGE, PostBuffer};
@@ -46,6 +46,32 @@ impl PostSender {
         ensures bytes { IfSome (held self.old) (λ post. result.now ≡ post.bytes) }
     {
         lend(&mut self.held)
+    }
+
+    /// Lends the `size` bytes (at most 23,776), all 0, of the buffer that is then held for the next post, for this epoch: the
+    /// buffer that is held already, or else a spare. `NoSpare` comes only where none is held and four buffers were handed out
+    /// before; as long as `buffer` is unused these are four posts. It is `hold` and `held_mut` in one call.
+    pub fn outputs(&mut self, epoch: u32, size: usize) -> Result<&mut [u8], NoSpare>
+        requires { size ≤ LARGEST_IMAGE }
+        ensures* lent { sem 𝓛 (LendsOutputs self.entry epoch size result) }
+        ensures zeros { IfOk result (λ bytes. bytes.now ≡ replicate size 0) }
+        ensures no_spare { OnErr result ((held self.old ≡ None) × (SPARE_BUFFERS ≤ handed_out self.old)) }
+        ensures posts_each { PostsEach self.old → OnErr result (SPARE_BUFFERS ≤ length (posted self.old)) }
+    {
+        if self.holds_zeros(epoch, size) {
+            return Ok(self.held_mut());
+        }
+        Err(NoSpare)
+    }
+
+    /// Has such a buffer held, and answers whether one is.
+    fn holds_zeros(&mut self, epoch: u32, size: usize) -> bool
+        requires { size ≤ LARGEST_IMAGE }
+        ensures held { result ≡ true → HoldsPost self.old self.new (blank_post epoch size) × IsSome (held self.new) }
+        ensures no_spare { result ≡ false → HoldsNothing self.old self.new × (SPARE_BUFFERS ≤ handed_out self.old) }
+        ensures posts_each { PostsEach self.old → result ≡ false → SPARE_BUFFERS ≤ length (posted self.old) }
+    {
+        self.hold(epoch, size).is_ok()
     }
 
     /// Posts the buffer that is held, with its epoch and with its bytes as they were left. `NoBuffer` where none is held. `Full`
