@@ -1,13 +1,13 @@
 //! Runs worked out by hand, and the quick bodies against the plain ones over many runs.
 
-ghost use Rattle.std.specs.Prelude.{◌+◌, ◌*◌, ◌≤◌, ◌↔◌, length, IsTrue};
+ghost use Rattle.std.specs.Prelude.{◌+◌, ◌*◌, ◌≤◌, length, IsTrue};
 
 use super::*;
 
 /// Does the run lie in the slice, which has at most 32 bytes?
 fn is_run(bytes: &[u8], at: usize, n: usize) -> bool
     requires { length bytes.now ≤ 32 }
-    ensures { IsTrue result ↔ (at + n ≤ 8 * length bytes.now) }
+    ensures { IsTrue result → at + n ≤ 8 * length bytes.now }
 {
     n <= 8 * bytes.len() && at <= 8 * bytes.len() - n
 }
@@ -20,171 +20,221 @@ const DIGITS: [u8; 12] = [
     0x10, 0x32, 0x54, 0x76, 0x98, 0xba, 0xdc, 0xfe, 0x10, 0x32, 0x54, 0x76,
 ];
 
+/// A bit of `READ`, how many bits stand from there, and their value.
+type Read = (usize, usize, u64);
+
+const READS: [Read; 24] = [
+    (0, 0, 0),
+    (0, 1, 1),
+    (1, 1, 0),
+    (7, 1, 1),
+    (7, 2, 1),
+    (6, 3, 2),
+    (7, 4, 9),
+    (0, 8, 0xa5),
+    (4, 8, 0xca),
+    (0, 16, 0x3ca5),
+    (8, 16, 0xf03c),
+    (4, 16, 0x03ca),
+    (20, 8, 0xff),
+    (19, 10, 0x1fe),
+    (62, 4, 8),
+    (63, 2, 0),
+    (1, 63, 0x1a09_3f40_87f8_1e52),
+    (0, 64, 0x3412_7e81_0ff0_3ca5),
+    (4, 64, 0x6341_27e8_10ff_03ca),
+    (15, 64, 0xf0ac_6824_fd02_1fe0),
+    (16, 64, 0x7856_3412_7e81_0ff0),
+    (72, 8, 0x78),
+    (78, 2, 1),
+    (80, 0, 0),
+];
+
+/// Do both bodies read this value?
+fn is_read(row: &Read) -> bool {
+    let (at, n, value) = *row;
+    n <= 64
+        && is_run(&READ, at, n)
+        && get_bits(&READ, at, n) == value
+        && plain::get_bits(&READ, at, n) == value
+}
+
+/// The bit and the count of the first row that isn't read.
+fn misread(rows: &[Read]) -> Option<(usize, usize)> {
+    for row in rows {
+        if !is_read(row) {
+            return Some((row.0, row.1));
+        }
+    }
+    None
+}
+
 #[test]
 fn reads_over_byte_and_word_edges(rt: HostRuntime) {
-    let rows: [(usize, usize, u64); 24] = [
-        (0, 0, 0),
-        (0, 1, 1),
-        (1, 1, 0),
-        (7, 1, 1),
-        (7, 2, 1),
-        (6, 3, 2),
-        (7, 4, 9),
-        (0, 8, 0xa5),
-        (4, 8, 0xca),
-        (0, 16, 0x3ca5),
-        (8, 16, 0xf03c),
-        (4, 16, 0x03ca),
-        (20, 8, 0xff),
-        (19, 10, 0x1fe),
-        (62, 4, 8),
-        (63, 2, 0),
-        (1, 63, 0x1a09_3f40_87f8_1e52),
-        (0, 64, 0x3412_7e81_0ff0_3ca5),
-        (4, 64, 0x6341_27e8_10ff_03ca),
-        (15, 64, 0xf0ac_6824_fd02_1fe0),
-        (16, 64, 0x7856_3412_7e81_0ff0),
-        (72, 8, 0x78),
-        (78, 2, 1),
-        (80, 0, 0),
-    ];
-    for (at, n, expected) in rows {
-        assert!(rt; n <= 64 && is_run(&READ, at, n));
-        assert_eq!(rt; get_bits(&READ, at, n), expected, "{n} bits at {at}");
-        assert_eq!(rt;
-            plain::get_bits(&READ, at, n),
-            expected,
-            "{n} bits at {at}, plainly"
-        );
+    assert_eq!(rt; misread(&READS), None);
+}
+
+/// What every byte is before, where, how many bits, which value, and what the bytes are after.
+type Put = (u8, usize, usize, u64, [u8; 10]);
+
+const PUTS: [Put; 10] = [
+    (0, 0, 1, 1, [0x01, 0, 0, 0, 0, 0, 0, 0, 0, 0]),
+    (
+        0xff,
+        0,
+        1,
+        0,
+        [0xfe, 0xff, 0xff, 0xff, 0xff, 0xff, 0xff, 0xff, 0xff, 0xff],
+    ),
+    (
+        0xff,
+        3,
+        5,
+        1,
+        [0x0f, 0xff, 0xff, 0xff, 0xff, 0xff, 0xff, 0xff, 0xff, 0xff],
+    ),
+    (0, 7, 2, 3, [0x80, 0x01, 0, 0, 0, 0, 0, 0, 0, 0]),
+    (
+        0xff,
+        7,
+        2,
+        0,
+        [0x7f, 0xfe, 0xff, 0xff, 0xff, 0xff, 0xff, 0xff, 0xff, 0xff],
+    ),
+    (0, 4, 8, 0xff, [0xf0, 0x0f, 0, 0, 0, 0, 0, 0, 0, 0]),
+    (
+        0xaa,
+        8,
+        16,
+        0x1234,
+        [0xaa, 0x34, 0x12, 0xaa, 0xaa, 0xaa, 0xaa, 0xaa, 0xaa, 0xaa],
+    ),
+    (0, 79, 1, 1, [0, 0, 0, 0, 0, 0, 0, 0, 0, 0x80]),
+    (
+        0x55,
+        80,
+        0,
+        0,
+        [0x55, 0x55, 0x55, 0x55, 0x55, 0x55, 0x55, 0x55, 0x55, 0x55],
+    ),
+    (
+        0xff,
+        4,
+        64,
+        0x0123_4567_89ab_cdef,
+        [0xff, 0xde, 0xbc, 0x9a, 0x78, 0x56, 0x34, 0x12, 0xf0, 0xff],
+    ),
+];
+
+/// Do both bodies put this value?
+fn is_put(row: &Put) -> bool {
+    let (before, at, n, value, after) = *row;
+    let mut quick = [before; 10];
+    let mut slow = [before; 10];
+    if n > 64 || !is_run(&quick, at, n) || (n < 64 && value >> n != 0) {
+        return false;
     }
+    put_bits(&mut quick, at, n, value);
+    plain::put_bits(&mut slow, at, n, value);
+    quick == after && slow == after
+}
+
+/// The bit and the count of the first row that isn't put.
+fn misput(rows: &[Put]) -> Option<(usize, usize)> {
+    for row in rows {
+        if !is_put(row) {
+            return Some((row.1, row.2));
+        }
+    }
+    None
 }
 
 #[test]
 fn puts_over_byte_and_word_edges(rt: HostRuntime) {
-    // what every byte is before, where, how many, which value, what the bytes are after
-    let rows: [(u8, usize, usize, u64, [u8; 10]); 10] = [
-        (0, 0, 1, 1, [0x01, 0, 0, 0, 0, 0, 0, 0, 0, 0]),
-        (
-            0xff,
-            0,
-            1,
-            0,
-            [0xfe, 0xff, 0xff, 0xff, 0xff, 0xff, 0xff, 0xff, 0xff, 0xff],
-        ),
-        (
-            0xff,
-            3,
-            5,
-            1,
-            [0x0f, 0xff, 0xff, 0xff, 0xff, 0xff, 0xff, 0xff, 0xff, 0xff],
-        ),
-        (0, 7, 2, 3, [0x80, 0x01, 0, 0, 0, 0, 0, 0, 0, 0]),
-        (
-            0xff,
-            7,
-            2,
-            0,
-            [0x7f, 0xfe, 0xff, 0xff, 0xff, 0xff, 0xff, 0xff, 0xff, 0xff],
-        ),
-        (0, 4, 8, 0xff, [0xf0, 0x0f, 0, 0, 0, 0, 0, 0, 0, 0]),
-        (
-            0xaa,
-            8,
-            16,
-            0x1234,
-            [0xaa, 0x34, 0x12, 0xaa, 0xaa, 0xaa, 0xaa, 0xaa, 0xaa, 0xaa],
-        ),
-        (0, 79, 1, 1, [0, 0, 0, 0, 0, 0, 0, 0, 0, 0x80]),
-        (
-            0x55,
-            80,
-            0,
-            0,
-            [0x55, 0x55, 0x55, 0x55, 0x55, 0x55, 0x55, 0x55, 0x55, 0x55],
-        ),
-        (
-            0xff,
-            4,
-            64,
-            0x0123_4567_89ab_cdef,
-            [0xff, 0xde, 0xbc, 0x9a, 0x78, 0x56, 0x34, 0x12, 0xf0, 0xff],
-        ),
-    ];
-    for (before, at, n, value, expected) in rows {
-        let mut quick = [before; 10];
-        let mut slow = [before; 10];
-        assert!(rt;
-            n <= 64 && is_run(&quick, at, n) && is_run(&slow, at, n) && (n == 64 || value >> n == 0)
-        );
-        put_bits(&mut quick, at, n, value);
-        plain::put_bits(&mut slow, at, n, value);
-        assert_eq!(rt; quick, expected, "{n} bits at {at}");
-        assert_eq!(rt; slow, expected, "{n} bits at {at}, plainly");
+    assert_eq!(rt; misput(&PUTS), None);
+}
+
+/// From where in `DIGITS`, what every byte is before, to where, how many bits, and what the bytes are
+/// after.
+type Copied = (usize, u8, usize, usize, [u8; 12]);
+
+const COPIES: [Copied; 8] = [
+    (0, 0xff, 96, 0, [0xff; 12]),
+    (0, 0, 0, 96, DIGITS),
+    (
+        4,
+        0xff,
+        0,
+        88,
+        [
+            0x21, 0x43, 0x65, 0x87, 0xa9, 0xcb, 0xed, 0x0f, 0x21, 0x43, 0x65, 0xff,
+        ],
+    ),
+    (
+        0,
+        0xff,
+        4,
+        84,
+        [
+            0x0f, 0x21, 0x43, 0x65, 0x87, 0xa9, 0xcb, 0xed, 0x0f, 0x21, 0x43, 0xff,
+        ],
+    ),
+    (
+        4,
+        0,
+        12,
+        72,
+        [
+            0, 0x10, 0x32, 0x54, 0x76, 0x98, 0xba, 0xdc, 0xfe, 0x10, 0x02, 0,
+        ],
+    ),
+    (
+        8,
+        0,
+        4,
+        68,
+        [
+            0x20, 0x43, 0x65, 0x87, 0xa9, 0xcb, 0xed, 0x0f, 0x21, 0, 0, 0,
+        ],
+    ),
+    (
+        24,
+        0xff,
+        90,
+        5,
+        [
+            0xff, 0xff, 0xff, 0xff, 0xff, 0xff, 0xff, 0xff, 0xff, 0xff, 0xff, 0xdb,
+        ],
+    ),
+    (92, 0, 3, 4, [0x38, 0, 0, 0, 0, 0, 0, 0, 0, 0, 0, 0]),
+];
+
+/// Do both bodies copy these bits?
+fn is_copied(row: &Copied) -> bool {
+    let (at, before, at2, n, after) = *row;
+    let mut quick = [before; 12];
+    let mut slow = [before; 12];
+    if !is_run(&DIGITS, at, n) || !is_run(&quick, at2, n) {
+        return false;
     }
+    copy_bits(&DIGITS, at, &mut quick, at2, n);
+    plain::copy_bits(&DIGITS, at, &mut slow, at2, n);
+    quick == after && slow == after
+}
+
+/// The bits, from and to, and the count of the first row that isn't copied.
+fn miscopied(rows: &[Copied]) -> Option<(usize, usize, usize)> {
+    for row in rows {
+        if !is_copied(row) {
+            return Some((row.0, row.2, row.3));
+        }
+    }
+    None
 }
 
 #[test]
 fn copies_over_byte_and_word_edges(rt: HostRuntime) {
-    // from where in `DIGITS`, what every byte is before, to where, how many, what the bytes are after
-    let rows: [(usize, u8, usize, usize, [u8; 12]); 8] = [
-        (0, 0xff, 96, 0, [0xff; 12]),
-        (0, 0, 0, 96, DIGITS),
-        (
-            4,
-            0xff,
-            0,
-            88,
-            [
-                0x21, 0x43, 0x65, 0x87, 0xa9, 0xcb, 0xed, 0x0f, 0x21, 0x43, 0x65, 0xff,
-            ],
-        ),
-        (
-            0,
-            0xff,
-            4,
-            84,
-            [
-                0x0f, 0x21, 0x43, 0x65, 0x87, 0xa9, 0xcb, 0xed, 0x0f, 0x21, 0x43, 0xff,
-            ],
-        ),
-        (
-            4,
-            0,
-            12,
-            72,
-            [
-                0, 0x10, 0x32, 0x54, 0x76, 0x98, 0xba, 0xdc, 0xfe, 0x10, 0x02, 0,
-            ],
-        ),
-        (
-            8,
-            0,
-            4,
-            68,
-            [
-                0x20, 0x43, 0x65, 0x87, 0xa9, 0xcb, 0xed, 0x0f, 0x21, 0, 0, 0,
-            ],
-        ),
-        (
-            24,
-            0xff,
-            90,
-            5,
-            [
-                0xff, 0xff, 0xff, 0xff, 0xff, 0xff, 0xff, 0xff, 0xff, 0xff, 0xff, 0xdb,
-            ],
-        ),
-        (92, 0, 3, 4, [0x38, 0, 0, 0, 0, 0, 0, 0, 0, 0, 0, 0]),
-    ];
-    for (at, before, at2, n, expected) in rows {
-        let mut quick = [before; 12];
-        let mut slow = [before; 12];
-        assert!(rt; is_run(&DIGITS, at, n) && is_run(&quick, at2, n) && is_run(&slow, at2, n));
-        copy_bits(&DIGITS, at, &mut quick, at2, n);
-        plain::copy_bits(&DIGITS, at, &mut slow, at2, n);
-        assert_eq!(rt; quick, expected, "{n} bits at {at} to {at2}");
-        assert_eq!(rt; slow, expected, "{n} bits at {at} to {at2}, plainly");
-    }
+    assert_eq!(rt; miscopied(&COPIES), None);
 }
 
 /// Bytes drawn from a fixed seed.
@@ -200,20 +250,40 @@ fn drawn(seed: u64) -> [u8; 32] {
     bytes
 }
 
+/// Do both bodies read the same run of the bytes, and put its value alike over others?
+fn is_alike(bytes: &[u8; 32], at: usize, n: usize) -> bool
+    requires begins { at ≤ 96 }
+    requires count { n ≤ 64 }
+{
+    let value = get_bits(bytes, at, n);
+    let mut quick = drawn(2);
+    let mut slow = drawn(2);
+    put_bits(&mut quick, at, n, value);
+    plain::put_bits(&mut slow, at, n, value);
+    value == plain::get_bits(bytes, at, n) && quick == slow
+}
+
 #[test]
 fn quick_reads_and_puts_are_the_plain_ones(rt: HostRuntime) {
     let bytes = drawn(1);
     for at in 0..96usize {
         for n in 0..65usize {
-            let value = get_bits(&bytes, at, n);
-            assert_eq!(rt; value, plain::get_bits(&bytes, at, n), "{n} bits at {at}");
-            let mut quick = drawn(2);
-            let mut slow = drawn(2);
-            put_bits(&mut quick, at, n, value);
-            plain::put_bits(&mut slow, at, n, value);
-            assert_eq!(rt; quick, slow, "{n} bits at {at}");
+            assert!(rt; is_alike(&bytes, at, n), "{n} bits at {at}");
         }
     }
+}
+
+/// Do both bodies copy this run of the bytes alike over others?
+fn is_copied_alike(from: &[u8; 32], at: usize, at2: usize, n: usize) -> bool
+    requires begins { at ≤ 16 }
+    requires arrives { at2 ≤ 16 }
+    requires count { n ≤ 216 }
+{
+    let mut quick = drawn(4);
+    let mut slow = drawn(4);
+    copy_bits(from, at, &mut quick, at2, n);
+    plain::copy_bits(from, at, &mut slow, at2, n);
+    quick == slow
 }
 
 #[test]
@@ -222,11 +292,10 @@ fn quick_copies_are_the_plain_ones(rt: HostRuntime) {
     for at in 0..17usize {
         for at2 in 0..17usize {
             for n in 0..216usize {
-                let mut quick = drawn(4);
-                let mut slow = drawn(4);
-                copy_bits(&from, at, &mut quick, at2, n);
-                plain::copy_bits(&from, at, &mut slow, at2, n);
-                assert_eq!(rt; quick, slow, "{n} bits at {at} to {at2}");
+                assert!(rt;
+                    is_copied_alike(&from, at, at2, n),
+                    "{n} bits at {at} to {at2}"
+                );
             }
         }
     }

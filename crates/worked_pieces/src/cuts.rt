@@ -1,12 +1,12 @@
 //! Lists whose datagrams are known.
-ghost use Rattle.std.specs.Prelude.{◌≡◌, All, IfOk, IfSome, IsTrue};
+ghost use Rattle.std.specs.Prelude.{◌≡◌, ◌<◌, All, IfOk, IfSome, IsTrue, length};
 ghost use Rattle.std.specs.List.{list_all};
 ghost use Rattle.hc_records.specs.Keys.{is_before};
 ghost use Rattle.hc_records.specs.Boundaries.{unsettled_spans};
 ghost use Rattle.hc_records.specs.Laws.{Ascends, IsPackable};
 
 use hc_cuts::fold::{TooManyDatagrams, fold_cuts};
-use hc_cuts::packing::{Front, pack};
+use hc_cuts::packing::{Front, Placed, pack};
 use hc_cuts::settled::{is_touched_task, unsettled_spans, width_in};
 use hc_records::keys::Key;
 use hc_records::records::Dir;
@@ -17,24 +17,23 @@ fn key(dir: Dir, rank: u16) -> Key {
     Key { dir, rank, area: 0 }
 }
 
+/// Whether the datagrams of a list begin at these keys.
+fn begin_at(list: &[(Key, u16)], keys: &[Key]) -> bool
+    requires { All IsPackable list.now }
+{
+    match fold_cuts(list) {
+        Ok(starts) => starts.as_slice() == keys,
+        Err(_) => false,
+    }
+}
+
 #[test]
-fn datagrams_begin_where_areas_no_longer_fit(rt: HostRuntime) -> Result<(), Fail> {
+fn datagrams_begin_where_areas_no_longer_fit(rt: HostRuntime) {
     let [a, b, c] = [key(Dir::Out, 1), key(Dir::Out, 2), key(Dir::Out, 3)];
-    let keys = fold_cuts(&[(a, 8 * 1485), (b, 8), (c, 1)])
-        .ok()
-        .ok_or("two datagrams")?;
-    assert_eq!(rt; keys.as_slice(), [a, c].as_slice());
-    let keys = fold_cuts(&[(a, 8 * 1485), (b, 7), (c, 1)])
-        .ok()
-        .ok_or("one datagram")?;
-    assert_eq!(rt; keys.as_slice(), [a].as_slice());
-    let keys = fold_cuts(&[(a, 8000), (b, 5600), (c, 5600)])
-        .ok()
-        .ok_or("two datagrams")?;
-    assert_eq!(rt; keys.as_slice(), [a, b].as_slice());
-    let keys = fold_cuts(&[]).ok().ok_or("no datagram")?;
-    assert!(rt; keys.is_empty());
-    Ok(())
+    assert!(rt; begin_at(&[(a, 8 * 1485), (b, 8), (c, 1)], &[a, c]));
+    assert!(rt; begin_at(&[(a, 8 * 1485), (b, 7), (c, 1)], &[a]));
+    assert!(rt; begin_at(&[(a, 8000), (b, 5600), (c, 5600)], &[a, b]));
+    assert!(rt; begin_at(&[], &[]));
 }
 
 #[test]
@@ -45,18 +44,34 @@ fn the_first_input_begins_a_byte(rt: HostRuntime) {
     assert_eq!(rt; front.place(key(Dir::Out, 2), 8).bit(), 8);
 }
 
+/// The key of an area, its bits, its datagram and its first bit there.
+type Row = (Key, u16, u16, u16);
+
+/// Whether a list is packed as these rows.
+fn is_packed(alloc: Global, list: &[(Key, u16)], rows: &[Row]) -> Result<bool, AllocError>
+    requires packable { All IsPackable list.now }
+    requires few { length list.now < 65535 }
+{
+    let places = pack(alloc, list)?;
+    Ok(are_rows(places.as_slice(), rows))
+}
+
+fn are_rows(places: &[Placed], rows: &[Row]) -> bool {
+    for (placed, row) in places.iter().zip(rows) {
+        if (placed.key(), placed.bits(), placed.datagram(), placed.bit()) != *row {
+            return false;
+        }
+    }
+    places.len() == rows.len()
+}
+
 #[test]
 fn areas_are_packed_in_their_order(rt: HostRuntime) -> Result<(), Fail> {
     let [a, b, c] = [key(Dir::Out, 1), key(Dir::Out, 2), key(Dir::In, 1)];
-    let places = pack(rt.alloc(), &[(a, 3), (b, 8 * 1485), (c, 1)])?;
-    assert_eq!(rt; places.len(), 3);
-    assert_eq!(rt; (places[0].key(), places[0].bits()), (a, 3));
-    assert_eq!(rt; (places[0].datagram(), places[0].bit()), (0, 0));
-    assert_eq!(rt; (places[1].key(), places[1].bits()), (b, 8 * 1485));
-    assert_eq!(rt; (places[1].datagram(), places[1].bit()), (0, 8));
-    assert_eq!(rt; (places[2].key(), places[2].bits()), (c, 1));
-    assert_eq!(rt; (places[2].datagram(), places[2].bit()), (1, 0));
-    assert!(rt; pack(rt.alloc(), &[])?.is_empty());
+    let list = [(a, 3), (b, 8 * 1485), (c, 1)];
+    let rows = [(a, 3, 0, 0), (b, 8 * 1485, 0, 8), (c, 1, 1, 0)];
+    assert!(rt; is_packed(rt.alloc(), &list, &rows)?);
+    assert!(rt; is_packed(rt.alloc(), &[], &[])?);
     Ok(())
 }
 
@@ -160,10 +175,9 @@ fn a_narrower_area_moves_a_boundary(rt: HostRuntime) {
     let new = [(a, 8000), (b, 2400), (c, 5600)];
     assert!(rt; ascends(&old) && ascends(&new));
     assert_eq!(rt; unsettled(&old, &new), Some(2));
-    assert!(rt; is_touched_task(&old, &new));
-    assert!(rt; !is_touched_task(&new, &new));
-    assert_eq!(rt; width_in(&new, b), 2400);
-    assert_eq!(rt; width_in(&[], b), 0);
+    let touched = [is_touched_task(&old, &new), is_touched_task(&new, &new)];
+    assert_eq!(rt; touched, [true, false]);
+    assert_eq!(rt; [width_in(&new, b), width_in(&[], b)], [2400, 0]);
 }
 
 #[test]

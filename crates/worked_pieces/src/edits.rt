@@ -49,17 +49,22 @@ fn group(alloc: Global, alias: u16, slave: Slave) -> Result<Group, AllocError> {
     Ok(Group { alias, slaves })
 }
 
-/// A drive, whose last three PDOs have 4,096, 4,096 and 3,696 bits, and a tool.
+/// The PDOs of a drive, of which the last three have 4,096, 4,096 and 3,696 bits.
+const DRIVE: [(u16, usize, u8); 4] = [
+    (0x1600, 0, 8),
+    (0x1601, 63, 64),
+    (0x1602, 63, 64),
+    (0x1603, 57, 48),
+];
+
+/// The PDO of a tool.
+const TOOL: [(u16, usize, u8); 1] = [(0x1a00, 0, 8)];
+
+/// A drive and a tool.
 fn project(alloc: Global) -> Result<Project, Fail> {
-    let offered = [
-        (0x1600, 0, 8),
-        (0x1601, 63, 64),
-        (0x1602, 63, 64),
-        (0x1603, 57, 48),
-    ];
     let mut groups = Items::new(alloc);
-    groups.push(group(alloc, 0, slave(alloc, 1001, 0, &offered)?)?)?;
-    groups.push(group(alloc, 100, slave(alloc, 2001, 3, &[(0x1a00, 0, 8)])?)?)?;
+    groups.push(group(alloc, 0, slave(alloc, 1001, 0, &DRIVE)?)?)?;
+    groups.push(group(alloc, 100, slave(alloc, 2001, 3, &TOOL)?)?)?;
     let project = Project::checked(alloc, groups).ok().ok_or("a project")?;
     Ok(project)
 }
@@ -100,56 +105,75 @@ fn move_to(station: u16, area: u8, task: u8) -> Edit {
     }
 }
 
+/// The groups of the drive and the tool, of which the drive is present.
+fn drive_and_tool(alloc: Global) -> Result<Items<Declared>, Fail>
+    ensures { IfOk result (λ declared. lowest_fault (groups_of declared) ≡ None) }
+{
+    let project = project(alloc)?;
+    let declared = opened(alloc, &project)?;
+    Ok(declared)
+}
+
+/// The alias of a group, and the fault that an edit of it gets, if any.
+type OfGroup = (u16, Option<EditFault>);
+
+const CONNECTED: [OfGroup; 3] = [
+    (7, Some(EditFault::UnknownAlias)),
+    (0, Some(EditFault::AlreadyPresent)),
+    (100, None),
+];
+
+const DISCONNECTED: [OfGroup; 3] = [
+    (7, Some(EditFault::UnknownAlias)),
+    (100, Some(EditFault::NotPresent)),
+    (0, Some(EditFault::Mandatory)),
+];
+
 #[test]
 fn groups_are_refused(rt: HostRuntime) -> Result<(), Fail> {
-    let project = project(rt.alloc())?;
-    let groups = opened(rt.alloc(), &project)?;
-    let connected = [
-        (7, Some(EditFault::UnknownAlias)),
-        (0, Some(EditFault::AlreadyPresent)),
-        (100, None),
-    ];
-    for (alias, fault) in connected {
-        assert_eq!(rt; fault_of(groups.as_slice(), Edit::Connect(alias)), fault);
+    let groups = drive_and_tool(rt.alloc())?;
+    for (alias, fault) in &CONNECTED {
+        assert_eq!(rt; fault_of(groups.as_slice(), Edit::Connect(*alias)), *fault);
     }
-    let disconnected = [
-        (7, Some(EditFault::UnknownAlias)),
-        (100, Some(EditFault::NotPresent)),
-        (0, Some(EditFault::Mandatory)),
-    ];
-    for (alias, fault) in disconnected {
-        assert_eq!(rt; fault_of(groups.as_slice(), Edit::Disconnect(alias)), fault);
+    for (alias, fault) in &DISCONNECTED {
+        assert_eq!(rt;
+            fault_of(groups.as_slice(), Edit::Disconnect(*alias)),
+            *fault
+        );
     }
     Ok(())
 }
 
+/// A station address, the number of an area and of a task, and the fault of that move, if any.
+const MOVES: [(u16, u8, u8, Option<EditFault>); 5] = [
+    (9, 0, 8, Some(EditFault::UnknownStation)),
+    (2001, 0, 8, Some(EditFault::Absent)),
+    (1001, 1, 8, Some(EditFault::NoSuchArea)),
+    (1001, 0, 8, Some(EditFault::NoSuchTask)),
+    (1001, 0, 7, None),
+];
+
+/// PDOs, and the fault of assigning them to the drive's area, if any.
+const ASSIGNED: [(&[u16], Option<EditFault>); 4] = [
+    (&[0x1a00, 0x1a00], Some(EditFault::UnknownPdo)),
+    (&[0x1600, 0x1600], Some(EditFault::RepeatedPdo)),
+    (
+        &[0x1600, 0x1601, 0x1602, 0x1603],
+        Some(EditFault::AreaTooBig),
+    ),
+    (&[0x1603, 0x1601, 0x1602], None),
+];
+
 #[test]
 fn areas_are_refused(rt: HostRuntime) -> Result<(), Fail> {
-    let project = project(rt.alloc())?;
-    let groups = opened(rt.alloc(), &project)?;
-    let moves = [
-        (9, 0, 8, Some(EditFault::UnknownStation)),
-        (2001, 0, 8, Some(EditFault::Absent)),
-        (1001, 1, 8, Some(EditFault::NoSuchArea)),
-        (1001, 0, 8, Some(EditFault::NoSuchTask)),
-        (1001, 0, 7, None),
-    ];
-    for (station, area, task, fault) in moves {
-        let edit = move_to(station, area, task);
-        assert_eq!(rt; fault_of(groups.as_slice(), edit), fault);
+    let groups = drive_and_tool(rt.alloc())?;
+    for (station, area, task, fault) in &MOVES {
+        let edit = move_to(*station, *area, *task);
+        assert_eq!(rt; fault_of(groups.as_slice(), edit), *fault);
     }
-    let assigned: [(&[u16], Option<EditFault>); 4] = [
-        (&[0x1a00, 0x1a00], Some(EditFault::UnknownPdo)),
-        (&[0x1600, 0x1600], Some(EditFault::RepeatedPdo)),
-        (
-            &[0x1600, 0x1601, 0x1602, 0x1603],
-            Some(EditFault::AreaTooBig),
-        ),
-        (&[0x1603, 0x1601, 0x1602], None),
-    ];
-    for (pdos, fault) in assigned {
-        let edit = remap(rt.alloc(), 1001, 0, pdos)?;
-        assert_eq!(rt; fault_of(groups.as_slice(), edit), fault);
+    for (pdos, fault) in &ASSIGNED {
+        let edit = remap(rt.alloc(), 1001, 0, *pdos)?;
+        assert_eq!(rt; fault_of(groups.as_slice(), edit), *fault);
     }
     Ok(())
 }
@@ -180,20 +204,43 @@ fn tool(groups: &[Declared]) -> Option<(bool, usize, u8)> {
     Some((tool.present, area.assigned.len(), area.task))
 }
 
+/// Whether the tool is as it is to be once it goes.
+fn goes(alloc: Global, groups: &[Declared]) -> Result<bool, Fail>
+    requires { lowest_fault (groups_of groups.now) ≡ None }
+{
+    let undocked = edited(alloc, groups, Edit::Disconnect(100))?;
+    Ok(tool(undocked.as_slice()) == Some((false, 0, 7)))
+}
+
+/// Whether the tool is as it is to be once its area moves to task 7, and then goes.
+fn moves(alloc: Global, groups: &[Declared]) -> Result<bool, Fail>
+    requires { lowest_fault (groups_of groups.now) ≡ None }
+{
+    let moved = edited(alloc, groups, move_to(2001, 0, 7))?;
+    Ok(tool(moved.as_slice()) == Some((true, 0, 7)) && goes(alloc, moved.as_slice())?)
+}
+
+/// Whether the tool is as it is to be once its area has no PDO assigned, moves and goes.
+fn falls_silent(alloc: Global, groups: &[Declared]) -> Result<bool, Fail>
+    requires { lowest_fault (groups_of groups.now) ≡ None }
+{
+    let silent = edited(alloc, groups, remap(alloc, 2001, 0, &[])?)?;
+    Ok(tool(silent.as_slice()) == Some((true, 0, 3)) && moves(alloc, silent.as_slice())?)
+}
+
+/// Whether the tool is as it is to be once it comes, falls silent, moves and goes.
+fn comes(alloc: Global, groups: &[Declared]) -> Result<bool, Fail>
+    requires { lowest_fault (groups_of groups.now) ≡ None }
+{
+    let docked = edited(alloc, groups, Edit::Connect(100))?;
+    Ok(tool(docked.as_slice()) == Some((true, 1, 3)) && falls_silent(alloc, docked.as_slice())?)
+}
+
 #[test]
 fn a_tool_is_edited(rt: HostRuntime) -> Result<(), Fail> {
-    let alloc = rt.alloc();
-    let project = project(alloc)?;
-    let groups = opened(alloc, &project)?;
+    let groups = drive_and_tool(rt.alloc())?;
     assert_eq!(rt; tool(groups.as_slice()), Some((false, 1, 3)));
-    let docked = edited(alloc, groups.as_slice(), Edit::Connect(100))?;
-    assert_eq!(rt; tool(docked.as_slice()), Some((true, 1, 3)));
-    let silent = edited(alloc, docked.as_slice(), remap(alloc, 2001, 0, &[])?)?;
-    assert_eq!(rt; tool(silent.as_slice()), Some((true, 0, 3)));
-    let moved = edited(alloc, silent.as_slice(), move_to(2001, 0, 7))?;
-    assert_eq!(rt; tool(moved.as_slice()), Some((true, 0, 7)));
-    let undocked = edited(alloc, moved.as_slice(), Edit::Disconnect(100))?;
-    assert_eq!(rt; tool(undocked.as_slice()), Some((false, 0, 7)));
+    assert!(rt; comes(rt.alloc(), groups.as_slice())?);
     assert_eq!(rt; tool(groups.as_slice()), Some((false, 1, 3)));
     Ok(())
 }

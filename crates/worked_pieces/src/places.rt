@@ -6,6 +6,7 @@ ghost use Rattle.hc_records.specs.declared.limits.TheConstants.{MOST_AREA_BITS, 
 ghost use Rattle.hc_places.specs.Table.{variables_in};
 
 use hc_places::configure::{Configured, configure};
+use hc_places::layout::Layout;
 use hc_places::swap::Swap;
 use hc_places::table::{Datagram, Place, Places};
 use hc_records::edit::Edit;
@@ -29,8 +30,7 @@ fn area(alloc: Global, sm: u8, entries: &[Entry]) -> Result<Area, AllocError> {
         index: 0x1600,
         entries: Items::of(Vec::from_slice(alloc, entries)?),
     })?;
-    let mut assigned = Items::new(alloc);
-    assigned.push(0x1600)?;
+    let assigned = Items::of(Vec::from_slice(alloc, &[0x1600])?);
     Ok(Area {
         sm,
         dir: Dir::Out,
@@ -58,26 +58,33 @@ fn present(alloc: Global, groups: &[Group], absent: u16) -> Result<Vec<Declared>
 /// A mandatory group of two slaves, with two areas and with one, each of a variable of 3 bits. The
 /// second area's variable stands behind a gap of 2 bits.
 fn two_slaves(alloc: Global) -> Result<Items<Group>, AllocError> {
-    let mut areas = Items::new(alloc);
-    areas.push(area(alloc, 0, &[(VarId::new(7), 3)])?)?;
-    areas.push(area(alloc, 1, &[(None, 2), (VarId::new(5), 1)])?)?;
     let mut slaves = Items::new(alloc);
-    slaves.push(Slave {
-        station: 1001,
-        areas,
-    })?;
-    let mut areas = Items::new(alloc);
-    areas.push(area(alloc, 0, &[(VarId::new(6), 3)])?)?;
-    slaves.push(Slave {
-        station: 1002,
-        areas,
-    })?;
+    slaves.push(two_areas(alloc)?)?;
+    slaves.push(one_area(alloc, 1002, 6, 3)?)?;
     let mut groups = Items::new(alloc);
     groups.push(Group { alias: 0, slaves })?;
     Ok(groups)
 }
 
-/// A group of one slave, with an output area of one variable.
+/// The first of these slaves.
+fn two_areas(alloc: Global) -> Result<Slave, AllocError> {
+    let mut areas = Items::new(alloc);
+    areas.push(area(alloc, 0, &[(VarId::new(7), 3)])?)?;
+    areas.push(area(alloc, 1, &[(None, 2), (VarId::new(5), 1)])?)?;
+    Ok(Slave {
+        station: 1001,
+        areas,
+    })
+}
+
+/// A slave with an output area of one variable.
+fn one_area(alloc: Global, station: u16, variable: u32, bits: u8) -> Result<Slave, AllocError> {
+    let mut areas = Items::new(alloc);
+    areas.push(area(alloc, 0, &[(VarId::new(variable), bits)])?)?;
+    Ok(Slave { station, areas })
+}
+
+/// A group of one such slave.
 fn one_slave(
     alloc: Global,
     alias: u16,
@@ -85,10 +92,8 @@ fn one_slave(
     variable: u32,
     bits: u8,
 ) -> Result<Group, AllocError> {
-    let mut areas = Items::new(alloc);
-    areas.push(area(alloc, 0, &[(VarId::new(variable), bits)])?)?;
     let mut slaves = Items::new(alloc);
-    slaves.push(Slave { station, areas })?;
+    slaves.push(one_area(alloc, station, variable, bits)?)?;
     Ok(Group { alias, slaves })
 }
 
@@ -149,82 +154,16 @@ fn output_bits(places: &Places, task: u8, number: u8) -> Option<u32>
     Some(sum)
 }
 
-#[test]
-fn areas_of_three_bits_share_bytes(rt: HostRuntime) -> Result<(), Fail> {
-    let alloc = rt.alloc();
-    let Configured { layout, places } = configured(alloc, two_slaves(alloc)?, NONE)?;
-    for (rank, area, bit) in [(1, 0, 0), (1, 1, 3), (2, 0, 6)] {
-        let key = Key {
-            dir: Dir::Out,
-            rank,
-            area,
-        };
-        let placed = layout.placed(0, key).ok_or("an area")?;
-        assert_eq!(rt;
-            (placed.datagram(), placed.bit(), placed.bits()),
-            (0, bit, 3)
-        );
-    }
-    assert!(rt; layout.placed(1, Key::START).is_none());
-    let datagram = Datagram {
-        address: 0x0100_0000,
-        length: 2,
-        expected: 4,
-        offset: 0,
+/// Whether an output area of 3 bits stands at this bit of the first datagram of task 0.
+fn is_placed(layout: &Layout, rank: u16, area: u8, bit: u16) -> bool {
+    let key = Key {
+        dir: Dir::Out,
+        rank,
+        area,
     };
-    assert_eq!(rt; places.datagram(0, 0), Some(datagram));
-    assert_eq!(rt; places.datagram(0, 1), None);
-    assert_eq!(rt; (places.part(0), places.part(7)), ((2, 0), (0, 0)));
-    Ok(())
-}
-
-#[test]
-fn a_variable_stands_behind_a_gap(rt: HostRuntime) -> Result<(), Fail> {
-    let alloc = rt.alloc();
-    let Configured { places, .. } = configured(alloc, two_slaves(alloc)?, NONE)?;
-    let copy = places.copied(alloc)?;
-    for (number, place) in [(5, output(5, 1)), (6, output(6, 3)), (7, output(0, 3))] {
-        let variable = VarId::new(number).ok_or("a variable")?;
-        assert_eq!(rt; places.place(variable), Some(place));
-        assert_eq!(rt; copy.place(variable), Some(place));
-    }
-    let unknown = VarId::new(8).ok_or("a variable")?;
-    assert_eq!(rt; places.place(unknown), None);
-    assert_eq!(rt; copy.datagram(0, 0), places.datagram(0, 0));
-    Ok(())
-}
-
-#[test]
-fn tables_are_walked(rt: HostRuntime) -> Result<(), Fail> {
-    let alloc = rt.alloc();
-    let Configured { places, .. } = configured(alloc, two_slaves(alloc)?, NONE)?;
-    let mut ends = Vec::new(alloc);
-    for (variable, place) in places.variables() {
-        ends.push((variable.number(), end_of(*place)))?;
-    }
-    assert_eq!(rt; ends.as_slice(), [(5, 6), (6, 9), (7, 3)].as_slice());
-    assert_eq!(rt; places.datagrams(0).len(), 1);
-    assert_eq!(rt; places.datagrams(0).first().copied(), places.datagram(0, 0));
-    assert_eq!(rt;
-        (places.datagrams(1).len(), places.datagrams(8).len()),
-        (0, 0)
-    );
-    assert_eq!(rt; output_bits(&places, 0, 0), Some(7));
-    assert_eq!(rt;
-        (output_bits(&places, 0, 1), output_bits(&places, 1, 0)),
-        (Some(0), Some(0))
-    );
-    Ok(())
-}
-
-/// Whether a variable has this first bit, or has no place.
-fn stands_at(places: &Places, number: u32, bit: Option<u16>) -> bool {
-    let Some(variable) = VarId::new(number) else {
-        return false;
-    };
-    match places.place(variable) {
-        Some(place) => bit == Some(place.bit),
-        None => bit.is_none(),
+    match layout.placed(0, key) {
+        Some(placed) => (placed.datagram(), placed.bit(), placed.bits()) == (0, bit, 3),
+        None => false,
     }
 }
 
@@ -240,6 +179,91 @@ fn has_datagram(places: &Places, length: u16, expected: u16) -> bool {
     places.datagram(0, 0) == Some(datagram)
         && places.datagram(0, 1).is_none()
         && places.part(0) == (length, 0)
+}
+
+#[test]
+fn areas_of_three_bits_share_bytes(rt: HostRuntime) -> Result<(), Fail> {
+    let alloc = rt.alloc();
+    let Configured { layout, places } = configured(alloc, two_slaves(alloc)?, NONE)?;
+    assert!(rt; is_placed(&layout, 1, 0, 0));
+    assert!(rt; is_placed(&layout, 1, 1, 3));
+    assert!(rt; is_placed(&layout, 2, 0, 6));
+    assert!(rt; layout.placed(1, Key::START).is_none());
+    assert!(rt; has_datagram(&places, 2, 4));
+    assert_eq!(rt; places.part(7), (0, 0));
+    Ok(())
+}
+
+/// Whether a variable has this place, or has none.
+fn has_place(places: &Places, number: u32, place: Option<Place>) -> bool {
+    match VarId::new(number) {
+        Some(variable) => places.place(variable) == place,
+        None => false,
+    }
+}
+
+/// Whether the variables of the two slaves have their places.
+fn has_two_slaves(places: &Places) -> bool {
+    has_place(places, 5, Some(output(5, 1)))
+        && has_place(places, 6, Some(output(6, 3)))
+        && has_place(places, 7, Some(output(0, 3)))
+}
+
+#[test]
+fn a_variable_stands_behind_a_gap(rt: HostRuntime) -> Result<(), Fail> {
+    let alloc = rt.alloc();
+    let places = configured(alloc, two_slaves(alloc)?, NONE)?.places;
+    assert!(rt; has_two_slaves(&places));
+    assert!(rt; has_place(&places, 8, None));
+    let copy = places.copied(alloc)?;
+    assert!(rt; has_two_slaves(&copy));
+    assert_eq!(rt; copy.datagram(0, 0), places.datagram(0, 0));
+    Ok(())
+}
+
+/// Each variable with the first bit behind it.
+fn ends(alloc: Global, places: &Places) -> Result<Vec<(u32, u16)>, AllocError> {
+    let mut ends = Vec::new(alloc);
+    for (variable, place) in places.variables() {
+        ends.push((variable.number(), end_of(*place)))?;
+    }
+    Ok(ends)
+}
+
+/// How many datagrams the tasks 0, 1 and 8 have.
+fn counts(places: &Places) -> [usize; 3] {
+    [
+        places.datagrams(0).len(),
+        places.datagrams(1).len(),
+        places.datagrams(8).len(),
+    ]
+}
+
+#[test]
+fn tables_are_walked(rt: HostRuntime) -> Result<(), Fail> {
+    let alloc = rt.alloc();
+    let places = configured(alloc, two_slaves(alloc)?, NONE)?.places;
+    assert!(rt; ends(alloc, &places)?.as_slice() == [(5, 6), (6, 9), (7, 3)].as_slice());
+    assert_eq!(rt; counts(&places), [1, 0, 0]);
+    assert_eq!(rt; places.datagrams(0).first().copied(), places.datagram(0, 0));
+    let bits = [
+        output_bits(&places, 0, 0),
+        output_bits(&places, 0, 1),
+        output_bits(&places, 1, 0),
+    ];
+    assert_eq!(rt; bits, [Some(7), Some(0), Some(0)]);
+    Ok(())
+}
+
+/// Whether a variable has this first bit, or has no place.
+fn stands_at(places: &Places, number: u32, bit: Option<u16>) -> bool {
+    let Some(variable) = VarId::new(number) else {
+        return false;
+    };
+    match places.place(variable) {
+        Some(place) => bit == Some(place.bit),
+        None => bit.is_none(),
+    }
 }
 
 /// The table of the mandatory slave, the tool and the module: 3, 3 and 5 bits, and three slaves that
@@ -259,7 +283,8 @@ fn has_no_tool(places: &Places) -> bool {
         && has_datagram(places, 1, 4)
 }
 
-/// Swaps a copy of a table for the next one: how many variables change, and the copy.
+/// How many variables an edit changes that leads from one table to the next, and a copy of the first
+/// with the changes.
 fn swapped(
     alloc: Global,
     edit: Edit,
@@ -286,39 +311,49 @@ fn changed(
     Ok(changed)
 }
 
+/// The table of the line with the tool, or without it.
+fn table(alloc: Global, absent: u16) -> Result<Places, Fail> {
+    Ok(configured(alloc, tool_and_module(alloc)?, absent)?.places)
+}
+
+/// Whether the tool's going changes two variables, those that it had and those behind it.
+fn goes(alloc: Global, with: &Places, without: &Places) -> Result<bool, AllocError> {
+    let (count, places) = swapped(alloc, Edit::Disconnect(TOOL), with, without)?;
+    Ok(
+        count == 2
+            && has_no_tool(&places)
+            && changed(alloc, with, without)?.as_slice() == [(6, None), (8, Some(3))].as_slice(),
+    )
+}
+
 #[test]
 fn a_tool_goes(rt: HostRuntime) -> Result<(), Fail> {
-    let alloc = rt.alloc();
-    let with = configured(alloc, tool_and_module(alloc)?, NONE)?.places;
-    let without = configured(alloc, tool_and_module(alloc)?, TOOL)?.places;
-    let (count, places) = swapped(alloc, Edit::Disconnect(TOOL), &with, &without)?;
-    assert_eq!(rt; count, 2);
-    assert_eq!(rt;
-        changed(alloc, &with, &without)?.as_slice(),
-        [(6, None), (8, Some(3))].as_slice()
-    );
+    let with = table(rt.alloc(), NONE)?;
     assert!(rt; has_tool(&with));
-    assert!(rt; has_no_tool(&places));
+    let without = table(rt.alloc(), TOOL)?;
+    assert!(rt; goes(rt.alloc(), &with, &without)?);
     Ok(())
+}
+
+/// Whether the tool's coming changes two variables.
+fn comes(alloc: Global, without: &Places, with: &Places) -> Result<bool, AllocError> {
+    let (count, places) = swapped(alloc, Edit::Connect(TOOL), without, with)?;
+    Ok(count == 2 && has_tool(&places))
 }
 
 #[test]
 fn a_tool_comes(rt: HostRuntime) -> Result<(), Fail> {
-    let alloc = rt.alloc();
-    let with = configured(alloc, tool_and_module(alloc)?, NONE)?.places;
-    let without = configured(alloc, tool_and_module(alloc)?, TOOL)?.places;
-    let (count, places) = swapped(alloc, Edit::Connect(TOOL), &without, &with)?;
-    assert_eq!(rt; count, 2);
+    let without = table(rt.alloc(), TOOL)?;
     assert!(rt; has_no_tool(&without));
-    assert!(rt; has_tool(&places));
+    let with = table(rt.alloc(), NONE)?;
+    assert!(rt; comes(rt.alloc(), &without, &with)?);
     Ok(())
 }
 
 #[test]
 fn a_swap_names_its_edit(rt: HostRuntime) -> Result<(), Fail> {
-    let alloc = rt.alloc();
-    let places = configured(alloc, tool_and_module(alloc)?, NONE)?.places;
-    let swap = Swap::between(alloc, &Edit::Connect(TOOL), &places, &places)?;
+    let places = table(rt.alloc(), NONE)?;
+    let swap = Swap::between(rt.alloc(), &Edit::Connect(TOOL), &places, &places)?;
     assert_eq!(rt; swap.places(), 0);
     assert!(rt; matches!(swap.edit(), Edit::Connect(TOOL)));
     Ok(())

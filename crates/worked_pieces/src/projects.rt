@@ -44,18 +44,20 @@ fn one_pdo(alloc: Global, index: u16, variable: u32, bits: u8) -> Result<Pdo, Al
     Ok(Pdo { index, entries })
 }
 
+fn two_pdos(alloc: Global, line: &Line) -> Result<Items<Pdo>, AllocError> {
+    let mut pdos = Items::new(alloc);
+    pdos.push(one_pdo(alloc, line.offered[0], line.variables[0], line.bits)?)?;
+    pdos.push(one_pdo(alloc, line.offered[1], line.variables[1], 8)?)?;
+    Ok(pdos)
+}
+
 fn output(alloc: Global, line: &Line) -> Result<Area, AllocError> {
-    let mut offered = Items::new(alloc);
-    offered.push(one_pdo(alloc, line.offered[0], line.variables[0], line.bits)?)?;
-    offered.push(one_pdo(alloc, line.offered[1], line.variables[1], 8)?)?;
-    let mut assigned = Items::new(alloc);
-    assigned.push(line.assigned[0])?;
-    assigned.push(line.assigned[1])?;
+    let assigned = Items::of(Vec::from_slice(alloc, &line.assigned)?);
     Ok(Area {
         sm: line.managers[0],
         dir: Dir::Out,
         phys: line.starts[0],
-        offered,
+        offered: two_pdos(alloc, line)?,
         assigned,
         task: line.task,
     })
@@ -64,8 +66,7 @@ fn output(alloc: Global, line: &Line) -> Result<Area, AllocError> {
 fn input(alloc: Global, line: &Line) -> Result<Area, AllocError> {
     let mut offered = Items::new(alloc);
     offered.push(one_pdo(alloc, 0x1a00, 3, 12)?)?;
-    let mut assigned = Items::new(alloc);
-    assigned.push(0x1a00)?;
+    let assigned = Items::of(Vec::from_slice(alloc, &[0x1a00])?);
     Ok(Area {
         sm: line.managers[1],
         dir: Dir::In,
@@ -94,26 +95,27 @@ fn slave(alloc: Global, station: u16, areas: usize) -> Result<Slave, AllocError>
     })
 }
 
-fn groups_of(alloc: Global, line: &Line) -> Result<Items<Group>, AllocError> {
+fn drive(alloc: Global, line: &Line) -> Result<Slave, AllocError> {
     let mut areas = Items::new(alloc);
     areas.push(output(alloc, line)?)?;
     areas.push(input(alloc, line)?)?;
-    let mut drives = Items::new(alloc);
-    drives.push(Slave {
+    Ok(Slave {
         station: line.stations[0],
         areas,
-    })?;
-    let mut tools = Items::new(alloc);
-    tools.push(slave(alloc, line.stations[1], 1)?)?;
+    })
+}
+
+/// A group of one slave.
+fn group(alloc: Global, alias: u16, slave: Slave) -> Result<Group, AllocError> {
+    let mut slaves = Items::new(alloc);
+    slaves.push(slave)?;
+    Ok(Group { alias, slaves })
+}
+
+fn groups_of(alloc: Global, line: &Line) -> Result<Items<Group>, AllocError> {
     let mut groups = Items::new(alloc);
-    groups.push(Group {
-        alias: line.mandatory,
-        slaves: drives,
-    })?;
-    groups.push(Group {
-        alias: line.tool,
-        slaves: tools,
-    })?;
+    groups.push(group(alloc, line.mandatory, drive(alloc, line)?)?)?;
+    groups.push(group(alloc, line.tool, slave(alloc, line.stations[1], 1)?)?)?;
     Ok(groups)
 }
 
@@ -121,261 +123,295 @@ fn judged(alloc: Global, line: &Line) -> Result<Option<ProjectFault>, AllocError
     Ok(Project::checked(alloc, groups_of(alloc, line)?).err())
 }
 
+/// A line and its fault, if it has one.
+type Case = (Line, Option<ProjectFault>);
+
+/// Whether each line has its fault.
+fn are_judged(alloc: Global, cases: &[Case]) -> Result<bool, AllocError> {
+    for (line, fault) in cases {
+        if judged(alloc, line)? != *fault {
+            return Ok(false);
+        }
+    }
+    Ok(true)
+}
+
+const OUTSIDE: Option<ProjectFault> = Some(ProjectFault::OutOfRange);
+
+const UNKNOWN: Option<ProjectFault> = Some(ProjectFault::UnknownPdo);
+
+/// Single values on both sides of their limits.
+const VALUES: [Case; 20] = [
+    (
+        Line {
+            mandatory: 1,
+            ..LINE
+        },
+        OUTSIDE,
+    ),
+    (Line { tool: 0, ..LINE }, OUTSIDE),
+    (Line { tool: 1, ..LINE }, None),
+    (
+        Line {
+            tool: 65535,
+            ..LINE
+        },
+        None,
+    ),
+    (
+        Line {
+            stations: [0, 2001],
+            ..LINE
+        },
+        OUTSIDE,
+    ),
+    (
+        Line {
+            stations: [1, 65535],
+            ..LINE
+        },
+        None,
+    ),
+    (
+        Line {
+            managers: [15, 0],
+            ..LINE
+        },
+        None,
+    ),
+    (
+        Line {
+            managers: [16, 0],
+            ..LINE
+        },
+        OUTSIDE,
+    ),
+    (
+        Line {
+            starts: [0x0fff, 0x1180],
+            ..LINE
+        },
+        OUTSIDE,
+    ),
+    (
+        Line {
+            starts: [0x1000, 0x1180],
+            ..LINE
+        },
+        None,
+    ),
+    (
+        Line {
+            starts: [0x2ffe, 0x1180],
+            ..LINE
+        },
+        None,
+    ),
+    (
+        Line {
+            starts: [0x2fff, 0x1180],
+            ..LINE
+        },
+        OUTSIDE,
+    ),
+    (
+        Line {
+            starts: [0x1100, 0x2ffe],
+            ..LINE
+        },
+        None,
+    ),
+    (
+        Line {
+            starts: [0x1100, 0x2fff],
+            ..LINE
+        },
+        OUTSIDE,
+    ),
+    (Line { task: 7, ..LINE }, None),
+    (Line { task: 8, ..LINE }, OUTSIDE),
+    (Line { bits: 0, ..LINE }, OUTSIDE),
+    (Line { bits: 1, ..LINE }, None),
+    (Line { bits: 64, ..LINE }, None),
+    (Line { bits: 65, ..LINE }, OUTSIDE),
+];
+
 #[test]
 fn values_on_both_sides(rt: HostRuntime) -> Result<(), Fail> {
-    let outside = Some(ProjectFault::OutOfRange);
-    let cases = [
-        (
-            Line {
-                mandatory: 1,
-                ..LINE
-            },
-            outside,
-        ),
-        (Line { tool: 0, ..LINE }, outside),
-        (Line { tool: 1, ..LINE }, None),
-        (
-            Line {
-                tool: 65535,
-                ..LINE
-            },
-            None,
-        ),
-        (
-            Line {
-                stations: [0, 2001],
-                ..LINE
-            },
-            outside,
-        ),
-        (
-            Line {
-                stations: [1, 65535],
-                ..LINE
-            },
-            None,
-        ),
-        (
-            Line {
-                managers: [15, 0],
-                ..LINE
-            },
-            None,
-        ),
-        (
-            Line {
-                managers: [16, 0],
-                ..LINE
-            },
-            outside,
-        ),
-        (
-            Line {
-                starts: [0x0fff, 0x1180],
-                ..LINE
-            },
-            outside,
-        ),
-        (
-            Line {
-                starts: [0x1000, 0x1180],
-                ..LINE
-            },
-            None,
-        ),
-        (
-            Line {
-                starts: [0x2ffe, 0x1180],
-                ..LINE
-            },
-            None,
-        ),
-        (
-            Line {
-                starts: [0x2fff, 0x1180],
-                ..LINE
-            },
-            outside,
-        ),
-        (
-            Line {
-                starts: [0x1100, 0x2ffe],
-                ..LINE
-            },
-            None,
-        ),
-        (
-            Line {
-                starts: [0x1100, 0x2fff],
-                ..LINE
-            },
-            outside,
-        ),
-        (Line { task: 7, ..LINE }, None),
-        (Line { task: 8, ..LINE }, outside),
-        (Line { bits: 0, ..LINE }, outside),
-        (Line { bits: 1, ..LINE }, None),
-        (Line { bits: 64, ..LINE }, None),
-        (Line { bits: 65, ..LINE }, outside),
-    ];
-    for (line, fault) in cases {
-        assert_eq!(rt; judged(rt.alloc(), &line)?, fault);
-    }
+    assert!(rt; are_judged(rt.alloc(), &VALUES)?);
     Ok(())
 }
+
+/// Names that stand twice, areas that overlap, PDOs that aren't offered.
+const NAMES: [Case; 14] = [
+    (LINE, None),
+    (
+        Line {
+            stations: [1001, 1001],
+            ..LINE
+        },
+        Some(ProjectFault::RepeatedStation),
+    ),
+    (
+        Line {
+            managers: [2, 2],
+            ..LINE
+        },
+        Some(ProjectFault::RepeatedSyncManager),
+    ),
+    (
+        Line {
+            starts: [0x1100, 0x1101],
+            ..LINE
+        },
+        Some(ProjectFault::OverlappingAreas),
+    ),
+    (
+        Line {
+            starts: [0x1100, 0x1102],
+            ..LINE
+        },
+        None,
+    ),
+    (
+        Line {
+            starts: [0x1101, 0x1100],
+            ..LINE
+        },
+        Some(ProjectFault::OverlappingAreas),
+    ),
+    (
+        Line {
+            starts: [0x1102, 0x1100],
+            ..LINE
+        },
+        None,
+    ),
+    (
+        Line {
+            variables: [3, 2],
+            ..LINE
+        },
+        Some(ProjectFault::RepeatedVariable),
+    ),
+    (
+        Line {
+            variables: [2, 2],
+            ..LINE
+        },
+        Some(ProjectFault::RepeatedVariable),
+    ),
+    (
+        Line {
+            variables: [0, 0],
+            ..LINE
+        },
+        None,
+    ),
+    (
+        Line {
+            assigned: [0x1600, 0x1602],
+            ..LINE
+        },
+        UNKNOWN,
+    ),
+    (
+        Line {
+            assigned: [0x1600, 0x1600],
+            ..LINE
+        },
+        UNKNOWN,
+    ),
+    (
+        Line {
+            offered: [0x1600, 0x1600],
+            assigned: [0x1600, 0x1600],
+            ..LINE
+        },
+        UNKNOWN,
+    ),
+    (
+        Line {
+            assigned: [0x1601, 0x1600],
+            ..LINE
+        },
+        None,
+    ),
+];
 
 #[test]
 fn names_that_stand_twice(rt: HostRuntime) -> Result<(), Fail> {
-    let unknown = Some(ProjectFault::UnknownPdo);
-    let cases = [
-        (LINE, None),
-        (
-            Line {
-                stations: [1001, 1001],
-                ..LINE
-            },
-            Some(ProjectFault::RepeatedStation),
-        ),
-        (
-            Line {
-                managers: [2, 2],
-                ..LINE
-            },
-            Some(ProjectFault::RepeatedSyncManager),
-        ),
-        (
-            Line {
-                starts: [0x1100, 0x1101],
-                ..LINE
-            },
-            Some(ProjectFault::OverlappingAreas),
-        ),
-        (
-            Line {
-                starts: [0x1100, 0x1102],
-                ..LINE
-            },
-            None,
-        ),
-        (
-            Line {
-                starts: [0x1101, 0x1100],
-                ..LINE
-            },
-            Some(ProjectFault::OverlappingAreas),
-        ),
-        (
-            Line {
-                starts: [0x1102, 0x1100],
-                ..LINE
-            },
-            None,
-        ),
-        (
-            Line {
-                variables: [3, 2],
-                ..LINE
-            },
-            Some(ProjectFault::RepeatedVariable),
-        ),
-        (
-            Line {
-                variables: [2, 2],
-                ..LINE
-            },
-            Some(ProjectFault::RepeatedVariable),
-        ),
-        (
-            Line {
-                variables: [0, 0],
-                ..LINE
-            },
-            None,
-        ),
-        (
-            Line {
-                assigned: [0x1600, 0x1602],
-                ..LINE
-            },
-            unknown,
-        ),
-        (
-            Line {
-                assigned: [0x1600, 0x1600],
-                ..LINE
-            },
-            unknown,
-        ),
-        (
-            Line {
-                offered: [0x1600, 0x1600],
-                assigned: [0x1600, 0x1600],
-                ..LINE
-            },
-            unknown,
-        ),
-        (
-            Line {
-                assigned: [0x1601, 0x1600],
-                ..LINE
-            },
-            None,
-        ),
-    ];
-    for (line, fault) in cases {
-        assert_eq!(rt; judged(rt.alloc(), &line)?, fault);
-    }
+    assert!(rt; are_judged(rt.alloc(), &NAMES)?);
     Ok(())
 }
 
+/// Lines with two faults.
+const PAIRS: [Case; 5] = [
+    (
+        Line {
+            task: 8,
+            stations: [7, 7],
+            ..LINE
+        },
+        Some(ProjectFault::OutOfRange),
+    ),
+    (
+        Line {
+            stations: [7, 7],
+            managers: [2, 2],
+            ..LINE
+        },
+        Some(ProjectFault::RepeatedStation),
+    ),
+    (
+        Line {
+            managers: [2, 2],
+            starts: [0x1100, 0x1100],
+            ..LINE
+        },
+        Some(ProjectFault::RepeatedSyncManager),
+    ),
+    (
+        Line {
+            starts: [0x1100, 0x1100],
+            variables: [2, 2],
+            ..LINE
+        },
+        Some(ProjectFault::OverlappingAreas),
+    ),
+    (
+        Line {
+            variables: [2, 2],
+            assigned: [1, 2],
+            ..LINE
+        },
+        Some(ProjectFault::RepeatedVariable),
+    ),
+];
+
 #[test]
 fn of_two_faults_the_lower(rt: HostRuntime) -> Result<(), Fail> {
-    let cases = [
-        (
-            Line {
-                task: 8,
-                stations: [7, 7],
-                ..LINE
-            },
-            ProjectFault::OutOfRange,
-        ),
-        (
-            Line {
-                stations: [7, 7],
-                managers: [2, 2],
-                ..LINE
-            },
-            ProjectFault::RepeatedStation,
-        ),
-        (
-            Line {
-                managers: [2, 2],
-                starts: [0x1100, 0x1100],
-                ..LINE
-            },
-            ProjectFault::RepeatedSyncManager,
-        ),
-        (
-            Line {
-                starts: [0x1100, 0x1100],
-                variables: [2, 2],
-                ..LINE
-            },
-            ProjectFault::OverlappingAreas,
-        ),
-        (
-            Line {
-                variables: [2, 2],
-                assigned: [1, 2],
-                ..LINE
-            },
-            ProjectFault::RepeatedVariable,
-        ),
-    ];
-    for (line, fault) in cases {
-        assert_eq!(rt; judged(rt.alloc(), &line)?, Some(fault));
-    }
+    assert!(rt; are_judged(rt.alloc(), &PAIRS)?);
     Ok(())
+}
+
+/// Whether groups are the same as those of a line.
+fn is_same_line(alloc: Global, groups: &Items<Group>, line: &Line) -> Result<bool, AllocError> {
+    Ok(groups_of(alloc, line)?.is_same(groups))
+}
+
+/// How many groups a project has that was made of these, and whether it gives the same as a copy of
+/// them.
+fn given_back(
+    alloc: Global,
+    groups: Items<Group>,
+    copy: &Items<Group>,
+) -> Result<(usize, bool), Fail> {
+    let Ok(project) = Project::checked(alloc, groups) else {
+        return Err("a line without a fault")?;
+    };
+    let count = project.groups().len();
+    Ok((count, project.into_groups().is_same(copy)))
 }
 
 #[test]
@@ -383,13 +419,8 @@ fn copies_are_the_same(rt: HostRuntime) -> Result<(), Fail> {
     let groups = groups_of(rt.alloc(), &LINE)?;
     let copy = groups.copied(rt.alloc())?;
     assert!(rt; copy.is_same(&groups));
-    let other = groups_of(rt.alloc(), &Line { bits: 9, ..LINE })?;
-    assert!(rt; !other.is_same(&groups));
-    let Ok(project) = Project::checked(rt.alloc(), groups) else {
-        return Err("a line without a fault")?;
-    };
-    assert_eq!(rt; project.groups().len(), 2);
-    assert!(rt; project.into_groups().is_same(&copy));
+    assert!(rt; !is_same_line(rt.alloc(), &groups, &Line { bits: 9, ..LINE })?);
+    assert_eq!(rt; given_back(rt.alloc(), groups, &copy)?, (2, true));
     Ok(())
 }
 

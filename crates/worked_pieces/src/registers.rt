@@ -9,15 +9,20 @@ use hc_registers::sync_manager::{self, sync_block};
 use std::alloc::{AllocError, Global};
 use std::test::Fail;
 
-/// An area of task 0 with one variable of so many bits, at most 64, which is assigned.
-fn area(alloc: Global, sm: u8, dir: Dir, phys: u16, bits: u8) -> Result<Area, AllocError> {
+/// A PDO of one variable.
+fn one_pdo(alloc: Global, bits: u8) -> Result<Items<Pdo>, AllocError> {
     let mut entries = Items::new(alloc);
     entries.push((VarId::new(1), bits))?;
-    let mut offered = Items::new(alloc);
-    offered.push(Pdo {
+    let mut pdos = Items::new(alloc);
+    pdos.push(Pdo {
         index: 0x1600,
         entries,
     })?;
+    Ok(pdos)
+}
+
+/// An area of task 0 with one variable of so many bits, at most 64, which is assigned.
+fn area(alloc: Global, sm: u8, dir: Dir, phys: u16, bits: u8) -> Result<Area, AllocError> {
     let mut assigned = Items::new(alloc);
     if bits > 0 {
         assigned.push(0x1600)?;
@@ -26,7 +31,7 @@ fn area(alloc: Global, sm: u8, dir: Dir, phys: u16, bits: u8) -> Result<Area, Al
         sm,
         dir,
         phys,
-        offered,
+        offered: one_pdo(alloc, bits)?,
         assigned,
         task: 0,
     })
@@ -54,82 +59,101 @@ fn blocks_of(
     Ok(Some((Block::sync_manager(area), Block::fmmu(index, area, mapping))))
 }
 
+/// Whether an area at an index of its slave's record that begins at a bit of datagram 0 has a sync
+/// manager block and an FMMU block of these bytes, each at its register.
+fn has_blocks(
+    alloc: Global,
+    index: u8,
+    area: &Area,
+    bit: u16,
+    manager: (u16, &[u8]),
+    fmmu: (u16, &[u8]),
+) -> Result<bool, AllocError> {
+    match blocks_of(alloc, index, area, bit)? {
+        Some((own_manager, own_fmmu)) => Ok(
+            is_block(&own_manager, manager.0, manager.1) && is_block(&own_fmmu, fmmu.0, fmmu.1),
+        ),
+        None => Ok(false),
+    }
+}
+
+fn is_block(block: &Block, register: u16, bytes: &[u8]) -> bool {
+    block.register() == register && block.bytes() == bytes
+}
+
 #[test]
 fn a_slave_of_two_areas(rt: HostRuntime) -> Result<(), Fail> {
-    let output = area(rt.alloc(), 2, Dir::Out, 0x1100, 2)?;
-    let (manager, fmmu) = blocks_of(rt.alloc(), 0, &output, 0)?.ok_or("in range")?;
-    assert_eq!(rt; manager.register(), 0x0810);
-    assert_eq!(rt;
-        manager.bytes(),
-        [0x00, 0x11, 0x01, 0x00, 0x64, 0x00, 0x01, 0x00].as_slice()
-    );
-    assert_eq!(rt; fmmu.register(), 0x0600);
-    assert_eq!(rt;
-        fmmu.bytes(),
-        [0, 0, 0, 1, 1, 0, 0, 1, 0x00, 0x11, 0, 2, 1, 0, 0, 0].as_slice()
-    );
-    let input = area(rt.alloc(), 3, Dir::In, 0x1180, 12)?;
-    let (manager, fmmu) = blocks_of(rt.alloc(), 1, &input, 8)?.ok_or("in range")?;
-    assert_eq!(rt; manager.register(), 0x0818);
-    assert_eq!(rt;
-        manager.bytes(),
-        [0x80, 0x11, 0x02, 0x00, 0x20, 0x00, 0x01, 0x00].as_slice()
-    );
-    assert_eq!(rt; fmmu.register(), 0x0610);
-    assert_eq!(rt;
-        fmmu.bytes(),
-        [1, 0, 0, 1, 2, 0, 0, 3, 0x80, 0x11, 0, 1, 1, 0, 0, 0].as_slice()
-    );
+    let alloc = rt.alloc();
+    let output = area(alloc, 2, Dir::Out, 0x1100, 2)?;
+    let manager = [0x00, 0x11, 0x01, 0x00, 0x64, 0x00, 0x01, 0x00];
+    let fmmu = [0, 0, 0, 1, 1, 0, 0, 1, 0x00, 0x11, 0, 2, 1, 0, 0, 0];
+    assert!(rt; has_blocks(alloc, 0, &output, 0, (0x0810, &manager), (0x0600, &fmmu))?);
+    let input = area(alloc, 3, Dir::In, 0x1180, 12)?;
+    let manager = [0x80, 0x11, 0x02, 0x00, 0x20, 0x00, 0x01, 0x00];
+    let fmmu = [1, 0, 0, 1, 2, 0, 0, 3, 0x80, 0x11, 0, 1, 1, 0, 0, 0];
+    assert!(rt; has_blocks(alloc, 1, &input, 8, (0x0818, &manager), (0x0610, &fmmu))?);
     Ok(())
+}
+
+/// Whether the FMMU block of such an area has these bytes.
+fn has_fmmu(
+    alloc: Global,
+    index: u8,
+    area: &Area,
+    bit: u16,
+    bytes: &[u8],
+) -> Result<bool, AllocError> {
+    match blocks_of(alloc, index, area, bit)? {
+        Some((_, fmmu)) => Ok(fmmu.bytes() == bytes),
+        None => Ok(false),
+    }
 }
 
 #[test]
 fn areas_of_three_bits(rt: HostRuntime) -> Result<(), Fail> {
-    let second = area(rt.alloc(), 1, Dir::Out, 0x1010, 3)?;
-    let (_, fmmu) = blocks_of(rt.alloc(), 1, &second, 3)?.ok_or("in range")?;
-    assert_eq!(rt;
-        fmmu.bytes(),
-        [0, 0, 0, 1, 1, 0, 3, 5, 0x10, 0x10, 0, 2, 1, 0, 0, 0].as_slice()
-    );
-    let third = area(rt.alloc(), 0, Dir::Out, 0x1000, 3)?;
-    let (_, fmmu) = blocks_of(rt.alloc(), 0, &third, 6)?.ok_or("in range")?;
-    assert_eq!(rt;
-        fmmu.bytes(),
-        [0, 0, 0, 1, 2, 0, 6, 0, 0x00, 0x10, 0, 2, 1, 0, 0, 0].as_slice()
-    );
+    let alloc = rt.alloc();
+    let second = area(alloc, 1, Dir::Out, 0x1010, 3)?;
+    let bytes = [0, 0, 0, 1, 1, 0, 3, 5, 0x10, 0x10, 0, 2, 1, 0, 0, 0];
+    assert!(rt; has_fmmu(alloc, 1, &second, 3, &bytes)?);
+    let third = area(alloc, 0, Dir::Out, 0x1000, 3)?;
+    let bytes = [0, 0, 0, 1, 2, 0, 6, 0, 0x00, 0x10, 0, 2, 1, 0, 0, 0];
+    assert!(rt; has_fmmu(alloc, 0, &third, 6, &bytes)?);
     Ok(())
 }
 
 #[test]
 fn an_area_of_no_bits(rt: HostRuntime) -> Result<(), Fail> {
-    let empty = area(rt.alloc(), 3, Dir::In, 0x1180, 0)?;
-    let (manager, fmmu) = blocks_of(rt.alloc(), 1, &empty, 0)?.ok_or("in range")?;
-    assert_eq!(rt;
-        manager.bytes(),
-        [0x80, 0x11, 0x00, 0x00, 0x20, 0x00, 0x00, 0x00].as_slice()
-    );
-    assert_eq!(rt; fmmu.bytes(), [0u8; 16].as_slice());
+    let alloc = rt.alloc();
+    let empty = area(alloc, 3, Dir::In, 0x1180, 0)?;
+    let manager = [0x80, 0x11, 0x00, 0x00, 0x20, 0x00, 0x00, 0x00];
+    assert!(rt; has_blocks(alloc, 1, &empty, 0, (0x0818, &manager), (0x0610, &[0; 16]))?);
     Ok(())
 }
 
 #[test]
 fn fields_are_read(rt: HostRuntime) {
     let manager = [0x80, 0x11, 0x02, 0x01, 0x20, 0x03, 0x01, 0x04];
-    assert_eq!(rt; sync_manager::start_address(&manager), 0x1180);
-    assert_eq!(rt; sync_manager::length(&manager), 0x0102);
-    assert_eq!(rt; sync_manager::control(&manager), 0x20);
-    assert_eq!(rt; sync_manager::status(&manager), 3);
-    assert_eq!(rt; sync_manager::activate(&manager), 1);
-    assert_eq!(rt; sync_manager::pdi_control(&manager), 4);
+    let start = sync_manager::start_address(&manager);
+    assert_eq!(rt; [start, sync_manager::length(&manager)], [0x1180, 0x0102]);
+    let bytes = [
+        sync_manager::control(&manager),
+        sync_manager::status(&manager),
+        sync_manager::activate(&manager),
+        sync_manager::pdi_control(&manager),
+    ];
+    assert_eq!(rt; bytes, [0x20, 3, 1, 4]);
     let block = [1, 2, 3, 4, 5, 6, 7, 8, 9, 10, 11, 12, 13, 0, 0, 0];
     assert_eq!(rt; fmmu::logical_start_address(&block), 0x0403_0201);
-    assert_eq!(rt; fmmu::length(&block), 0x0605);
-    assert_eq!(rt; fmmu::logical_start_bit(&block), 7);
-    assert_eq!(rt; fmmu::logical_stop_bit(&block), 8);
-    assert_eq!(rt; fmmu::physical_start_address(&block), 0x0a09);
-    assert_eq!(rt; fmmu::physical_start_bit(&block), 11);
-    assert_eq!(rt; fmmu::fmmu_type(&block), 12);
-    assert_eq!(rt; fmmu::activate(&block), 13);
+    let physical = fmmu::physical_start_address(&block);
+    assert_eq!(rt; [fmmu::length(&block), physical], [0x0605, 0x0a09]);
+    let bytes = [
+        fmmu::logical_start_bit(&block),
+        fmmu::logical_stop_bit(&block),
+        fmmu::physical_start_bit(&block),
+        fmmu::fmmu_type(&block),
+        fmmu::activate(&block),
+    ];
+    assert_eq!(rt; bytes, [7, 8, 11, 12, 13]);
 }
 
 fn key(dir: Dir, rank: u16, area: u8) -> Key {

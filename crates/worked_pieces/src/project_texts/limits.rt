@@ -81,72 +81,109 @@ fn groups(alloc: Global, count: u32) -> Result<String, AllocError> {
     Ok(text)
 }
 
+/// Adds a PDO of so many gaps of 64 bits, and one gap more of the last bits.
+fn add_pdo(list: &mut String, index: u32, gaps: u32, last: u32) -> Result<(), AllocError> {
+    write!(list, "{{ index = {index}, entries = [")?;
+    for _ in 0..gaps {
+        list.push_str("[0, 64], ")?;
+    }
+    write!(list, "[0, {last}]] }}, ")
+}
+
 /// An area at an address, whose three assigned PDOs have 11,840 bits and so many more.
 fn wide_area(alloc: Global, phys: u32, more: u32) -> Result<String, AllocError> {
-    let full = repeated(alloc, "[0, 64], ", 64)?;
-    let rest = repeated(alloc, "[0, 64], ", 57)?;
-    let list = full.as_str();
-    let last = rest.as_str();
-    let first = format!(in alloc; "{{ index = 1, entries = [{list}] }}")?;
-    let second = format!(in alloc; "{{ index = 2, entries = [{list}] }}")?;
-    let third = format!(in alloc; "{{ index = 3, entries = [{last}[0, {more}]] }}")?;
-    let offered = format!(in alloc; "{first}, {second}, {third}")?;
+    let mut offered = String::new(alloc);
+    add_pdo(&mut offered, 1, 63, 64)?;
+    add_pdo(&mut offered, 2, 63, 64)?;
+    add_pdo(&mut offered, 3, 57, more)?;
     one_area(alloc, phys, "1, 2, 3", offered.as_str())
 }
 
-#[test]
-fn lists_on_both_sides(rt: HostRuntime) -> Result<(), Fail> {
-    let alloc = rt.alloc();
-    let cases = [
-        ("64 entries", entries(alloc, 64)?, 0),
-        ("65 entries", entries(alloc, 65)?, 3),
-        ("32 offered", offered(alloc, 32)?, 0),
-        ("33 offered", offered(alloc, 33)?, 3),
-        ("32 assigned", assigned(alloc, 32)?, 0),
-        ("33 assigned", assigned(alloc, 33)?, 3),
-        ("8 areas", areas(alloc, 8)?, 0),
-        ("9 areas", areas(alloc, 9)?, 3),
-        ("2,048 slaves", slaves(alloc, 2048)?, 0),
-        ("2,049 slaves", slaves(alloc, 2049)?, 3),
-        ("2,048 slaves in groups", grouped_slaves(alloc, 2048)?, 0),
-        ("2,049 slaves in groups", grouped_slaves(alloc, 2049)?, 3),
-        ("511 groups", groups(alloc, 511)?, 0),
-        ("512 groups", groups(alloc, 512)?, 3),
-    ];
-    for (name, text, fault) in cases {
-        assert_eq!(rt; fault_number(alloc, text.as_str()), fault, "{name}");
-    }
-    Ok(())
+/// A list of the format that has a limit.
+#[derive(Clone, Copy)]
+enum List {
+    Entries,
+    Offered,
+    Assigned,
+    Areas,
+    Slaves,
+    GroupedSlaves,
+    Groups,
 }
 
+/// A text with so many items in a list.
+fn text_of(alloc: Global, list: List, count: u32) -> Result<String, AllocError> {
+    match list {
+        List::Entries => entries(alloc, count),
+        List::Offered => offered(alloc, count),
+        List::Assigned => assigned(alloc, count),
+        List::Areas => areas(alloc, count),
+        List::Slaves => slaves(alloc, count),
+        List::GroupedSlaves => grouped_slaves(alloc, count),
+        List::Groups => groups(alloc, count),
+    }
+}
+
+/// A list, its items, and the number of the text's fault.
+const LISTS: [(List, u32, u8); 14] = [
+    (List::Entries, 64, 0),
+    (List::Entries, 65, 3),
+    (List::Offered, 32, 0),
+    (List::Offered, 33, 3),
+    (List::Assigned, 32, 0),
+    (List::Assigned, 33, 3),
+    (List::Areas, 8, 0),
+    (List::Areas, 9, 3),
+    (List::Slaves, 2048, 0),
+    (List::Slaves, 2049, 3),
+    (List::GroupedSlaves, 2048, 0),
+    (List::GroupedSlaves, 2049, 3),
+    (List::Groups, 511, 0),
+    (List::Groups, 512, 3),
+];
+
 #[test]
-fn widest_area(rt: HostRuntime) -> Result<(), Fail> {
-    for (phys, more, fault) in [
-        (4096, 48, 0),
-        (4096, 49, 10),
-        (10802, 48, 0),
-        (10802, 49, 10),
-        (10803, 48, 3),
-        (10803, 49, 3),
-    ] {
-        let text = wide_area(rt.alloc(), phys, more)?;
+fn lists_on_both_sides(rt: HostRuntime) -> Result<(), Fail> {
+    for (list, count, fault) in &LISTS {
+        let text = text_of(rt.alloc(), *list, *count)?;
         assert_eq!(rt;
-            fault_number(rt.alloc(), text.as_str()),
-            fault,
-            "{more} bits at {phys}"
+            (*count, fault_number(rt.alloc(), text.as_str())),
+            (*count, *fault)
         );
     }
     Ok(())
 }
 
+/// The first byte of an area of 11,840 bits, how many bits it has more, and the number of the text's
+/// fault.
+const WIDE_AREAS: [(u32, u32, u8); 6] = [
+    (4096, 48, 0),
+    (4096, 49, 10),
+    (10802, 48, 0),
+    (10802, 49, 10),
+    (10803, 48, 3),
+    (10803, 49, 3),
+];
+
+#[test]
+fn widest_area(rt: HostRuntime) -> Result<(), Fail> {
+    for (phys, more, fault) in &WIDE_AREAS {
+        let text = wide_area(rt.alloc(), *phys, *more)?;
+        assert_eq!(rt;
+            (*phys, *more, fault_number(rt.alloc(), text.as_str())),
+            (*phys, *more, *fault)
+        );
+    }
+    Ok(())
+}
+
+/// Bytes that aren't UTF-8, or hold a control character.
+const NO_TEXTS: [&[u8]; 3] = [b"\xff", b"slave = []\n# \xc3", b"\x00"];
+
 #[test]
 fn bytes_that_are_no_text(rt: HostRuntime) -> Result<(), Fail> {
-    for bytes in [
-        b"\xff".as_slice(),
-        b"slave = []\n# \xc3".as_slice(),
-        b"\x00".as_slice(),
-    ] {
-        let fault = read_project(rt.alloc(), bytes).err();
+    for bytes in &NO_TEXTS {
+        let fault = read_project(rt.alloc(), *bytes).err();
         assert_eq!(rt; fault, Some(ProjectFault::NotToml));
     }
     Ok(())

@@ -2,6 +2,7 @@
 use super::listing;
 use hc_project::read_project;
 use hc_records::faults::ProjectFault;
+use std::alloc::Global;
 use std::test::Fail;
 
 /// One slave with an output and an input area.
@@ -319,23 +320,27 @@ group 200
       pdo 0x1a00 entries 311:16 312:16
 ";
 
+/// Whether a text is read as a listing.
+fn is_read(alloc: Global, text: &str, wanted: &str) -> Result<bool, ProjectFault> {
+    Ok(listing(alloc, text)?.as_str() == wanted)
+}
+
+/// The first text in which anything is read.
+fn filled<'a>(alloc: Global, texts: &[&'a str]) -> Result<Option<&'a str>, ProjectFault> {
+    for text in texts {
+        if !is_read(alloc, *text, "group 0\n")? {
+            return Ok(Some(*text));
+        }
+    }
+    Ok(None)
+}
+
 #[test]
 fn texts_with_every_field(rt: HostRuntime) -> Result<(), Fail> {
-    let cases = [
-        (SMALL, SMALL_LISTING),
-        (INLINE, SMALL_LISTING),
-        (TOOL_CHANGER, TOOL_CHANGER_LISTING),
-    ];
-    for (text, wanted) in cases {
-        assert_eq!(rt; listing(rt.alloc(), text)?.as_str(), wanted);
-    }
-    for text in EMPTY {
-        assert_eq!(rt;
-            listing(rt.alloc(), text)?.as_str(),
-            "group 0\n",
-            "in {text}"
-        );
-    }
+    assert!(rt; is_read(rt.alloc(), SMALL, SMALL_LISTING)?);
+    assert!(rt; is_read(rt.alloc(), INLINE, SMALL_LISTING)?);
+    assert!(rt; is_read(rt.alloc(), TOOL_CHANGER, TOOL_CHANGER_LISTING)?);
+    assert_eq!(rt; filled(rt.alloc(), &EMPTY)?, None);
     Ok(())
 }
 
