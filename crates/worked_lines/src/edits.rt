@@ -78,8 +78,8 @@ fn told(report: &Report) -> [usize; 4] {
 }
 
 /// What an edit tells.
-fn applied(plan: &mut Plan, alloc: Global, edit: Edit) -> Result<[usize; 4], EditFault> {
-    let report = plan.apply(alloc, &edit)?;
+fn applied(plan: &mut Plan, alloc: Global, edit: &Edit) -> Result<[usize; 4], EditFault> {
+    let report = plan.apply(alloc, edit)?;
     Ok(told(&report))
 }
 
@@ -92,13 +92,26 @@ fn remap(alloc: Global, area: u8, pdos: &[u16]) -> Result<Edit, AllocError> {
     })
 }
 
-/// The faults that a list of edits of one group gets, none for an accepted one.
-fn faults(answers: Vec<Result<Report, EditFault>>) -> Result<Vec<Option<EditFault>>, AllocError> {
-    let mut found = Vec::new(*answers.allocator());
-    for answer in answers {
-        found.push(answer.err())?;
+/// What an edit tells, or its fault.
+type Answer = Result<[usize; 4], EditFault>;
+
+/// Whether an answer is that which it is to be.
+fn is_answer(answer: &Result<Report, EditFault>, wanted: &Answer) -> bool {
+    match (answer, wanted) {
+        (Ok(report), Ok(numbers)) => told(report) == *numbers,
+        (Err(fault), Err(other)) => fault == other,
+        _ => false,
     }
-    Ok(found)
+}
+
+/// Whether answers are those which they are to be.
+fn are_answers(answers: &[Result<Report, EditFault>], wanted: &[Answer]) -> bool {
+    for (answer, other) in answers.iter().zip(wanted) {
+        if !is_answer(answer, other) {
+            return false;
+        }
+    }
+    answers.len() == wanted.len()
 }
 
 /// Want of memory, where an edit of a list was refused for it: the answers behind it aren't the list's.
@@ -111,9 +124,11 @@ fn want_of(answers: &[Result<Report, EditFault>]) -> Result<(), EditFault> {
     Ok(())
 }
 
-#[test]
-fn a_list_of_edits_is_answered_in_its_order(rt: HostRuntime) -> Result<(), Fail> {
-    let mut plan = one_group(rt.alloc())?;
+/// Connects and disconnects the group, the mandatory one and one that isn't declared.
+fn seven_edits(
+    plan: &mut Plan,
+    alloc: Global,
+) -> Result<Vec<Result<Report, EditFault>>, AllocError> {
     let edits = [
         Edit::Connect(100),
         Edit::Connect(100),
@@ -123,27 +138,26 @@ fn a_list_of_edits_is_answered_in_its_order(rt: HostRuntime) -> Result<(), Fail>
         Edit::Connect(0),
         Edit::Connect(7),
     ];
-    let answers = plan.run(rt.alloc(), &edits)?;
-    assert_eq!(rt; answers.len(), 7);
+    plan.run(alloc, &edits)
+}
+
+/// The answers to these edits.
+const ANSWERS: [Answer; 7] = [
+    Ok([1, 1, 4, 2]),
+    Err(EditFault::AlreadyPresent),
+    Ok([2, 1, 0, 2]),
+    Err(EditFault::NotPresent),
+    Err(EditFault::Mandatory),
+    Err(EditFault::AlreadyPresent),
+    Err(EditFault::UnknownAlias),
+];
+
+#[test]
+fn a_list_of_edits_is_answered_in_its_order(rt: HostRuntime) -> Result<(), Fail> {
+    let mut plan = one_group(rt.alloc())?;
+    let answers = seven_edits(&mut plan, rt.alloc())?;
     want_of(answers.as_slice())?;
-    let first = answers[0].as_ref().ok().ok_or("accepted")?;
-    assert_eq!(rt; told(first), [1, 1, 4, 2]);
-    let third = answers[2].as_ref().ok().ok_or("accepted")?;
-    assert_eq!(rt; told(third), [2, 1, 0, 2]);
-    let refused = faults(answers)?;
-    assert_eq!(rt;
-        refused.as_slice(),
-        [
-            None,
-            Some(EditFault::AlreadyPresent),
-            None,
-            Some(EditFault::NotPresent),
-            Some(EditFault::Mandatory),
-            Some(EditFault::AlreadyPresent),
-            Some(EditFault::UnknownAlias),
-        ]
-        .as_slice()
-    );
+    assert!(rt; are_answers(answers.as_slice(), &ANSWERS));
     assert_eq!(rt; plan.epoch(), 2);
     Ok(())
 }
@@ -153,65 +167,80 @@ fn an_edit_that_changes_no_width_begins_an_epoch(rt: HostRuntime) -> Result<(), 
     let mut plan = one_slave(rt.alloc())?;
     let edit = remap(rt.alloc(), 1, &[0x1a00])?;
     for epoch in 1..4 {
-        let report = plan.apply(rt.alloc(), &edit)?;
-        assert_eq!(rt; told(&report), [epoch, 0, 0, 0]);
+        assert_eq!(rt; applied(&mut plan, rt.alloc(), &edit)?, [epoch, 0, 0, 0]);
     }
     Ok(())
 }
 
-#[test]
-fn an_area_moves_to_another_task(rt: HostRuntime) -> Result<(), Fail> {
-    let mut plan = one_slave(rt.alloc())?;
-    let edit = Edit::Move {
+/// The output area moves to task 1.
+fn to_second_task() -> Edit {
+    Edit::Move {
         station: 1001,
         area: 0,
         task: 1,
-    };
-    assert_eq!(rt; applied(&mut plan, rt.alloc(), edit)?, [1, 2, 2, 2]);
+    }
+}
+
+/// The datagram of task 1 behind that.
+const MOVED: Datagram = Datagram {
+    address: 0x0200_0000,
+    length: 1,
+    expected: 2,
+    offset: 0,
+};
+
+#[test]
+fn an_area_moves_to_another_task(rt: HostRuntime) -> Result<(), Fail> {
+    let mut plan = one_slave(rt.alloc())?;
+    let edit = to_second_task();
+    assert_eq!(rt; applied(&mut plan, rt.alloc(), &edit)?, [1, 2, 2, 2]);
     assert_eq!(rt; seen(&plan, 0), (2, 1));
-    let moved = Datagram {
-        address: 0x0200_0000,
-        length: 1,
-        expected: 2,
-        offset: 0,
-    };
-    assert_eq!(rt; plan.places().datagram(1, 0), Some(moved));
+    assert_eq!(rt; plan.places().datagram(1, 0), Some(MOVED));
     Ok(())
 }
 
-/// The blocks that an edit moves, by station address and number.
-fn moved(plan: &mut Plan, alloc: Global, edit: Edit) -> Result<Vec<(u16, u8)>, EditFault> {
-    let report = plan.apply(alloc, &edit)?;
-    Ok(report.blocks.into_vec())
+/// Whether an edit is accepted and moves these blocks, by station address and number.
+fn moves(
+    plan: &mut Plan,
+    alloc: Global,
+    edit: &Edit,
+    blocks: &[(u16, u8)],
+) -> Result<bool, EditFault> {
+    let report = plan.apply(alloc, edit)?;
+    Ok(report.blocks.as_slice() == blocks)
 }
 
 #[test]
 fn a_report_names_the_blocks_that_moved(rt: HostRuntime) -> Result<(), Fail> {
     let mut plan = one_slave(rt.alloc())?;
-    let edit = Edit::Move {
-        station: 1001,
-        area: 0,
-        task: 1,
-    };
-    let blocks = moved(&mut plan, rt.alloc(), edit)?;
-    assert_eq!(rt; blocks.as_slice(), [(1001, 1), (1001, 3)].as_slice());
+    let edit = to_second_task();
+    assert!(rt; moves(&mut plan, rt.alloc(), &edit, &[(1001, 1), (1001, 3)])?);
     Ok(())
 }
+
+/// Whether a variable has a place in a table.
+fn has_place(table: &Places, number: u32, place: Place) -> bool {
+    match VarId::new(number) {
+        Some(variable) => table.place(variable) == Some(place),
+        None => false,
+    }
+}
+
+/// The place of an input variable at the front of the first datagram of task 0.
+const FIRST: Place = Place {
+    task: 0,
+    datagram: 0,
+    bit: 0,
+    bits: 4,
+    dir: Dir::In,
+};
 
 #[test]
 fn pdos_in_another_order_move_variables_alone(rt: HostRuntime) -> Result<(), Fail> {
     let mut plan = plan_of(rt.alloc(), TWO_PDOS)?;
     let edit = remap(rt.alloc(), 0, &[0x1a01, 0x1a00])?;
-    assert_eq!(rt; applied(&mut plan, rt.alloc(), edit)?, [1, 0, 0, 2]);
-    let first = Place {
-        task: 0,
-        datagram: 0,
-        bit: 0,
-        bits: 4,
-        dir: Dir::In,
-    };
-    let third = VarId::new(3).ok_or("a name")?;
-    assert_eq!(rt; plan.places().place(third), Some(first));
+    assert_eq!(rt; applied(&mut plan, rt.alloc(), &edit)?, [1, 0, 0, 2]);
+    assert!(rt; has_place(plan.places(), 3, FIRST));
     Ok(())
 }
 
@@ -219,21 +248,26 @@ fn pdos_in_another_order_move_variables_alone(rt: HostRuntime) -> Result<(), Fai
 fn areas_without_bits_touch_no_task(rt: HostRuntime) -> Result<(), Fail> {
     let mut plan = plan_of(rt.alloc(), EMPTY_GROUP)?;
     assert_eq!(rt;
-        applied(&mut plan, rt.alloc(), Edit::Connect(100))?,
+        applied(&mut plan, rt.alloc(), &Edit::Connect(100))?,
         [1, 0, 4, 0]
     );
+    Ok(())
+}
+
+/// Connects the group, assigns no PDO to its input area and disconnects it.
+fn silences_group(plan: &mut Plan, alloc: Global) -> Result<(), Fail> {
+    applied(plan, alloc, &Edit::Connect(100))?;
+    applied(plan, alloc, &remap(alloc, 1, &[])?)?;
+    applied(plan, alloc, &Edit::Disconnect(100))?;
     Ok(())
 }
 
 #[test]
 fn an_absent_group_keeps_its_assignments(rt: HostRuntime) -> Result<(), Fail> {
     let mut plan = one_group(rt.alloc())?;
-    applied(&mut plan, rt.alloc(), Edit::Connect(100))?;
-    let edit = remap(rt.alloc(), 1, &[])?;
-    applied(&mut plan, rt.alloc(), edit)?;
-    applied(&mut plan, rt.alloc(), Edit::Disconnect(100))?;
+    silences_group(&mut plan, rt.alloc())?;
     assert_eq!(rt; seen(&plan, 0), (0, 0));
-    applied(&mut plan, rt.alloc(), Edit::Connect(100))?;
+    applied(&mut plan, rt.alloc(), &Edit::Connect(100))?;
     assert_eq!(rt; seen(&plan, 0), (1, 2));
     Ok(())
 }
@@ -250,7 +284,7 @@ fn has_bytes(plan: &Plan, number: u8, bytes: &[u8]) -> bool {
 fn an_area_without_pdos_has_no_mapping(rt: HostRuntime) -> Result<(), Fail> {
     let mut plan = one_slave(rt.alloc())?;
     let edit = remap(rt.alloc(), 1, &[])?;
-    assert_eq!(rt; applied(&mut plan, rt.alloc(), edit)?, [1, 1, 2, 1]);
+    assert_eq!(rt; applied(&mut plan, rt.alloc(), &edit)?, [1, 1, 2, 1]);
     assert!(rt; has_bytes(&plan, 2, &[0x80, 0x11, 0, 0, 0x20, 0, 0, 0]));
     assert!(rt; has_bytes(&plan, 3, &[0; 16]));
     assert_eq!(rt; seen(&plan, 0), (1, 2));
@@ -258,26 +292,27 @@ fn an_area_without_pdos_has_no_mapping(rt: HostRuntime) -> Result<(), Fail> {
 }
 
 /// Carries an edit out, and gives the table that was there before with the edit's swap.
-fn swapped(plan: &mut Plan, alloc: Global, edit: Edit) -> Result<Places, EditFault> {
+fn swapped(plan: &mut Plan, alloc: Global, edit: &Edit) -> Result<Places, EditFault> {
     let mut table = plan.places().copied(alloc)?;
-    let report = plan.apply(alloc, &edit)?;
+    let report = plan.apply(alloc, edit)?;
     table.swap(alloc, &report.swap)?;
     Ok(table)
 }
 
+/// The place of the group's input variable.
+const INPUT: Place = Place {
+    task: 0,
+    datagram: 0,
+    bit: 8,
+    bits: 12,
+    dir: Dir::In,
+};
+
 #[test]
 fn a_swapped_table_is_the_new_one(rt: HostRuntime) -> Result<(), Fail> {
     let mut plan = one_group(rt.alloc())?;
-    let table = swapped(&mut plan, rt.alloc(), Edit::Connect(100))?;
+    let table = swapped(&mut plan, rt.alloc(), &Edit::Connect(100))?;
     assert!(rt; is_same_table(&table, plan.places(), 3));
-    let input = Place {
-        task: 0,
-        datagram: 0,
-        bit: 8,
-        bits: 12,
-        dir: Dir::In,
-    };
-    let second = VarId::new(2).ok_or("a name")?;
-    assert_eq!(rt; table.place(second), Some(input));
+    assert!(rt; has_place(&table, 2, INPUT));
     Ok(())
 }

@@ -1,8 +1,10 @@
 //! What the plans of worked lines answer at their opening: datagrams, parts, blocks and places.
 use crate::texts::{Refused, Width, datagram, plan_of, plan_of_widths, seen};
 use hc_places::table::{Datagram, Place};
+use hc_plan::plan::Plan;
 use hc_records::faults::EditFault;
 use hc_records::records::{Dir, VarId};
+use std::alloc::Global;
 use std::test::Fail;
 
 /// Two slaves with three output areas of 3 bits.
@@ -32,150 +34,199 @@ slave = [
 ]
 "#;
 
+/// Whether the datagrams of task 0 are these.
+fn has_datagrams(plan: &Plan, datagrams: &[Datagram]) -> bool {
+    let mut number = 0_u8;
+    for found in datagrams {
+        if datagram(plan, number) != Some(*found) {
+            return false;
+        }
+        number = number.saturating_add(1);
+    }
+    datagram(plan, number).is_none()
+}
+
+/// Whether a slave's block at a number has these bytes.
+fn has_bytes(plan: &Plan, station: u16, number: u8, bytes: &[u8]) -> bool {
+    match plan.block(station, number) {
+        Some(block) => block.bytes() == bytes,
+        None => false,
+    }
+}
+
+/// Whether a slave's block at a number has these bytes and stands at a register.
+fn has_block(plan: &Plan, station: u16, number: u8, register: u16, bytes: &[u8]) -> bool {
+    match plan.block(station, number) {
+        Some(block) => block.register() == register && block.bytes() == bytes,
+        None => false,
+    }
+}
+
+/// Whether a variable has this place, or has none.
+fn has_place(plan: &Plan, number: u32, place: Option<Place>) -> bool {
+    match VarId::new(number) {
+        Some(variable) => plan.places().place(variable) == place,
+        None => false,
+    }
+}
+
+const TWO_BYTES: Datagram = Datagram {
+    address: 0x0100_0000,
+    length: 2,
+    expected: 4,
+    offset: 0,
+};
+
 #[test]
 fn areas_of_three_bits_share_bytes(rt: HostRuntime) -> Result<(), Fail> {
     let plan = plan_of(rt.alloc(), THREE_BITS)?;
-    let only = Datagram {
-        address: 0x0100_0000,
-        length: 2,
-        expected: 4,
-        offset: 0,
-    };
-    assert_eq!(rt; datagram(&plan, 0), Some(only));
-    assert_eq!(rt; datagram(&plan, 1), None);
+    assert!(rt; has_datagrams(&plan, &[TWO_BYTES]));
     assert_eq!(rt; plan.places().part(0), (2, 0));
-    let second = plan.block(1, 3).ok_or("four blocks")?;
-    assert_eq!(rt; second.register(), 0x0610);
-    assert_eq!(rt;
-        second.bytes(),
-        [0, 0, 0, 1, 1, 0, 3, 5, 0x10, 0x10, 0, 2, 1, 0, 0, 0].as_slice()
-    );
-    let third = plan.block(2, 1).ok_or("two blocks")?;
-    assert_eq!(rt; third.register(), 0x0600);
-    assert_eq!(rt;
-        third.bytes(),
-        [0, 0, 0, 1, 2, 0, 6, 0, 0x00, 0x10, 0, 2, 1, 0, 0, 0].as_slice()
-    );
+    let second = [0, 0, 0, 1, 1, 0, 3, 5, 0x10, 0x10, 0, 2, 1, 0, 0, 0];
+    assert!(rt; has_block(&plan, 1, 3, 0x0610, &second));
+    let third = [0, 0, 0, 1, 2, 0, 6, 0, 0x00, 0x10, 0, 2, 1, 0, 0, 0];
+    assert!(rt; has_block(&plan, 2, 1, 0x0600, &third));
     Ok(())
 }
+
+const THREE_BYTES: Datagram = Datagram {
+    address: 0x0100_0000,
+    length: 3,
+    expected: 5,
+    offset: 0,
+};
+
+const INPUT: Place = Place {
+    task: 0,
+    datagram: 0,
+    bit: 16,
+    bits: 1,
+    dir: Dir::In,
+};
 
 #[test]
 fn an_input_begins_the_next_byte(rt: HostRuntime) -> Result<(), Fail> {
     let plan = plan_of(rt.alloc(), AND_AN_INPUT)?;
-    let only = Datagram {
-        address: 0x0100_0000,
-        length: 3,
-        expected: 5,
-        offset: 0,
-    };
-    assert_eq!(rt; datagram(&plan, 0), Some(only));
+    assert_eq!(rt; datagram(&plan, 0), Some(THREE_BYTES));
     assert_eq!(rt; plan.places().part(0), (2, 1));
-    let input = Place {
-        task: 0,
-        datagram: 0,
-        bit: 16,
-        bits: 1,
-        dir: Dir::In,
-    };
-    let fourth = VarId::new(4).ok_or("a name")?;
-    assert_eq!(rt; plan.places().place(fourth), Some(input));
-    let fifth = VarId::new(5).ok_or("a name")?;
-    assert_eq!(rt; plan.places().place(fifth), None);
+    assert!(rt; has_place(&plan, 4, Some(INPUT)) && has_place(&plan, 5, None));
     Ok(())
 }
 
-#[test]
-fn one_bit_more_begins_a_datagram(rt: HostRuntime) -> Result<(), Fail> {
-    let plan = plan_of_widths(
-        rt.alloc(),
-        &[&[(Dir::Out, 8 * 1485)], &[(Dir::Out, 8)], &[(Dir::Out, 1)]],
-    )?;
-    let first = Datagram {
+/// The datagrams of 1,486 bytes and of one byte behind it.
+const FULL_AND_ONE: [Datagram; 2] = [
+    Datagram {
         address: 0x0100_0000,
         length: 1486,
         expected: 4,
         offset: 0,
-    };
-    let second = Datagram {
+    },
+    Datagram {
         address: 0x0100_0800,
         length: 1,
         expected: 2,
         offset: 1486,
-    };
-    assert_eq!(rt; datagram(&plan, 0), Some(first));
-    assert_eq!(rt; datagram(&plan, 1), Some(second));
+    },
+];
+
+#[test]
+fn one_bit_more_begins_a_datagram(rt: HostRuntime) -> Result<(), Fail> {
+    let line: [&[Width]; 3] = [&[(Dir::Out, 8 * 1485)], &[(Dir::Out, 8)], &[(Dir::Out, 1)]];
+    let plan = plan_of_widths(rt.alloc(), &line)?;
+    assert!(rt; has_datagrams(&plan, &FULL_AND_ONE));
     assert_eq!(rt; plan.places().part(0), (1487, 0));
     Ok(())
 }
 
+/// Whether the first datagrams of task 0 have these lengths and expected counters, 0 and 0 for none.
+fn are_seen(plan: &Plan, rows: &[(u16, u16)]) -> bool {
+    let mut number = 0_u8;
+    for row in rows {
+        if seen(plan, number) != *row {
+            return false;
+        }
+        number = number.saturating_add(1);
+    }
+    true
+}
+
+/// The areas of a slave with an output area of 700 bytes.
+const SMALL: &[Width] = &[(Dir::Out, 8 * 700)];
+
+/// The areas of a slave with an output area of 1,400 bytes.
+const FULL: &[Width] = &[(Dir::Out, 8 * 1400)];
+
+/// Five slaves of 700 bytes, one of 1,400 and two of 700.
+const EIGHT_AREAS: [&[Width]; 8] = [SMALL, SMALL, SMALL, SMALL, SMALL, FULL, SMALL, SMALL];
+
+/// The lengths and the expected counters of their datagrams.
+const FIVE_DATAGRAMS: [(u16, u16); 6] = [
+    (1400, 4),
+    (1400, 4),
+    (700, 2),
+    (1400, 2),
+    (1400, 4),
+    (0, 0),
+];
+
 #[test]
 fn eight_areas_fill_five_datagrams(rt: HostRuntime) -> Result<(), Fail> {
-    let small = [(Dir::Out, 8 * 700)];
-    let large = [(Dir::Out, 8 * 1400)];
-    let plan = plan_of_widths(
-        rt.alloc(),
-        &[
-            &small, &small, &small, &small, &small, &large, &small, &small,
-        ],
-    )?;
-    let lengths = [seen(&plan, 0), seen(&plan, 1), seen(&plan, 2)];
-    assert_eq!(rt; lengths, [(1400, 4), (1400, 4), (700, 2)]);
-    let lengths = [seen(&plan, 3), seen(&plan, 4), seen(&plan, 5)];
-    assert_eq!(rt; lengths, [(1400, 2), (1400, 4), (0, 0)]);
-    let sixth = plan.block(6, 1).ok_or("two blocks")?;
-    assert_eq!(rt;
-        sixth.bytes(),
-        [0, 0x18, 0, 1, 0x78, 0x05, 0, 7, 0, 0x10, 0, 2, 1, 0, 0, 0].as_slice()
-    );
+    let plan = plan_of_widths(rt.alloc(), &EIGHT_AREAS)?;
+    assert!(rt; are_seen(&plan, &FIVE_DATAGRAMS));
+    let sixth = [0, 0x18, 0, 1, 0x78, 0x05, 0, 7, 0, 0x10, 0, 2, 1, 0, 0, 0];
+    assert!(rt; has_bytes(&plan, 6, 1, &sixth));
     assert_eq!(rt; plan.blocks(), 16);
     Ok(())
 }
 
 #[test]
 fn an_area_that_does_not_fit_begins_a_datagram(rt: HostRuntime) -> Result<(), Fail> {
-    let plan = plan_of_widths(
-        rt.alloc(),
-        &[
-            &[(Dir::Out, 8000)],
-            &[(Dir::Out, 5600)],
-            &[(Dir::Out, 5600)],
-        ],
-    )?;
-    let lengths = [seen(&plan, 0), seen(&plan, 1), seen(&plan, 2)];
-    assert_eq!(rt; lengths, [(1000, 2), (1400, 4), (0, 0)]);
+    let line: [&[Width]; 3] = [&[(Dir::Out, 8000)], SMALL, SMALL];
+    let plan = plan_of_widths(rt.alloc(), &line)?;
+    assert!(rt; are_seen(&plan, &[(1000, 2), (1400, 4), (0, 0)]));
     Ok(())
 }
 
+/// A slave with areas of 100 bytes, one with areas of 1,400 bytes, and two with outputs alone.
+const OUTPUTS_AND_INPUTS: [&[Width]; 4] = [
+    &[(Dir::Out, 800), (Dir::In, 800)],
+    &[(Dir::Out, 11_200), (Dir::In, 11_200)],
+    FULL,
+    FULL,
+];
+
+/// The lengths and the expected counters of their datagrams.
+const OUTPUTS_THEN_INPUTS: [(u16, u16); 7] = [
+    (100, 2),
+    (1400, 2),
+    (1400, 2),
+    (1400, 2),
+    (100, 1),
+    (1400, 1),
+    (0, 0),
+];
+
 #[test]
 fn inputs_stand_behind_all_outputs(rt: HostRuntime) -> Result<(), Fail> {
-    let gripper = [(Dir::Out, 800), (Dir::In, 800)];
-    let both = [(Dir::Out, 11_200), (Dir::In, 11_200)];
-    let output = [(Dir::Out, 11_200)];
-    let plan = plan_of_widths(rt.alloc(), &[&gripper, &both, &output, &output])?;
-    let outputs = [
-        seen(&plan, 0),
-        seen(&plan, 1),
-        seen(&plan, 2),
-        seen(&plan, 3),
-    ];
-    assert_eq!(rt; outputs, [(100, 2), (1400, 2), (1400, 2), (1400, 2)]);
-    let inputs = [seen(&plan, 4), seen(&plan, 5), seen(&plan, 6)];
-    assert_eq!(rt; inputs, [(100, 1), (1400, 1), (0, 0)]);
+    let plan = plan_of_widths(rt.alloc(), &OUTPUTS_AND_INPUTS)?;
+    assert!(rt; are_seen(&plan, &OUTPUTS_THEN_INPUTS));
     assert_eq!(rt; plan.places().part(0), (4300, 1500));
     Ok(())
 }
 
-/// The areas of a slave with an output area of 1,400 bytes.
-const FULL: &[Width] = &[(Dir::Out, 8 * 1400)];
+/// Whether a line is refused since task 0 needs too many datagrams, or want of memory.
+fn is_crowded(alloc: Global, line: &[&[Width]]) -> Result<bool, Fail> {
+    match plan_of_widths(alloc, line) {
+        Err(Refused::Opening(EditFault::TooManyDatagrams(task))) => Ok(task == 0),
+        Err(Refused::Opening(EditFault::Memory)) => Err(Fail::from("memory")),
+        _ => Ok(false),
+    }
+}
 
 #[test]
 fn a_seventeenth_datagram_is_refused(rt: HostRuntime) -> Result<(), Fail> {
     let plan = plan_of_widths(rt.alloc(), &[FULL; 16])?;
     assert_eq!(rt; seen(&plan, 15), (1400, 2));
-    match plan_of_widths(rt.alloc(), &[FULL; 17]) {
-        Err(Refused::Opening(EditFault::TooManyDatagrams(task))) => assert_eq!(rt; task, 0),
-        Err(Refused::Opening(EditFault::Memory)) => return Err(Fail::from("memory")),
-        _ => assert!(rt; false),
-    }
+    assert!(rt; is_crowded(rt.alloc(), &[FULL; 17])?);
     Ok(())
 }

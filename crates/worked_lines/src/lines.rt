@@ -50,18 +50,17 @@ fn connected(alloc: Global, both: bool) -> Result<Plan, Fail> {
     Ok(plan)
 }
 
+/// Whether the line has slaves of these ranks and station addresses.
+fn has_line(plan: &Plan, alloc: Global, slaves: &[(u16, u16)]) -> Result<bool, AllocError> {
+    Ok(slaves_of(plan, alloc)?.as_slice() == slaves)
+}
+
 #[test]
 fn a_line_has_the_present_slaves_with_their_ranks(rt: HostRuntime) -> Result<(), Fail> {
     let one = connected(rt.alloc(), false)?;
-    assert_eq!(rt;
-        slaves_of(&one, rt.alloc())?.as_slice(),
-        [(2, 1002)].as_slice()
-    );
+    assert!(rt; has_line(&one, rt.alloc(), &[(2, 1002)])?);
     let both = connected(rt.alloc(), true)?;
-    assert_eq!(rt;
-        slaves_of(&both, rt.alloc())?.as_slice(),
-        [(1, 1001), (2, 1002)].as_slice()
-    );
+    assert!(rt; has_line(&both, rt.alloc(), &[(1, 1001), (2, 1002)])?);
     Ok(())
 }
 
