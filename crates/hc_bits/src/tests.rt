@@ -1,13 +1,13 @@
 //! Runs worked out by hand, and the quick bodies against the plain ones over many runs.
 
-ghost use Rattle.std.specs.Prelude.{◌+◌, ◌*◌, ◌≤◌, length, IsTrue};
+ghost use Rattle.std.specs.Prelude.{◌+◌, ◌*◌, ◌≤◌, ◌↔◌, length, IsTrue};
 
 use super::*;
 
 /// Does the run lie in the slice, which has at most 32 bytes?
 fn is_run(bytes: &[u8], at: usize, n: usize) -> bool
     requires { length bytes.now ≤ 32 }
-    ensures { IsTrue result → at + n ≤ 8 * length bytes.now }
+    ensures { IsTrue result ↔ (at + n ≤ 8 * length bytes.now) }
 {
     n <= 8 * bytes.len() && at <= 8 * bytes.len() - n
 }
