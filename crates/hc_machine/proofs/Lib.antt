@@ -3,3 +3,7 @@ pub mod Bytes
 pub mod Rewritten
 pub mod Served
 pub mod Framed
+pub mod Paired
+pub mod Lowest
+pub mod Unmapped
+pub mod Alias

@@ -5,3 +5,4 @@ pub mod Commands
 pub mod Frames
 pub mod Rewriting
 pub mod Lending
+pub mod Laws

@@ -7,6 +7,7 @@ mod commands;
 mod datagrams;
 mod fmmu;
 mod frames;
+pub mod laws;
 pub mod limits;
 mod logical;
 mod machine;

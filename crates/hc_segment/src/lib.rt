@@ -13,3 +13,6 @@ pub use chains::chain;
 pub use faults::ChainFault;
 pub use hc_machine::SlaveMachine;
 pub use segment::Segment;
+
+#[cfg(test)]
+mod tests;
