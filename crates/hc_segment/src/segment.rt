@@ -66,6 +66,7 @@ impl Segment {
     pub fn into_machines(self) -> Vec<SlaveMachine>
         ensures { result.items ≡ self }
     {
-        self.machines
+        let Segment { machines } = self;
+        machines
     }
 }

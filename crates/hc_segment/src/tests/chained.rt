@@ -4,6 +4,7 @@ use crate::{Segment, SlaveMachine, chain};
 use hc_lend::Gate;
 use hc_rings::FrameBox;
 use std::alloc::{AllocError, Global};
+use std::process::Abort;
 use std::sync::atomic::{AtomicBool, Ordering};
 use std::test::Fail;
 use std::thread;
@@ -146,5 +147,38 @@ fn two_segments_run_at_once(rt: HostRuntime) -> Result<(), Fail> {
         gate.second_was_seen.load(Ordering::SeqCst),
         "the first thread didn't see the second"
     );
+    Ok(())
+}
+
+/// Each machine's mapped byte is one more than that of the machine before it; the first has this one.
+fn bytes_ascend(rt: &impl Abort, segments: &[Segment], first: u8) {
+    let mut wanted = first;
+    for segment in segments {
+        for machine in segment.machines() {
+            assert_eq!(rt; machine.memory()[0x1000], wanted);
+            wanted = wanted.wrapping_add(1);
+        }
+    }
+}
+
+/// The sweep refuses each growth of this test in turn: the machines are then as they were.
+#[test]
+fn machines_stay_where_a_chain_is_refused(rt: HostRuntime) -> Result<(), Fail> {
+    let alloc = rt.alloc();
+    let mut segments = segments_of(alloc, 4)?;
+    assert!(rt; !segments.is_empty());
+    let mut frames = Vec::new(alloc);
+    let sent = frame_of(12, 0x0100_0000, &[1, 2, 3, 4, 5, 6, 7, 8]);
+    frames.push(FrameBox::of(alloc, &sent)?)?;
+    match chain(&rt, alloc, &mut segments, frames, &Open) {
+        Ok(out) => {
+            assert_eq!(rt; out.len(), 1);
+            bytes_ascend(&rt, &segments, 1);
+        }
+        Err(fault) => {
+            assert_eq!(rt; fault.number(), 1);
+            bytes_ascend(&rt, &segments, 100);
+        }
+    }
     Ok(())
 }

@@ -8,7 +8,6 @@ use std::test::Fail;
 
 #[derive(Clone, Copy)]
 struct Row {
-    what: &'static str,
     blocks: [[u8; 16]; 2],
     memory: [(u16, u8); 2],
     came: [u8; 2],
@@ -20,7 +19,6 @@ struct Row {
 const NONE: [u8; 16] = [0; 16];
 
 fn process_row(rt: &impl Abort, machine: &mut SlaveMachine, row: &Row) {
-    let what = row.what;
     put(machine, 0x0600, &row.blocks[0]);
     put(machine, 0x0610, &row.blocks[1]);
     for (at, value) in row.memory {
@@ -29,19 +27,19 @@ fn process_row(rt: &impl Abort, machine: &mut SlaveMachine, row: &Row) {
     }
     let mut frame = frame_of(12, 0x0100_0000, &row.came);
     machine.process(&mut frame);
-    equal(rt, &frame[26..28], &row.left, what);
-    equal(rt, &frame[28..30], &[row.counter, 0], what);
+    equal(rt, &frame[26..28], &row.left, "data");
+    equal(rt, &frame[28..30], &[row.counter, 0], "counter");
     for (at, value) in row.kept {
         assert!(rt; at < 0x3000);
-        equal(rt, &[machine.memory()[usize::from(at)]], &[value], what);
+        equal(rt, &[machine.memory()[usize::from(at)]], &[value], "memory");
     }
 }
 
 #[test]
 fn bits_over_byte_edges(rt: HostRuntime) -> Result<(), Fail> {
     for row in [
+        // no FMMU is active
         Row {
-            what: "no FMMU is active",
             blocks: [[0, 0, 0, 1, 2, 0, 0, 7, 0, 0x10, 0, 3, 0, 0, 0, 0], NONE],
             memory: [(0x1000, 0x11), (0x1001, 0x22)],
             came: [0x33, 0x44],
@@ -49,8 +47,8 @@ fn bits_over_byte_edges(rt: HostRuntime) -> Result<(), Fail> {
             counter: 0,
             kept: [(0x1000, 0x11), (0x1001, 0x22)],
         },
+        // four bits are read over a byte's edge: 1101, low bit first
         Row {
-            what: "four bits are read over a byte's edge: 1101, low bit first",
             blocks: [[0, 0, 0, 1, 2, 0, 6, 1, 0, 0x10, 0, 1, 1, 0, 0, 0], NONE],
             memory: [(0x1000, 0xfb), (0x1001, 0)],
             came: [0x00, 0xff],
@@ -58,8 +56,8 @@ fn bits_over_byte_edges(rt: HostRuntime) -> Result<(), Fail> {
             counter: 1,
             kept: [(0x1000, 0xfb), (0x1001, 0)],
         },
+        // four bits are written over a byte's edge, from memory bit 5 on
         Row {
-            what: "four bits are written over a byte's edge, from memory bit 5 on",
             blocks: [[0, 0, 0, 1, 2, 0, 6, 1, 0, 0x10, 5, 2, 1, 0, 0, 0], NONE],
             memory: [(0x1000, 0x00), (0x1001, 0xff)],
             came: [0xc0, 0x02],
@@ -77,8 +75,8 @@ fn bits_over_byte_edges(rt: HostRuntime) -> Result<(), Fail> {
 #[test]
 fn ends_of_fmmus(rt: HostRuntime) -> Result<(), Fail> {
     for row in [
+        // a start bit over the stop bit in one byte: no pair
         Row {
-            what: "a start bit over the stop bit in one byte: no pair",
             blocks: [[0, 0, 0, 1, 1, 0, 5, 2, 0, 0x10, 0, 3, 1, 0, 0, 0], NONE],
             memory: [(0x1000, 0xff), (0x1001, 0xff)],
             came: [0, 0],
@@ -86,8 +84,8 @@ fn ends_of_fmmus(rt: HostRuntime) -> Result<(), Fail> {
             counter: 0,
             kept: [(0x1000, 0xff), (0x1001, 0xff)],
         },
+        // a start bit over the stop bit, a byte further: four pairs
         Row {
-            what: "a start bit over the stop bit, a byte further: four pairs",
             blocks: [[0, 0, 0, 1, 2, 0, 5, 0, 0, 0x10, 0, 1, 1, 0, 0, 0], NONE],
             memory: [(0x1000, 0xff), (0x1001, 0)],
             came: [0, 0],
@@ -95,8 +93,8 @@ fn ends_of_fmmus(rt: HostRuntime) -> Result<(), Fail> {
             counter: 1,
             kept: [(0x1000, 0xff), (0x1001, 0)],
         },
+        // length 0: no pair
         Row {
-            what: "length 0: no pair",
             blocks: [
                 [0, 0, 0, 1, 0, 0, 0, 7, 0, 0x10, 0, 3, 1, 0, 0, 0],
                 [1, 0, 0, 1, 0, 0, 0, 7, 0, 0x10, 0, 3, 1, 0, 0, 0],
@@ -107,8 +105,8 @@ fn ends_of_fmmus(rt: HostRuntime) -> Result<(), Fail> {
             counter: 0,
             kept: [(0x1000, 0xff), (0x1001, 0xff)],
         },
+        // of the bit fields the low three bits count, of the type the low two, of the activation the lowest
         Row {
-            what: "of the bit fields the low three bits count, of the type the low two, of the activation the lowest",
             blocks: [
                 [
                     0, 0, 0, 1, 1, 0, 0xf8, 0xff, 0, 0x10, 0xf8, 0xfd, 0x81, 0, 0, 0,
@@ -130,8 +128,8 @@ fn ends_of_fmmus(rt: HostRuntime) -> Result<(), Fail> {
 #[test]
 fn overlapping_fmmus(rt: HostRuntime) -> Result<(), Fail> {
     for row in [
+        // where two read FMMUs meet the lower number decides
         Row {
-            what: "where two read FMMUs meet the lower number decides",
             blocks: [
                 [0, 0, 0, 1, 1, 0, 0, 3, 0, 0x10, 0, 1, 1, 0, 0, 0],
                 [0, 0, 0, 1, 1, 0, 0, 7, 1, 0x10, 0, 1, 1, 0, 0, 0],
@@ -142,8 +140,8 @@ fn overlapping_fmmus(rt: HostRuntime) -> Result<(), Fail> {
             counter: 1,
             kept: [(0x1000, 0x05), (0x1001, 0xf0)],
         },
+        // where two write FMMUs meet the lower number decides
         Row {
-            what: "where two write FMMUs meet the lower number decides",
             blocks: [
                 [1, 0, 0, 1, 1, 0, 0, 3, 0, 0x10, 0, 2, 1, 0, 0, 0],
                 [0, 0, 0, 1, 1, 0, 0, 7, 0, 0x10, 0, 2, 1, 0, 0, 0],
@@ -154,8 +152,8 @@ fn overlapping_fmmus(rt: HostRuntime) -> Result<(), Fail> {
             counter: 2,
             kept: [(0x1000, 0x14), (0x1001, 0)],
         },
+        // a lower read FMMU whose pair lies past memory doesn't decide
         Row {
-            what: "a lower read FMMU whose pair lies past memory doesn't decide",
             blocks: [
                 [0, 0, 0, 1, 2, 0, 0, 7, 0xff, 0x2f, 0, 1, 1, 0, 0, 0],
                 [1, 0, 0, 1, 1, 0, 0, 7, 0, 0x10, 0, 1, 1, 0, 0, 0],
@@ -175,8 +173,8 @@ fn overlapping_fmmus(rt: HostRuntime) -> Result<(), Fail> {
 #[test]
 fn both_directions(rt: HostRuntime) -> Result<(), Fail> {
     for row in [
+        // type 3: what was there is read, and what came in is written
         Row {
-            what: "type 3: what was there is read, and what came in is written",
             blocks: [[0, 0, 0, 1, 2, 0, 0, 7, 0, 0x10, 0, 3, 1, 0, 0, 0], NONE],
             memory: [(0x1000, 0xaa), (0x1001, 0xbb)],
             came: [0x55, 0x66],
@@ -184,8 +182,8 @@ fn both_directions(rt: HostRuntime) -> Result<(), Fail> {
             counter: 3,
             kept: [(0x1000, 0x55), (0x1001, 0x66)],
         },
+        // two FMMUs of each slave count once
         Row {
-            what: "two FMMUs of each slave count once",
             blocks: [
                 [0, 0, 0, 1, 1, 0, 0, 7, 0, 0x10, 0, 3, 1, 0, 0, 0],
                 [1, 0, 0, 1, 1, 0, 0, 7, 1, 0x10, 0, 3, 1, 0, 0, 0],
@@ -196,8 +194,8 @@ fn both_directions(rt: HostRuntime) -> Result<(), Fail> {
             counter: 3,
             kept: [(0x1000, 3), (0x1001, 4)],
         },
+        // a read FMMU over memory that another writes: both act on what was there
         Row {
-            what: "a read FMMU over memory that another writes: both act on what was there",
             blocks: [
                 [0, 0, 0, 1, 1, 0, 0, 7, 0, 0x10, 0, 2, 1, 0, 0, 0],
                 [1, 0, 0, 1, 1, 0, 0, 7, 0, 0x10, 0, 1, 1, 0, 0, 0],
@@ -217,8 +215,8 @@ fn both_directions(rt: HostRuntime) -> Result<(), Fail> {
 #[test]
 fn ends_of_memory(rt: HostRuntime) -> Result<(), Fail> {
     for row in [
+        // pairs past memory don't count
         Row {
-            what: "pairs past memory don't count",
             blocks: [[0, 0, 0, 1, 2, 0, 0, 7, 0xff, 0x2f, 0, 2, 1, 0, 0, 0], NONE],
             memory: [(0x2fff, 0), (0x0000, 0)],
             came: [0x12, 0x34],
@@ -226,8 +224,8 @@ fn ends_of_memory(rt: HostRuntime) -> Result<(), Fail> {
             counter: 2,
             kept: [(0x2fff, 0x12), (0x0000, 0)],
         },
+        // all pairs lie past memory
         Row {
-            what: "all pairs lie past memory",
             blocks: [
                 [0, 0, 0, 1, 2, 0, 0, 7, 0, 0x30, 0, 3, 1, 0, 0, 0],
                 [0, 0, 0, 1, 2, 0, 0, 7, 0xff, 0xff, 0, 3, 1, 0, 0, 0],
@@ -247,8 +245,8 @@ fn ends_of_memory(rt: HostRuntime) -> Result<(), Fail> {
 #[test]
 fn ends_of_a_datagram(rt: HostRuntime) -> Result<(), Fail> {
     for row in [
+        // another datagram's FMMUs, the byte before and the byte behind
         Row {
-            what: "another datagram's FMMUs, the byte before and the byte behind",
             blocks: [
                 [0xff, 0xff, 0xff, 0, 1, 0, 0, 7, 0, 0x10, 0, 3, 1, 0, 0, 0],
                 [2, 0, 0, 1, 1, 0, 0, 7, 1, 0x10, 0, 3, 1, 0, 0, 0],
@@ -259,8 +257,8 @@ fn ends_of_a_datagram(rt: HostRuntime) -> Result<(), Fail> {
             counter: 0,
             kept: [(0x1000, 1), (0x1001, 2)],
         },
+        // an FMMU that begins before the datagram and ends in it
         Row {
-            what: "an FMMU that begins before the datagram and ends in it",
             blocks: [
                 [0xff, 0xff, 0xff, 0, 2, 0, 0, 3, 0, 0x10, 0, 1, 1, 0, 0, 0],
                 NONE,
@@ -271,8 +269,8 @@ fn ends_of_a_datagram(rt: HostRuntime) -> Result<(), Fail> {
             counter: 1,
             kept: [(0x1000, 0), (0x1001, 0x7e)],
         },
+        // the alias is written over: it stays, and the write counts
         Row {
-            what: "the alias is written over: it stays, and the write counts",
             blocks: [[0, 0, 0, 1, 2, 0, 0, 7, 0x12, 0, 0, 2, 1, 0, 0, 0], NONE],
             memory: [(0x0011, 7), (0x0014, 8)],
             came: [0x12, 0x34],
@@ -295,7 +293,8 @@ fn counters_wrap(rt: HostRuntime) -> Result<(), Fail> {
         &[0, 0, 0, 1, 1, 0, 0, 7, 0, 0x10, 0, 3, 1, 0, 0, 0],
     );
     let mut frame = frame_of(12, 0x0100_0000, &[0]);
-    frame[27..29].copy_from_slice(&[0xff, 0xff]);
+    frame[27] = 0xff;
+    frame[28] = 0xff;
     machine.process(&mut frame);
     equal(&rt, &frame[27..29], &[2, 0], "65,535 and 3");
     Ok(())
@@ -337,33 +336,37 @@ fn second_datagram_meets_what_the_first_wrote(rt: HostRuntime) -> Result<(), Fai
         &[0, 0, 0, 1, 16, 0, 0, 7, 0x10, 0x06, 0, 2, 1, 0, 0, 0],
     );
     put(&mut machine, 0x1000, &[0x5a]);
-    let block = [0, 0, 0, 1, 17, 0, 0, 7, 0, 0x10, 0, 1, 1, 0, 0, 0];
-    let mut frame = [0; 64];
-    frame[..26].copy_from_slice(&frame_of(12, 0x0100_0000, &block)[..26]);
-    // the datagrams have 28 and 13 bytes; the first says that more follow
-    frame[14] = 41;
-    frame[23] = 0x80;
-    frame[26..42].copy_from_slice(&block);
-    frame[44..54].copy_from_slice(&[12, 0, 0, 0, 0, 1, 1, 0, 0, 0]);
-    let mut later = frame;
+    // head; 16 bytes at 0x01000000, more follow; one byte at 0x01000010
+    let sent = [
+        0xff, 0xff, 0xff, 0xff, 0xff, 0xff, 2, 0, 0, 0, 0, 0, 0x88, 0xa4, 41, 0x10, 12, 0, 0, 0, 0,
+        1, 16, 0x80, 0, 0, 16, 0, 0, 1, 1, 0, 0, 7, 0, 0x10, 0, 1, 1, 0, 0, 0, 0, 0, 12, 0, 16, 0,
+        0, 1, 1, 0, 0, 0, 7, 0, 0,
+    ];
+    let mut frame = sent;
     machine.process(&mut frame);
-    equal(&rt, &frame[26..42], &block, "data of the first");
-    equal(&rt, &frame[42..44], &[2, 0], "the first writes alone");
     equal(
         &rt,
-        &frame[54..57],
-        &[0x5a, 3, 0],
-        "the second reads and writes",
+        &frame[26..42],
+        &[16, 0, 0, 1, 1, 0, 0, 7, 0, 0x10, 0, 1, 1, 0, 0, 0],
+        "data of the first",
     );
+    equal(&rt, &frame[42..44], &[2, 0], "the first writes");
+    equal(&rt, &frame[54..57], &[0x5a, 1, 0], "the second reads");
     equal(
         &rt,
         &machine.memory()[0x0610..0x0620],
-        &[0, 0, 0, 1, 17, 0, 0, 7, 0, 0x10, 0, 1, 1, 0, 0, 0],
+        &[16, 0, 0, 1, 1, 0, 0, 7, 0, 0x10, 0, 1, 1, 0, 0, 0],
         "the block",
     );
-    // now both FMMUs are active from the start
-    machine.process(&mut later);
-    equal(&rt, &later[42..44], &[3, 0], "the first reads and writes");
+    let mut again = sent;
+    machine.process(&mut again);
+    equal(
+        &rt,
+        &again[42..44],
+        &[2, 0],
+        "the first writes the same again",
+    );
+    equal(&rt, &again[54..57], &[0x5a, 1, 0], "the second reads again");
     Ok(())
 }
 
