@@ -38,7 +38,7 @@ fn take_all<R: Wait>(rt: &R, from: &mut FrameReceiver, count: usize, answer: &mu
     }
 }
 
-/// Passes the frames through all segments, of which there is at least one, each in a thread of its own; the last in this
+/// Passes the frames through all segments, of which there is at least one, each in a thread of its own; the first in this
 /// one. Each thread calls the gate once, with its segment's number, counted from 0, before it waits for its first frame.
 /// It returns once all frames came out, in their order. `ChainFault` where a growth was refused; the machines are then as
 /// they were, and the frames are dropped. Rings and the room for the answer are made before a thread is started.

@@ -72,14 +72,15 @@ pub(crate) fn flow<R: Threads + Wait + Sync, G: Gate + Sync>(
         mut receiver,
     } = seam;
     let (out, into) = (&mut sender, &mut receiver);
+    // where no thread can be made the second closure runs first: what leaves this segment then waits in the seam
     join_mut(
         rt,
-        &mut || work(rt, number, first, from, out, count, gate),
         &mut ||
             requires { IsSync R.row × IsSync G.row × Unused into.now to.now × (vec_len seams.now + 1 ≡ length rest.now)
                 × (number + 1 + length rest.now < 2 ^ 64) }
             ensures { Flows count rest.entry.now rest.exit.now into.entry.now into.exit.now to.entry.now to.exit.now }
         { flow(rt, number + 1, rest, seams, into, to, count, gate) },
+        &mut || work(rt, number, first, from, out, count, gate),
     );
     receiver.beside(&mut sender);
 }

@@ -3,14 +3,14 @@ use Rattle.hc_rings.specs.Frames.{SameFrameReceiver, frames_left, frames_sent, f
 use Rattle.hc_segment.specs.Line.{frames_through, machines_after, line_after, line_frames}
 use Rattle.hc_segment.specs.Flow.{Flows}
 use Rattle.hc_segment.proofs.Joined.{handed-on, line-sent, line-left, only-one, set-one}
-use Rattle.hc_segment.proofs.flow.+flow+fn-flow-join_mut+arg3.Goals as goal
+use Rattle.hc_segment.proofs.flow.+flow+fn-flow-join_mut+arg2.Goals as goal
 
 pub returns : goal.returns
 returns g t c =
     let front = c.split_at_mut-first.result.0.now in
     let back = c.split_at_mut-first.result.1.now in
     let s = c.index-first-0.result in
-    let s' = c.join_mut.new.f.2.now in
+    let s' = c.join_mut.new.g.2.now in
     let got = frames_taken c.from-1.given.0 in
     let passed = frames_sent c.sender-2-1.given.0 in
     let got2 = frames_taken c.receiver-2-1.given.0 in
