@@ -1,5 +1,5 @@
 -- A line of segments is one segment of all their machines.
-use Rattle.std.proofs.Common.{◌≡◌, ℕ, suc, List, [], ◌∷◌, ◌++◌, length, map, refl, ap, ap₂, sym, ◌∙◌}
+use Rattle.std.proofs.Common.{◌≡◌, ℕ, suc, ◌+◌, List, [], ◌∷◌, ◌++◌, length, map, refl, ap, ap₂, sym, ◌∙◌, arith}
 use Rattle.hc_machine.specs.Frames.{frame_after}
 use Rattle.hc_segment.specs.Line.{all_machines, frame_through, frames_through, line_after, line_frames, machines_after, machines_behind}
 use Rattle.hc_segment.proofs.Passing.{Machines, frame_through-append, machines_behind-append}
@@ -47,3 +47,8 @@ line_after-lengths (s ∷ line) fs = ap₂ (λ (n : ℕ) (ns : List ℕ). n ∷ 
 pub length-frames : (s : Machines) (fs : List (List ℕ)) → length (frames_through s fs) ≡ length fs
 length-frames s [] = refl
 length-frames s (f ∷ fs) = ap suc (length-frames (machines_behind s f) fs)
+
+-- of no segment the frames come back
+pub none-pass : (line : List Machines) (fs : List (List ℕ)) → length line ≡ 0 → (fs ≡ frames_through (all_machines line) fs) × (all_machines line ≡ machines_after (all_machines line) fs)
+none-pass [] fs none = (frames_through-none fs, machines_after-none fs)
+none-pass (s ∷ line) fs none = absurd (omega arith)

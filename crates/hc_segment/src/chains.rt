@@ -1,5 +1,5 @@
 //! A chain of segments, each in a thread of its own.
-ghost use Rattle.std.specs.Prelude.{◌≡◌, ◌<◌, ◌≤◌, [], length, map, vec_capacity, IfOk, MatchResult};
+ghost use Rattle.std.specs.Prelude.{◌≡◌, ◌≤◌, [], length, map, vec_capacity, IfOk, MatchResult};
 ghost use Rattle.hc_rings.specs.Frames.{SameFrameReceiver, SameFrameSender, frames_sent, frames_taken};
 ghost use Rattle.hc_segment.specs.Line.{all_machines, frames_through, machines_after};
 
@@ -38,8 +38,8 @@ fn take_all<R: Wait>(rt: &R, from: &mut FrameReceiver, count: usize, answer: &mu
     }
 }
 
-/// Passes the frames through all segments, of which there is at least one, each in a thread of its own; the first in this
-/// one. Each thread calls the gate once, with its segment's number, counted from 0, before it waits for its first frame.
+/// Passes the frames through all segments, each in a thread of its own; the first in this one. Of no segment the frames come
+/// back at once. Each thread calls the gate once, with its segment's number, counted from 0, before it waits for its first frame.
 /// It returns once all frames came out, in their order. `ChainFault` where a growth was refused; the machines are then as
 /// they were, and the frames are dropped. Rings and the room for the answer are made before a thread is started.
 ///
@@ -51,11 +51,13 @@ pub fn chain<R: Threads + Wait + Sync, G: Gate + Sync>(
     frames: Vec<FrameBox>,
     gate: &G,
 ) -> Result<Vec<FrameBox>, ChainFault>
-    requires { 0 < length segments.old }
     ensures frames { IfOk result (λ out. out.items ≡ frames_through (all_machines segments.old) frames.items) }
     ensures machines { MatchResult result (λ _. all_machines segments.new ≡ machines_after (all_machines segments.old) frames.items) (λ _. segments.new ≡ segments.old) }
     ensures segments { map length segments.new ≡ map length segments.old }
 {
+    if segments.is_empty() {
+        return Ok(frames);
+    }
     let count = frames.len();
     // more frames than a ring can have room for would wait for each other
     let room = u32::try_from(count).unwrap_or(u32::MAX);

@@ -112,7 +112,6 @@ fn chains_of_one_two_and_four_are_equal(rt: HostRuntime) -> Result<(), Fail> {
     let wanted = bytes_of(alloc, &frames, &plain)?;
     for size in [8, 4, 2] {
         let mut segments = segments_of(alloc, size)?;
-        assert!(rt; !segments.is_empty());
         let out = chain(&rt, alloc, &mut segments, frames_of(alloc)?, &Open)?;
         assert!(rt;
             bytes_of(alloc, &out, &segments)? == wanted,
@@ -126,9 +125,16 @@ fn chains_of_one_two_and_four_are_equal(rt: HostRuntime) -> Result<(), Fail> {
 fn no_frame_is_no_work(rt: HostRuntime) -> Result<(), Fail> {
     let alloc = rt.alloc();
     let mut segments = segments_of(alloc, 4)?;
-    assert!(rt; !segments.is_empty());
     let out = chain(&rt, alloc, &mut segments, Vec::new(alloc), &Open)?;
     assert!(rt; out.is_empty());
+    Ok(())
+}
+
+#[test]
+fn no_segment_passes_frames_on(rt: HostRuntime) -> Result<(), Fail> {
+    let alloc = rt.alloc();
+    let out = chain(&rt, alloc, &mut [], frames_of(alloc)?, &Open)?;
+    assert_eq!(rt; out.len(), 80);
     Ok(())
 }
 
@@ -140,7 +146,6 @@ fn two_segments_run_at_once(rt: HostRuntime) -> Result<(), Fail> {
         second_was_seen: AtomicBool::new(false),
     };
     let mut segments = segments_of(alloc, 4)?;
-    assert!(rt; !segments.is_empty());
     let out = chain(&rt, alloc, &mut segments, frames_of(alloc)?, &gate)?;
     assert_eq!(rt; out.len(), 80);
     assert!(rt;
@@ -166,7 +171,6 @@ fn bytes_ascend(rt: &impl Abort, segments: &[Segment], first: u8) {
 fn machines_stay_where_a_chain_is_refused(rt: HostRuntime) -> Result<(), Fail> {
     let alloc = rt.alloc();
     let mut segments = segments_of(alloc, 4)?;
-    assert!(rt; !segments.is_empty());
     let mut frames = Vec::new(alloc);
     let sent = frame_of(12, 0x0100_0000, &[1, 2, 3, 4, 5, 6, 7, 8]);
     frames.push(FrameBox::of(alloc, &sent)?)?;

@@ -1,8 +1,9 @@
-use Rattle.std.proofs.Common.{rules, ◌≡◌, ◌++◌, length, map, ap, ◌∙◌}
+use Rattle.std.proofs.Common.{rules, ◌≡◌, ◌++◌, length, map, ap, ◌∙◌, arith}
+use Rattle.std.proofs.lemmas.Bool.Decides.{nat_tests}
 use Rattle.hc_rings.specs.Frames.{frames_left, frames_sent, frames_taken}
 use Rattle.hc_segment.specs.Line.{all_machines, machines_after}
 use Rattle.hc_segment.proofs.Joined.{all-out}
-use Rattle.hc_segment.proofs.Lines.{line_after-joined, line_after-lengths}
+use Rattle.hc_segment.proofs.Lines.{line_after-joined, line_after-lengths, none-pass}
 use Rattle.hc_segment.proofs.chains.chain.Goals as goal
 
 pub returns-clause-frames : goal.returns-clause-frames
@@ -27,3 +28,13 @@ returns-clause-machines g c =
 
 pub returns-clause-segments : goal.returns-clause-segments
 returns-clause-segments g c = ap (map length) c.flow.ensures.segments ∙ line_after-lengths c.args.segments.now (frames_taken c.flow.new.from)
+
+pub returns-then-is_empty-clause-frames : goal.returns-then-is_empty-clause-frames
+returns-then-is_empty-clause-frames g c =
+    let none : length c.args.segments.now ≡ 0 = grind (arith, nat_tests) in
+    (none-pass c.args.segments.now c.args.frames.items none).0
+
+pub returns-then-is_empty-clause-machines : goal.returns-then-is_empty-clause-machines
+returns-then-is_empty-clause-machines g c =
+    let none : length c.args.segments.now ≡ 0 = grind (arith, nat_tests) in
+    (none-pass c.args.segments.now c.args.frames.items none).1
