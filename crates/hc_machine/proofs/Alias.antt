@@ -6,10 +6,9 @@ use Rattle.hc_frames.specs.declared.commands.Command.{Command}
 use Rattle.hc_frames.specs.declared.commands.Command.TheVariants.{Aprd, Apwr, Fpwr, Lrw}
 use Rattle.hc_frames.specs.Arrived.{fault_in, reading_of}
 use Rattle.hc_frames.specs.FrameText.{Carried}
-use Rattle.hc_machine.specs.Commands.{count_of, is_at_position, is_at_station, kept, register_of, served, written}
-use Rattle.hc_machine.specs.Commands as commands
+use Rattle.hc_machine.specs.Commands.{count_of, is_at_position, is_at_station, kept, memory_after, register_of, served, written}
 use Rattle.hc_machine.specs.Fmmus.{fmmus_of}
-use Rattle.hc_machine.specs.Frames.{all_kept, memory_after}
+use Rattle.hc_machine.specs.Frames.{all_kept, memory_behind}
 use Rattle.hc_machine.specs.Laws.{AliasStays, CountersRise}
 use Rattle.hc_machine.specs.Logical.{logical_count, logical_memory, reads_any, writes_any}
 use Rattle.hc_machine.specs.Memory.{with_alias_of, with_part}
@@ -45,7 +44,7 @@ same-logical : (memory bytes : List ℕ) (from : ℕ) → length memory ≡ 1228
 unfolding logical_memory
 same-logical memory bytes from long = put-back memory _ (length-bytes_with (length memory) _ ∙ long)
 
-same-after : (command : Command) (memory bytes : List ℕ) (address : ℕ) → length memory ≡ 12288 → SameAlias memory (commands.memory_after command memory address bytes)
+same-after : (command : Command) (memory bytes : List ℕ) (address : ℕ) → length memory ≡ 12288 → SameAlias memory (memory_after command memory address bytes)
 same-after Aprd memory bytes address long = record { long = long; low = refl; high = refl }
 same-after Apwr memory bytes address long = same-if (is_at_position address (length bytes)) memory bytes (register_of address) long (λ e. grind (arith, nat_tests))
 same-after Fpwr memory bytes address long = same-if (is_at_station memory address (length bytes)) memory bytes (register_of address) long (λ e. grind (arith, nat_tests))
@@ -67,7 +66,7 @@ same-read true memory ds long = same-all memory ds long
 same-read false memory ds long = record { long = long; low = refl; high = refl }
 
 pub alias-stays : AliasStays
-unfolding memory_after
+unfolding memory_behind
 alias-stays memory frame long =
     let same : SameAlias memory (if is_none (fault_in frame) then all_kept memory (reading_of frame).parts else memory) = same-read (is_none (fault_in frame)) memory (reading_of frame).parts long in
     (same.long, same.low, same.high)

@@ -12,7 +12,7 @@ use Rattle.hc_frames.specs.Arrived.{Answers, Reading, datagram_bytes, datagrams_
 use Rattle.hc_frames.specs.FrameText.{Carried, carried_frame, carried_texts, head_to}
 use Rattle.hc_frames.proofs.lemmas.Opening.{drop_front, drop_twice}
 use Rattle.hc_frames.proofs.lemmas.Spelling.{frame-carried}
-use Rattle.hc_machine.specs.Frames.{all_kept, all_served, frame_after, memory_after}
+use Rattle.hc_machine.specs.Frames.{all_kept, all_served, frame_after, memory_behind}
 use Rattle.hc_machine.specs.Rewriting.{ServesTexts}
 
 -- what the reader answers
@@ -124,14 +124,14 @@ module _ (bytes : List ℕ) (all : All (λ b. b < 256) bytes) (none : is_none (f
         ∙ sym (append_assoc (head (length new)) new behind)
         ∙ sym (ap (λ (b : Bool). if b then carried_frame (take 6 bytes) (slice_index bytes 6) serial (all_served memory parts) behind else bytes) none)
 
-    pub memory-served : memory' ≡ memory_after memory bytes
-    unfolding memory_after
+    pub memory-served : memory' ≡ memory_behind memory bytes
+    unfolding memory_behind
     memory-served = done.1 ∙ sym (ap (λ (b : Bool). if b then all_kept memory parts else memory) none)
 
 pub frame-stays : (memory bytes : List ℕ) → is_none (fault_in bytes) ≡ false → bytes ≡ frame_after memory bytes
 unfolding frame_after
 frame-stays memory bytes faulty = rw faulty refl
 
-pub memory-stays : (memory bytes : List ℕ) → is_none (fault_in bytes) ≡ false → memory ≡ memory_after memory bytes
-unfolding memory_after
+pub memory-stays : (memory bytes : List ℕ) → is_none (fault_in bytes) ≡ false → memory ≡ memory_behind memory bytes
+unfolding memory_behind
 memory-stays memory bytes faulty = rw faulty refl

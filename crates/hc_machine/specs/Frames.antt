@@ -22,5 +22,5 @@ frame_after memory frame =
     else frame
 
 -- the memory behind the frame
-unfoldable pub memory_after : List ℕ → List ℕ → List ℕ
-memory_after memory frame = if is_none (fault_in frame) then all_kept memory (reading_of frame).parts else memory
+unfoldable pub memory_behind : List ℕ → List ℕ → List ℕ
+memory_behind memory frame = if is_none (fault_in frame) then all_kept memory (reading_of frame).parts else memory

@@ -7,7 +7,7 @@ use Rattle.hc_machine.specs.declared.fmmu.Fmmu.{Fmmu}
 use Rattle.hc_machine.specs.declared.limits.TheConstants.{FMMUS, MEMORY_BITS, MEMORY_BYTES}
 use Rattle.hc_machine.specs.Commands.{served}
 use Rattle.hc_machine.specs.Fmmus.{block_at, fmmu_of, is_active, is_read, is_write}
-use Rattle.hc_machine.specs.Frames.{memory_after}
+use Rattle.hc_machine.specs.Frames.{memory_behind}
 use Rattle.hc_machine.specs.Logical.{logical_count, logical_data, logical_memory, memory_bit}
 
 -- logical bit x and memory bit m are a pair of an FMMU block: it is active; x lies from bit `8 * start + start bit` to bit `8 * (start + length - 1) + stop bit`, both included; m is as far from bit `8 * physical start + start bit` as x is from the first; and m lies in memory
@@ -72,4 +72,4 @@ CountersRise = (memory : List ℕ) (d : Carried) → (n : ℕ) × (n ≤ 3) × (
 abbrev pub AliasStays : Type 0
 AliasStays =
     (memory frame : List ℕ) → length memory ≡ MEMORY_BYTES
-    → (length (memory_after memory frame) ≡ MEMORY_BYTES) × (slice_index (memory_after memory frame) 18 ≡ slice_index memory 18) × (slice_index (memory_after memory frame) 19 ≡ slice_index memory 19)
+    → (length (memory_behind memory frame) ≡ MEMORY_BYTES) × (slice_index (memory_behind memory frame) 18 ≡ slice_index memory 18) × (slice_index (memory_behind memory frame) 19 ≡ slice_index memory 19)

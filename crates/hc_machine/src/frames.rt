@@ -3,7 +3,7 @@
 ghost use Rattle.std.specs.Prelude.{◌≡◌, ◌+◌, ◌<◌, ◌≤◌, All, is_none, length, true};
 ghost use Rattle.std.specs.List.{list_all};
 ghost use Rattle.hc_frames.specs.Arrived.{datagram_bytes, datagrams_in, fault_in, is_whole, region};
-ghost use Rattle.hc_machine.specs.Frames.{frame_after, memory_after};
+ghost use Rattle.hc_machine.specs.Frames.{frame_after, memory_behind};
 
 use crate::datagrams::{serve_datagrams, word_at};
 use crate::limits::MEMORY_BYTES;
@@ -33,7 +33,7 @@ pub(crate) fn serve_frame(memory: &mut [u8], spare: &mut [u8], frame: &mut [u8])
     requires memory { length memory.old ≡ MEMORY_BYTES }
     requires spare { length spare.old ≡ MAX_DATA }
     ensures frame { frame.new ≡ frame_after memory.old frame.old }
-    ensures memory { memory.new ≡ memory_after memory.old frame.old }
+    ensures memory { memory.new ≡ memory_behind memory.old frame.old }
 {
     if !is_readable(frame) {
         return;

@@ -2,7 +2,7 @@
 
 ghost use Rattle.std.specs.Prelude.{◌≡◌, IfOk, length, vec_len};
 ghost use Rattle.std.specs.Borrow.{sem};
-ghost use Rattle.hc_machine.specs.Frames.{frame_after, memory_after};
+ghost use Rattle.hc_machine.specs.Frames.{frame_after, memory_behind};
 ghost use Rattle.hc_machine.specs.Lending.{LendsMemory};
 ghost use Rattle.hc_machine.specs.Memory.{fresh_memory, zeros};
 
@@ -66,7 +66,7 @@ impl SlaveMachine {
     /// Takes no memory.
     pub fn process(&mut self, frame: &mut [u8])
         ensures frame { frame.new ≡ frame_after self.old frame.old }
-        ensures memory { self.new ≡ memory_after self.old frame.old }
+        ensures memory { self.new ≡ memory_behind self.old frame.old }
     {
         serve_frame(&mut self.memory, &mut self.spare, frame);
     }

@@ -1,5 +1,5 @@
 -- A line of segments is one segment of all their machines.
-use Rattle.std.proofs.Common.{◌≡◌, ℕ, suc, ◌+◌, List, [], ◌∷◌, ◌++◌, length, map, refl, ap, ap₂, sym, ◌∙◌, arith}
+use Rattle.std.proofs.Common.{◌≡◌, ℕ, suc, List, [], ◌∷◌, ◌++◌, length, map, refl, ap, ap₂, sym, ◌∙◌, arith}
 use Rattle.hc_machine.specs.Frames.{frame_after}
 use Rattle.hc_segment.specs.Line.{all_machines, frame_through, frames_through, line_after, line_frames, machines_after, machines_behind}
 use Rattle.hc_segment.proofs.Passing.{Machines, frame_through-append, machines_behind-append}

@@ -1,6 +1,6 @@
 -- Frames added at the end, and machines added at the end.
 use Rattle.std.proofs.Common.{◌≡◌, ℕ, zero, suc, ◌+◌, ◌<◌, List, [], ◌∷◌, ◌++◌, length, take, drop, get_or, set, refl, ap, ap₂, sym, ◌∙◌, arith}
-use Rattle.hc_machine.specs.Frames.{frame_after, memory_after}
+use Rattle.hc_machine.specs.Frames.{frame_after, memory_behind}
 use Rattle.hc_segment.specs.Line.{frame_through, frames_through, machines_after, machines_behind}
 
 abbrev pub Machines : Type 0
@@ -28,10 +28,10 @@ more-machines s t t' fs fs' f a b e = b ∙ ap (λ (z : Machines). machines_behi
 abbrev pub met : ℕ → Machines → List ℕ → Machines
 met i ms f = machines_behind (take i ms) f ++ drop i ms
 
-meets-next : (i : ℕ) (ms : Machines) (f x : List ℕ) → i < length ms → x ≡ get_or ms i x → set (met i ms f) i (memory_after x (frame_through (take i ms) f)) ≡ met (suc i) ms f
+meets-next : (i : ℕ) (ms : Machines) (f x : List ℕ) → i < length ms → x ≡ get_or ms i x → set (met i ms f) i (memory_behind x (frame_through (take i ms) f)) ≡ met (suc i) ms f
 meets-next i [] f x low is = absurd (omega arith)
-meets-next zero (m ∷ ms) f x low is = ap (λ (y : List ℕ). memory_after y f ∷ ms) is
-meets-next (suc i) (m ∷ ms) f x low is = ap (λ (rest : Machines). memory_after m f ∷ rest) (meets-next i ms (frame_after m f) x (omega arith) is)
+meets-next zero (m ∷ ms) f x low is = ap (λ (y : List ℕ). memory_behind y f ∷ ms) is
+meets-next (suc i) (m ∷ ms) f x low is = ap (λ (rest : Machines). memory_behind m f ∷ rest) (meets-next i ms (frame_after m f) x (omega arith) is)
 
 not-met : (i : ℕ) (ms : Machines) (f d : List ℕ) → i < length ms → get_or (met i ms f) i d ≡ get_or ms i d
 not-met i [] f d low = absurd (omega arith)
@@ -44,11 +44,11 @@ passes-next zero (m ∷ ms) f x low is = ap (λ (y : List ℕ). frame_after y f)
 passes-next (suc i) (m ∷ ms) f x low is = passes-next i ms (frame_after m f) x (omega arith) is
 
 pub one-more : (i : ℕ) (ms now : Machines) (f g h x new : List ℕ) → i < length ms → now ≡ met i ms f → g ≡ frame_through (take i ms) f → x ≡ get_or now i x
-    → new ≡ memory_after x g → h ≡ frame_after x g → (set now i new ≡ met (i + 1) ms f) × (h ≡ frame_through (take (i + 1) ms) f)
+    → new ≡ memory_behind x g → h ≡ frame_after x g → (set now i new ≡ met (i + 1) ms f) × (h ≡ frame_through (take (i + 1) ms) f)
 one-more i ms now f g h x new low is_now is_g is_x is_new is_h =
     let next : suc i ≡ i + 1 = omega arith in
     let here : x ≡ get_or ms i x = is_x ∙ ap (λ (s : Machines). get_or s i x) is_now ∙ not-met i ms f x low in (
-      ap₂ (λ (s : Machines) (y : List ℕ). set s i y) is_now (is_new ∙ ap (memory_after x) is_g) ∙ meets-next i ms f x low here ∙ ap (λ (n : ℕ). met n ms f) next,
+      ap₂ (λ (s : Machines) (y : List ℕ). set s i y) is_now (is_new ∙ ap (memory_behind x) is_g) ∙ meets-next i ms f x low here ∙ ap (λ (n : ℕ). met n ms f) next,
       is_h ∙ ap (frame_after x) is_g ∙ passes-next i ms f x low here ∙ ap (λ (n : ℕ). frame_through (take n ms) f) next,
     )
 
@@ -58,4 +58,4 @@ frame_through-append (m ∷ a) b f = frame_through-append a b (frame_after m f)
 
 pub machines_behind-append : (a b : Machines) (f : List ℕ) → machines_behind (a ++ b) f ≡ machines_behind a f ++ machines_behind b (frame_through a f)
 machines_behind-append [] b f = refl
-machines_behind-append (m ∷ a) b f = ap (λ (rest : Machines). memory_after m f ∷ rest) (machines_behind-append a b (frame_after m f))
+machines_behind-append (m ∷ a) b f = ap (λ (rest : Machines). memory_behind m f ∷ rest) (machines_behind-append a b (frame_after m f))

@@ -1,6 +1,6 @@
 -- Frames through machines one after another. A machine is seen as its memory.
 use Rattle.std.specs.Prelude.{ℕ, List, [], ◌∷◌, ◌++◌}
-use Rattle.hc_machine.specs.Frames.{frame_after, memory_after}
+use Rattle.hc_machine.specs.Frames.{frame_after, memory_behind}
 
 -- a frame behind the last of the machines
 abbrev pub frame_through : List (List ℕ) → List ℕ → List ℕ
@@ -10,7 +10,7 @@ frame_through (m ∷ ms) frame = frame_through ms (frame_after m frame)
 -- the machines behind a frame: each met it as those before it passed it on
 abbrev pub machines_behind : List (List ℕ) → List ℕ → List (List ℕ)
 machines_behind [] frame = []
-machines_behind (m ∷ ms) frame = memory_after m frame ∷ machines_behind ms (frame_after m frame)
+machines_behind (m ∷ ms) frame = memory_behind m frame ∷ machines_behind ms (frame_after m frame)
 
 -- frames behind the last machine: each machine meets them in order
 abbrev pub frames_through : List (List ℕ) → List (List ℕ) → List (List ℕ)
