@@ -7,3 +7,4 @@ pub mod Paired
 pub mod Lowest
 pub mod Unmapped
 pub mod Alias
+pub mod Mapped

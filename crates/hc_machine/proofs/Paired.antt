@@ -19,7 +19,7 @@ fmmu-active : (block : List ℕ) → is_active block ≡ true → active-fmmu bl
 unfolding fmmu_of
 fmmu-active block on = rw on refl
 
-fmmu-idle : (block : List ℕ) → is_active block ≡ false → idle ≡ fmmu_of block
+pub fmmu-idle : (block : List ℕ) → is_active block ≡ false → idle ≡ fmmu_of block
 unfolding fmmu_of
 fmmu-idle block off = rw off refl
 

@@ -1,17 +1,19 @@
 //! An FMMU as its pairs of logical bits and memory bits (ETG.1000.4, 6.6).
 
-ghost use Rattle.std.specs.Prelude.{◌≡◌, ◌+◌, ◌*◌, ◌<◌, ◌≤◌, ◌==◌, length, slice_range, All};
-ghost use Rattle.hc_machine.specs.Fmmus.{block_at, fmmu_of, fmmus_of, is_active, is_read, is_write, IsInMemory};
+ghost use Rattle.std.specs.Prelude.{◌≡◌, ◌+◌, ◌^◌, ◌<◌, ◌≤◌, [], ◌∷◌, ◌++◌, cond, filter, length, All, true};
+ghost use Rattle.hc_machine.specs.Fmmus.{block_at, fmmu_of, fmmus_of, is_active, IsInMemory};
+ghost use Rattle.hc_machine.specs.Logical.{meets};
 
 use crate::limits::{FMMUS, MEMORY_BITS, MEMORY_BYTES};
+use arrayvec::ArrayVec;
 use hc_registers::fmmu::{
-    activate, fmmu_type, length, logical_start_address, logical_start_bit, logical_stop_bit,
+    fmmu_type, length, logical_start_address, logical_start_bit, logical_stop_bit,
     physical_start_address, physical_start_bit,
 };
 use hc_registers::registers::{FMMU_BLOCK_BYTES, FMMU_BLOCKS};
 
 /// The pairs of an FMMU: logical bit `logical + k` with memory bit `memory + k`, for each `k` below `width`.
-#[derive(Clone, Copy)]
+#[derive(Clone, Copy, Default)]
 pub(crate) struct Fmmu {
     /// The first logical bit.
     pub(crate) logical: usize,
@@ -46,14 +48,12 @@ fn block_at(memory: &[u8], i: usize) -> [u8; 16]
     block
 }
 
-/// The FMMU of a block.
+/// The FMMU of a block that is active.
 fn fmmu_of(block: &[u8; 16]) -> Fmmu
+    requires { is_active block.now ≡ true }
     ensures value { result ≡ fmmu_of block.now }
     ensures in_memory { IsInMemory result }
 {
-    if activate(block) % 2 != 1 {
-        return IDLE;
-    }
     let start = logical_start_address(block) as usize;
     let logical = 8 * start + usize::from(logical_start_bit(block) % 8);
     let stop = 8 * (start + usize::from(length(block))) + usize::from(logical_stop_bit(block) % 8);
@@ -70,15 +70,54 @@ fn fmmu_of(block: &[u8; 16]) -> Fmmu
     }
 }
 
-/// The FMMUs of a slave, as they stand in its memory.
-pub(crate) fn fmmus_of(memory: &[u8]) -> [Fmmu; 16]
-    requires { length memory.now ≡ MEMORY_BYTES }
-    ensures value { result ≡ fmmus_of memory.now }
-    ensures in_memory { All IsInMemory result }
+/// FMMU `i`, as it stands in memory.
+fn fmmu_at(memory: &[u8], i: usize) -> Fmmu
+    requires memory { length memory.now ≡ MEMORY_BYTES }
+    requires number { i < FMMUS }
+    ensures value { result ≡ fmmu_of (block_at memory.now i) }
+    ensures in_memory { IsInMemory result }
 {
-    let mut fmmus = [IDLE; 16];
-    for i in 0..FMMUS {
-        fmmus[i] = fmmu_of(&block_at(memory, i));
+    // most aren't active: no more of their block is looked at than this
+    if memory[usize::from(FMMU_BLOCKS) + usize::from(FMMU_BLOCK_BYTES) * i + 12] % 2 != 1 {
+        return IDLE;
     }
-    fmmus
+    fmmu_of(&block_at(memory, i))
+}
+
+/// Whether an FMMU pairs one of the `n` logical bits from `from` on.
+pub(crate) fn meets(fmmu: &Fmmu, from: usize, n: usize) -> bool
+    requires in_memory { IsInMemory fmmu.now }
+    requires fits { from + n < 2 ^ 41 }
+    ensures { result ≡ meets from n fmmu.now }
+{
+    fmmu.logical.max(from) < (fmmu.logical + fmmu.width).min(from + n)
+}
+
+/// Adds an FMMU where it pairs one of the `n` logical bits from `from` on.
+fn add_mapped(mapped: &mut ArrayVec<Fmmu, 16>, fmmu: Fmmu, from: usize, n: usize)
+    requires room { length mapped.old.items < 16 }
+    requires in_memory { IsInMemory fmmu }
+    requires all_in_memory { All IsInMemory mapped.old.items }
+    requires fits { from + n < 2 ^ 41 }
+    ensures value { mapped.new.items ≡ mapped.old.items ++ cond (meets from n fmmu) (fmmu ∷ []) [] }
+    ensures room { length mapped.new.items ≤ length mapped.old.items + 1 }
+    ensures in_memory { All IsInMemory mapped.new.items }
+{
+    if meets(&fmmu, from, n) {
+        mapped.push(fmmu);
+    }
+}
+
+/// The FMMUs that pair one of the `n` logical bits from `from` on, in the order of their numbers.
+pub(crate) fn mapped_fmmus(memory: &[u8], from: usize, n: usize) -> ArrayVec<Fmmu, 16>
+    requires memory { length memory.now ≡ MEMORY_BYTES }
+    requires fits { from + n < 2 ^ 41 }
+    ensures value { result.items ≡ filter (meets from n) (fmmus_of memory.now) }
+    ensures in_memory { All IsInMemory result.items }
+{
+    let mut mapped = ArrayVec::new();
+    for i in 0..FMMUS {
+        add_mapped(&mut mapped, fmmu_at(memory, i), from, n);
+    }
+    mapped
 }

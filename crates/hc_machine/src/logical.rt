@@ -1,13 +1,13 @@
 //! A logical memory read and write (ETG.1000.4, LRW): the pairs of each FMMU that the datagram meets go as one run of
 //! bits. The FMMUs are laid from the last to the first, so that where two meet the lower number decides.
 
-ghost use Rattle.std.specs.Prelude.{◌≡◌, ℕ, ◌+◌, ◌-◌, ◌*◌, ◌^◌, ◌<◌, ◌≤◌, length, [], ◌∷◌, All, if◌then◌else◌};
+ghost use Rattle.std.specs.Prelude.{◌≡◌, ℕ, ◌+◌, ◌-◌, ◌*◌, ◌^◌, ◌<◌, ◌≤◌, length, [], ◌∷◌, All, filter, if◌then◌else◌};
 ghost use Rattle.hc_bits.specs.Bits.{bit_of};
-ghost use Rattle.hc_machine.specs.Fmmus.{IsInMemory};
+ghost use Rattle.hc_machine.specs.Fmmus.{fmmus_of, IsInMemory};
 ghost use Rattle.hc_machine.specs.Memory.{bytes_with};
 ghost use Rattle.hc_machine.specs.Logical.{bit_read, bit_written, logical_count, logical_data, logical_memory, meets, reads_any, writes_any};
 
-use crate::fmmu::{Fmmu, fmmus_of};
+use crate::fmmu::{Fmmu, mapped_fmmus, meets};
 use crate::limits::MEMORY_BYTES;
 use crate::memory::{alias_of, put_back};
 use hc_bits::copy_bits;
@@ -77,15 +77,6 @@ fn write_bits(fmmus: &[Fmmu], bytes: &[u8], from: usize, memory: &mut [u8])
     }
 }
 
-/// Whether an FMMU pairs one of the `n` logical bits from `from` on.
-fn meets(fmmu: &Fmmu, from: usize, n: usize) -> bool
-    requires in_memory { IsInMemory fmmu.now }
-    requires fits { from + n < 2 ^ 41 }
-    ensures { result ≡ meets from n fmmu.now }
-{
-    fmmu.logical.max(from) < (fmmu.logical + fmmu.width).min(from + n)
-}
-
 /// Whether one of the `n` logical bits from `from` on is read.
 fn reads_any(fmmus: &[Fmmu], from: usize, n: usize) -> bool
     requires in_memory { All IsInMemory fmmus.now }
@@ -114,24 +105,27 @@ fn writes_any(fmmus: &[Fmmu], from: usize, n: usize) -> bool
     false
 }
 
-/// Puts the memory bits that are read into the data; seen as the bytes that they leave.
+/// Puts the memory bits that are read into the data, by the FMMUs that the datagram meets; seen as the bytes that they
+/// leave.
 fn read_data(fmmus: &[Fmmu], memory: &[u8], from: usize, bytes: &mut [u8])
+    requires mapped { fmmus.now ≡ filter (meets from (8 * length bytes.old)) (fmmus_of memory.now) }
     requires in_memory { All IsInMemory fmmus.now }
     requires memory { length memory.now ≡ MEMORY_BYTES }
     requires short { length bytes.old ≤ MAX_DATA }
     requires fits { from < 2 ^ 40 }
-    ensures { bytes.new ≡ bytes_with (length bytes.old) (λ k. bit_read fmmus.now (bit_of memory.now) (from + k) (bit_of bytes.old k)) }
+    ensures { bytes.new ≡ bytes_with (length bytes.old) (λ k. bit_read (fmmus_of memory.now) (bit_of memory.now) (from + k) (bit_of bytes.old k)) }
 {
     read_bits(fmmus, memory, from, bytes);
 }
 
-/// Puts the bits that are written into memory; seen as the bytes that they leave.
+/// Puts the bits that are written into memory, by the FMMUs that the datagram meets; seen as the bytes that they leave.
 fn write_data(fmmus: &[Fmmu], bytes: &[u8], from: usize, memory: &mut [u8])
+    requires mapped { fmmus.now ≡ filter (meets from (8 * length bytes.now)) (fmmus_of memory.old) }
     requires in_memory { All IsInMemory fmmus.now }
     requires memory { length memory.old ≡ MEMORY_BYTES }
     requires short { length bytes.now ≤ MAX_DATA }
     requires fits { from < 2 ^ 40 }
-    ensures { memory.new ≡ bytes_with (length memory.old) (λ m. bit_written fmmus.now (bit_of bytes.now) from (8 * length bytes.now) m (bit_of memory.old m)) }
+    ensures { memory.new ≡ bytes_with (length memory.old) (λ m. bit_written (fmmus_of memory.old) (bit_of bytes.now) from (8 * length bytes.now) m (bit_of memory.old m)) }
 {
     write_bits(fmmus, bytes, from, memory);
 }
@@ -158,12 +152,13 @@ pub(crate) fn serve_logical(memory: &mut [u8], address: u32, came: &[u8], bytes:
     ensures count { result ≡ logical_count memory.old (8 * address) (length bytes.old) }
     ensures small { result ≤ 3 }
 {
-    let fmmus = fmmus_of(memory);
     let from = 8 * address as usize;
     let n = 8 * bytes.len();
+    let mapped = mapped_fmmus(memory, from, n);
+    let fmmus = mapped.as_slice();
     let alias = alias_of(memory);
-    read_data(&fmmus, memory, from, bytes);
-    write_data(&fmmus, came, from, memory);
+    read_data(fmmus, memory, from, bytes);
+    write_data(fmmus, came, from, memory);
     put_back(memory, alias);
-    count_of(&fmmus, from, n)
+    count_of(fmmus, from, n)
 }

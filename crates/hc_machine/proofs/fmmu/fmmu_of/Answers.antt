@@ -1,19 +1,12 @@
-use Rattle.std.proofs.Common.{◌≡◌, ◌+◌, ◌-◌, ◌*◌, ◌%◌, ◌/◌, ◌==◌, true, false, min, refl, arith}
-use Rattle.std.proofs.lemmas.Bool.Decides.{nat_tests}
+use Rattle.std.proofs.Common.{◌≡◌, ◌+◌, ◌-◌, ◌*◌, ◌%◌, ◌/◌, ◌==◌, true, min, refl, arith}
 use Rattle.hc_machine.specs.Fmmus.{fmmu_of, first_logical, first_memory, end_logical, is_active, is_read, is_write}
 use Rattle.hc_machine.proofs.fmmu.fmmu_of.Goals as goal
-
-pub returns-then-activate-ne1-clause-value : goal.returns-then-activate-ne1-clause-value
-unfolding fmmu_of
-returns-then-activate-ne1-clause-value c =
-    let off : is_active c.args.block.now ≡ false = grind (arith, nat_tests) in
-    rw off refl
 
 pub returns-clause-value : goal.returns-clause-value
 unfolding fmmu_of
 returns-clause-value c =
     let block = c.args.block.now in
-    let on : is_active block ≡ true = grind (arith, nat_tests) in
+    let on : is_active block ≡ true = c.requires in
     let logical : 8 * c.logical_start_address-start.result + c.from.result ≡ first_logical block = omega arith in
     let end : c.saturating_sub-end.result ≡ end_logical block = omega arith in
     let memory : c.min-memory.result ≡ first_memory block = omega arith in
