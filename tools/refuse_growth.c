@@ -4,6 +4,7 @@
    an exit. */
 #define _GNU_SOURCE
 #include <dlfcn.h>
+#include <errno.h>
 #include <stdatomic.h>
 #include <stdlib.h>
 #include <unistd.h>
@@ -44,6 +45,7 @@ static int refuses(void)
     static const char words[] = "refused growth\n";
     if (call == number && write(words_to, words, sizeof words - 1) < 0)
         _exit(9);
+    errno = ENOMEM; /* the C library makes threads by these calls too, and looks at it */
     return 1;
 }
 

@@ -36,7 +36,7 @@ datagram-filled serial more d bytes e =
     ∙ middle-replaced front zeros (0 ∷ 0 ∷ []) bytes 10 d.1 refl long
     ∙ sym (datagram_cut serial d.0 d.1 more bytes e)
 
-first_text : (serial : ℕ) (d : Carried) (ds : List Carried) → carried_texts serial (d ∷ ds) ≡ carried_text serial (has_more ds) d ++ carried_texts serial ds
+pub first_text : (serial : ℕ) (d : Carried) (ds : List Carried) → carried_texts serial (d ∷ ds) ≡ carried_text serial (has_more ds) d ++ carried_texts serial ds
 first_text serial d [] = sym (append-nil (carried_text serial false d))
 first_text serial d (e ∷ ds) = refl
 

@@ -1,0 +1,10 @@
+pub mod Pairs
+pub mod Bytes
+pub mod Rewritten
+pub mod Served
+pub mod Framed
+pub mod Paired
+pub mod Lowest
+pub mod Unmapped
+pub mod Alias
+pub mod Mapped

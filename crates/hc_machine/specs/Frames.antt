@@ -1,0 +1,26 @@
+-- A frame through a slave: its datagrams are served in order, each on the memory that those before it left.
+use Rattle.std.specs.Prelude.{ℕ, ◌+◌, List, [], ◌∷◌, take, drop, is_none, if◌then◌else◌, slice_index}
+use Rattle.hc_frames.specs.Arrived.{datagram_bytes, fault_in, reading_of}
+use Rattle.hc_frames.specs.FrameText.{Carried, carried_frame}
+use Rattle.hc_machine.specs.Commands.{kept, served}
+
+-- datagrams as they go on
+abbrev pub all_served : List ℕ → List Carried → List Carried
+all_served memory [] = []
+all_served memory (d ∷ ds) = served memory d ∷ all_served (kept memory d) ds
+
+-- the memory behind them
+abbrev pub all_kept : List ℕ → List Carried → List ℕ
+all_kept memory [] = memory
+all_kept memory (d ∷ ds) = all_kept (kept memory d) ds
+
+-- a frame as it goes on: one that is read has the served datagrams in the place of its own, another one stays as it is
+unfoldable pub frame_after : List ℕ → List ℕ → List ℕ
+frame_after memory frame =
+    if is_none (fault_in frame)
+    then carried_frame (take 6 frame) (slice_index frame 6) (reading_of frame).serial (all_served memory (reading_of frame).parts) (drop (16 + datagram_bytes frame) frame)
+    else frame
+
+-- the memory behind the frame
+unfoldable pub memory_behind : List ℕ → List ℕ → List ℕ
+memory_behind memory frame = if is_none (fault_in frame) then all_kept memory (reading_of frame).parts else memory

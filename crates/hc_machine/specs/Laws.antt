@@ -1,0 +1,75 @@
+-- What follows from the definitions: what an FMMU block pairs, what a logical datagram reads and writes, and what no frame changes.
+use Rattle.std.specs.Prelude.{◌≡◌, ℕ, ◌+◌, ◌*◌, ◌%◌, ◌<◌, ◌≤◌, ◌↔◌, ◌⊎◌, true, List, length, slice_index}
+use Rattle.hc_bits.specs.Bits.{AreBytes, bit_of}
+use Rattle.hc_frames.specs.FrameText.{Carried}
+use Rattle.hc_registers.specs.Fields.{long_at, word_at}
+use Rattle.hc_machine.specs.declared.fmmu.Fmmu.{Fmmu}
+use Rattle.hc_machine.specs.declared.limits.TheConstants.{FMMUS, MEMORY_BITS, MEMORY_BYTES}
+use Rattle.hc_machine.specs.Commands.{served}
+use Rattle.hc_machine.specs.Fmmus.{block_at, fmmu_of, is_active, is_read, is_write}
+use Rattle.hc_machine.specs.Frames.{memory_behind}
+use Rattle.hc_machine.specs.Logical.{logical_count, logical_data, logical_memory, memory_bit}
+
+-- logical bit x and memory bit m are a pair of an FMMU block: it is active; x lies from bit `8 * start + start bit` to bit `8 * (start + length - 1) + stop bit`, both included; m is as far from bit `8 * physical start + start bit` as x is from the first; and m lies in memory
+pub record IsPair (block : List ℕ) (x m : ℕ) : Type 0 where
+  pub active : is_active block ≡ true
+  pub first : 8 * long_at block 0 + slice_index block 6 % 8 ≤ x
+  pub last : x + 8 ≤ 8 * (long_at block 0 + word_at block 4) + slice_index block 7 % 8
+  pub paired : m + (8 * long_at block 0 + slice_index block 6 % 8) ≡ x + (8 * word_at block 8 + slice_index block 10 % 8)
+  pub inside : m < MEMORY_BITS
+
+-- x and m are a pair of an FMMU
+abbrev pub Pairs : Fmmu → ℕ → ℕ → Type 0
+Pairs fmmu x m = (fmmu.logical ≤ x) × (x < fmmu.logical + fmmu.width) × (m ≡ memory_bit fmmu x)
+
+-- the FMMU of a block has the block's pairs
+abbrev pub FmmusAreTheirPairs : Type 0
+FmmusAreTheirPairs = (block : List ℕ) (x m : ℕ) → IsPair block x m ↔ Pairs (fmmu_of block) x m
+
+-- FMMU i reads logical bit x from memory bit m, or writes it there
+abbrev pub Reads : List ℕ → ℕ → ℕ → ℕ → Type 0
+Reads memory i x m = (is_read (block_at memory i) ≡ true) × IsPair (block_at memory i) x m
+
+abbrev pub Writes : List ℕ → ℕ → ℕ → ℕ → Type 0
+Writes memory i x m = (is_write (block_at memory i) ≡ true) × IsPair (block_at memory i) x m
+
+-- a bit of the data becomes the memory bit that the lowest FMMU that reads it pairs with it
+abbrev pub ReadBitsComeFromMemory : Type 0
+ReadBitsComeFromMemory =
+    (memory bytes : List ℕ) (from k i m : ℕ) → k < 8 * length bytes → i < FMMUS → Reads memory i (from + k) m → ((j n : ℕ) → j < i → ¬ Reads memory j (from + k) n)
+    → bit_of (logical_data memory from bytes) k ≡ bit_of memory m
+
+-- one that no FMMU reads stays
+abbrev pub UnreadBitsStay : Type 0
+UnreadBitsStay =
+    (memory bytes : List ℕ) (from k : ℕ) → k < 8 * length bytes → ((j n : ℕ) → j < FMMUS → ¬ Reads memory j (from + k) n)
+    → bit_of (logical_data memory from bytes) k ≡ bit_of bytes k
+
+-- a memory bit, but for the alias's, becomes the data's bit that the lowest FMMU that writes it pairs with it
+abbrev pub WrittenBitsComeFromData : Type 0
+WrittenBitsComeFromData =
+    (memory bytes : List ℕ) (from k i m : ℕ) → length memory ≡ MEMORY_BYTES → (m < 144) ⊎ (160 ≤ m) → k < 8 * length bytes → i < FMMUS → Writes memory i (from + k) m
+    → ((j n : ℕ) → j < i → n < 8 * length bytes → ¬ Writes memory j (from + n) m)
+    → bit_of (logical_memory memory from bytes) m ≡ bit_of bytes k
+
+-- one that no FMMU pairs with a bit of the data stays
+abbrev pub UnwrittenBitsStay : Type 0
+UnwrittenBitsStay =
+    (memory bytes : List ℕ) (from m : ℕ) → length memory ≡ MEMORY_BYTES → m < MEMORY_BITS → ((j n : ℕ) → j < FMMUS → n < 8 * length bytes → ¬ Writes memory j (from + n) m)
+    → bit_of (logical_memory memory from bytes) m ≡ bit_of memory m
+
+-- a datagram that no active FMMU meets stays as it is, and so does memory
+abbrev pub UnmappedDatagramsPass : Type 0
+UnmappedDatagramsPass =
+    (memory bytes : List ℕ) (from : ℕ) → length memory ≡ MEMORY_BYTES → AreBytes memory → AreBytes bytes → ((j n m : ℕ) → j < FMMUS → n < 8 * length bytes → ¬ IsPair (block_at memory j) (from + n) m)
+    → (logical_data memory from bytes ≡ bytes) × (logical_memory memory from bytes ≡ memory) × (logical_count memory from (length bytes) ≡ 0)
+
+-- a working counter rises by 0 to 3, and wraps
+abbrev pub CountersRise : Type 0
+CountersRise = (memory : List ℕ) (d : Carried) → (n : ℕ) × (n ≤ 3) × ((served memory d).counter ≡ (d.counter + n) % 65536)
+
+-- no frame changes the configured station alias, nor how many bytes memory has
+abbrev pub AliasStays : Type 0
+AliasStays =
+    (memory frame : List ℕ) → length memory ≡ MEMORY_BYTES
+    → (length (memory_behind memory frame) ≡ MEMORY_BYTES) × (slice_index (memory_behind memory frame) 18 ≡ slice_index memory 18) × (slice_index (memory_behind memory frame) 19 ≡ slice_index memory 19)

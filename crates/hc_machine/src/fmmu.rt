@@ -1,0 +1,123 @@
+//! An FMMU as its pairs of logical bits and memory bits (ETG.1000.4, 6.6).
+
+ghost use Rattle.std.specs.Prelude.{◌≡◌, ◌+◌, ◌^◌, ◌<◌, ◌≤◌, [], ◌∷◌, ◌++◌, cond, filter, length, All, true};
+ghost use Rattle.hc_machine.specs.Fmmus.{block_at, fmmu_of, fmmus_of, is_active, IsInMemory};
+ghost use Rattle.hc_machine.specs.Logical.{meets};
+
+use crate::limits::{FMMUS, MEMORY_BITS, MEMORY_BYTES};
+use arrayvec::ArrayVec;
+use hc_registers::fmmu::{
+    fmmu_type, length, logical_start_address, logical_start_bit, logical_stop_bit,
+    physical_start_address, physical_start_bit,
+};
+use hc_registers::registers::{FMMU_BLOCK_BYTES, FMMU_BLOCKS};
+
+/// The pairs of an FMMU: logical bit `logical + k` with memory bit `memory + k`, for each `k` below `width`.
+#[derive(Clone, Copy, Default)]
+pub(crate) struct Fmmu {
+    /// The first logical bit.
+    pub(crate) logical: usize,
+    /// The memory bit that is paired with it.
+    pub(crate) memory: usize,
+    /// How many pairs there are.
+    pub(crate) width: usize,
+    /// The master reads through it.
+    pub(crate) reads: bool,
+    /// The master writes through it.
+    pub(crate) writes: bool,
+}
+
+/// Pairs nothing.
+const IDLE: Fmmu = Fmmu {
+    logical: 0,
+    memory: 0,
+    width: 0,
+    reads: false,
+    writes: false,
+};
+
+/// A copy of the block of FMMU `i`.
+fn block_at(memory: &[u8], i: usize) -> [u8; 16]
+    requires memory { length memory.now ≡ MEMORY_BYTES }
+    requires number { i < FMMUS }
+    ensures { result ≡ block_at memory.now i }
+{
+    let at = usize::from(FMMU_BLOCKS) + usize::from(FMMU_BLOCK_BYTES) * i;
+    let mut block = [0; 16];
+    block.copy_from_slice(&memory[at..at + 16]);
+    block
+}
+
+/// The FMMU of a block that is active.
+fn fmmu_of(block: &[u8; 16]) -> Fmmu
+    requires { is_active block.now ≡ true }
+    ensures value { result ≡ fmmu_of block.now }
+    ensures in_memory { IsInMemory result }
+{
+    let start = logical_start_address(block) as usize;
+    let logical = 8 * start + usize::from(logical_start_bit(block) % 8);
+    let stop = 8 * (start + usize::from(length(block))) + usize::from(logical_stop_bit(block) % 8);
+    let end = (stop + 1).saturating_sub(8);
+    let first = 8 * usize::from(physical_start_address(block))
+        + usize::from(physical_start_bit(block) % 8);
+    let memory = first.min(MEMORY_BITS);
+    Fmmu {
+        logical,
+        memory,
+        width: end.saturating_sub(logical).min(MEMORY_BITS - memory),
+        reads: fmmu_type(block) % 2 == 1,
+        writes: fmmu_type(block) / 2 % 2 == 1,
+    }
+}
+
+/// FMMU `i`, as it stands in memory.
+fn fmmu_at(memory: &[u8], i: usize) -> Fmmu
+    requires memory { length memory.now ≡ MEMORY_BYTES }
+    requires number { i < FMMUS }
+    ensures value { result ≡ fmmu_of (block_at memory.now i) }
+    ensures in_memory { IsInMemory result }
+{
+    // most aren't active: no more of their block is looked at than this
+    if memory[usize::from(FMMU_BLOCKS) + usize::from(FMMU_BLOCK_BYTES) * i + 12] % 2 != 1 {
+        return IDLE;
+    }
+    fmmu_of(&block_at(memory, i))
+}
+
+/// Whether an FMMU pairs one of the `n` logical bits from `from` on.
+pub(crate) fn meets(fmmu: &Fmmu, from: usize, n: usize) -> bool
+    requires in_memory { IsInMemory fmmu.now }
+    requires fits { from + n < 2 ^ 41 }
+    ensures { result ≡ meets from n fmmu.now }
+{
+    fmmu.logical.max(from) < (fmmu.logical + fmmu.width).min(from + n)
+}
+
+/// Adds an FMMU where it pairs one of the `n` logical bits from `from` on.
+fn add_mapped(mapped: &mut ArrayVec<Fmmu, 16>, fmmu: Fmmu, from: usize, n: usize)
+    requires room { length mapped.old.items < 16 }
+    requires in_memory { IsInMemory fmmu }
+    requires all_in_memory { All IsInMemory mapped.old.items }
+    requires fits { from + n < 2 ^ 41 }
+    ensures value { mapped.new.items ≡ mapped.old.items ++ cond (meets from n fmmu) (fmmu ∷ []) [] }
+    ensures room { length mapped.new.items ≤ length mapped.old.items + 1 }
+    ensures in_memory { All IsInMemory mapped.new.items }
+{
+    if meets(&fmmu, from, n) {
+        mapped.push(fmmu);
+    }
+}
+
+/// The FMMUs that pair one of the `n` logical bits from `from` on, in the order of their numbers.
+pub(crate) fn mapped_fmmus(memory: &[u8], from: usize, n: usize) -> ArrayVec<Fmmu, 16>
+    requires memory { length memory.now ≡ MEMORY_BYTES }
+    requires fits { from + n < 2 ^ 41 }
+    ensures value { result.items ≡ filter (meets from n) (fmmus_of memory.now) }
+    ensures in_memory { All IsInMemory result.items }
+{
+    let mut mapped = ArrayVec::new();
+    for i in 0..FMMUS {
+        add_mapped(&mut mapped, fmmu_at(memory, i), from, n);
+    }
+    mapped
+}

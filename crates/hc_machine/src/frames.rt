@@ -1,0 +1,43 @@
+//! A frame, served in its place.
+
+ghost use Rattle.std.specs.Prelude.{◌≡◌, ◌+◌, ◌<◌, ◌≤◌, All, is_none, length, true};
+ghost use Rattle.std.specs.List.{list_all};
+ghost use Rattle.hc_frames.specs.Arrived.{datagram_bytes, datagrams_in, fault_in, is_whole, region};
+ghost use Rattle.hc_machine.specs.Frames.{frame_after, memory_behind};
+
+use crate::datagrams::{serve_datagrams, word_at};
+use crate::limits::MEMORY_BYTES;
+use hc_frames::limits::{HEAD_BYTES, MAX_DATA};
+use hc_frames::reading::read_frame;
+
+/// Whether the reader reads a frame.
+fn is_readable(frame: &[u8]) -> bool
+    ensures { result ≡ is_none (fault_in frame.now) }
+{
+    read_frame(frame).is_ok()
+}
+
+/// Where the datagrams of a frame that is read end.
+fn end_of_datagrams(frame: &[u8]) -> usize
+    requires { is_none (fault_in frame.now) ≡ true }
+    ensures end { result ≡ 16 + datagram_bytes frame.now }
+    ensures within { result ≤ length frame.now }
+    ensures bytes { All (λ b. b < 256) frame.now }
+    ensures whole { list_all is_whole (datagrams_in (region frame.now)) ≡ true }
+{
+    HEAD_BYTES + usize::from(word_at(frame, 14) % 2048)
+}
+
+/// Serves a frame; one that isn't read stays, and so does memory.
+pub(crate) fn serve_frame(memory: &mut [u8], spare: &mut [u8], frame: &mut [u8])
+    requires memory { length memory.old ≡ MEMORY_BYTES }
+    requires spare { length spare.old ≡ MAX_DATA }
+    ensures frame { frame.new ≡ frame_after memory.old frame.old }
+    ensures memory { memory.new ≡ memory_behind memory.old frame.old }
+{
+    if !is_readable(frame) {
+        return;
+    }
+    let end = end_of_datagrams(frame);
+    serve_datagrams(memory, spare, &mut frame[HEAD_BYTES..end]);
+}

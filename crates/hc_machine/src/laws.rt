@@ -1,0 +1,46 @@
+//! What follows from the definitions of `specs/`, so that a reader can trust them and a caller can use it: each function
+//! here does nothing, and its contract is a law. Nobody calls it.
+ghost use Rattle.hc_machine.specs.Laws.{AliasStays, CountersRise, FmmusAreTheirPairs, ReadBitsComeFromMemory, UnmappedDatagramsPass, UnreadBitsStay, UnwrittenBitsStay, WrittenBitsComeFromData};
+
+/// An FMMU has exactly the pairs that its block says: the k-th logical bit with the k-th memory bit, from the start bit of
+/// the first byte to the stop bit of the last, as far as memory goes; none where it isn't active, where its length is 0, or
+/// where the last bit lies below the first.
+pub fn fmmus_are_their_pairs()
+    ensures { FmmusAreTheirPairs }
+{}
+
+/// A bit of a logical datagram becomes the memory bit that was paired with it by the lowest FMMU that reads it.
+pub fn read_bits_come_from_memory()
+    ensures { ReadBitsComeFromMemory }
+{}
+
+/// A bit of a logical datagram that no FMMU reads stays.
+pub fn unread_bits_stay()
+    ensures { UnreadBitsStay }
+{}
+
+/// A memory bit outside the alias becomes the bit that came in at the logical bit that is paired with it by the lowest
+/// FMMU that writes it.
+pub fn written_bits_come_from_data()
+    ensures { WrittenBitsComeFromData }
+{}
+
+/// A memory bit that no FMMU pairs with a bit of the datagram stays.
+pub fn unwritten_bits_stay()
+    ensures { UnwrittenBitsStay }
+{}
+
+/// A logical datagram that no active FMMU meets passes: its data, its working counter and the memory stay.
+pub fn unmapped_datagrams_pass()
+    ensures { UnmappedDatagramsPass }
+{}
+
+/// A working counter rises by 0 to 3, and wraps at 65,536.
+pub fn counters_rise()
+    ensures { CountersRise }
+{}
+
+/// No frame changes the configured station alias.
+pub fn alias_stays()
+    ensures { AliasStays }
+{}

@@ -1,0 +1,16 @@
+//! The slave machine: what a slave of the line does with a frame, so that a configuration can be held against it
+//! (ETG.1000.4, 5.4 and 6.6; this project's profile of them). It stands on the reader of frames and on runs of bits; a
+//! segment passes frames through a list of machines.
+#![tactic(auto)]
+
+mod commands;
+mod datagrams;
+mod fmmu;
+mod frames;
+pub mod laws;
+pub mod limits;
+mod logical;
+mod machine;
+mod memory;
+
+pub use machine::SlaveMachine;

@@ -1,0 +1,164 @@
+//! A logical memory read and write (ETG.1000.4, LRW): the pairs of each FMMU that the datagram meets go as one run of
+//! bits. The FMMUs are laid from the last to the first, so that where two meet the lower number decides.
+
+ghost use Rattle.std.specs.Prelude.{◌≡◌, ℕ, ◌+◌, ◌-◌, ◌*◌, ◌^◌, ◌<◌, ◌≤◌, length, [], ◌∷◌, All, filter, if◌then◌else◌};
+ghost use Rattle.hc_bits.specs.Bits.{bit_of};
+ghost use Rattle.hc_machine.specs.Fmmus.{fmmus_of, IsInMemory};
+ghost use Rattle.hc_machine.specs.Memory.{bytes_with};
+ghost use Rattle.hc_machine.specs.Logical.{bit_read, bit_written, logical_count, logical_data, logical_memory, meets, reads_any, writes_any};
+
+use crate::fmmu::{Fmmu, mapped_fmmus, meets};
+use crate::limits::MEMORY_BYTES;
+use crate::memory::{alias_of, put_back};
+use hc_bits::copy_bits;
+use hc_frames::limits::MAX_DATA;
+
+/// Puts the memory bits that one FMMU reads into the data of a datagram at logical bit `from`.
+fn read_one(fmmu: &Fmmu, memory: &[u8], from: usize, bytes: &mut [u8])
+    requires in_memory { IsInMemory fmmu.now }
+    requires memory { length memory.now ≡ MEMORY_BYTES }
+    requires short { length bytes.old ≤ MAX_DATA }
+    requires fits { from < 2 ^ 40 }
+    ensures { (k : ℕ) → k < 8 * length bytes.old →
+        bit_of bytes.new k ≡ bit_read (fmmu.now ∷ []) (bit_of memory.now) (from + k) (bit_of bytes.old k) }
+{
+    let start = fmmu.logical.max(from);
+    let stop = (fmmu.logical + fmmu.width).min(from + 8 * bytes.len());
+    if fmmu.reads && start < stop {
+        let at = fmmu.memory + (start - fmmu.logical);
+        copy_bits(memory, at, bytes, start - from, stop - start);
+    }
+}
+
+/// Puts the memory bits that are read into the data of a datagram at logical bit `from`.
+fn read_bits(fmmus: &[Fmmu], memory: &[u8], from: usize, bytes: &mut [u8])
+    requires in_memory { All IsInMemory fmmus.now }
+    requires memory { length memory.now ≡ MEMORY_BYTES }
+    requires short { length bytes.old ≤ MAX_DATA }
+    requires fits { from < 2 ^ 40 }
+    ensures { (k : ℕ) → k < 8 * length bytes.old →
+        bit_of bytes.new k ≡ bit_read fmmus.now (bit_of memory.now) (from + k) (bit_of bytes.old k) }
+{
+    if let [fmmu, rest @ ..] = fmmus {
+        read_bits(rest, memory, from, bytes);
+        read_one(fmmu, memory, from, bytes);
+    }
+}
+
+/// Puts the bits that one FMMU writes of the data of a datagram at logical bit `from` into memory.
+fn write_one(fmmu: &Fmmu, bytes: &[u8], from: usize, memory: &mut [u8])
+    requires in_memory { IsInMemory fmmu.now }
+    requires memory { length memory.old ≡ MEMORY_BYTES }
+    requires short { length bytes.now ≤ MAX_DATA }
+    requires fits { from < 2 ^ 40 }
+    ensures { (m : ℕ) → bit_of memory.new m
+        ≡ bit_written (fmmu.now ∷ []) (bit_of bytes.now) from (8 * length bytes.now) m (bit_of memory.old m) }
+{
+    let start = fmmu.logical.max(from);
+    let stop = (fmmu.logical + fmmu.width).min(from + 8 * bytes.len());
+    if fmmu.writes && start < stop {
+        let to = fmmu.memory + (start - fmmu.logical);
+        copy_bits(bytes, start - from, memory, to, stop - start);
+    }
+}
+
+/// Puts the bits that are written of the data of a datagram at logical bit `from` into memory.
+fn write_bits(fmmus: &[Fmmu], bytes: &[u8], from: usize, memory: &mut [u8])
+    requires in_memory { All IsInMemory fmmus.now }
+    requires memory { length memory.old ≡ MEMORY_BYTES }
+    requires short { length bytes.now ≤ MAX_DATA }
+    requires fits { from < 2 ^ 40 }
+    ensures { (m : ℕ) → bit_of memory.new m
+        ≡ bit_written fmmus.now (bit_of bytes.now) from (8 * length bytes.now) m (bit_of memory.old m) }
+{
+    if let [fmmu, rest @ ..] = fmmus {
+        write_bits(rest, bytes, from, memory);
+        write_one(fmmu, bytes, from, memory);
+    }
+}
+
+/// Whether one of the `n` logical bits from `from` on is read.
+fn reads_any(fmmus: &[Fmmu], from: usize, n: usize) -> bool
+    requires in_memory { All IsInMemory fmmus.now }
+    requires fits { from + n < 2 ^ 41 }
+    ensures { result ≡ reads_any from n fmmus.now }
+{
+    for fmmu in fmmus {
+        if fmmu.reads && meets(fmmu, from, n) {
+            return true;
+        }
+    }
+    false
+}
+
+/// Whether one of the `n` logical bits from `from` on is written.
+fn writes_any(fmmus: &[Fmmu], from: usize, n: usize) -> bool
+    requires in_memory { All IsInMemory fmmus.now }
+    requires fits { from + n < 2 ^ 41 }
+    ensures { result ≡ writes_any from n fmmus.now }
+{
+    for fmmu in fmmus {
+        if fmmu.writes && meets(fmmu, from, n) {
+            return true;
+        }
+    }
+    false
+}
+
+/// Puts the memory bits that are read into the data, by the FMMUs that the datagram meets; seen as the bytes that they
+/// leave.
+fn read_data(fmmus: &[Fmmu], memory: &[u8], from: usize, bytes: &mut [u8])
+    requires mapped { fmmus.now ≡ filter (meets from (8 * length bytes.old)) (fmmus_of memory.now) }
+    requires in_memory { All IsInMemory fmmus.now }
+    requires memory { length memory.now ≡ MEMORY_BYTES }
+    requires short { length bytes.old ≤ MAX_DATA }
+    requires fits { from < 2 ^ 40 }
+    ensures { bytes.new ≡ bytes_with (length bytes.old) (λ k. bit_read (fmmus_of memory.now) (bit_of memory.now) (from + k) (bit_of bytes.old k)) }
+{
+    read_bits(fmmus, memory, from, bytes);
+}
+
+/// Puts the bits that are written into memory, by the FMMUs that the datagram meets; seen as the bytes that they leave.
+fn write_data(fmmus: &[Fmmu], bytes: &[u8], from: usize, memory: &mut [u8])
+    requires mapped { fmmus.now ≡ filter (meets from (8 * length bytes.now)) (fmmus_of memory.old) }
+    requires in_memory { All IsInMemory fmmus.now }
+    requires memory { length memory.old ≡ MEMORY_BYTES }
+    requires short { length bytes.now ≤ MAX_DATA }
+    requires fits { from < 2 ^ 40 }
+    ensures { memory.new ≡ bytes_with (length memory.old) (λ m. bit_written (fmmus_of memory.old) (bit_of bytes.now) from (8 * length bytes.now) m (bit_of memory.old m)) }
+{
+    write_bits(fmmus, bytes, from, memory);
+}
+
+/// What the FMMUs add to the working counter: 1 where a bit is read, 2 where one is written.
+fn count_of(fmmus: &[Fmmu], from: usize, n: usize) -> u16
+    requires in_memory { All IsInMemory fmmus.now }
+    requires fits { from + n < 2 ^ 41 }
+    ensures value { result ≡ (if reads_any from n fmmus.now then 1 else 0) + (if writes_any from n fmmus.now then 2 else 0) }
+    ensures small { result ≤ 3 }
+{
+    let read = if reads_any(fmmus, from, n) { 1 } else { 0 };
+    let written = if writes_any(fmmus, from, n) { 2 } else { 0 };
+    read + written
+}
+
+/// Serves a datagram at a logical address, and answers what it adds to the working counter. `came` is what came in.
+pub(crate) fn serve_logical(memory: &mut [u8], address: u32, came: &[u8], bytes: &mut [u8]) -> u16
+    requires memory { length memory.old ≡ MEMORY_BYTES }
+    requires short { length bytes.old ≤ MAX_DATA }
+    requires same { came.now ≡ bytes.old }
+    ensures data { bytes.new ≡ logical_data memory.old (8 * address) bytes.old }
+    ensures memory { memory.new ≡ logical_memory memory.old (8 * address) bytes.old }
+    ensures count { result ≡ logical_count memory.old (8 * address) (length bytes.old) }
+    ensures small { result ≤ 3 }
+{
+    let from = 8 * address as usize;
+    let n = 8 * bytes.len();
+    let mapped = mapped_fmmus(memory, from, n);
+    let fmmus = mapped.as_slice();
+    let alias = alias_of(memory);
+    read_data(fmmus, memory, from, bytes);
+    write_data(fmmus, came, from, memory);
+    put_back(memory, alias);
+    count_of(fmmus, from, n)
+}

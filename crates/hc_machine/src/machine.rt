@@ -1,0 +1,90 @@
+//! A slave of the line.
+
+ghost use Rattle.std.specs.Prelude.{◌≡◌, IfOk, length, vec_len};
+ghost use Rattle.std.specs.Borrow.{sem};
+ghost use Rattle.hc_machine.specs.Frames.{frame_after, memory_behind};
+ghost use Rattle.hc_machine.specs.Lending.{LendsMemory};
+ghost use Rattle.hc_machine.specs.Memory.{fresh_memory, zeros};
+
+use crate::frames::serve_frame;
+use crate::limits::MEMORY_BYTES;
+use crate::memory::put_part;
+use hc_frames::limits::{ALIAS_REGISTER, MAX_DATA};
+use std::alloc::{AllocError, Global};
+use std::marker::Model;
+
+/// A slave: its memory, and room for the data of a datagram. Contracts see it as the bytes of its memory.
+#[derive(Drop)]
+pub struct SlaveMachine {
+    memory: Vec<u8>,
+    spare: Vec<u8>,
+}
+
+impl Model for SlaveMachine {
+    ghost use Rattle.std.specs.Prelude.{◌≡◌, ℕ, List, vec_len};
+
+    ghost Value = { List ℕ };
+
+    ghost view = { λ machine. machine.memory.items };
+
+    ghost invariant = { λ machine. (vec_len machine.memory ≡ 12288) × (vec_len machine.spare ≡ 1486) };
+}
+
+/// So many zeros.
+fn zeros(alloc: Global, n: usize) -> Result<Vec<u8>, AllocError>
+    ensures items { IfOk result (λ bytes. bytes.items ≡ zeros n) }
+    ensures size { IfOk result (λ bytes. vec_len bytes ≡ n) }
+{
+    vec![in alloc; 0; n]
+}
+
+/// The memory of a slave that no frame has met.
+fn fresh_memory(alloc: Global, alias: u16) -> Result<Vec<u8>, AllocError>
+    ensures items { IfOk result (λ memory. memory.items ≡ fresh_memory alias) }
+    ensures size { IfOk result (λ memory. vec_len memory ≡ MEMORY_BYTES) }
+{
+    let mut memory = zeros(alloc, MEMORY_BYTES)?;
+    put_part(
+        &mut memory,
+        usize::from(ALIAS_REGISTER),
+        &alias.to_le_bytes(),
+    );
+    Ok(memory)
+}
+
+impl SlaveMachine {
+    /// A slave whose memory is zeros but for its configured station alias. `AllocError` where the room was refused.
+    pub fn new(alloc: Global, alias: u16) -> Result<SlaveMachine, AllocError>
+        ensures { IfOk result (λ machine. machine ≡ fresh_memory alias) }
+    {
+        let memory = fresh_memory(alloc, alias)?;
+        let spare = zeros(alloc, usize::from(MAX_DATA))?;
+        Ok(SlaveMachine { memory, spare })
+    }
+
+    /// Does what the slave does with a frame, in the frame's place. A frame that the reader doesn't read stays as it is.
+    /// Takes no memory.
+    pub fn process(&mut self, frame: &mut [u8])
+        ensures frame { frame.new ≡ frame_after self.old frame.old }
+        ensures memory { self.new ≡ memory_behind self.old frame.old }
+    {
+        serve_frame(&mut self.memory, &mut self.spare, frame);
+    }
+
+    /// The bytes of its memory, 12,288 from register 0 on.
+    pub fn memory(&self) -> &[u8]
+        ensures bytes { result.now ≡ self.now }
+        ensures size { length result.now ≡ MEMORY_BYTES }
+    {
+        self.memory.as_slice()
+    }
+
+    /// Lends the bytes of its memory for writing, any of them: the alias and the registers too. Takes no memory.
+    pub fn memory_mut(&mut self) -> &mut [u8]
+        ensures* written { sem 𝓛 (LendsMemory self.entry result) }
+        ensures bytes { result.now ≡ self.old }
+        ensures size { length result.now ≡ MEMORY_BYTES }
+    {
+        self.memory.as_mut_slice()
+    }
+}

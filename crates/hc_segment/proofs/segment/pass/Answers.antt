@@ -1,0 +1,11 @@
+use Rattle.std.proofs.Common.{ap, sym, ◌∙◌, arith}
+use Rattle.hc_machine.specs.Frames.{frame_after, memory_behind}
+use Rattle.hc_segment.proofs.Passing.{one-more}
+use Rattle.hc_segment.proofs.segment.pass.Goals as goal
+
+pub loop-machine-preserved : goal.loop-machine-preserved
+loop-machine-preserved c =
+    let l = c.loop-machine in
+    one-more l.machine-index c.args.machines.now l.machines c.args.frame.now l.frame c.process.new.frame c.machine-item.result c.process.new.self
+    (omega arith) l.invariant.0 l.invariant.1 c.machine-item.is
+    (c.process.ensures.memory ∙ ap (λ m. memory_behind m l.frame) (sym c.machine-item.is)) (c.process.ensures.frame ∙ ap (λ m. frame_after m l.frame) (sym c.machine-item.is))

@@ -1,0 +1,18 @@
+-- What a thread, or a row of threads, does between two rings of frames.
+use Rattle.std.specs.Prelude.{◌≡◌, ℕ, List, [], length}
+use Rattle.hc_rings.specs.declared.frames.FrameReceiver.{FrameReceiver}
+use Rattle.hc_rings.specs.declared.frames.FrameSender.{FrameSender}
+use Rattle.hc_rings.specs.Frames.{SameFrameReceiver, SameFrameSender, frames_sent, frames_taken}
+use Rattle.hc_segment.specs.Line.{line_after, line_frames}
+
+-- so many frames were taken, and what was sent is what the segments made of them
+pub record Flows (count : ℕ) (line line' : List (List (List ℕ))) (from from' : FrameReceiver) (to to' : FrameSender) : Type 0 where
+  pub counted : length (frames_taken from') ≡ count
+  pub frames : frames_sent to' ≡ line_frames line (frames_taken from')
+  pub segments : line' ≡ line_after line (frames_taken from')
+  pub same_from : SameFrameReceiver from from'
+  pub same_to : SameFrameSender to to'
+
+-- nothing went through yet
+abbrev pub Unused : FrameReceiver → FrameSender → Type 0
+Unused from to = (frames_taken from ≡ []) × (frames_sent to ≡ [])

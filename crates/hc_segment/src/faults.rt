@@ -1,0 +1,35 @@
+//! Why a chain is refused.
+ghost use Rattle.std.specs.Prelude.{◌≡◌};
+
+use std::alloc::AllocError;
+use thiserror::Error;
+
+/// Why a chain is refused. A fault's number is part of the program's printed words and never changes.
+#[derive(Clone, Copy, Debug, PartialEq, Eq, Error)]
+pub enum ChainFault {
+    /// A growth was refused.
+    #[error("out of memory")]
+    Memory,
+}
+
+impl ChainFault {
+    /// The fault's number: 1.
+    pub fn number(self) -> u8
+        ensures { result ≡ 1 }
+    {
+        match self {
+            ChainFault::Memory => 1,
+        }
+    }
+}
+
+impl From<AllocError> for ChainFault {
+    ghost use Rattle.std.specs.Prelude.{◌≡◌};
+    ghost use Rattle.hc_segment.specs.declared.faults.ChainFault.TheVariants.{Memory};
+
+    ghost from_gives = { λ _ fault. fault ≡ Memory };
+
+    fn from(_error: AllocError) -> ChainFault {
+        ChainFault::Memory
+    }
+}

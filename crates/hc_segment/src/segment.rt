@@ -1,0 +1,72 @@
+//! A segment of a line: machines that frames meet in order.
+ghost use Rattle.std.specs.Prelude.{◌≡◌};
+ghost use Rattle.std.specs.Borrow.{sem};
+ghost use Rattle.hc_segment.specs.Lending.{LendsMachines};
+ghost use Rattle.hc_segment.specs.Line.{frame_through, machines_behind};
+
+use hc_machine::SlaveMachine;
+use std::marker::Model;
+
+/// Machines in their order on the line. Contracts see them as the list of their memories.
+#[derive(Drop)]
+pub struct Segment {
+    machines: Vec<SlaveMachine>,
+}
+
+impl Model for Segment {
+    ghost use Rattle.std.specs.Prelude.{ℕ, List};
+
+    ghost Value = { List (List ℕ) };
+
+    ghost view = { λ segment. segment.machines.items };
+}
+
+/// Passes a frame through machines one after another.
+fn pass(machines: &mut [SlaveMachine], frame: &mut [u8])
+    ensures frame { frame.new ≡ frame_through machines.old frame.old }
+    ensures machines { machines.new ≡ machines_behind machines.old frame.old }
+{
+    for machine in machines.iter_mut() {
+        machine.process(frame);
+    }
+}
+
+impl Segment {
+    /// The segment of these machines, in this order. Takes no memory.
+    pub fn of(machines: Vec<SlaveMachine>) -> Segment
+        ensures { result ≡ machines.items }
+    {
+        Segment { machines }
+    }
+
+    /// Passes a frame through the machines, one after another, in the frame's place. Takes no memory.
+    pub fn process(&mut self, frame: &mut [u8])
+        ensures frame { frame.new ≡ frame_through self.old frame.old }
+        ensures machines { self.new ≡ machines_behind self.old frame.old }
+    {
+        pass(self.machines.as_mut_slice(), frame);
+    }
+
+    /// The machines, in their order.
+    pub fn machines(&self) -> &[SlaveMachine]
+        ensures { result.now ≡ self.now }
+    {
+        self.machines.as_slice()
+    }
+
+    /// Lends the machines for writing, in their order. Takes no memory.
+    pub fn machines_mut(&mut self) -> &mut [SlaveMachine]
+        ensures* written { sem 𝓛 (LendsMachines self.entry result) }
+        ensures machines { result.now ≡ self.old }
+    {
+        self.machines.as_mut_slice()
+    }
+
+    /// Gives the machines back. Takes no memory.
+    pub fn into_machines(self) -> Vec<SlaveMachine>
+        ensures { result.items ≡ self }
+    {
+        let Segment { machines } = self;
+        machines
+    }
+}
