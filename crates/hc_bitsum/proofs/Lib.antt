@@ -5,3 +5,4 @@ pub mod Scan
 pub mod Listed
 pub mod Halves
 pub mod From
+pub mod Kept

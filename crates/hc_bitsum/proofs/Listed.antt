@@ -8,7 +8,6 @@ use Rattle.hc_records.specs.declared.records.Dir.TheVariants.{Out, In}
 use Rattle.hc_records.specs.declared.keys.Key.{Key}
 use Rattle.hc_records.specs.Keys.{is_before}
 use Rattle.hc_records.specs.TaskList.{Keyed}
-use Rattle.hc_bitsum.specs.Search.{list_from}
 use Rattle.hc_bitsum.specs.Slots.{blank_slots, key_at, set_at}
 use Rattle.hc_bitsum.specs.Tree.{has_width, with_width}
 use Rattle.hc_bitsum.specs.Places.{StandFrom}
