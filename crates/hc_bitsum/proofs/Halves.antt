@@ -1,13 +1,13 @@
 -- What the outputs and the inputs of a tree are together.
-use Rattle.std.specs.Prelude.{All, filter, not}
-use Rattle.std.proofs.Common.{◌≡◌, ℕ, zero, suc, ◌+◌, ◌-◌, ◌*◌, ◌^◌, ◌<◌, ◌≤◌, ◌==◌, Bool, true, false, List, [], ◌∷◌, ◌++◌, length, drop, refl, sym, ap, subst, ◌∙◌, arith, append_assoc, append-nil, if◌then◌else◌}
+use Rattle.std.specs.Prelude.{All, filter}
+use Rattle.std.proofs.Common.{◌≡◌, ℕ, zero, suc, ◌+◌, ◌-◌, ◌*◌, ◌^◌, ◌<◌, ◌≤◌, List, [], ◌∷◌, ◌++◌, length, refl, sym, ap, subst, ◌∙◌, arith, append_assoc, append-nil}
 use Rattle.std.proofs.lemmas.List.Elements.{All-nil, All-cons, All-head, All-tail, All-append, filter-append}
 use Rattle.hc_records.specs.declared.records.Dir.{Dir}
 use Rattle.hc_records.specs.declared.records.Dir.TheVariants.{Out, In}
 use Rattle.hc_records.specs.declared.keys.Key.{Key}
 use Rattle.hc_records.specs.Keys.{is_before}
 use Rattle.hc_records.specs.TaskList.{Keyed}
-use Rattle.hc_bitsum.specs.Slots.{IsNarrow, IsShaped, Slots, blank_slots, key_at, set_at, with_bits}
+use Rattle.hc_bitsum.specs.Slots.{IsNarrow, Slots, blank_slots, key_at, set_at, with_bits}
 use Rattle.hc_bitsum.specs.Tree.{HasPlace, has_width, with_width}
 use Rattle.hc_bitsum.specs.Places.{IsPlaced, KeepsSlaves, StandFrom}
 use Rattle.hc_bitsum.proofs.Shape.{blank-height, blank-length, length-set_at, with_bits-shaped}

@@ -6,3 +6,4 @@ pub mod Listed
 pub mod Halves
 pub mod From
 pub mod Kept
+pub mod lemmas

@@ -1,7 +1,6 @@
 -- How a tree keeps its places: the areas of one direction behind those of the other.
 use Rattle.std.specs.Prelude.{◌≡◌, ℕ, ◌+◌, ◌*◌, ◌≤◌, true, All, List, [], ◌∷◌, length}
 use Rattle.hc_records.specs.declared.records.Dir.{Dir}
-use Rattle.hc_records.specs.declared.records.Dir.TheVariants.{Out, In}
 use Rattle.hc_records.specs.TaskList.{Keyed}
 use Rattle.hc_bitsum.specs.Slots.{IsShaped, Slots, key_at}
 use Rattle.hc_bitsum.specs.Tree.{HasPlace, has_width}

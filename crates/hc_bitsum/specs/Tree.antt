@@ -1,10 +1,8 @@
 -- What a tree of sums is seen as.
-use Rattle.std.specs.Prelude.{◌≡◌, ℕ, ◌+◌, ◌*◌, ◌<◌, ◌≤◌, ◌==◌, ◌⊎◌, nat_lt, Bool, if◌then◌else◌, All, List, [], ◌∷◌, ◌++◌, filter, length}
-use Rattle.hc_records.specs.declared.records.Dir.{Dir}
-use Rattle.hc_records.specs.declared.records.Dir.TheVariants.{Out, In}
+use Rattle.std.specs.Prelude.{◌≡◌, ℕ, ◌+◌, ◌<◌, ◌≤◌, ◌==◌, ◌⊎◌, nat_lt, Bool, if◌then◌else◌, All, List, [], ◌∷◌, ◌++◌, filter}
 use Rattle.hc_records.specs.declared.keys.Key.{Key}
 use Rattle.hc_records.specs.declared.keys.TheConstants.Key.{START}
-use Rattle.hc_records.specs.declared.limits.TheConstants.{MOST_AREAS, MOST_SLAVES}
+use Rattle.hc_records.specs.declared.limits.TheConstants.{MOST_AREAS}
 use Rattle.hc_records.specs.Keys.{is_before}
 use Rattle.hc_records.specs.SpanLaws.{IsTaskList}
 use Rattle.hc_records.specs.TaskList.{Keyed}

@@ -1,8 +1,7 @@
-use Rattle.std.proofs.Common.{◌≡◌, ◌+◌, ◌≤◌, ◌++◌, inr, true, false, List, [], ◌∷◌, length, ap, arith}
+use Rattle.std.proofs.Common.{◌+◌, ◌≤◌, ◌++◌, inr, true, false, List, [], ◌∷◌, length, ap, arith}
 use Rattle.std.proofs.lemmas.Bool.Decides.{nat_tests}
 use Rattle.hc_records.specs.declared.keys.Key.{Key}
 use Rattle.hc_records.specs.declared.keys.TheConstants.Key.{END}
-use Rattle.hc_cuts.specs.Starts.{most_read}
 use Rattle.hc_cuts.proofs.Chain.{crowds, end-is, ends, ends-few, goes, goes-place}
 use Rattle.hc_cuts.proofs.cuts.searched_starts.Goals as goal
 

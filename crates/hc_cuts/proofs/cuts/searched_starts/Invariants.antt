@@ -1,4 +1,4 @@
-use Rattle.std.proofs.Common.{◌≡◌, ◌+◌, ◌*◌, ◌-◌, ◌≤◌, length}
+use Rattle.std.proofs.Common.{◌+◌, ◌*◌, ◌-◌, ◌≤◌, length}
 use Rattle.hc_records.specs.declared.limits.TheConstants.{MOST_DATAGRAMS}
 use Rattle.hc_bitsum.specs.Tree.{CanBegin}
 use Rattle.hc_cuts.specs.Starts.{most_read}

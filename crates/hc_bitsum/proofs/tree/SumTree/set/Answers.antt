@@ -1,11 +1,10 @@
-use Rattle.std.proofs.Common.{◌≡◌, ◌+◌, ◌*◌, ◌<◌, ◌≤◌, ◌++◌, ◌∙◌, ℕ, List, length, ap, subst, sym, arith}
-use Rattle.std.specs.Prelude.{filter}
+use Rattle.std.proofs.Common.{◌≡◌, ◌<◌, ◌∙◌, ℕ, List, length, ap, subst, sym, arith}
 use Rattle.hc_records.specs.declared.records.Dir.{Dir}
 use Rattle.hc_records.specs.declared.records.Dir.TheVariants.{Out, In}
 use Rattle.hc_records.specs.declared.keys.Key.{Key}
 use Rattle.hc_records.specs.TaskList.{Keyed}
 use Rattle.hc_bitsum.specs.Slots.{key_at}
-use Rattle.hc_bitsum.specs.Tree.{HasPlace, Tree, has_width, with_width}
+use Rattle.hc_bitsum.specs.Tree.{HasPlace, Tree}
 use Rattle.hc_bitsum.proofs.Halves.{wide-inputs, wide-outputs, with_bits-keeps}
 use Rattle.hc_bitsum.proofs.tree.SumTree.set.Goals as goal
 
