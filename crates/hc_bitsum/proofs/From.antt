@@ -1,6 +1,6 @@
 -- The areas of a list from a key on, and a scan of them.
 use Rattle.std.specs.Prelude.{filter, not}
-use Rattle.std.proofs.Common.{◌≡◌, ℕ, zero, suc, ◌+◌, ◌-◌, ◌*◌, ◌/◌, ◌<◌, ◌≤◌, ◌==◌, nat_le, nat_lt, Bool, true, false, List, [], ◌∷◌, ◌++◌, length, drop, refl, sym, ap, ◌∙◌, arith, if◌then◌else◌}
+use Rattle.std.proofs.Common.{◌≡◌, ℕ, zero, suc, ◌+◌, ◌-◌, ◌<◌, ◌≤◌, ◌==◌, nat_le, Bool, true, false, List, [], ◌∷◌, ◌++◌, length, drop, refl, sym, ap, ◌∙◌, arith, if◌then◌else◌}
 use Rattle.std.proofs.lemmas.Bool.Decides.{nat_tests}
 use Rattle.std.proofs.lemmas.List.{drop-append-le}
 use Rattle.std.proofs.lemmas.List.Elements.{filter-append}
@@ -8,17 +8,51 @@ use Rattle.hc_records.specs.declared.records.Dir.{Dir}
 use Rattle.hc_records.specs.declared.records.Dir.TheVariants.{Out, In}
 use Rattle.hc_records.specs.declared.keys.Key.{Key}
 use Rattle.hc_records.specs.declared.keys.TheConstants.Key.{START}
-use Rattle.hc_records.specs.Keys.{is_before}
+use Rattle.hc_records.specs.Keys.{is_before, is_within}
+use Rattle.hc_records.specs.SpanLaws.{areas_from}
 use Rattle.hc_records.specs.TaskList.{Keyed}
 use Rattle.hc_bitsum.specs.declared.filled.Filled.{Filled}
 use Rattle.hc_bitsum.specs.declared.branch.Fit.TheVariants.{Found}
 use Rattle.hc_bitsum.specs.Filling.{with_area}
-use Rattle.hc_bitsum.specs.Search.{list_from, scan}
+use Rattle.hc_bitsum.specs.Search.{first_beyond, key_or_end, scan}
 use Rattle.hc_bitsum.specs.Slots.{key_at}
 use Rattle.hc_bitsum.specs.Tree.{has_width}
 use Rattle.hc_bitsum.specs.Places.{StandFrom}
+use Rattle.hc_records.proofs.lemmas.KeyOrder.{before-apart, within-else}
 use Rattle.hc_bitsum.proofs.Listed.{before-not, before-place, drops-by, keeps-by}
 use Rattle.hc_bitsum.proofs.Scan.{le-yes, yes-le}
+
+beyond-by : (fits : Bool) (room : ℕ) (filled : Filled) (x : Keyed) (xs : List Keyed) → key_or_end (scan room filled xs) ≡ first_beyond room filled xs
+    → key_or_end (if fits then scan room filled xs else Found x.0) ≡ (if fits then first_beyond room filled xs else x.0)
+beyond-by true room filled x xs rest = rest
+beyond-by false room filled x xs rest = refl
+
+-- a scan tells the first area that would end past the room
+pub scan-beyond : (room : ℕ) (filled : Filled) (xs : List Keyed) → key_or_end (scan room filled xs) ≡ first_beyond room filled xs
+scan-beyond room filled [] = refl
+scan-beyond room filled (x ∷ xs) =
+    let next = with_area filled x in
+    beyond-by (nat_le next.bit room) room next x xs (scan-beyond room next xs)
+
+-- the areas of a list that don't come before a key
+abbrev list_from : Key → List Keyed → List Keyed
+list_from key list = filter (λ area. not (is_before area.0 key)) list
+
+-- a key that doesn't come before another is that one or comes behind it
+reached-by : (before : Bool) (a b : Key) → is_before a b ≡ before → not before ≡ is_within b a
+reached-by true a b test = sym (before-apart a b test)
+reached-by false a b test = sym (within-else a b test)
+
+from-by : (before within : Bool) (x : Keyed) (xs ys : List Keyed) → not before ≡ within → xs ≡ ys → (if not before then x ∷ xs else xs) ≡ (if within then x ∷ ys else ys)
+from-by before true x xs ys test rest = rw test (ap (λ zs. x ∷ zs) rest)
+from-by before false x xs ys test rest = rw test rest
+
+-- they are those from the key on
+list-areas : (key : Key) (list : List Keyed) → list_from key list ≡ areas_from key list
+list-areas key [] = refl
+list-areas key (area ∷ areas) =
+    from-by (is_before area.0 key) (is_within key area.0) area (list_from key areas) (areas_from key areas)
+    (reached-by (is_before area.0 key) area.0 key refl) (list-areas key areas)
 
 -- an area without a width changes no scan
 
@@ -79,9 +113,9 @@ outputs-from place behind (area ∷ areas) stand =
 
 -- in both directions
 
-pub output-from : (place : ℕ) (outputs inputs : List Keyed) → StandFrom Out 0 outputs → StandFrom In 0 inputs → place < length outputs
+output-listed : (place : ℕ) (outputs inputs : List Keyed) → StandFrom Out 0 outputs → StandFrom In 0 inputs → place < length outputs
     → filter has_width (drop place (outputs ++ inputs)) ≡ list_from (key_at Out place) (filter has_width (outputs ++ inputs))
-output-from place outputs inputs out into h =
+output-listed place outputs inputs out into h =
     let here : 0 + place ≡ place = omega arith in
     let front = wide-drop Out 0 place outputs out in
     ap (filter has_width) (drop-append-le place outputs inputs (omega arith))
@@ -91,15 +125,25 @@ output-from place outputs inputs out into h =
     ∙ filter-append (λ area. not (is_before area.0 (key_at Out place))) (filter has_width outputs) (filter has_width inputs)
     ∙ ap (λ xs. list_from (key_at Out place) (filter has_width outputs) ++ xs) (inputs-from place 0 inputs into))
 
-pub input-from : (place : ℕ) (outputs inputs : List Keyed) → StandFrom Out 0 outputs → StandFrom In 0 inputs
+pub output-from : (place : ℕ) (outputs inputs : List Keyed) → StandFrom Out 0 outputs → StandFrom In 0 inputs → place < length outputs
+    → filter has_width (drop place (outputs ++ inputs)) ≡ areas_from (key_at Out place) (filter has_width (outputs ++ inputs))
+output-from place outputs inputs out into h =
+    output-listed place outputs inputs out into h ∙ list-areas (key_at Out place) (filter has_width (outputs ++ inputs))
+
+input-listed : (place : ℕ) (outputs inputs : List Keyed) → StandFrom Out 0 outputs → StandFrom In 0 inputs
     → filter has_width (drop place inputs) ≡ list_from (key_at In place) (filter has_width (outputs ++ inputs))
-input-from place outputs inputs out into =
+input-listed place outputs inputs out into =
     let here : 0 + place ≡ place = omega arith in
     let back = wide-drop In 0 place inputs into in
     back ∙ ap (λ n. list_from (key_at In n) (filter has_width inputs)) here
     ∙ sym (ap (list_from (key_at In place)) (filter-append has_width outputs inputs)
     ∙ filter-append (λ area. not (is_before area.0 (key_at In place))) (filter has_width outputs) (filter has_width inputs)
     ∙ ap (λ xs. xs ++ list_from (key_at In place) (filter has_width inputs)) (outputs-from place 0 outputs out))
+
+pub input-from : (place : ℕ) (outputs inputs : List Keyed) → StandFrom Out 0 outputs → StandFrom In 0 inputs
+    → filter has_width (drop place inputs) ≡ areas_from (key_at In place) (filter has_width (outputs ++ inputs))
+input-from place outputs inputs out into =
+    input-listed place outputs inputs out into ∙ list-areas (key_at In place) (filter has_width (outputs ++ inputs))
 
 not-before_start : (dir : Dir) (place : ℕ) → is_before (key_at dir place) START ≡ false
 not-before_start Out place = grind (arith, nat_tests)
@@ -111,11 +155,16 @@ start-from dir behind (area ∷ areas) stand =
     keeps-by (has_width area) (λ other. not (is_before other.0 START)) area (filter has_width areas)
     (rw (stand.0, not-before_start dir behind) refl) (start-from dir (behind + 1) areas stand.1)
 
-pub all-from_start : (outputs inputs : List Keyed) → StandFrom Out 0 outputs → StandFrom In 0 inputs
+all-listed : (outputs inputs : List Keyed) → StandFrom Out 0 outputs → StandFrom In 0 inputs
     → filter has_width (outputs ++ inputs) ≡ list_from START (filter has_width (outputs ++ inputs))
-all-from_start outputs inputs out into =
+all-listed outputs inputs out into =
     filter-append has_width outputs inputs
     ∙ sym (ap (list_from START) (filter-append has_width outputs inputs)
     ∙ filter-append (λ area. not (is_before area.0 START)) (filter has_width outputs) (filter has_width inputs)
     ∙ ap (λ xs. xs ++ list_from START (filter has_width inputs)) (start-from Out 0 outputs out)
     ∙ ap (λ xs. filter has_width outputs ++ xs) (start-from In 0 inputs into))
+
+pub all-from_start : (outputs inputs : List Keyed) → StandFrom Out 0 outputs → StandFrom In 0 inputs
+    → filter has_width (outputs ++ inputs) ≡ areas_from START (filter has_width (outputs ++ inputs))
+all-from_start outputs inputs out into =
+    all-listed outputs inputs out into ∙ list-areas START (filter has_width (outputs ++ inputs))

@@ -5,3 +5,5 @@ pub mod Scan
 pub mod Listed
 pub mod Halves
 pub mod From
+pub mod Kept
+pub mod lemmas

@@ -1,16 +1,21 @@
 -- The first area of a list for which a datagram has no room.
-use Rattle.std.specs.Prelude.{ℕ, ◌+◌, ◌*◌, ◌≤◌, nat_le, Bool, true, false, not, if◌then◌else◌, List, [], ◌∷◌, filter}
+use Rattle.std.specs.Prelude.{ℕ, ◌+◌, ◌*◌, ◌≤◌, nat_le, Bool, true, false, if◌then◌else◌, List, [], ◌∷◌}
 use Rattle.hc_records.specs.declared.records.Dir.TheVariants.{In}
 use Rattle.hc_records.specs.declared.keys.Key.{Key}
 use Rattle.hc_records.specs.declared.keys.TheConstants.Key.{END}
-use Rattle.hc_records.specs.Keys.{is_before}
 use Rattle.hc_records.specs.TaskList.{Keyed}
 use Rattle.hc_bitsum.specs.declared.filled.Filled.{Filled}
 use Rattle.hc_bitsum.specs.declared.branch.Fit.{Fit}
 use Rattle.hc_bitsum.specs.declared.branch.Fit.TheVariants.{Found, Through}
 use Rattle.hc_bitsum.specs.Filling.{with_area}
 
--- goes over the areas as long as each ends within the room
+-- the key of the first area that would end past the room, or END
+abbrev pub first_beyond : ℕ → Filled → List Keyed → Key
+first_beyond room filled [] = END
+first_beyond room filled (area ∷ areas) =
+    if nat_le (with_area filled area).bit room then first_beyond room (with_area filled area) areas else area.0
+
+-- the same, with how far the datagram is filled where none does: what a search of a part of the areas comes to
 abbrev pub scan : ℕ → Filled → List Keyed → Fit
 scan room filled [] = Through filled
 scan room filled (area ∷ areas) =
@@ -20,17 +25,9 @@ abbrev pub key_or_end : Fit → Key
 key_or_end (Found key) = key
 key_or_end (Through filled) = END
 
--- the key of the first area that would end past the room, or END
-abbrev pub first_beyond : ℕ → Filled → List Keyed → Key
-first_beyond room filled areas = key_or_end (scan room filled areas)
-
 -- a datagram that a run begins at a bit: nothing before it makes a first input begin a byte
 abbrev pub begun : ℕ → Filled
 begun bit = record { bit = bit; last = In }
-
--- the areas of a list from a key on
-abbrev pub list_from : Key → List Keyed → List Keyed
-list_from key list = filter (λ area. not (is_before area.0 key)) list
 
 -- the nodes and areas that a search of a part of this height reads at most, by whether it begins at the part's front
 abbrev pub most_steps : Bool → Fit → ℕ → ℕ

@@ -1,11 +1,10 @@
 -- What a tree of sums is seen as.
-use Rattle.std.specs.Prelude.{◌≡◌, ℕ, ◌+◌, ◌*◌, ◌<◌, ◌≤◌, ◌==◌, ◌⊎◌, nat_lt, Bool, if◌then◌else◌, List, [], ◌∷◌, ◌++◌, filter, length}
-use Rattle.hc_records.specs.declared.records.Dir.{Dir}
-use Rattle.hc_records.specs.declared.records.Dir.TheVariants.{Out, In}
+use Rattle.std.specs.Prelude.{◌≡◌, ℕ, ◌+◌, ◌<◌, ◌≤◌, ◌==◌, ◌⊎◌, nat_lt, Bool, if◌then◌else◌, All, List, [], ◌∷◌, ◌++◌, filter}
 use Rattle.hc_records.specs.declared.keys.Key.{Key}
 use Rattle.hc_records.specs.declared.keys.TheConstants.Key.{START}
-use Rattle.hc_records.specs.declared.limits.TheConstants.{MOST_AREAS, MOST_SLAVES}
+use Rattle.hc_records.specs.declared.limits.TheConstants.{MOST_AREAS}
 use Rattle.hc_records.specs.Keys.{is_before}
+use Rattle.hc_records.specs.SpanLaws.{IsTaskList}
 use Rattle.hc_records.specs.TaskList.{Keyed}
 
 -- how many slaves it has places for, and the areas with a width, in key order
@@ -18,6 +17,11 @@ pub record HasPlace (slaves : ℕ) (key : Key) : Type 0 where
   pub first : 1 ≤ key.rank
   pub last : key.rank ≤ slaves
   pub area : key.area < MOST_AREAS
+
+-- what any tree has: the list of a task, and a place for each of its areas
+pub record HoldsTaskList (tree : Tree) : Type 0 where
+  pub list : IsTaskList tree.list
+  pub places : All (λ area. HasPlace tree.slaves area.0) tree.list
 
 -- a search begins at the front of the list, or at a key that has a place
 abbrev pub CanBegin : ℕ → Key → Type 0

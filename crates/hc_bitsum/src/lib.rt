@@ -2,6 +2,7 @@
 //! tree finds the area that a datagram has no room for, without going over the areas before it.
 #![tactic(auto)]
 
+pub mod borders;
 mod branch;
 pub mod filled;
 pub mod laws;

@@ -1,10 +1,9 @@
 //! What a run of areas takes of a datagram.
 ghost use Rattle.std.specs.Prelude.{◌≡◌, ◌+◌, ◌^◌, ◌<◌, ◌≤◌, ℕ};
-ghost use Rattle.hc_records.specs.Keys.{is_turn};
-ghost use Rattle.hc_records.specs.Packing.{next_byte};
 ghost use Rattle.hc_records.specs.declared.limits.TheConstants.{MOST_AREA_BITS};
 ghost use Rattle.hc_bitsum.specs.Sums.{EndsBelow, end_from, ended, ends_by, joined, start_at, sum_of_area};
 
+use crate::borders::{byte_border, is_turning};
 use crate::filled::Filled;
 use hc_records::records::Dir;
 
@@ -20,21 +19,6 @@ pub enum Sum {
         last: Dir,
         ends: [u32; 8],
     },
-}
-
-/// The first byte border at or behind a bit.
-fn byte_border(bit: u32) -> u32
-    requires { bit < 2 ^ 31 }
-    ensures { result ≡ next_byte bit }
-{
-    (bit + 7) / 8 * 8
-}
-
-/// Whether an input comes behind an output.
-fn is_turning(last: Dir, dir: Dir) -> bool
-    ensures { result ≡ is_turn last dir }
-{
-    last == Dir::Out && dir == Dir::In
 }
 
 /// The bit from which a run starts behind another.

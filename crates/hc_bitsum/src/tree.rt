@@ -1,7 +1,7 @@
 //! A tree of sums over the areas of a task: those with a width, in key order.
 ghost use Rattle.std.specs.Prelude.{◌≡◌, ◌+◌, ◌*◌, ◌^◌, ◌<◌, ◌≤◌, ◌++◌, drop, length};
 ghost use Rattle.hc_records.specs.declared.limits.TheConstants.{MOST_SLAVES};
-ghost use Rattle.hc_bitsum.specs.Tree.{CanBegin, HasPlace};
+ghost use Rattle.hc_bitsum.specs.Tree.{CanBegin, HasPlace, HoldsTaskList};
 ghost use Rattle.hc_bitsum.specs.Search.{scan};
 ghost use Rattle.hc_bitsum.specs.Slots.{IsShaped, key_at};
 
@@ -89,7 +89,8 @@ impl SumTree {
     ghost use Rattle.std.specs.Prelude.{◌≡◌, [], IfOk};
     ghost use Rattle.hc_records.specs.declared.keys.TheConstants.Key.{START};
     ghost use Rattle.hc_records.specs.declared.limits.TheConstants.{MOST_AREA_BITS};
-    ghost use Rattle.hc_bitsum.specs.Search.{begun, first_beyond, list_from};
+    ghost use Rattle.hc_records.specs.SpanLaws.{areas_from};
+    ghost use Rattle.hc_bitsum.specs.Search.{begun, first_beyond};
     ghost use Rattle.hc_bitsum.specs.Sums.{sum_of};
     ghost use Rattle.hc_bitsum.specs.Tree.{with_width};
 
@@ -132,12 +133,14 @@ impl SumTree {
     /// a bit: the key of the first area that would end past the room, or `Key::END` where none does.
     /// The key is one that `set` takes, or `Key::START`, from which all areas are gone over; bit and
     /// room are at most 11,888. Each node and area that is read is a step, at least 1 and at most 62.
+    /// Its areas are a task's list, so a search can begin at each of their keys.
     /// It takes no memory.
     pub fn last_fit<L: Ledger>(&self, from: Key, phase: u32, room: u32, steps: &mut Steps<L>) -> Key
         requires from { CanBegin self.now.slaves from }
         requires phase { phase ≤ room }
         requires room { room ≤ MOST_AREA_BITS }
-        ensures key { result ≡ first_beyond room (begun phase) (list_from from self.now.list) }
+        ensures key { result ≡ first_beyond room (begun phase) (areas_from from self.now.list) }
+        ensures holds { HoldsTaskList self.now }
         ensures least { steps.old + 1 ≤ steps.new }
         ensures most { steps.new ≤ steps.old + 62 }
     {

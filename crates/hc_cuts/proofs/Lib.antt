@@ -1,3 +1,5 @@
+pub mod Chain
 pub mod Firsts
 pub mod Hulls
+pub mod Searched
 pub mod lemmas

@@ -1,9 +1,16 @@
-//! What follows from the definition of a crowded task: the function does nothing, and its contract is
-//! a law. Nobody calls it.
+//! What follows from the definitions of this crate: each function does nothing, and its contract is a
+//! law. Nobody calls it.
 ghost use Rattle.hc_cuts.specs.Firsts.{CrowdedHasNoCut};
+ghost use Rattle.hc_cuts.specs.Starts.{NextBoundariesFollow};
 
 /// Where packing gives more than 16 datagrams, no other cut of the list in its order into at most 16
 /// parts that fit a datagram each exists, so nobody is refused who could have been served.
 pub fn crowded_has_no_cut()
     ensures { CrowdedHasNoCut }
+{}
+
+/// From a boundary of a task's list, the next boundary of the areas from there on, packed by
+/// themselves, is the one behind it in the list.
+pub fn next_boundaries_follow()
+    ensures { NextBoundariesFollow }
 {}

@@ -1,7 +1,9 @@
 //! Where the datagrams of a task begin. The plan above asks for the boundaries of a task's list.
 #![tactic(auto)]
 
+pub mod cuts;
 pub mod fold;
 pub mod laws;
+pub mod next;
 pub mod packing;
 pub mod settled;

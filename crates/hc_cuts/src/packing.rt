@@ -1,11 +1,11 @@
 //! The packing of a task's list, an area at a time (this project's profile): the plain program that
 //! every faster cut is compared with, and what places are worked out by.
 ghost use Rattle.std.specs.Prelude.{◌≡◌, ◌+◌, ◌<◌, ◌≤◌, All, IfOk, length};
-ghost use Rattle.hc_records.specs.Keys.{is_turn};
 ghost use Rattle.hc_records.specs.Laws.{IsPackable};
-ghost use Rattle.hc_records.specs.Packing.{next_byte, opening, packed};
+ghost use Rattle.hc_records.specs.Packing.{opening, packed};
 ghost use Rattle.hc_records.specs.declared.limits.TheConstants.{MOST_AREA_BITS};
 
+use hc_bitsum::borders::{byte_border, is_turning};
 use hc_records::keys::Key;
 use hc_records::limits::MOST_AREA_BITS;
 use hc_records::records::Dir;
@@ -57,21 +57,6 @@ impl Model for Front {
     ghost invariant = { λ front. front.bit ≤ MOST_AREA_BITS };
 
     ghost inverse = { λ front. record { datagram = front.datagram; bit = front.bit; last = front.last } };
-}
-
-/// The first byte border at or behind a bit.
-fn byte_border(bit: u16) -> u16
-    requires { bit ≤ MOST_AREA_BITS }
-    ensures { result ≡ next_byte bit }
-{
-    (bit + 7) / 8 * 8
-}
-
-/// Whether an input comes behind an output.
-fn is_turning(last: Dir, dir: Dir) -> bool
-    ensures { result ≡ is_turn last dir }
-{
-    last == Dir::Out && dir == Dir::In
 }
 
 impl Placed {
@@ -142,7 +127,7 @@ impl Front {
         ensures low { result ≤ MOST_AREA_BITS }
     {
         if bits >= 8 || is_turning(self.last, key.dir) {
-            byte_border(self.bit)
+            byte_border(u32::from(self.bit)) as u16
         } else {
             self.bit
         }

@@ -15,3 +15,5 @@ mod project_texts;
 mod projects;
 #[cfg(test)]
 mod registers;
+#[cfg(test)]
+mod searches;

@@ -1,4 +1,4 @@
-use Rattle.std.proofs.Common.{◌≡◌, ℕ, ◌+◌, ◌*◌, ◌<◌, ◌≤◌, ◌++◌, ◌⊎◌, inl, inr, List, length, drop, sym, ap, ◌∙◌, arith}
+use Rattle.std.proofs.Common.{◌≡◌, ℕ, ◌+◌, ◌<◌, ◌≤◌, ◌++◌, inl, inr, List, length, drop, sym, ap, ◌∙◌, arith}
 use Rattle.std.specs.Prelude.{filter}
 use Rattle.hc_records.specs.declared.records.Dir.{Dir}
 use Rattle.hc_records.specs.declared.records.Dir.TheVariants.{Out, In}
@@ -6,10 +6,12 @@ use Rattle.hc_records.specs.declared.keys.Key.{Key}
 use Rattle.hc_records.specs.declared.keys.TheConstants.Key.{START}
 use Rattle.hc_records.specs.TaskList.{Keyed}
 use Rattle.hc_bitsum.specs.declared.filled.Filled.{Filled}
-use Rattle.hc_bitsum.specs.Search.{begun, first_beyond, key_or_end, list_from, scan}
+use Rattle.hc_records.specs.SpanLaws.{areas_from}
+use Rattle.hc_bitsum.specs.Search.{begun, first_beyond, key_or_end, scan}
 use Rattle.hc_bitsum.specs.Slots.{key_at}
 use Rattle.hc_bitsum.specs.Tree.{CanBegin, HasPlace, Tree, has_width}
-use Rattle.hc_bitsum.proofs.From.{all-from_start, input-from, output-from, scan-wide}
+use Rattle.hc_bitsum.proofs.From.{all-from_start, input-from, output-from, scan-beyond, scan-wide}
+use Rattle.hc_bitsum.proofs.Kept.{holds-list}
 use Rattle.hc_bitsum.proofs.tree.SumTree.last_fit.Goals as goal
 
 -- a key of rank 0 is the front of the list
@@ -22,9 +24,9 @@ place-is slaves key begins some = elim begins [ inl start ↦ absurd (some (ap (
 
 -- a scan of all areas behind some others is one of the list from a key on
 scanned : (room phase : ℕ) (filled : Filled) (areas : List Keyed) (list : List Keyed) (from key : Key) → phase ≤ room → filled ≡ begun phase
-    → filter has_width areas ≡ list_from key list → from ≡ key → key_or_end (scan room filled areas) ≡ first_beyond room (begun phase) (list_from from list)
+    → filter has_width areas ≡ areas_from key list → from ≡ key → key_or_end (scan room filled areas) ≡ first_beyond room (begun phase) (areas_from from list)
 scanned room phase filled areas list from key low begins same here =
-    rw (begins, here, ← same) (ap key_or_end (sym (scan-wide room (begun phase) areas low)))
+    rw (begins, here, ← same) (ap key_or_end (sym (scan-wide room (begun phase) areas low)) ∙ scan-beyond room (begun phase) (filter has_width areas))
 
 pub returns-then-from-eq0-clause-key : goal.returns-then-from-eq0-clause-key
 returns-then-from-eq0-clause-key g c =
@@ -61,3 +63,12 @@ returns-in-In-clause-key g c =
     let all = input-from place outputs inputs c.self.invariant.0.keys c.self.invariant.1.keys in
     rw (c.key_or_end-in-In.ensures, c.fit.ensures.fit, ← c.self.view_is)
     (scanned c.args.room c.args.phase c.begun-filled.result (drop place inputs) (filter has_width (outputs ++ inputs)) c.args.from (key_at In place) c.requires.phase c.begun-filled.ensures all key)
+
+pub returns-then-from-eq0-clause-holds : goal.returns-then-from-eq0-clause-holds
+returns-then-from-eq0-clause-holds g c = rw (← c.self.view_is) (holds-list c.self.inside.slaves c.self.inside.outputs c.self.inside.inputs c.self.invariant.0 c.self.invariant.1)
+
+pub returns-in-Out-clause-holds : goal.returns-in-Out-clause-holds
+returns-in-Out-clause-holds g c = rw (← c.self.view_is) (holds-list c.self.inside.slaves c.self.inside.outputs c.self.inside.inputs c.self.invariant.0 c.self.invariant.1)
+
+pub returns-in-In-clause-holds : goal.returns-in-In-clause-holds
+returns-in-In-clause-holds g c = rw (← c.self.view_is) (holds-list c.self.inside.slaves c.self.inside.outputs c.self.inside.inputs c.self.invariant.0 c.self.invariant.1)

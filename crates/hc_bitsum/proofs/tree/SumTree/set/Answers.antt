@@ -1,21 +1,32 @@
-use Rattle.std.proofs.Common.{◌≡◌, ◌+◌, ◌*◌, ◌<◌, ◌≤◌, ◌++◌, ◌∙◌, List, length, ap, sym, arith}
-use Rattle.std.specs.Prelude.{filter}
+use Rattle.std.proofs.Common.{◌≡◌, ◌<◌, ◌∙◌, ℕ, List, length, ap, subst, sym, arith}
 use Rattle.hc_records.specs.declared.records.Dir.{Dir}
 use Rattle.hc_records.specs.declared.records.Dir.TheVariants.{Out, In}
 use Rattle.hc_records.specs.declared.keys.Key.{Key}
 use Rattle.hc_records.specs.TaskList.{Keyed}
 use Rattle.hc_bitsum.specs.Slots.{key_at}
-use Rattle.hc_bitsum.specs.Tree.{Tree, has_width, with_width}
+use Rattle.hc_bitsum.specs.Tree.{HasPlace, Tree}
 use Rattle.hc_bitsum.proofs.Halves.{wide-inputs, wide-outputs, with_bits-keeps}
 use Rattle.hc_bitsum.proofs.tree.SumTree.set.Goals as goal
 
+-- the place of an area whose width is set
+placed-at : (slaves own : ℕ) (key there : Key) → own ≡ slaves → key ≡ there → HasPlace slaves key → HasPlace own there
+placed-at slaves own key there same is has = subst (λ (k : Key). HasPlace own k) is (subst (λ (n : ℕ). HasPlace n key) (sym same) has)
+
 pub invariant_of-self : goal.invariant_of-self
 invariant_of-self c =
-    (rw c.set.ensures (with_bits-keeps Out c.self.inside.slaves c.self.inside.outputs c.place_of-place.result c.args.bits c.requires.narrow c.self.invariant.0), c.self.invariant.1)
+    let place = c.place_of-place.result in
+    let key : c.args.key ≡ key_at Out place = c.place_of-place.ensures.value ∙ ap (λ (d : Dir). key_at d place) c.in-Out.is in
+    let slaves : c.self.inside.slaves ≡ c.args.self.now.slaves = ap (λ (tree : Tree). tree.slaves) c.self.view_is in
+    let own = placed-at c.args.self.now.slaves c.self.inside.slaves c.args.key (key_at Out place) slaves key c.requires.place in
+    (rw c.set.ensures (with_bits-keeps Out c.self.inside.slaves c.self.inside.outputs place c.args.bits c.requires.narrow own c.self.invariant.0), c.self.invariant.1)
 
 pub invariant_of-self-in-In : goal.invariant_of-self-in-In
 invariant_of-self-in-In c =
-    (c.self.invariant.0, rw c.set-in-In.ensures (with_bits-keeps In c.self.inside.slaves c.self.inside.inputs c.place_of-place.result c.args.bits c.requires.narrow c.self.invariant.1))
+    let place = c.place_of-place.result in
+    let key : c.args.key ≡ key_at In place = c.place_of-place.ensures.value ∙ ap (λ (d : Dir). key_at d place) c.in-In.is in
+    let slaves : c.self.inside.slaves ≡ c.args.self.now.slaves = ap (λ (tree : Tree). tree.slaves) c.self.view_is in
+    let own = placed-at c.args.self.now.slaves c.self.inside.slaves c.args.key (key_at In place) slaves key c.requires.place in
+    (c.self.invariant.0, rw c.set-in-In.ensures (with_bits-keeps In c.self.inside.slaves c.self.inside.inputs place c.args.bits c.requires.narrow own c.self.invariant.1))
 
 pub returns-in-Out : goal.returns-in-Out
 returns-in-Out c =

@@ -1,0 +1,90 @@
+-- The areas with a width of a tree are the list of a task.
+use Rattle.std.specs.Prelude.{All, IsTrue, filter, nat_lt, ◌&&◌, ◌==◌}
+use Rattle.std.proofs.Common.{◌≡◌, ℕ, ◌+◌, ◌<◌, ◌≤◌, true, List, [], ◌∷◌, ◌++◌, refl, arith}
+use Rattle.std.proofs.lemmas.Bool.{lt-ltb, or_left}
+use Rattle.std.proofs.lemmas.Bool.Decides.{nat_tests}
+use Rattle.std.proofs.lemmas.List.Elements.{All-nil, All-cons, All-append, All-weaker}
+use Rattle.std.proofs.lemmas.List.Kept.{AllPairs-cons, AllPairs-filter}
+use Rattle.hc_records.specs.declared.records.Dir.{Dir}
+use Rattle.hc_records.specs.declared.records.Dir.TheVariants.{Out, In}
+use Rattle.hc_records.specs.declared.keys.TheConstants.Key.{START, END}
+use Rattle.hc_records.specs.Keys.{is_before}
+use Rattle.hc_records.specs.Laws.{Ascends, IsPackable}
+use Rattle.hc_records.specs.TaskList.{Keyed}
+use Rattle.hc_records.proofs.lemmas.Lists.{All-passing, AllPairs-append, AllPairs-nil}
+use Rattle.hc_bitsum.specs.Slots.{IsNarrow, Slots, key_at}
+use Rattle.hc_bitsum.specs.Tree.{HasPlace, HoldsTaskList, has_width}
+use Rattle.hc_bitsum.specs.Places.{IsPlaced, KeepsSlaves, StandFrom}
+use Rattle.hc_bitsum.proofs.Listed.{before-place}
+use Rattle.hc_bitsum.proofs.Shape.{few}
+
+-- one area comes before another
+abbrev Precedes : Keyed → Keyed → Type 0
+Precedes a b = IsTrue (is_before a.0 b.0)
+
+-- areas that stand behind a place come behind its key
+all-behind : (dir : Dir) (place behind : ℕ) (areas : List Keyed) → StandFrom dir behind areas → place < behind → All (λ area. IsTrue (is_before (key_at dir place) area.0)) areas
+all-behind dir place behind [] stand h = All-nil (λ area. IsTrue (is_before (key_at dir place) area.0))
+all-behind dir place behind (area ∷ areas) stand h =
+    All-cons (λ other. IsTrue (is_before (key_at dir place) other.0)) area areas
+    (rw stand.0 (before-place dir place behind h)) (all-behind dir place (behind + 1) areas stand.1 (omega arith))
+
+direction-ascends : (dir : Dir) (place : ℕ) (areas : List Keyed) → StandFrom dir place areas → Ascends areas
+direction-ascends dir place [] stand = AllPairs-nil Precedes
+direction-ascends dir place (area ∷ areas) stand =
+    AllPairs-cons Precedes area areas (rw stand.0 (all-behind dir place (place + 1) areas stand.1 (omega arith)))
+    (direction-ascends dir (place + 1) areas stand.1)
+
+-- an output comes before each input
+inputs-behind : (output : Keyed) (key : ℕ) (place : ℕ) (inputs : List Keyed) → output.0 ≡ key_at Out key → StandFrom In place inputs → All (Precedes output) inputs
+inputs-behind output key place [] is stand = All-nil (Precedes output)
+inputs-behind output key place (input ∷ inputs) is stand =
+    All-cons (Precedes output) input inputs (rw (is, stand.0) refl) (inputs-behind output key (place + 1) inputs is stand.1)
+
+outputs-first : (place : ℕ) (outputs inputs : List Keyed) → StandFrom Out place outputs → StandFrom In 0 inputs → All (λ output. All (Precedes output) inputs) outputs
+outputs-first place [] inputs out into = All-nil (λ output. All (Precedes output) inputs)
+outputs-first place (output ∷ outputs) inputs out into =
+    All-cons (λ other. All (Precedes other) inputs) output outputs (inputs-behind output place 0 inputs out.0 into) (outputs-first (place + 1) outputs inputs out.1 into)
+
+-- a key with a place lies between START and END
+
+above-start : (dir : Dir) (rank area : ℕ) → 1 ≤ rank → IsTrue (is_before START (record { dir = dir; rank = rank; area = area }))
+above-start Out rank area some = or_left (nat_lt 0 rank) ((0 == rank) && nat_lt 0 area) (lt-ltb 0 rank some)
+above-start In rank area some = refl
+
+below-end : (dir : Dir) (rank area : ℕ) → rank < 65535 → IsTrue (is_before (record { dir = dir; rank = rank; area = area }) END)
+below-end Out rank area low = refl
+below-end In rank area low = or_left (nat_lt rank 65535) ((rank == 65535) && nat_lt area 255) (lt-ltb rank 65535 low)
+
+-- an area with a width is packable
+wide-packable : (areas : List Keyed) → All IsNarrow areas → All IsPackable (filter has_width areas)
+wide-packable areas narrow =
+    All-passing IsPackable has_width areas
+    (All-weaker IsNarrow (λ area. has_width area ≡ true → IsPackable area) (λ area low wide. record { some = grind (arith, nat_tests); narrow = low }) areas narrow)
+
+pub holds-list : (slaves : ℕ) (outputs inputs : Slots) → KeepsSlaves Out slaves outputs → KeepsSlaves In slaves inputs
+    → HoldsTaskList (record { slaves = slaves; list = filter has_width (outputs.areas ++ inputs.areas) })
+holds-list slaves outputs inputs out into =
+    let all = outputs.areas ++ inputs.areas in
+    let many = few outputs out.shape in
+    let room = out.room in
+    let low : slaves < 65535 = omega arith in
+    let places = All-passing (λ area. HasPlace slaves area.0) has_width all (All-append (IsPlaced slaves) outputs.areas inputs.areas out.places into.places) in
+    record {
+      list = record {
+        packable = wide-packable all (All-append IsNarrow outputs.areas inputs.areas out.shape.narrow into.shape.narrow);
+        ascends =
+            AllPairs-filter Precedes has_width all
+            (AllPairs-append Precedes outputs.areas inputs.areas (direction-ascends Out 0 outputs.areas out.keys) (direction-ascends In 0 inputs.areas into.keys)
+            (outputs-first 0 outputs.areas inputs.areas out.keys into.keys));
+        between = record {
+          above =
+              All-weaker (λ area. HasPlace slaves area.0) (λ area. IsTrue (is_before START area.0))
+              (λ area place. above-start area.0.dir area.0.rank area.0.area place.first) (filter has_width all) places;
+          below =
+              All-weaker (λ area. HasPlace slaves area.0) (λ area. IsTrue (is_before area.0 END))
+              (λ area place. let last = place.last in below-end area.0.dir area.0.rank area.0.area (omega arith)) (filter has_width all) places;
+        };
+      };
+      places = places;
+    }

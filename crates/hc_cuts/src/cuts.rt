@@ -1,0 +1,116 @@
+//! The areas of a task and the keys at which its datagrams begin, kept together.
+ghost use Rattle.std.specs.Prelude.{◌≡◌, ◌+◌, ◌*◌, ◌≤◌, ◌∷◌, ◌++◌, [], IfOk, OnErr, OnOk, length};
+ghost use Rattle.hc_records.specs.Boundaries.{boundaries};
+ghost use Rattle.hc_records.specs.Image.{datagram_count};
+ghost use Rattle.hc_records.specs.Packing.{opening, packed};
+ghost use Rattle.hc_records.specs.declared.keys.TheConstants.Key.{END};
+ghost use Rattle.hc_records.specs.declared.limits.TheConstants.{MOST_DATAGRAMS};
+ghost use Rattle.hc_cuts.specs.Firsts.{IsCrowded};
+ghost use Rattle.hc_cuts.specs.Starts.{most_read};
+
+use crate::fold::TooManyDatagrams;
+use crate::next::next_cut;
+use arrayvec::ArrayVec;
+use hc_bitsum::steps::Steps;
+use hc_bitsum::tree::SumTree;
+use hc_records::keys::Key;
+use std::alloc::{AllocError, Global};
+use std::marker::Model;
+use std::sync::ledger::Ledger;
+
+/// A task's areas, and the boundaries that were last worked out for them.
+#[derive(Debug, Drop)]
+pub struct Cuts {
+    tree: SumTree,
+    starts: ArrayVec<Key, 16>,
+}
+
+impl Model for Cuts {
+    ghost use Rattle.hc_cuts.specs.Starts.{Kept};
+
+    ghost Value = { Kept };
+
+    ghost view = { λ cuts. record { tree = cuts.tree; starts = cuts.starts.items } };
+}
+
+/// The boundaries of a task's areas but the last, `Key::END`, each searched from the one before it.
+fn searched_starts<L: Ledger>(
+    task: &SumTree,
+    steps: &mut Steps<L>,
+) -> Result<ArrayVec<Key, 16>, TooManyDatagrams>
+    ensures starts { IfOk result (λ starts. starts.items ++ END ∷ [] ≡ boundaries task.now.list) }
+    ensures few { OnOk result (datagram_count (packed opening task.now.list) ≤ MOST_DATAGRAMS) }
+    ensures refused { OnErr result (IsCrowded task.now.list) }
+    ensures least { IfOk result (λ starts. steps.old + length starts.items ≤ steps.new) }
+    ensures most { IfOk result (λ starts. steps.new ≤ steps.old + most_read * length starts.items) }
+    ensures bound { OnErr result (steps.new ≤ steps.old + most_read * MOST_DATAGRAMS) }
+{
+    let mut starts = ArrayVec::new();
+    starts.push(Key::START);
+    let mut from = Key::START;
+    'spans: loop {
+        let next = next_cut(task, from, steps);
+        if next.is_same(Key::END) {
+            return Ok(starts);
+        }
+        if starts.is_full() {
+            return Err(TooManyDatagrams);
+        }
+        starts.push(next);
+        from = next;
+    }
+}
+
+impl Cuts {
+    ghost use Rattle.std.specs.Prelude.{◌≡◌, ◌+◌, ◌*◌, ◌≤◌, ◌∷◌, ◌++◌, [], IfOk, OnErr, OnOk, length};
+    ghost use Rattle.hc_records.specs.declared.limits.TheConstants.{MOST_AREA_BITS, MOST_SLAVES};
+    ghost use Rattle.hc_bitsum.specs.Tree.{HasPlace, with_width};
+    ghost use Rattle.hc_cuts.specs.Starts.{kept_empty};
+
+    /// A task without areas of so many slaves, at most 2,048. `AllocError` where a growth was refused.
+    pub fn new(alloc: Global, slaves: u16) -> Result<Cuts, AllocError>
+        requires { slaves ≤ MOST_SLAVES }
+        ensures { IfOk result (λ cuts. cuts ≡ kept_empty slaves) }
+    {
+        let tree = SumTree::new(alloc, slaves)?;
+        let mut starts = ArrayVec::new();
+        starts.push(Key::START);
+        Ok(Cuts { tree, starts })
+    }
+
+    /// Sets the width of an area of one of its slaves, at most 11,888 bits; the boundaries stay those
+    /// that were last worked out. It takes no memory.
+    pub fn set(&mut self, key: Key, bits: u16)
+        requires place { HasPlace self.old.tree.slaves key }
+        requires narrow { bits ≤ MOST_AREA_BITS }
+        ensures areas { self.new.tree ≡ record self.old.tree { list = with_width key bits self.old.tree.list } }
+        ensures starts { self.new.starts ≡ self.old.starts }
+    {
+        self.tree.set(key, bits);
+    }
+
+    /// The boundaries that were last worked out but the last one, `Key::END`: `Key::START`, at which
+    /// the first datagram begins if there is one, and the keys at which the later ones do.
+    pub fn starts(&self) -> &[Key]
+        ensures { result.now ≡ self.now.starts }
+    {
+        &self.starts
+    }
+
+    /// Works out the boundaries anew, from the front, by a search for each. `TooManyDatagrams` exactly
+    /// where packing gives more than 16 datagrams, and the boundaries stay as they were. Each search
+    /// takes 1 to 104 steps, and there are at most 16. It takes no memory.
+    pub fn cut<L: Ledger>(&mut self, steps: &mut Steps<L>) -> Result<(), TooManyDatagrams>
+        ensures areas { self.new.tree ≡ self.old.tree }
+        ensures starts { OnOk result (self.new.starts ++ END ∷ [] ≡ boundaries self.old.tree.list) }
+        ensures few { OnOk result (datagram_count (packed opening self.old.tree.list) ≤ MOST_DATAGRAMS) }
+        ensures refused { OnErr result (IsCrowded self.old.tree.list) }
+        ensures stay { OnErr result (self.new.starts ≡ self.old.starts) }
+        ensures least { OnOk result (steps.old + length self.new.starts ≤ steps.new) }
+        ensures most { OnOk result (steps.new ≤ steps.old + most_read * length self.new.starts) }
+        ensures bound { OnErr result (steps.new ≤ steps.old + most_read * MOST_DATAGRAMS) }
+    {
+        self.starts = searched_starts(&self.tree, steps)?;
+        Ok(())
+    }
+}
