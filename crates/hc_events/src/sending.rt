@@ -30,7 +30,7 @@ impl Model for Sending {
 impl Sending {
     ghost use Rattle.std.specs.Prelude.{◌≡◌, ◌≤◌, ◌+◌, [], ◌∷◌, ◌++◌, nat_le, IsTrue};
     ghost use Rattle.hc_frames.specs.declared.limits.TheConstants.{MAX_DATA};
-    ghost use Rattle.hc_events.specs.Sendings.{alone, has_room, joined, size_of};
+    ghost use Rattle.hc_events.specs.Sendings.{IsFilled, alone, has_room, joined, size_of};
 
     /// A frame of one datagram with so many bytes of data, 1 to 1,486.
     pub fn of(serial: u64, datagram: Named, length: u16) -> Sending
@@ -82,9 +82,11 @@ impl Sending {
         bytes.max(usize::from(LEAST_FRAME))
     }
 
-    /// The datagrams of the frame, in order: each by its task and its number in the task.
+    /// The datagrams of the frame, in order: each by its task and its number in the task. They fit the
+    /// frame, so they are 115 at most.
     pub fn datagrams(&self) -> &[Named]
-        ensures { result.now ≡ self.now.datagrams }
+        ensures datagrams { result.now ≡ self.now.datagrams }
+        ensures filled { IsFilled self.now.bytes self.now.datagrams }
     {
         self.datagrams.as_slice()
     }

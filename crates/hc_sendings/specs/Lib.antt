@@ -1,0 +1,5 @@
+pub mod Framing
+pub mod Refusals
+pub mod Previews
+pub mod Parts
+pub mod Laws
