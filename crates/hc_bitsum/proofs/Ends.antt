@@ -1,5 +1,5 @@
 -- Ends of runs, their joins, and what they say of a datagram.
-use Rattle.std.specs.Prelude.{◌≡◌, ℕ, ◌+◌, ◌*◌, ◌/◌, ◌%◌, ◌<◌, ◌≤◌, ◌==◌, nat_le, Bool, true, false, ◌||◌, List, [], ◌∷◌, ◌++◌, slice_index, if◌then◌else◌, length, refl}
+use Rattle.std.specs.Prelude.{◌≡◌, ℕ, ◌+◌, ◌*◌, ◌/◌, ◌%◌, ◌<◌, ◌≤◌, ◌==◌, nat_le, Bool, true, false, ◌||◌, List, [], ◌∷◌, ◌++◌, slice_index, if◌then◌else◌, refl}
 use Rattle.std.proofs.Common.{sym, ap, ◌∙◌, arith}
 use Rattle.hc_records.specs.declared.records.Dir.{Dir}
 use Rattle.hc_records.specs.Keys.{is_turn}
@@ -9,7 +9,7 @@ use Rattle.hc_bitsum.specs.declared.filled.Filled.{Filled}
 use Rattle.hc_bitsum.specs.declared.sum.Sum.{Sum}
 use Rattle.hc_bitsum.specs.declared.sum.Sum.TheVariants.{Empty, Run}
 use Rattle.hc_bitsum.specs.Filling.{with_area, with_areas}
-use Rattle.hc_bitsum.specs.Sums.{EndsBelow, area_end, end_from, ended, ends_by, joined, start_at, sum_of, sum_of_area}
+use Rattle.hc_bitsum.specs.Sums.{end_from, ended, ends_by, joined, start_at, sum_of, sum_of_area}
 
 -- whole bytes before the start move the end by as much
 pub end_from-bytes : (ends : List ℕ) (q x : ℕ) → end_from ends (8 * q + x) ≡ 8 * q + end_from ends x

@@ -1,5 +1,5 @@
 -- How areas fill a datagram, one behind another, whatever its room (this project's profile).
-use Rattle.std.specs.Prelude.{ℕ, ◌+◌, ◌==◌, if◌then◌else◌, List, [], ◌∷◌}
+use Rattle.std.specs.Prelude.{◌+◌, ◌==◌, if◌then◌else◌, List, [], ◌∷◌}
 use Rattle.hc_records.specs.TaskList.{Keyed}
 use Rattle.hc_records.specs.Packing.{Front, beginning}
 use Rattle.hc_bitsum.specs.declared.filled.Filled.{Filled}

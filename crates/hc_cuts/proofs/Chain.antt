@@ -11,7 +11,7 @@ use Rattle.hc_records.specs.Keys.{same_key, is_before, is_within}
 use Rattle.hc_records.specs.TaskList.{Keyed}
 use Rattle.hc_records.specs.Packing.{Front, opening, beginning, fits, behind, packed}
 use Rattle.hc_records.specs.Image.{datagram_count}
-use Rattle.hc_records.specs.Boundaries.{boundaries, later_keys}
+use Rattle.hc_records.specs.Boundaries.{later_keys}
 use Rattle.hc_records.specs.Laws.{IsPackable, cuts_from}
 use Rattle.hc_records.specs.SpanLaws.{IsTaskList, areas_from, next_cut}
 use Rattle.hc_records.proofs.lemmas.Cuts.{count-later_keys, later_keys-cuts}

@@ -1,6 +1,4 @@
-use Rattle.std.proofs.Common.{◌≡◌, ◌+◌, ◌<◌, ◌≤◌, ◌^◌, ℕ, length, sym, ap, ◌∙◌, arith, length-append}
-use Rattle.hc_bitsum.specs.Sums.{sum_of, joined}
-use Rattle.hc_bitsum.specs.Slots.{IsShaped, fork_slots}
+use Rattle.std.proofs.Common.{sym, ◌∙◌, arith, length-append}
 use Rattle.hc_bitsum.proofs.Ends.{sum_of-append}
 use Rattle.hc_bitsum.proofs.Shape.{sum-low, joined-low, fork-shaped, few_below}
 use Rattle.hc_bitsum.proofs.branch.both.Goals as goal

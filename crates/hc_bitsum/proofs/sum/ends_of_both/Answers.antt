@@ -1,4 +1,4 @@
-use Rattle.std.proofs.Common.{◌≡◌, ◌<◌, ◌≢◌, ℕ, length, arith, rules, sym, ◌∙◌, length-set, get_or-set_other, get_or-set_same, below_more}
+use Rattle.std.proofs.Common.{◌<◌, ◌≢◌, ℕ, length, arith, sym, ◌∙◌, length-set, get_or-set_other, get_or-set_same, below_more}
 use Rattle.std.proofs.lemmas.Grind.{same_number_lists}
 use Rattle.hc_bitsum.specs.Sums.{end_from, start_at, ends_by}
 use Rattle.hc_bitsum.proofs.Ends.{ends_by-at}

@@ -1,4 +1,3 @@
-use Rattle.std.proofs.Common.{◌≡◌}
 use Rattle.hc_bitsum.proofs.Scan.{found-left, through-left}
 use Rattle.hc_bitsum.proofs.tree.fit_both.Goals as goal
 

@@ -1,4 +1,4 @@
-use Rattle.std.proofs.Common.{◌≡◌, ◌≢◌, ◌+◌, ◌-◌, ◌^◌, ◌<◌, ◌≤◌, ℕ, length, refl, sym, ap, ◌∙◌, arith}
+use Rattle.std.proofs.Common.{◌≡◌, ◌+◌, ◌-◌, ◌^◌, length, sym, ap, ◌∙◌, arith}
 use Rattle.hc_bitsum.specs.Slots.{Slots, blank_slots}
 use Rattle.hc_bitsum.proofs.Shape.{blank-fork, blank-height, blank-length, halves}
 use Rattle.hc_bitsum.proofs.branch.Branch.+blank.Goals as goal

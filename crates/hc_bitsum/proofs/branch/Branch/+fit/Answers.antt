@@ -1,9 +1,8 @@
-use Rattle.std.proofs.Common.{◌≡◌, ℕ, ◌+◌, ◌*◌, ◌-◌, ◌^◌, ◌<◌, ◌≤◌, ◌==◌, Bool, true, false, List, [], ◌∷◌, ◌++◌, length, drop, refl, sym, ap, subst, ◌∙◌, arith}
+use Rattle.std.proofs.Common.{◌≡◌, ◌==◌, true, length, sym, ap, subst, ◌∙◌, arith}
 use Rattle.std.proofs.lemmas.Bool.Decides.{nat_tests}
 use Rattle.hc_bitsum.specs.declared.filled.Filled.{Filled}
 use Rattle.hc_bitsum.specs.Filling.{with_areas}
 use Rattle.hc_bitsum.specs.Slots.{Slots, IsShaped, leaf_slots, fork_slots}
-use Rattle.hc_bitsum.specs.Search.{scan, most_steps}
 use Rattle.hc_bitsum.proofs.Room.{with_areas-few}
 use Rattle.hc_bitsum.proofs.Shape.{few}
 use Rattle.hc_bitsum.proofs.Scan.{kept-end, scan-all, found-left, through-left, right-alone, found-leaf, not-through, most-both, IsFound}

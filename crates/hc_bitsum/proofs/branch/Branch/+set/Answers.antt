@@ -1,5 +1,5 @@
-use Rattle.std.proofs.Common.{◌≡◌, ◌+◌, ◌-◌, ◌<◌, ◌≤◌, ◌^◌, ℕ, length, refl, sym, ap, ◌∙◌, arith}
-use Rattle.hc_bitsum.specs.Slots.{Slots, fork_slots, with_bits}
+use Rattle.std.proofs.Common.{◌≡◌, arith}
+use Rattle.hc_bitsum.specs.Slots.{fork_slots}
 use Rattle.hc_bitsum.proofs.Shape.{set-left, set-right}
 use Rattle.hc_bitsum.proofs.branch.Branch.+set.Goals as goal
 use Rattle.hc_bitsum.proofs.branch.Branch.+set.Goals.{then-at-half, else-at-half}

@@ -1,5 +1,5 @@
-use Rattle.std.proofs.Common.{◌≡◌, ◌++◌, sym, ap, ◌∙◌}
-use Rattle.hc_bitsum.specs.Sums.{sum_of, joined}
+use Rattle.std.proofs.Common.{◌++◌, sym, ap, ◌∙◌}
+use Rattle.hc_bitsum.specs.Sums.{sum_of}
 use Rattle.hc_bitsum.specs.Tree.{Tree}
 use Rattle.hc_bitsum.proofs.Ends.{sum_of-append}
 use Rattle.hc_bitsum.proofs.Shape.{both-low, sum-low}
