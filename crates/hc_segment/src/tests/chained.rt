@@ -186,3 +186,23 @@ fn machines_stay_where_a_chain_is_refused(rt: HostRuntime) -> Result<(), Fail> {
     }
     Ok(())
 }
+
+/// A body that begins with a segment once the one in front of it is done gives the same frames and machines; the gate tells.
+#[test]
+fn the_gate_tells_segments_in_turn(rt: HostRuntime) -> Result<(), Fail> {
+    let alloc = rt.alloc();
+    let gate = Holds {
+        second_has_begun: AtomicBool::new(false),
+        second_was_seen: AtomicBool::new(false),
+    };
+    let mut segments = segments_of(alloc, 4)?;
+    let mut frames = frames_of(alloc)?;
+    for (number, segment) in segments.iter_mut().enumerate() {
+        gate.begun(number);
+        for frame in frames.iter_mut() {
+            segment.process(frame.bytes_mut());
+        }
+    }
+    assert!(rt; !gate.second_was_seen.load(Ordering::SeqCst));
+    Ok(())
+}
