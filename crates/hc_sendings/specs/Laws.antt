@@ -1,12 +1,16 @@
 -- What follows from the definitions, so that a reader can trust them. Each is the contract of a function of `laws`.
-use Rattle.std.specs.Prelude.{◌≡◌, ℕ, List, length}
+use Rattle.std.specs.Prelude.{◌≡◌, ℕ, false, List, length, sum_by}
+use Rattle.hc_records.specs.Line.{Member}
+use Rattle.hc_records.specs.Lists.{has_repeat}
 use Rattle.hc_events.specs.Entries.{Record}
 use Rattle.hc_events.specs.Points.{line_of, next_serial}
 use Rattle.hc_events.specs.Owed.{owed_blocks}
+use Rattle.hc_events.specs.Sendings.{sendings_of, size_of}
 use Rattle.hc_events.specs.Steps.{task_faults}
 use Rattle.hc_events.specs.Calls.{preview}
 use Rattle.hc_sendings.specs.Refusals.{sending_faults}
 use Rattle.hc_sendings.specs.Previews.{preview_in}
+use Rattle.hc_sendings.specs.Parts.{part_size}
 
 -- behind a record tasks are refused for what its line, its next serial and the number of its owed blocks say
 abbrev pub RefusalsAreTheRecords : Type 0
@@ -17,3 +21,9 @@ RefusalsAreTheRecords =
 -- and so is a preview told
 abbrev pub PreviewsAreTheRecords : Type 0
 PreviewsAreTheRecords = (past : Record) (task d : ℕ) → preview_in (line_of past) (next_serial past) task d ≡ preview past task d
+
+-- the parts of distinct tasks in the frames in which they are sent have together just the bytes of these frames
+abbrev pub PartsFillTheFrames : Type 0
+PartsFillTheFrames =
+    (line : List Member) (serial : ℕ) (tasks : List ℕ) → has_repeat tasks ≡ false
+    → sum_by (λ task. part_size line task (sendings_of line serial tasks)) tasks ≡ sum_by size_of (sendings_of line serial tasks)

@@ -1,6 +1,6 @@
 //! What follows from the definitions of `specs/`, so that a reader can trust them: each function here
 //! does nothing, and its contract is a law. Nobody calls it.
-ghost use Rattle.hc_sendings.specs.Laws.{PreviewsAreTheRecords, RefusalsAreTheRecords};
+ghost use Rattle.hc_sendings.specs.Laws.{PartsFillTheFrames, PreviewsAreTheRecords, RefusalsAreTheRecords};
 
 /// The faults for which tasks are refused by a line, a serial and a number of owed blocks are those that
 /// the events' record names, where these are the record's.
@@ -11,4 +11,10 @@ pub fn refusals_are_the_records()
 /// A preview by a line and a serial is the one that the events' record names, where these are the record's.
 pub fn previews_are_the_records()
     ensures { PreviewsAreTheRecords }
+{}
+
+/// The parts of distinct tasks, each of its size, have together just the bytes of the frames in which the
+/// tasks are sent.
+pub fn parts_fill_the_frames()
+    ensures { PartsFillTheFrames }
 {}

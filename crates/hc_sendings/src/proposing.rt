@@ -1,10 +1,11 @@
 //! Proposes frames of tasks: what the next sending would be, which uses no serial yet.
-ghost use Rattle.std.specs.Prelude.{◌≡◌, ◌≢◌, ◌≤◌, Err, IfErr, IfOk, IfSome, None, OnOk, Some, ◌&&◌, nat_lt};
+ghost use Rattle.std.specs.Prelude.{◌≡◌, ◌≢◌, ◌≤◌, ◌+◌, All, Err, IfErr, IfOk, IfSome, None, OnOk, Some, length, ◌&&◌, nat_lt};
 ghost use Rattle.std.specs.List.{list_any};
 ghost use Rattle.hc_records.specs.Line.{line};
 ghost use Rattle.hc_records.specs.Lists.{lowest};
 ghost use Rattle.hc_frames.specs.declared.limits.TheConstants.{SETUP_SERIAL};
 ghost use Rattle.hc_events.specs.declared.faults.CoreFault.TheVariants.{Memory};
+ghost use Rattle.hc_events.specs.Accepted.{StandsIn};
 ghost use Rattle.hc_events.specs.Calls.{AreSentTogether};
 ghost use Rattle.hc_events.specs.Sendings.{sendings_of};
 ghost use Rattle.hc_events.specs.Steps.{is_no_task, serials_left};
@@ -29,6 +30,7 @@ fn names_no_task(tasks: &[u8]) -> bool
 /// The frames in which 1 to 8 distinct tasks are sent by a plan, with serials from `serial` on, which is
 /// at most that of alias reads and station writes: datagrams in the tasks' order, each of which joins
 /// the frame before it where that has room, else begins a frame; none where the tasks have no datagram.
+/// So their datagrams are the line's, and their serials are below that of alias reads and station writes.
 ///
 /// `NoSuchTask` where a number is over 7; `Unprogrammed` where register blocks are owed, `owed` of them;
 /// `SerialsSpent` where the frames need more serials than are left; and of several the first of these.
@@ -43,6 +45,8 @@ pub fn propose(
     requires serial { serial ≤ SETUP_SERIAL }
     requires together { AreSentTogether tasks.now }
     ensures frames { IfOk result (λ frames. frames.items ≡ sendings_of (line plan.now) serial tasks.now) }
+    ensures stand { IfOk result (λ frames. All (λ frame. All (StandsIn (line plan.now)) frame.datagrams) frames.items) }
+    ensures left { IfOk result (λ frames. serial + length frames.items ≤ SETUP_SERIAL) }
     ensures accepted { OnOk result (lowest (sending_faults (line plan.now) serial owed tasks.now) ≡ None) }
     ensures refused { IfErr result (λ fault. fault ≢ Memory → lowest (sending_faults (line plan.now) serial owed tasks.now) ≡ Some fault) }
     ensures early { IfSome (lowest (early_faults owed tasks.now)) (λ fault. result ≡ Err fault) }

@@ -1,5 +1,11 @@
 //! Frames of lines whose sizes were worked out by hand: a datagram of n bytes has 12 beside its data,
 //! a frame 16 before its datagrams, and 1,500 may follow the Ethernet header of 14.
+ghost use Rattle.std.specs.Prelude.{◌≤◌, All, length};
+ghost use Rattle.hc_records.specs.Line.{line};
+ghost use Rattle.hc_frames.specs.declared.limits.TheConstants.{SETUP_SERIAL};
+ghost use Rattle.hc_events.specs.Accepted.{StandsIn};
+
+use crate::parts::part_size;
 use crate::proposing::{preview, propose};
 use hc_events::faults::CoreFault;
 use hc_events::sending::{Named, Sending};
@@ -182,5 +188,32 @@ fn previews_of_a_line(rt: HostRuntime) -> Result<(), Fail> {
     assert!(rt; preview(&plan, 9, 8, 0).is_none());
     assert!(rt; preview(&plan, SETUP_SERIAL - 1, 3, 1).is_some());
     assert!(rt; preview(&plan, SETUP_SERIAL, 3, 1).is_none());
+    Ok(())
+}
+
+/// Whether the parts of the tasks 0, 1 and 2 in the frames have these sizes.
+fn has_parts(plan: &Plan, frames: &[Sending], sizes: (usize, usize, usize)) -> bool
+    requires stand { All (λ frame. All (StandsIn (line plan.now)) frame.datagrams) frames.now }
+    requires few { length frames.now ≤ SETUP_SERIAL }
+{
+    part_size(plan, frames, 0) == sizes.0
+        && part_size(plan, frames, 1) == sizes.1
+        && part_size(plan, frames, 2) == sizes.2
+}
+
+/// Two tasks of two bytes and of one byte share the least frame, of 60 bytes: 16, 14 and 13 bytes, and 17
+/// zeros. The first task of a frame has the 16 bytes, the last one the zeros, and a task that isn't sent
+/// has none.
+#[test]
+fn parts_of_a_shared_frame(rt: HostRuntime) -> Result<(), Fail> {
+    let alloc = rt.alloc();
+    let plan = plan_of(alloc, &[(0, 2), (1, 1), (2, 700)])?;
+    let frames = propose(alloc, &plan, 6, 0, &[0, 1])?;
+    assert!(rt; are(&frames, 6, &[60]));
+    assert!(rt; has_parts(&plan, &frames, (30, 30, 0)));
+    let frames = propose(alloc, &plan, 6, 0, &[1, 0])?;
+    assert!(rt; has_parts(&plan, &frames, (31, 29, 0)));
+    let frames = propose(alloc, &plan, 6, 0, &[2])?;
+    assert!(rt; has_parts(&plan, &frames, (0, 0, 728)));
     Ok(())
 }

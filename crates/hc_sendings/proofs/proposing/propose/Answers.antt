@@ -1,0 +1,12 @@
+use Rattle.std.proofs.Common.{sym, subst, List}
+use Rattle.std.specs.Prelude.{All}
+use Rattle.hc_records.specs.Line.{line}
+use Rattle.hc_events.specs.Accepted.{StandsIn}
+use Rattle.hc_events.specs.Sendings.{Frame}
+use Rattle.hc_sendings.proofs.Whole.{frames-stand}
+use Rattle.hc_sendings.proofs.proposing.propose.Goals as goal
+
+pub returns-clause-stand : goal.returns-clause-stand
+returns-clause-stand c =
+    subst (λ (frames : List Frame). All (λ (frame : Frame). All (StandsIn (line c.args.plan.now)) frame.datagrams) frames) (sym c.in_ok-frames.ensures)
+    (frames-stand (line c.args.plan.now) c.args.serial c.args.tasks.now)
