@@ -4,3 +4,4 @@ pub mod Previewed
 pub mod Shares
 pub mod Sums
 pub mod Whole
+pub mod Written

@@ -5,12 +5,14 @@ use Rattle.hc_records.specs.Lists.{has_repeat}
 use Rattle.hc_events.specs.Entries.{Record}
 use Rattle.hc_events.specs.Points.{line_of, next_serial}
 use Rattle.hc_events.specs.Owed.{owed_blocks}
-use Rattle.hc_events.specs.Sendings.{sendings_of, size_of}
-use Rattle.hc_events.specs.Steps.{task_faults}
+use Rattle.hc_events.specs.Sendings.{Frame, sendings_of, size_of}
+use Rattle.hc_events.specs.Outputs.{sent_data}
+use Rattle.hc_events.specs.Steps.{sent_text, task_faults}
 use Rattle.hc_events.specs.Calls.{preview}
 use Rattle.hc_sendings.specs.Refusals.{sending_faults}
 use Rattle.hc_sendings.specs.Previews.{preview_in}
 use Rattle.hc_sendings.specs.Parts.{part_size}
+use Rattle.hc_sendings.specs.Texts.{text_of}
 
 -- behind a record tasks are refused for what its line, its next serial and the number of its owed blocks say
 abbrev pub RefusalsAreTheRecords : Type 0
@@ -27,3 +29,7 @@ abbrev pub PartsFillTheFrames : Type 0
 PartsFillTheFrames =
     (line : List Member) (serial : ℕ) (tasks : List ℕ) → has_repeat tasks ≡ false
     → sum_by (λ task. part_size line task (sendings_of line serial tasks)) tasks ≡ sum_by size_of (sendings_of line serial tasks)
+
+-- with the data that the record sends, a frame's text is the one that the record sends
+abbrev pub TextsAreTheRecords : Type 0
+TextsAreTheRecords = (past : Record) (frame : Frame) → text_of (sent_data past) frame ≡ sent_text past frame

@@ -1,6 +1,6 @@
 //! What follows from the definitions of `specs/`, so that a reader can trust them: each function here
 //! does nothing, and its contract is a law. Nobody calls it.
-ghost use Rattle.hc_sendings.specs.Laws.{PartsFillTheFrames, PreviewsAreTheRecords, RefusalsAreTheRecords};
+ghost use Rattle.hc_sendings.specs.Laws.{PartsFillTheFrames, PreviewsAreTheRecords, RefusalsAreTheRecords, TextsAreTheRecords};
 
 /// The faults for which tasks are refused by a line, a serial and a number of owed blocks are those that
 /// the events' record names, where these are the record's.
@@ -17,4 +17,10 @@ pub fn previews_are_the_records()
 /// tasks are sent.
 pub fn parts_fill_the_frames()
     ensures { PartsFillTheFrames }
+{}
+
+/// A frame's text by the data of its datagrams is the one that the events' record sends, where these are
+/// the record's.
+pub fn texts_are_the_records()
+    ensures { TextsAreTheRecords }
 {}

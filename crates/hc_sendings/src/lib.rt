@@ -8,3 +8,4 @@ pub mod parts;
 pub mod proposing;
 #[cfg(test)]
 mod tests;
+pub mod writing;

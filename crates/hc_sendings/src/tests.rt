@@ -1,9 +1,6 @@
 //! Frames of lines whose sizes were worked out by hand: a datagram of n bytes has 12 beside its data,
 //! a frame 16 before its datagrams, and 1,500 may follow the Ethernet header of 14.
-ghost use Rattle.std.specs.Prelude.{◌≤◌, All, length};
-ghost use Rattle.hc_records.specs.Line.{line};
-ghost use Rattle.hc_frames.specs.declared.limits.TheConstants.{SETUP_SERIAL};
-ghost use Rattle.hc_events.specs.Accepted.{StandsIn};
+ghost use Rattle.hc_events.specs.Calls.{AreSentTogether};
 
 use crate::parts::part_size;
 use crate::proposing::{preview, propose};
@@ -191,14 +188,17 @@ fn previews_of_a_line(rt: HostRuntime) -> Result<(), Fail> {
     Ok(())
 }
 
-/// Whether the parts of the tasks 0, 1 and 2 in the frames have these sizes.
-fn has_parts(plan: &Plan, frames: &[Sending], sizes: (usize, usize, usize)) -> bool
-    requires stand { All (λ frame. All (StandsIn (line plan.now)) frame.datagrams) frames.now }
-    requires few { length frames.now ≤ SETUP_SERIAL }
+/// The sizes of the parts of the tasks 0, 1 and 2 where these tasks are sent.
+fn parts_of(alloc: Global, plan: &Plan, tasks: &[u8]) -> Result<(usize, usize, usize), CoreFault>
+    requires { AreSentTogether tasks.now }
 {
-    part_size(plan, frames, 0) == sizes.0
-        && part_size(plan, frames, 1) == sizes.1
-        && part_size(plan, frames, 2) == sizes.2
+    let frames = propose(alloc, plan, 6, 0, tasks)?;
+    let frames = frames.as_slice();
+    Ok((
+        part_size(plan, frames, 0),
+        part_size(plan, frames, 1),
+        part_size(plan, frames, 2),
+    ))
 }
 
 /// Two tasks of two bytes and of one byte share the least frame, of 60 bytes: 16, 14 and 13 bytes, and 17
@@ -208,12 +208,8 @@ fn has_parts(plan: &Plan, frames: &[Sending], sizes: (usize, usize, usize)) -> b
 fn parts_of_a_shared_frame(rt: HostRuntime) -> Result<(), Fail> {
     let alloc = rt.alloc();
     let plan = plan_of(alloc, &[(0, 2), (1, 1), (2, 700)])?;
-    let frames = propose(alloc, &plan, 6, 0, &[0, 1])?;
-    assert!(rt; are(&frames, 6, &[60]));
-    assert!(rt; has_parts(&plan, &frames, (30, 30, 0)));
-    let frames = propose(alloc, &plan, 6, 0, &[1, 0])?;
-    assert!(rt; has_parts(&plan, &frames, (31, 29, 0)));
-    let frames = propose(alloc, &plan, 6, 0, &[2])?;
-    assert!(rt; has_parts(&plan, &frames, (0, 0, 728)));
+    assert_eq!(rt; parts_of(alloc, &plan, &[0, 1])?, (30, 30, 0));
+    assert_eq!(rt; parts_of(alloc, &plan, &[1, 0])?, (31, 29, 0));
+    assert_eq!(rt; parts_of(alloc, &plan, &[2])?, (0, 0, 728));
     Ok(())
 }

@@ -1,0 +1,71 @@
+//! Writes the frames that were planned, each byte once.
+ghost use Rattle.std.specs.Prelude.{◌≡◌, ◌+◌, ◌^◌, ◌<◌, ◌≤◌, ℕ, All, List, length, map};
+ghost use Rattle.hc_records.specs.declared.limits.TheConstants.{TASKS};
+ghost use Rattle.hc_frames.specs.FrameText.{datagrams_text};
+ghost use Rattle.hc_frames.specs.Sizes.{frame_bytes};
+ghost use Rattle.hc_frames.specs.declared.limits.TheConstants.{MAX_ETHERCAT};
+ghost use Rattle.hc_sendings.specs.Texts.{carried_by, carried_bytes, text_of};
+
+use hc_events::sending::{Named, Sending};
+use hc_frames::building::{build_datagram_of, build_head};
+use hc_frames::limits::{BESIDE_DATA_BYTES, HEAD_BYTES};
+use hc_registers::fmmu::logical_address;
+
+/// Where the data stand with which datagrams are sent.
+pub trait SentData {
+    /// The data of each datagram, by its task and its number in the task.
+    ghost bytes: { Self → ℕ → ℕ → List ℕ };
+
+    /// The data of a datagram.
+    fn bytes_of(&self, task: u8, number: u8) -> &[u8]
+        ensures { result.now ≡ bytes self.now task number };
+}
+
+/// The bytes of datagrams, with their headers and their counters.
+fn carried_bytes<D: SentData>(datagrams: &[Named], sent: &D) -> usize
+    requires { 2 + carried_bytes (D.bytes sent.now) datagrams.now ≤ MAX_ETHERCAT }
+    ensures { result ≡ carried_bytes (D.bytes sent.now) datagrams.now }
+{
+    match datagrams {
+        [] => 0,
+        [(task, number), rest @ ..] => {
+            BESIDE_DATA_BYTES + sent.bytes_of(*task, *number).len() + carried_bytes(rest, sent)
+        }
+    }
+}
+
+/// Writes datagrams one after another into a slice of their exact size. A frame has 115 at most, so deep
+/// is this recursion.
+fn write_datagrams<D: SentData>(out: &mut [u8], serial: u64, datagrams: &[Named], sent: &D)
+    requires known { All (λ named. named.0 < TASKS) datagrams.now }
+    requires exact { length out.old ≡ carried_bytes (D.bytes sent.now) datagrams.now }
+    requires size { 2 + carried_bytes (D.bytes sent.now) datagrams.now ≤ MAX_ETHERCAT }
+    ensures { out.new ≡ datagrams_text serial (map (carried_by (D.bytes sent.now)) datagrams.now) }
+{
+    if let [(task, number), rest @ ..] = datagrams {
+        let bytes = sent.bytes_of(*task, *number);
+        let (first, others) = out.split_at_mut(BESIDE_DATA_BYTES + bytes.len());
+        let address = logical_address(*task, u16::from(*number));
+        build_datagram_of(first, serial, address, bytes, !rest.is_empty());
+        write_datagrams(others, serial, rest, sent);
+    }
+}
+
+/// Writes a frame of tasks into a slice of its exact size: at least 60 bytes, and 16 more than its
+/// datagrams have with their headers and counters, which are 1,498 at most. Each datagram carries the data
+/// that `sent` has of it, and more follow each but the last. The serial is below 2^40. It takes no memory.
+pub fn write_frame<D: SentData>(out: &mut [u8], frame: &Sending, sent: &D)
+    requires serial { frame.now.serial < 2 ^ 40 }
+    requires known { All (λ named. named.0 < TASKS) frame.now.datagrams }
+    requires size { 2 + carried_bytes (D.bytes sent.now) frame.now.datagrams ≤ MAX_ETHERCAT }
+    requires exact { length out.old ≡ frame_bytes (carried_bytes (D.bytes sent.now) frame.now.datagrams) }
+    ensures { out.new ≡ text_of (D.bytes sent.now) frame.now }
+{
+    let datagrams = frame.datagrams();
+    let size = carried_bytes(datagrams, sent);
+    let (head, rest) = out.split_at_mut(HEAD_BYTES);
+    let (texts, padding) = rest.split_at_mut(size);
+    build_head(head, frame.serial(), size as u16);
+    write_datagrams(texts, frame.serial(), datagrams, sent);
+    padding.fill(0);
+}
