@@ -21,7 +21,7 @@ use Rattle.hc_events.specs.Steps.{Step}
 use Rattle.hc_events.specs.Accepted.{AreAccepted, IsAccepted, StandsIn, just_opened, record_of}
 use Rattle.hc_events.specs.SendingLaws.{heads_of, is_opening, is_sending}
 use Rattle.hc_events.specs.AnswerLaws.{AnswersTheAwaited, IsAnsweredAs, IsAwaited, IsFirstAnswer, IsHeadOf, LeavesOpen}
-use Rattle.hc_events.proofs.lemmas.Accepted.{Keeps, kept-after_all}
+use Rattle.hc_events.proofs.lemmas.Accepted.{accepted-more, kept-after_all}
 use Rattle.hc_events.proofs.lemmas.Awaited.{by_bool, judged-filter, news-is, same_is}
 use Rattle.hc_events.proofs.lemmas.Once.{only-if_some}
 use Rattle.hc_events.proofs.lemmas.Standing.{standing-found, stands-at}
@@ -115,16 +115,8 @@ same_sent before (Came arrival) sends = cc
 same_sent before (Sent frame) sends = refl
 same_sent before (Wrote block) sends = refl
 
-accepted_more : Keeps AreAccepted
-accepted_more past (Opened groups) accepted before = absurd accepted
-accepted_more past (Edited edit) accepted before = (accepted, before)
-accepted_more past (Posted task bytes) accepted before = (accepted, before)
-accepted_more past (Sent frame) accepted before = (accepted, before)
-accepted_more past (Wrote block) accepted before = (accepted, before)
-accepted_more past (Came arrival) accepted before = (accepted, before)
-
-all_accepted : (groups : List Group) (steps : List Step) → AreAccepted (record_of groups steps)
-all_accepted groups steps = kept-after_all AreAccepted accepted_more (just_opened groups) steps refl
+pub all-accepted : (groups : List Group) (steps : List Step) → AreAccepted (record_of groups steps)
+all-accepted groups steps = kept-after_all AreAccepted accepted-more (just_opened groups) steps refl
 
 -- what lies behind entries was accepted too
 accepted_at : (since : List Entry) (before : Record) (entry : Entry) → list_any is_opening since ≡ false → is_sending entry ≡ true → AreAccepted (since ++ entry ∷ before) → IsAccepted before entry
@@ -164,8 +156,8 @@ heads_of_line before (Sent frame) sends accepted = frame_of_line (line_of before
 heads_of_line before (Wrote block) sends accepted =
     All-cons (IsHeadOf (line_of before)) (write_head block) [] (block, in_line before block accepted.rest accepted.first, refl) (All-nil (IsHeadOf (line_of before)))
 
-of_line : (past : Record) (arrival : Arrival) (sending : Sending) → AreAccepted past → IsFirstAnswer past arrival sending → All (IsHeadOf (line_of past)) sending.heads
-of_line past arrival sending all first =
+pub of-line : (past : Record) (arrival : Arrival) (sending : Sending) → AreAccepted past → IsFirstAnswer past arrival sending → All (IsHeadOf (line_of past)) sending.heads
+of-line past arrival sending all first =
     let at = first.stands in
     let accepted = accepted_at sending.since at.before at.entry at.running at.sends (subst AreAccepted at.split all) in
     let line : line_of past ≡ line_of at.before =
@@ -175,7 +167,7 @@ of_line past arrival sending all first =
 
 pub answered-of_line : (groups : List Group) (steps : List Step) (arrival : Arrival) (sending : Sending) → answered_by (record_of groups steps) arrival ≡ Some sending → All (IsHeadOf (line_of (record_of groups steps))) sending.heads
 answered-of_line groups steps arrival sending e =
-    of_line (record_of groups steps) arrival sending (all_accepted groups steps) (first_answer (record_of groups steps) arrival sending e)
+    of-line (record_of groups steps) arrival sending (all-accepted groups steps) (first_answer (record_of groups steps) arrival sending e)
 
 -- what is awaited is what is answered
 

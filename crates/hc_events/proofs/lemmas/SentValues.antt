@@ -27,7 +27,7 @@ use Rattle.hc_events.specs.Entries.{Record}
 use Rattle.hc_events.specs.Points.{line_of, state_of}
 use Rattle.hc_events.specs.Outputs.{has_bit, is_output_in, outputs_in, sent_bit, sent_data, value_bit}
 use Rattle.hc_events.specs.DataLaws.{IsOutputOf, IsSentData, LiesIn}
-use Rattle.hc_events.proofs.SentBits.{sent-data}
+use Rattle.hc_events.proofs.lemmas.SentBits.{sent-data}
 use Rattle.hc_events.proofs.lemmas.Awaited.{by_bool, same_is}
 
 below_number : (low high : ℕ) → low < high → (low == high) ≡ false
