@@ -4,3 +4,5 @@
 
 pub mod inputs;
 mod slot;
+#[cfg(test)]
+mod tests;
