@@ -26,11 +26,15 @@ length_in table task d = option_map_or (λ datagram. datagram.length) (datagram_
 abbrev pub offset_in : Table → ℕ → ℕ → ℕ
 offset_in table task d = option_map_or (λ datagram. datagram.offset) (datagram_in table task d) 0
 
--- each place of a table lies in its datagram, and no two variables share a bit
+-- a place lies in a datagram of a table
+pub record LiesInTable (table : Table) (place : VariablePlace) : Type 0 where
+  pub task : place.task < TASKS
+  pub datagram : place.datagram < MOST_DATAGRAMS
+  pub within : place.bit + place.bits ≤ 8 * length_in table place.task place.datagram
+
+-- so does each place of a table, and no two variables share a bit
 pub record IsLaidOut (table : Table) : Type 0 where
-  pub inside :
-      (variable : ℕ) (place : VariablePlace) → place_in table variable ≡ Some place
-      → place.bit + place.bits ≤ 8 * length_in table place.task place.datagram
+  pub inside : (variable : ℕ) (place : VariablePlace) → place_in table variable ≡ Some place → LiesInTable table place
   pub apart :
       (variable other : ℕ) (place another : VariablePlace) → variable ≢ other
       → place_in table variable ≡ Some place → place_in table other ≡ Some another → SharesNoBit place another

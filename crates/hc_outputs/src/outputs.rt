@@ -5,7 +5,7 @@ ghost use Rattle.hc_outputs.specs.Moves.{Posts};
 ghost use Rattle.hc_outputs.specs.Packed.{IsWhole};
 
 use crate::row::Row;
-use crate::rows::{SLOTS, blank, carry, mark, slot_number};
+use crate::rows::{SLOTS, blank, make_masks, move_values, slot_number};
 use hc_places::table::Places;
 use std::alloc::{AllocError, Global};
 use std::marker::Model;
@@ -83,8 +83,7 @@ impl Outputs {
         let mut masks = rows(alloc)?;
         let next = rows(alloc)?;
         blank(sent.as_mut_slice(), places);
-        blank(masks.as_mut_slice(), places);
-        mark(masks.as_mut_slice(), places);
+        make_masks(masks.as_mut_slice(), places);
         Ok(Outputs { sent, masks, next })
     }
 
@@ -124,10 +123,8 @@ impl Outputs {
         requires sizes { HasSizes old.now self.old.sent }
         ensures { (value : ℕ → ℕ → ℕ) → Holds old.now value self.old → Holds new.now (kept old.now value) self.new }
     {
-        blank(self.next.as_mut_slice(), new);
-        carry(self.next.as_mut_slice(), new, self.sent.as_slice(), old);
-        blank(self.masks.as_mut_slice(), new);
-        mark(self.masks.as_mut_slice(), new);
+        move_values(self.next.as_mut_slice(), new, self.sent.as_slice(), old);
+        make_masks(self.masks.as_mut_slice(), new);
         std::mem::swap(&mut self.sent, &mut self.next);
     }
 }

@@ -1,6 +1,7 @@
 //! The bytes of one datagram.
-ghost use Rattle.std.specs.Prelude.{◌≡◌, ℕ, length, min};
-ghost use Rattle.hc_bits.specs.Bits.{bit_of};
+ghost use Rattle.std.specs.Prelude.{◌≡◌, ◌+◌, ◌*◌, ◌^◌, ◌<◌, ◌≤◌, ℕ, length, min};
+ghost use Rattle.std.specs.Int.{bit_at};
+ghost use Rattle.hc_bits.specs.Bits.{bit_of, ReplacesRun};
 
 use arrayvec::ArrayVec;
 use hc_bits::{copy_bits, put_bits};
@@ -31,6 +32,26 @@ fn copy_masked(own: &mut [u8], mask: &[u8], bytes: &[u8])
         front[index] = bytes[index] & mask[index];
     }
     rest.fill(0);
+}
+
+/// A number whose bits are ones, so many, from 1 to 64.
+fn ones(bits: u8) -> u64
+    requires some { 1 ≤ bits }
+    requires most { bits ≤ 64 }
+    ensures below { result < 2 ^ bits }
+    ensures ones { (k : ℕ) → k < bits → bit_at result k ≡ 1 }
+{
+    u64::MAX >> (64 - bits)
+}
+
+/// Makes ones of 1 to 64 bits from one on.
+fn put_run(bytes: &mut [u8], at: usize, bits: u8)
+    requires some { 1 ≤ bits }
+    requires most { bits ≤ 64 }
+    requires within { at + bits ≤ 8 * length bytes.old }
+    ensures { ReplacesRun bytes.old bytes.new at bits (λ k. 1) }
+{
+    put_bits(bytes, at, usize::from(bits), ones(bits));
 }
 
 impl Row {
@@ -73,13 +94,7 @@ impl Row {
         ensures ones { ReplacesRun self.old self.new at bits (λ k. 1) }
         ensures size { length self.new ≡ length self.old }
     {
-        let ones = u64::MAX >> (64 - bits);
-        put_bits(
-            self.bytes.as_mut_slice(),
-            usize::from(at),
-            usize::from(bits),
-            ones,
-        );
+        put_run(self.bytes.as_mut_slice(), usize::from(at), bits);
     }
 
     /// Copies bits of another row, from one on, to those from another one on.

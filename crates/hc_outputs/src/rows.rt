@@ -1,8 +1,9 @@
 //! The bytes of all datagrams that a line can have: made anew for a table, with its output variables' bits
 //! at their places.
-ghost use Rattle.std.specs.Prelude.{◌≡◌, ◌+◌, ◌*◌, ◌<◌, ◌≤◌, ℕ, length, replicate, slice_index_or, []};
+ghost use Rattle.std.specs.Prelude.{◌≡◌, ◌+◌, ◌*◌, ◌≤◌, ◌↔◌, IsTrue, length};
 ghost use Rattle.hc_bits.specs.Bits.{bit_of};
 ghost use Rattle.hc_records.specs.declared.limits.TheConstants.{MOST_DATAGRAMS, TASKS};
+ghost use Rattle.hc_records.specs.declared.records.Dir.TheVariants.{Out};
 ghost use Rattle.hc_outputs.specs.Packed.{Carries, HasSizes, IsLaidOut, bytes_of, length_in, slot_number};
 ghost use Rattle.hc_outputs.specs.Values.{KeepEntries};
 ghost use Rattle.hc_outputs.specs.Moves.{AreBlank, Writes, moved};
@@ -48,6 +49,13 @@ pub(crate) fn blank(rows: &mut [Row], places: &Places)
     }
 }
 
+/// Whether a place is that of an output variable.
+fn is_output(place: Place) -> bool
+    ensures { IsTrue result ↔ (place.dir ≡ Out) }
+{
+    place.dir == Dir::Out
+}
+
 /// Makes ones at a place.
 fn put_ones(rows: &mut [Row], place: Place)
     requires all { length rows.old ≡ MOST_DATAGRAMS * TASKS }
@@ -57,28 +65,34 @@ fn put_ones(rows: &mut [Row], place: Place)
     rows[slot_number(place.task, place.datagram)].put_ones(place.bit, place.bits);
 }
 
-/// Copies the bits at a place of other bytes to those at a place of as many.
-fn copy_value(rows: &mut [Row], place: Place, from: &[Row], before: Place)
-    requires all { length rows.old ≡ MOST_DATAGRAMS * TASKS }
-    requires all_before { length from.now ≡ MOST_DATAGRAMS * TASKS }
-    requires within { place.bit + place.bits ≤ 8 * length (bytes_of rows.old place.task place.datagram) }
-    requires within_before { before.bit + place.bits ≤ 8 * length (bytes_of from.now before.task before.datagram) }
-    ensures { Writes rows.old rows.new place (λ k. bit_of (bytes_of from.now before.task before.datagram) (before.bit + k)) }
+/// The bytes of the datagram in which a place lies.
+fn row_of(rows: &[Row], place: Place) -> &Row
+    requires { length rows.now ≡ MOST_DATAGRAMS * TASKS }
+    ensures { result.now ≡ bytes_of rows.now place.task place.datagram }
 {
-    let source = &from[slot_number(before.task, before.datagram)];
+    &rows[slot_number(place.task, place.datagram)]
+}
+
+/// Copies the bits that a variable had at its place before, in that datagram's bytes, to its place.
+fn copy_value(rows: &mut [Row], place: Place, source: &Row, before: Place)
+    requires all { length rows.old ≡ MOST_DATAGRAMS * TASKS }
+    requires within { place.bit + place.bits ≤ 8 * length (bytes_of rows.old place.task place.datagram) }
+    requires within_before { before.bit + place.bits ≤ 8 * length source.now }
+    ensures { Writes rows.old rows.new place (λ k. bit_of source.now (before.bit + k)) }
+{
     let own = &mut rows[slot_number(place.task, place.datagram)];
     own.copy_run(place.bit, source, before.bit, place.bits);
 }
 
 /// Makes ones of the bits of a table's output variables, in bytes that are all 0.
-pub(crate) fn mark(rows: &mut [Row], places: &Places)
+fn mark(rows: &mut [Row], places: &Places)
     requires all { length rows.old ≡ MOST_DATAGRAMS * TASKS }
     requires laid { IsLaidOut places.now }
     requires blank { AreBlank places.now rows.old }
     ensures { Carries places.now (λ variable k. 1) rows.new }
 {
     for (_, place) in places.variables() {
-        if place.dir == Dir::Out {
+        if is_output(*place) {
             put_ones(rows, *place);
         }
     }
@@ -86,7 +100,7 @@ pub(crate) fn mark(rows: &mut [Row], places: &Places)
 
 /// Copies the bits of output variables from their places in the old table to those in the new one, into
 /// bytes that are all 0.
-pub(crate) fn carry(rows: &mut [Row], new: &Places, from: &[Row], old: &Places)
+fn carry(rows: &mut [Row], new: &Places, from: &[Row], old: &Places)
     requires all { length rows.old ≡ MOST_DATAGRAMS * TASKS }
     requires all_before { length from.now ≡ MOST_DATAGRAMS * TASKS }
     requires laid { IsLaidOut new.now }
@@ -97,10 +111,35 @@ pub(crate) fn carry(rows: &mut [Row], new: &Places, from: &[Row], old: &Places)
     ensures { Carries new.now (moved old.now from.now) rows.new }
 {
     for (variable, place) in new.variables() {
-        if place.dir == Dir::Out {
+        if is_output(*place) {
             if let Some(before) = old.place(*variable) {
-                copy_value(rows, *place, from, before);
+                copy_value(rows, *place, row_of(from, before), before);
             }
         }
     }
+}
+
+/// Makes the masks of a table.
+pub(crate) fn make_masks(rows: &mut [Row], places: &Places)
+    requires all { length rows.old ≡ MOST_DATAGRAMS * TASKS }
+    requires laid { IsLaidOut places.now }
+    ensures { Carries places.now (λ variable k. 1) rows.new }
+{
+    blank(rows, places);
+    mark(rows, places);
+}
+
+/// Makes the bytes of the new table, in which each output variable has the bits that it had in those of the
+/// old one.
+pub(crate) fn move_values(rows: &mut [Row], new: &Places, from: &[Row], old: &Places)
+    requires all { length rows.old ≡ MOST_DATAGRAMS * TASKS }
+    requires all_before { length from.now ≡ MOST_DATAGRAMS * TASKS }
+    requires laid { IsLaidOut new.now }
+    requires laid_before { IsLaidOut old.now }
+    requires entries { KeepEntries old.now new.now }
+    requires sizes { HasSizes old.now from.now }
+    ensures { Carries new.now (moved old.now from.now) rows.new }
+{
+    blank(rows, new);
+    carry(rows, new, from, old);
 }
