@@ -21,21 +21,10 @@ use Rattle.hc_records.specs.TaskList.{Keyed, Listed, belongs, keyed, slave_areas
 use Rattle.hc_records.proofs.lemmas.KeyOrder.{same_dir-refl, same_key-refl}
 use Rattle.hc_records.proofs.lemmas.Spans.{width-absent, width-here, width-skip}
 use Rattle.hc_bitsum.proofs.lemmas.Lacking.{LacksKey, lacks-before, lacks-behind}
-use Rattle.hc_tasks.specs.Areas.{areas_at, areas_by_rank, own_width, present_areas, width_at}
+use Rattle.hc_tasks.specs.Areas.{area_list, areas_at, areas_by_rank, list_by, own_width, present_areas, rank_list, width_at}
 
 abbrev key_of : Dir → ℕ → ℕ → Key
 key_of dir rank area = record { dir = dir; rank = rank; area = area }
-
--- the areas of a slave, and of slaves in a row, with their keys and widths, in one direction
-
-abbrev area_list : ℕ → Dir → ℕ → ℕ → List Area → List Keyed
-area_list task dir rank index [] = []
-area_list task dir rank index (area ∷ areas) =
-    if belongs task dir area then (key_of dir rank index, width area) ∷ area_list task dir rank (index + 1) areas else area_list task dir rank (index + 1) areas
-
-abbrev rank_list : ℕ → Dir → ℕ → List (List Area) → List Keyed
-rank_list task dir rank [] = []
-rank_list task dir rank (areas ∷ slaves) = area_list task dir rank 0 areas ++ rank_list task dir (rank + 1) slaves
 
 -- a task's list is made of them
 
@@ -99,8 +88,8 @@ line-listed task dir rank (declared ∷ groups) =
     (line-listed task dir next groups ∙ ap (λ (n : ℕ). rank_list task dir (rank + n) (areas_by_rank groups)) (sym many))
     ∙ sym (rank_list-append task dir rank (present_areas declared) (areas_by_rank groups))
 
-task-listed : (task : ℕ) (groups : List Declared)
-    → task_list task (line_from 1 groups) ≡ rank_list task Out 1 (areas_by_rank groups) ++ rank_list task In 1 (areas_by_rank groups)
+pub task-listed : (task : ℕ) (groups : List Declared)
+    → task_list task (line_from 1 groups) ≡ list_by task (areas_by_rank groups)
 task-listed task groups =
     map-append keyed (flat_map (slave_areas task Out) (line_from 1 groups)) (flat_map (slave_areas task In) (line_from 1 groups))
     ∙ rw (line-listed task Out 1 groups, line-listed task In 1 groups) refl
@@ -203,3 +192,7 @@ both-told task In rank area slaves =
 pub width-told : (groups : List Declared) (task : ℕ) (key : Key) → width_in (task_list task (line_from 1 groups)) key ≡ width_at task (areas_by_rank groups) key
 width-told groups task key =
     ap (λ (list : List Keyed). width_in list key) (task-listed task groups) ∙ both-told task key.dir key.rank key.area (areas_by_rank groups)
+
+-- the width of a key in the list that slaves' areas make
+pub width-by : (slaves : List (List Area)) (task : ℕ) (key : Key) → width_in (list_by task slaves) key ≡ width_at task slaves key
+width-by slaves task key = both-told task key.dir key.rank key.area slaves

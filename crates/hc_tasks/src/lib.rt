@@ -4,4 +4,5 @@
 
 pub mod areas;
 pub mod laws;
+mod turning;
 mod widths;
