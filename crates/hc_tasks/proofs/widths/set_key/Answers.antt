@@ -1,0 +1,10 @@
+use Rattle.std.proofs.Common.{ap}
+use Rattle.hc_tasks.specs.Areas.{slave_width}
+use Rattle.hc_tasks.proofs.Setting.{key-set}
+use Rattle.hc_bitsum.specs.Tree.{with_width}
+use Rattle.hc_tasks.proofs.widths.set_key.Goals as goal
+
+pub returns-clause-widths : goal.returns-clause-widths
+returns-clause-widths c =
+    rw (← c.slave_width-bits.ensures.value)
+    (key-set c.args.cuts.now c.set.new.self c.args.key c.slave_width-bits.result c.requires.holds c.set.ensures.areas c.set.ensures.starts c.set.ensures.holds)
