@@ -8,3 +8,4 @@ pub mod Lowest
 pub mod Unmapped
 pub mod Alias
 pub mod Mapped
+pub mod lemmas

@@ -1,6 +1,6 @@
 //! What follows from the definitions of `specs/`, so that a reader can trust them and a caller can use it: each function
 //! here does nothing, and its contract is a law. Nobody calls it.
-ghost use Rattle.hc_machine.specs.Laws.{AliasStays, CountersRise, FmmusAreTheirPairs, ReadBitsComeFromMemory, UnmappedDatagramsPass, UnreadBitsStay, UnwrittenBitsStay, WrittenBitsComeFromData};
+ghost use Rattle.hc_machine.specs.Laws.{AliasStays, CountersRise, FmmusAreTheirPairs, ReadBitsComeFromMemory, ServedFramesAreRead, UnmappedDatagramsPass, UnreadBitsStay, UnwrittenBitsStay, WrittenBitsComeFromData};
 
 /// An FMMU has exactly the pairs that its block says: the k-th logical bit with the k-th memory bit, from the start bit of
 /// the first byte to the stop bit of the last, as far as memory goes; none where it isn't active, where its length is 0, or
@@ -43,4 +43,9 @@ pub fn counters_rise()
 /// No frame changes the configured station alias.
 pub fn alias_stays()
     ensures { AliasStays }
+{}
+
+/// A frame that the reader reads is read behind a slave too.
+pub fn served_frames_are_read()
+    ensures { ServedFramesAreRead }
 {}
