@@ -8,4 +8,5 @@ pub mod Lowest
 pub mod Unmapped
 pub mod Alias
 pub mod Mapped
+pub mod Unmixed
 pub mod lemmas
