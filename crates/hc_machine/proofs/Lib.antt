@@ -6,6 +6,7 @@ pub mod Framed
 pub mod Paired
 pub mod Lowest
 pub mod Unmapped
+pub mod Counts
 pub mod Alias
 pub mod Mapped
 pub mod Unmixed

@@ -65,6 +65,20 @@ UnmappedDatagramsPass =
     (memory bytes : List ℕ) (from : ℕ) → length memory ≡ MEMORY_BYTES → AreBytes memory → AreBytes bytes → ((j n m : ℕ) → j < FMMUS → n < 8 * length bytes → ¬ IsPair (block_at memory j) (from + n) m)
     → (logical_data memory from bytes ≡ bytes) × (logical_memory memory from bytes ≡ memory) × (logical_count memory from (length bytes) ≡ 0)
 
+-- an FMMU reads one of the bits of n bytes of data, or writes one: into the alias too, which stays
+abbrev pub IsRead : List ℕ → ℕ → ℕ → Type 0
+IsRead memory from n = (i : ℕ) × (k : ℕ) × (m : ℕ) × (i < FMMUS) × (k < 8 * n) × Reads memory i (from + k) m
+
+abbrev pub IsWritten : List ℕ → ℕ → ℕ → Type 0
+IsWritten memory from n = (i : ℕ) × (k : ℕ) × (m : ℕ) × (i < FMMUS) × (k < 8 * n) × Writes memory i (from + k) m
+
+-- a working counter tells the pairs: 1 where a bit is read and 2 where one is written, however many there are
+abbrev pub LogicalCountsTellPairs : Type 0
+LogicalCountsTellPairs =
+    (memory : List ℕ) (from n : ℕ) → (r : ℕ) × (w : ℕ) × (logical_count memory from n ≡ r + w)
+    × (((r ≡ 1) × IsRead memory from n) ⊎ ((r ≡ 0) × (¬ IsRead memory from n)))
+    × (((w ≡ 2) × IsWritten memory from n) ⊎ ((w ≡ 0) × (¬ IsWritten memory from n)))
+
 -- a working counter rises by 0 to 3, and wraps
 abbrev pub CountersRise : Type 0
 CountersRise = (memory : List ℕ) (d : Carried) → (n : ℕ) × (n ≤ 3) × ((served memory d).counter ≡ (d.counter + n) % 65536)
