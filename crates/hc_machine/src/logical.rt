@@ -39,9 +39,8 @@ fn read_bits(fmmus: &[Fmmu], memory: &[u8], from: usize, bytes: &mut [u8])
     ensures { (k : ℕ) → k < 8 * length bytes.old →
         bit_of bytes.new k ≡ bit_read fmmus.now (bit_of memory.now) (from + k) (bit_of bytes.old k) }
 {
-    if let [fmmu, rest @ ..] = fmmus {
-        read_bits(rest, memory, from, bytes);
-        read_one(fmmu, memory, from, bytes);
+    for k in 0..fmmus.len() {
+        read_one(&fmmus[fmmus.len() - 1 - k], memory, from, bytes);
     }
 }
 
@@ -71,9 +70,8 @@ fn write_bits(fmmus: &[Fmmu], bytes: &[u8], from: usize, memory: &mut [u8])
     ensures { (m : ℕ) → bit_of memory.new m
         ≡ bit_written fmmus.now (bit_of bytes.now) from (8 * length bytes.now) m (bit_of memory.old m) }
 {
-    if let [fmmu, rest @ ..] = fmmus {
-        write_bits(rest, bytes, from, memory);
-        write_one(fmmu, bytes, from, memory);
+    for k in 0..fmmus.len() {
+        write_one(&fmmus[fmmus.len() - 1 - k], bytes, from, memory);
     }
 }
 
