@@ -5,8 +5,9 @@ use Rattle.std.specs.List.{list_any}
 use Rattle.std.proofs.lemmas.Bool.Decides.{nat_tests}
 use Rattle.std.proofs.lemmas.List.{get_or-take, get_or-drop}
 use Rattle.hc_machine.specs.declared.fmmu.Fmmu.{Fmmu}
-use Rattle.hc_machine.specs.Fmmus.{block_at, is_within}
+use Rattle.hc_machine.specs.Fmmus.{block_at, fmmu_of, idle, is_active, is_within}
 use Rattle.hc_machine.specs.Logical.{bit_read, bit_written, logical_bit, meets, memory_bit, reads_any, writes_any}
+use Rattle.hc_machine.proofs.Paired.{fmmu-idle}
 
 -- the activation byte of a block
 pub activation-at : (memory : List ℕ) (i : ℕ) → slice_index (block_at memory i) 12 ≡ slice_index memory (1536 + 16 * i + 12)
@@ -75,3 +76,10 @@ reads-mapped fs from size = any-mapped (λ f. f.reads) fs from size
 
 pub writes-mapped : (fs : List Fmmu) (from size : ℕ) → writes_any from size (filter (meets from size) fs) ≡ writes_any from size fs
 writes-mapped fs from size = any-mapped (λ f. f.writes) fs from size
+
+-- an FMMU that isn't active is met by no datagram
+pub idle-unmet : (block : List ℕ) (from size : ℕ) → is_active block ≡ false → meets from size (fmmu_of block) ≡ false
+idle-unmet block from size off = ap (meets from size) (sym (fmmu-idle block off)) ∙ none from size
+  where
+    none : (from size : ℕ) → meets from size idle ≡ false
+    none from size = grind (arith, nat_tests)
