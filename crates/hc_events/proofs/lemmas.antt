@@ -3,6 +3,7 @@ pub mod Accepted
 pub mod Answers
 pub mod Awaited
 pub mod Changes
+pub mod Epochs
 pub mod Frames
 pub mod Once
 pub mod OneWrite

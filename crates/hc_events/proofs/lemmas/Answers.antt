@@ -142,8 +142,9 @@ frame_of_line line (named ∷ frame) all =
 of_filter : (test : LineBlock → Bool) (blocks : List LineBlock) → All (Contains blocks) (filter test blocks)
 of_filter test blocks = All-passing (Contains blocks) test blocks (λ k d within passes. All-contains_itself blocks k d within)
 
-in_line : (past : Record) (block : LineBlock) (rest : List LineBlock) → owed_blocks past ≡ block ∷ rest → Contains (line_blocks (line_of past)) block
-in_line past block rest first =
+-- an owed block is one of the line
+pub owed-in_line : (past : Record) (block : LineBlock) (rest : List LineBlock) → owed_blocks past ≡ block ∷ rest → Contains (line_blocks (line_of past)) block
+owed-in_line past block rest first =
     All-head (Contains (line_blocks (line_of past))) block rest
     (subst (All (Contains (line_blocks (line_of past)))) first (of_filter (is_owed past) (line_blocks (line_of past))))
 
@@ -154,7 +155,7 @@ heads_of_line before (Posted task bytes) sends accepted = cc
 heads_of_line before (Came arrival) sends accepted = cc
 heads_of_line before (Sent frame) sends accepted = frame_of_line (line_of before) frame accepted.stands
 heads_of_line before (Wrote block) sends accepted =
-    All-cons (IsHeadOf (line_of before)) (write_head block) [] (block, in_line before block accepted.rest accepted.first, refl) (All-nil (IsHeadOf (line_of before)))
+    All-cons (IsHeadOf (line_of before)) (write_head block) [] (block, owed-in_line before block accepted.rest accepted.first, refl) (All-nil (IsHeadOf (line_of before)))
 
 pub of-line : (past : Record) (arrival : Arrival) (sending : Sending) → AreAccepted past → IsFirstAnswer past arrival sending → All (IsHeadOf (line_of past)) sending.heads
 of-line past arrival sending all first =

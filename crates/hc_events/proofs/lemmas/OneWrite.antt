@@ -326,8 +326,8 @@ alive_heads : (serial : ℕ) (sending now : Sending) (over : Bool) → cond over
 alive_heads serial sending now true e = absurd (none_some now e)
 alive_heads serial sending now false e = ap (λ s. s.heads) (sym (same_sending _ now e))
 
-alive_same : (serial : ℕ) (sending now : Sending) → alive serial sending ≡ Some now → now.heads ≡ sending.heads
-alive_same serial sending now e = alive_heads serial sending now (is_ended serial sending || all_sent_again sending.since sending.heads) e
+pub awaited-heads : (serial : ℕ) (sending now : Sending) → alive serial sending ≡ Some now → now.heads ≡ sending.heads
+awaited-heads serial sending now e = alive_heads serial sending now (is_ended serial sending || all_sent_again sending.since sending.heads) e
 
 no_blocks : (line : List Member) (frame : List Named) → list_any (λ head. is_block head.item) (data_heads line frame) ≡ false
 no_blocks line [] = refl
@@ -353,12 +353,12 @@ older_wrote past block serial now e t =
 
 new_wrote : (past : Record) (block : LineBlock) (serial : ℕ) (now : Sending) → awaited (Wrote block ∷ past) serial ≡ Some now → (next_serial past == serial) ≡ true → now.heads ≡ write_head block ∷ []
 new_wrote past block serial now e t =
-    alive_same serial (just_sent (write_head block ∷ [])) now
+    awaited-heads serial (just_sent (write_head block ∷ [])) now
     (new_or_older serial (next_serial past == serial) (Some (just_sent (write_head block ∷ []))) (option_map (followed_by (Wrote block)) (sending_of past serial)) now e t)
 
 new_sent : (past : Record) (frame : List Named) (serial : ℕ) (now : Sending) → awaited (Sent frame ∷ past) serial ≡ Some now → (next_serial past == serial) ≡ true → now.heads ≡ data_heads (line_of past) frame
 new_sent past frame serial now e t =
-    alive_same serial (just_sent (data_heads (line_of past) frame)) now
+    awaited-heads serial (just_sent (data_heads (line_of past) frame)) now
     (new_or_older serial (next_serial past == serial) (Some (just_sent (data_heads (line_of past) frame))) (option_map (followed_by (Sent frame)) (sending_of past serial)) now e t)
 
 -- frames are sent where nothing is owed, so no write is awaited then

@@ -96,3 +96,14 @@ listed-length state task number datagrams other none is inside =
     let within = listed-count state task datagrams none is in
     ap (λ (ds : List Datagram). (get_or ds number other).length) (is ∙ project-listed state task none)
     ∙ ap (λ (d : Datagram). d.length) (get_or-map-range_with_len (datagram_of (line state) task) 0 count number number other (omega (arith, inside, within)) (omega arith))
+
+-- a task with a datagram is one of the eight
+none_counted : (state : State) (task : ℕ) → lowest_fault (groups_of state.groups) ≡ None → TASKS ≤ task → datagram_count (task_places task (line state)) ≡ 0
+none_counted state task none high = ap (λ (list : List Keyed). datagram_count (packed opening list)) (further-empty state task none high)
+
+low_or_none : (state : State) (task number : ℕ) → lowest_fault (groups_of state.groups) ≡ None → number < datagram_count (task_places task (line state)) → (task < TASKS) ⊎ (TASKS ≤ task) → task < TASKS
+low_or_none state task number none stands (inl low) = low
+low_or_none state task number none stands (inr high) = let empty = none_counted state task none high in absurd (omega (arith, stands, empty))
+
+pub standing-task : (state : State) (task number : ℕ) → lowest_fault (groups_of state.groups) ≡ None → number < datagram_count (task_places task (line state)) → task < TASKS
+standing-task state task number none stands = low_or_none state task number none stands (cases_lt task TASKS)
