@@ -1,2 +1,3 @@
-pub mod Masks
 pub mod Laying
+pub mod Masks
+pub mod Outcomes
