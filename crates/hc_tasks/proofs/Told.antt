@@ -1,11 +1,10 @@
 -- The width of a key in a task's list, told by the area of its slave.
-use Rattle.std.specs.Prelude.{All, filter, map, nat_lt, slice_get, slice_index_or, ◌&&◌}
+use Rattle.std.specs.Prelude.{filter, map, nat_lt, slice_get, slice_index_or, ◌&&◌}
 use Rattle.std.specs.List.{enumerate_from, flat_map}
-use Rattle.std.proofs.Common.{◌≡◌, ◌≢◌, ℕ, zero, suc, ◌+◌, ◌<◌, ◌≤◌, ◌==◌, Bool, true, false, List, [], ◌∷◌, ◌++◌, length, refl, sym, ap, subst, ◌∙◌, arith, if◌then◌else◌, append_assoc}
-use Rattle.std.proofs.lemmas.Bool.{and_left, and_right}
+use Rattle.std.proofs.Common.{◌≡◌, ◌≢◌, ℕ, zero, suc, ◌+◌, ◌≤◌, ◌==◌, Bool, true, false, List, [], ◌∷◌, ◌++◌, length, refl, sym, ap, ◌∙◌, arith, if◌then◌else◌, append_assoc}
 use Rattle.std.proofs.lemmas.Bool.Decides.{nat_tests}
 use Rattle.std.proofs.lemmas.List.{map-append}
-use Rattle.std.proofs.lemmas.List.Elements.{All-append, All-cons, All-nil, All-weaker}
+use Rattle.std.proofs.lemmas.List.Elements.{All-append, All-cons, All-nil}
 use Rattle.std.proofs.lemmas.Grind.{flat_map-append}
 use Rattle.hc_records.specs.declared.records.Dir.{Dir}
 use Rattle.hc_records.specs.declared.records.Dir.TheVariants.{Out, In}
@@ -16,12 +15,12 @@ use Rattle.hc_records.specs.declared.keys.Key.{Key}
 use Rattle.hc_records.specs.Keys.{same_dir, same_key}
 use Rattle.hc_records.specs.Area.{width}
 use Rattle.hc_records.specs.Boundaries.{width_in}
-use Rattle.hc_records.specs.Line.{Member, line_from, members_from, present_slaves}
-use Rattle.hc_records.specs.TaskList.{Keyed, Listed, belongs, keyed, slave_areas, task_areas, task_list}
-use Rattle.hc_records.proofs.lemmas.KeyOrder.{same_dir-refl, same_key-refl}
+use Rattle.hc_records.specs.Line.{line_from, members_from, present_slaves}
+use Rattle.hc_records.specs.TaskList.{Keyed, Listed, belongs, keyed, slave_areas, task_list}
+use Rattle.hc_records.proofs.lemmas.KeyOrder.{same_key-refl}
 use Rattle.hc_records.proofs.lemmas.Spans.{width-absent, width-here, width-skip}
 use Rattle.hc_bitsum.proofs.lemmas.Lacking.{LacksKey, lacks-before, lacks-behind}
-use Rattle.hc_tasks.specs.Areas.{area_list, areas_at, areas_by_rank, list_by, own_width, present_areas, rank_list, width_at}
+use Rattle.hc_tasks.specs.Areas.{area_list, areas_by_rank, list_by, own_width, present_areas, rank_list, width_at}
 
 abbrev key_of : Dir → ℕ → ℕ → Key
 key_of dir rank area = record { dir = dir; rank = rank; area = area }

@@ -15,7 +15,6 @@ use Rattle.hc_records.specs.TaskList.{Keyed, belongs}
 use Rattle.hc_records.specs.Boundaries.{boundaries, later_keys, width_in}
 use Rattle.hc_records.specs.Image.{datagram_count}
 use Rattle.hc_records.specs.Packing.{opening, packed}
-use Rattle.hc_records.specs.SpanLaws.{IsTaskList}
 use Rattle.hc_bitsum.specs.Tree.{HasPlace, HoldsTaskList, Tree}
 use Rattle.hc_bitsum.proofs.lemmas.Widths.{told-by_widths}
 use Rattle.hc_cuts.specs.Firsts.{IsCrowded}

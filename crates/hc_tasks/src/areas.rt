@@ -23,7 +23,14 @@ impl<'a> Model for SlaveAreas<'a> {
 }
 
 impl<'a> SlaveAreas<'a> {
-    ghost use Rattle.std.specs.Prelude.{◌≡◌};
+    ghost use Rattle.std.specs.Prelude.{◌≡◌, []};
+
+    /// Those of a slave that isn't present.
+    pub(crate) fn absent() -> SlaveAreas<'a>
+        ensures { result ≡ [] }
+    {
+        SlaveAreas { areas: &[] }
+    }
 
     /// The areas.
     pub fn as_slice(&self) -> &'a [Area]

@@ -4,5 +4,6 @@
 
 pub mod areas;
 pub mod laws;
+pub mod tasks;
 mod turning;
 mod widths;

@@ -1,4 +1,3 @@
-use Rattle.std.proofs.Common.{◌≡◌, ℕ, true, false, List, [], ◌∷◌, sym, ap, ◌∙◌}
 use Rattle.hc_tasks.proofs.Turned.{crowds-by, cut-kept, set-tree, tree-holds, tree-widths}
 use Rattle.hc_tasks.proofs.turning.put_task.Goals as goal
 

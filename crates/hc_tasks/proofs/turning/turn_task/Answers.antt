@@ -1,5 +1,4 @@
-use Rattle.std.proofs.Common.{◌≡◌, ℕ, true, false, List, [], ◌∷◌, refl, sym, ap, ◌∙◌}
-use Rattle.hc_bitsum.specs.Tree.{Tree}
+use Rattle.std.proofs.Common.{ap, ◌∙◌}
 use Rattle.hc_cuts.specs.Starts.{Kept}
 use Rattle.hc_tasks.proofs.Turned.{crowds-by, cut-kept, fits-by, on-err, set-tree, tree-holds, tree-widths, unturned, unturned-fits}
 use Rattle.hc_tasks.proofs.turning.turn_task.Goals as goal

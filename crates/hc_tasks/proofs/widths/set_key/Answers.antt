@@ -1,7 +1,4 @@
-use Rattle.std.proofs.Common.{ap}
-use Rattle.hc_tasks.specs.Areas.{slave_width}
 use Rattle.hc_tasks.proofs.Setting.{key-set}
-use Rattle.hc_bitsum.specs.Tree.{with_width}
 use Rattle.hc_tasks.proofs.widths.set_key.Goals as goal
 
 pub returns-clause-widths : goal.returns-clause-widths
