@@ -67,7 +67,7 @@ readable-whole bytes none =
 pub all-bytes : (xs : List ℕ) → ((i : ℕ) → get_or xs i 0 < 256) → All (λ b. b < 256) xs
 all-bytes xs small = λ k d inside. rw (get_or_default_zero xs k d inside) (small k)
 
-head-long : (destination : List ℕ) (first serial size : ℕ) → length destination ≡ 6 → length (head_to destination first serial size) ≡ 16
+pub head-long : (destination : List ℕ) (first serial size : ℕ) → length destination ≡ 6 → length (head_to destination first serial size) ≡ 16
 head-long destination first serial size six = simp length-append (omega arith)
 
 -- a frame round its datagrams

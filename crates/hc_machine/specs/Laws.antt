@@ -88,6 +88,12 @@ abbrev pub ServedFramesAreRead : Type 0
 ServedFramesAreRead =
     (memory frame : List ℕ) → length memory ≡ MEMORY_BYTES → All (λ b. b < 256) frame → is_none (fault_in frame) ≡ true → is_none (fault_in (frame_after memory frame)) ≡ true
 
+-- a slave passes on as many bytes as came: of a datagram's data, and of a frame
+abbrev pub SizesStay : Type 0
+SizesStay =
+    (memory : List ℕ) → length memory ≡ MEMORY_BYTES
+    → ((d : Carried) → length (served memory d).bytes ≡ length d.bytes) × ((frame : List ℕ) → All (λ b. b < 256) frame → length (frame_after memory frame) ≡ length frame)
+
 -- no frame changes the configured station alias, nor how many bytes memory has
 abbrev pub AliasStays : Type 0
 AliasStays =
