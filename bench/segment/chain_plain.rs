@@ -1,5 +1,5 @@
-//! Chains in plain Rust: `chain_plain SEGMENTS TURNS` passes 64 frames so many times through 64 slaves in so many segments,
-//! each segment in a thread of its own, and prints a number that tells of frames and memories.
+//! Chains in plain Rust: `chain_plain SEGMENTS TURNS SLAVES` passes 64 frames so many times through so many slaves in so
+//! many segments, each segment in a thread of its own, and prints a number that tells of frames and memories.
 
 mod line;
 mod plain;
@@ -58,10 +58,10 @@ fn chain(segments: &mut [Vec<Machine>], frames: Vec<Box<[u8]>>) -> Vec<Box<[u8]>
 
 fn main() {
     let words: Vec<usize> = std::env::args().skip(1).map(|word| word.parse().expect("a number")).collect();
-    let (segments, turns) = (words[0], words[1]);
-    let memories = line::memories(64, 0);
+    let (segments, turns, slaves) = (words[0], words[1], words[2]);
+    let memories = line::memories(slaves, 0);
     let machines: Vec<Machine> = memories.chunks_exact(MEMORY).map(Machine::of).collect();
-    let mut segments: Vec<Vec<Machine>> = machines.chunks(64 / segments).map(<[Machine]>::to_vec).collect();
+    let mut segments: Vec<Vec<Machine>> = machines.chunks(slaves / segments).map(<[Machine]>::to_vec).collect();
     let mut frames: Vec<Box<[u8]>> = (0..64).map(|_| line::full_frame().into()).collect();
     for _ in 0..turns {
         frames = chain(&mut segments, frames);

@@ -1,11 +1,15 @@
-//! A full frame through 1, 16 and 64 slaves of two mapped areas each, by `hc_segment` and by plain Rust, in one run.
+//! A full frame through 1, 16 and 64 slaves of two mapped areas each, by `hc_segment` and by plain Rust, in one run:
+//! `bench PROGRAM PLAIN LINE`, where the first two are built programs that pass frames through chains, and the last the
+//! file that they read.
 //!
 //! Before anything is timed both are given the same drawn slaves and frames, and must leave the same bytes. A call makes
 //! its slaves anew, so each is timed at two numbers of turns, and a turn is their difference. What is printed is ratios
 //! of medians over many rounds, and no time. Every kind is run untimed just before it is timed, each round begins with
 //! another kind, and the plain one is timed twice: where the two differ by more than a tenth no figure is printed.
 
+mod chains;
 mod drawn;
+#[allow(dead_code)]
 mod line;
 mod plain;
 
@@ -98,5 +102,10 @@ fn main() {
         let shape = if bit == 0 { "whole bytes".to_string() } else { format!("from bit {bit} of a byte") };
         let share = count as f64 * copies;
         println!("| {count}, {shape} | {:.2} | {:.2} | {:.2} |", proved / plain, proved / share, plain / share);
+    }
+    println!();
+    let words: Vec<String> = std::env::args().skip(1).collect();
+    if let [program, plain, line] = words.as_slice() {
+        chains::print_table(program, plain, line.as_ref());
     }
 }

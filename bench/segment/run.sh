@@ -68,7 +68,7 @@ pub extern "C" fn segment_run(
 }
 END_OF_CODE
 cat > "$scratch/crates/chain_bench/src/main.rt" <<'END_OF_CODE'
-//! `chain_bench SEGMENTS TURNS < LINE` passes 64 frames so many times through 64 slaves in so many segments, each segment
+//! `chain_bench SEGMENTS TURNS < LINE` passes 64 frames so many times through slaves in so many segments, each segment
 //! in a thread of its own, and prints a number that tells of frames and memories. LINE is the frame's 1,514 bytes, and
 //! then the slaves' memories.
 #![tactic(auto)]
@@ -172,4 +172,4 @@ END_OF_CODE
 rustc --edition 2024 -O -C target-cpu=x86-64-v2 "$here/main.rs" -o "$scratch/bench" \
     -L "$scratch/crates/segment_bench/out" -l static=segment_bench -C link-arg="$kit/c/liblibc_c.a"
 rustc --edition 2024 -O -C target-cpu=x86-64-v2 "$here/chain_plain.rs" -o "$scratch/chain_plain"
-"$scratch/bench" "$scratch/crates/chain_bench/out/chain_bench" "$scratch/chain_plain"
+"$scratch/bench" "$scratch/crates/chain_bench/out/chain_bench" "$scratch/chain_plain" "$scratch/line"

@@ -2,10 +2,11 @@
 //! bits. The FMMUs are laid from the last to the first, so that where two meet the lower number decides.
 
 ghost use Rattle.std.specs.Prelude.{◌≡◌, ℕ, ◌+◌, ◌-◌, ◌*◌, ◌^◌, ◌<◌, ◌≤◌, length, take, [], ◌∷◌, All, filter, if◌then◌else◌};
+ghost use Rattle.std.specs.List.{list_any};
 ghost use Rattle.hc_bits.specs.Bits.{bit_of};
 ghost use Rattle.hc_machine.specs.Fmmus.{fmmus_of, IsInMemory};
 ghost use Rattle.hc_machine.specs.Memory.{bytes_with};
-ghost use Rattle.hc_machine.specs.Logical.{bit_read, bit_written, logical_count, logical_data, logical_memory, meets, mixes_any, reads_any, writes_any};
+ghost use Rattle.hc_machine.specs.Logical.{bit_read, bit_written, logical_count, logical_data, logical_memory, meets, mixes_any, reads_any};
 
 use crate::fmmu::{Fmmu, mapped_fmmus, meets};
 use crate::limits::MEMORY_BYTES;
@@ -89,20 +90,6 @@ fn reads_any(fmmus: &[Fmmu], from: usize, n: usize) -> bool
     false
 }
 
-/// Whether one of the `n` logical bits from `from` on is written.
-fn writes_any(fmmus: &[Fmmu], from: usize, n: usize) -> bool
-    requires in_memory { All IsInMemory fmmus.now }
-    requires fits { from + n < 2 ^ 41 }
-    ensures { result ≡ writes_any from n fmmus.now }
-{
-    for fmmu in fmmus {
-        if fmmu.writes && meets(fmmu, from, n) {
-            return true;
-        }
-    }
-    false
-}
-
 /// Puts the memory bits that are read into the data, by the FMMUs that the datagram meets; seen as the bytes that they
 /// leave.
 fn read_data(fmmus: &[Fmmu], memory: &[u8], from: usize, bytes: &mut [u8])
@@ -173,15 +160,27 @@ fn exchange_data(fmmus: &[Fmmu], memory: &mut [u8], spare: &mut [u8], from: usiz
     write_data(fmmus, bytes, from, memory);
 }
 
-/// What the FMMUs add to the working counter: 1 where a bit is read, 2 where one is written.
-fn count_of(fmmus: &[Fmmu], from: usize, n: usize) -> u16
-    requires in_memory { All IsInMemory fmmus.now }
-    requires fits { from + n < 2 ^ 41 }
-    ensures value { result ≡ (if reads_any from n fmmus.now then 1 else 0) + (if writes_any from n fmmus.now then 2 else 0) }
+/// Whether one of the FMMUs reads.
+fn any_reads(fmmus: &[Fmmu]) -> bool
+    ensures { result ≡ list_any (λ f. f.reads) fmmus.now }
+{
+    fmmus.iter().any(|fmmu| fmmu.reads)
+}
+
+/// Whether one of the FMMUs writes.
+fn any_writes(fmmus: &[Fmmu]) -> bool
+    ensures { result ≡ list_any (λ f. f.writes) fmmus.now }
+{
+    fmmus.iter().any(|fmmu| fmmu.writes)
+}
+
+/// What the FMMUs that a datagram meets add to the working counter: 1 where one reads, 2 where one writes.
+fn count_of(fmmus: &[Fmmu]) -> u16
+    ensures value { result ≡ (if list_any (λ f. f.reads) fmmus.now then 1 else 0) + (if list_any (λ f. f.writes) fmmus.now then 2 else 0) }
     ensures small { result ≤ 3 }
 {
-    let read = if reads_any(fmmus, from, n) { 1 } else { 0 };
-    let written = if writes_any(fmmus, from, n) { 2 } else { 0 };
+    let read = if any_reads(fmmus) { 1 } else { 0 };
+    let written = if any_writes(fmmus) { 2 } else { 0 };
     read + written
 }
 
@@ -208,5 +207,5 @@ pub(crate) fn serve_logical(
     let alias = alias_of(memory);
     exchange_data(fmmus, memory, spare, from, bytes);
     put_back(memory, alias);
-    count_of(fmmus, from, n)
+    count_of(fmmus)
 }

@@ -1,8 +1,9 @@
 use Rattle.std.proofs.Common.{◌+◌, ◌*◌, List, Bool, length, refl, ap, ap₂, ◌∙◌}
 use Rattle.std.specs.Prelude.{if◌then◌else◌}
+use Rattle.std.specs.List.{list_any}
 use Rattle.hc_machine.specs.declared.fmmu.Fmmu.{Fmmu}
 use Rattle.hc_machine.specs.Fmmus.{fmmus_of}
-use Rattle.hc_machine.specs.Logical.{logical_count, logical_data, logical_memory, reads_any, writes_any}
+use Rattle.hc_machine.specs.Logical.{logical_count, logical_data, logical_memory}
 use Rattle.hc_machine.specs.Memory.{with_alias_of}
 use Rattle.hc_machine.proofs.Mapped.{reads-mapped, writes-mapped}
 use Rattle.hc_machine.proofs.logical.serve_logical.Goals as goal
@@ -23,5 +24,5 @@ returns-clause-count c =
     let from = 8 * a.address in
     let size = 8 * length a.bytes.now in
     c.count_of.ensures.value
-    ∙ ap (λ (fs : List Fmmu). (if reads_any from size fs then 1 else 0) + (if writes_any from size fs then 2 else 0)) (c.as_slice-fmmus.ensures.value ∙ c.mapped_fmmus-mapped.ensures.value)
+    ∙ ap (λ (fs : List Fmmu). (if list_any (λ f. f.reads) fs then 1 else 0) + (if list_any (λ f. f.writes) fs then 2 else 0)) (c.as_slice-fmmus.ensures.value ∙ c.mapped_fmmus-mapped.ensures.value)
     ∙ ap₂ (λ (x y : Bool). (if x then 1 else 0) + (if y then 2 else 0)) (reads-mapped (fmmus_of a.memory.now) from size) (writes-mapped (fmmus_of a.memory.now) from size)
