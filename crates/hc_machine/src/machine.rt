@@ -54,7 +54,8 @@ fn fresh_memory(alloc: Global, alias: u16) -> Result<Vec<u8>, AllocError>
 }
 
 impl SlaveMachine {
-    /// A slave whose memory is zeros but for its configured station alias. `AllocError` where the room was refused.
+    /// A slave whose memory is zeros but for its configured station alias, 0 to 65,535 (ETG.1000.4, 6.1.2). `AllocError` where
+    /// the room was refused.
     pub fn new(alloc: Global, alias: u16) -> Result<SlaveMachine, AllocError>
         ensures { IfOk result (λ machine. machine ≡ fresh_memory alias) }
     {
