@@ -6,7 +6,7 @@ use std::path::Path;
 use std::process::{Command, Stdio};
 use std::time::Instant;
 
-const ROUNDS: usize = 8;
+const ROUNDS: usize = 20;
 const SHORT: usize = 20;
 const LONG: usize = 120;
 
