@@ -7,3 +7,5 @@ pub mod laws;
 pub mod outputs;
 mod row;
 mod rows;
+#[cfg(test)]
+mod tests;
