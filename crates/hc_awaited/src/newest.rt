@@ -1,0 +1,89 @@
+//! In which frame each datagram was sent last.
+ghost use Rattle.std.specs.Prelude.{◌≡◌, ◌<◌};
+ghost use Rattle.hc_awaited.specs.Kept.{place_of};
+ghost use Rattle.hc_awaited.specs.Waiting.{IsNamed};
+ghost use Rattle.hc_awaited.specs.declared.newest.TheConstants.{PLACES};
+
+use hc_events::sending::Named;
+use hc_records::limits::{MOST_DATAGRAMS, TASKS};
+use std::alloc::{AllocError, Global};
+use std::marker::Model;
+
+/// The datagrams that tasks can have, 16 each.
+pub(crate) const PLACES: usize = TASKS as usize * MOST_DATAGRAMS;
+
+/// For each datagram that a task can have the serial of the newest frame that it was sent in; none where
+/// it wasn't sent, or that frame was answered.
+#[derive(Debug, Drop)]
+pub(crate) struct Newest {
+    serials: Vec<Option<u64>>,
+}
+
+impl Model for Newest {
+    ghost use Rattle.std.specs.Prelude.{◌≡◌, length};
+    ghost use Rattle.hc_awaited.specs.Kept.{Newest};
+    ghost use Rattle.hc_awaited.specs.declared.newest.TheConstants.{PLACES};
+
+    ghost Value = { Newest };
+
+    ghost view = { λ newest. newest.serials.items };
+
+    ghost invariant = { λ newest. length newest.serials.items ≡ PLACES };
+}
+
+/// Where a datagram stands among those of all tasks.
+fn place_of(datagram: Named) -> usize
+    requires { IsNamed datagram }
+    ensures place { result ≡ place_of datagram }
+    ensures low { result < PLACES }
+{
+    usize::from(datagram.0) * MOST_DATAGRAMS + usize::from(datagram.1)
+}
+
+impl Newest {
+    ghost use Rattle.std.specs.Prelude.{◌≡◌, ◌==◌, not, All, IfOk, length, if◌then◌else◌, option_and_then};
+    ghost use Rattle.std.specs.List.{list_any};
+    ghost use Rattle.hc_events.specs.Answering.{only_if};
+    ghost use Rattle.hc_events.specs.Sendings.{Named};
+    ghost use Rattle.hc_awaited.specs.Kept.{is_newest, newest_of};
+    ghost use Rattle.hc_awaited.specs.Waiting.{IsNamed, is_named};
+    ghost use Rattle.hc_awaited.specs.declared.newest.TheConstants.{PLACES};
+
+    /// No datagram was sent. `AllocError` where the table's memory was refused.
+    pub(crate) fn new(alloc: Global) -> Result<Newest, AllocError>
+        ensures { IfOk result (λ newest. length newest ≡ PLACES) }
+    {
+        Ok(Newest {
+            serials: vec![in alloc; None; PLACES]?,
+        })
+    }
+
+    /// Whether the newest frame that a datagram was sent in has this serial.
+    pub(crate) fn is(&self, serial: u64, datagram: Named) -> bool
+        requires { IsNamed datagram }
+        ensures { result ≡ is_newest self.now serial datagram }
+    {
+        self.serials[place_of(datagram)] == Some(serial)
+    }
+
+    /// Datagrams are sent in a frame with this serial.
+    pub(crate) fn note(&mut self, serial: u64, datagrams: &[Named])
+        requires { All IsNamed datagrams.now }
+        ensures { (named : Named) → IsNamed named → newest_of self.new named ≡ (if list_any (is_named named) datagrams.now then Some serial else newest_of self.old named) }
+    {
+        for datagram in datagrams {
+            self.serials[place_of(*datagram)] = Some(serial);
+        }
+    }
+
+    /// The frame with this serial was answered.
+    pub(crate) fn forget(&mut self, serial: u64)
+        ensures { (named : Named) → newest_of self.new named ≡ option_and_then (only_if (λ other. not (other == serial))) (newest_of self.old named) }
+    {
+        for newest in self.serials.iter_mut() {
+            if *newest == Some(serial) {
+                *newest = None;
+            }
+        }
+    }
+}
