@@ -1,9 +1,10 @@
 -- How awaited frames are kept: with a table that has, for each datagram, the serial of the newest frame that it was sent in. Contracts inside the crate cite it.
-use Rattle.std.specs.Prelude.{◌<◌, ℕ, ◌+◌, ◌*◌, ◌==◌, Bool, false, if◌then◌else◌, List, All, AllPairs, filter, fold, map, slice_index_or, Option, Some, None}
+use Rattle.std.specs.Prelude.{◌≡◌, ◌<◌, ℕ, ◌+◌, ◌*◌, ◌==◌, not, Bool, false, if◌then◌else◌, List, All, AllPairs, filter, fold, length, map, slice_index_or, Option, Some, None, option_and_then}
 use Rattle.std.specs.List.{list_any}
 use Rattle.std.specs.Option.{option_map_or}
-use Rattle.hc_records.specs.declared.limits.TheConstants.{MOST_DATAGRAMS}
+use Rattle.hc_records.specs.declared.limits.TheConstants.{MOST_DATAGRAMS, TASKS}
 use Rattle.hc_events.specs.Sendings.{Frame, Named}
+use Rattle.hc_events.specs.Answering.{only_if}
 use Rattle.hc_awaited.specs.Waiting.{AwaitedFrame, Carried, IsNamed, is_alive, is_named}
 
 -- the datagrams of the tasks one after another, sixteen a task
@@ -22,6 +23,10 @@ is_serial serial found = option_map_or (λ other. other == serial) found false
 
 abbrev pub is_newest : Newest → ℕ → Named → Bool
 is_newest newest serial named = is_serial serial (newest_of newest named)
+
+-- without this one
+abbrev pub without : ℕ → Option ℕ → Option ℕ
+without serial found = option_and_then (only_if (λ other. not (other == serial))) found
 
 -- the newest frame of a datagram behind these frames
 abbrev pub newest_after : Named → Option ℕ → List Frame → Option ℕ
@@ -47,7 +52,8 @@ told_by newest frame = record { serial = frame.serial; datagrams = map (carried_
 abbrev pub awaited_frames : Newest → List Kept → List AwaitedFrame
 awaited_frames newest frames = filter is_alive (map (told_by newest) frames)
 
--- serials ascend; datagrams have a place in the table
-pub record AreKept (frames : List Kept) : Type 0 where
+-- the table has a place for each datagram; serials ascend; datagrams have a place
+pub record AreKept (newest : Newest) (frames : List Kept) : Type 0 where
+  pub places : length newest ≡ TASKS * MOST_DATAGRAMS
   pub ascend : AllPairs (λ a b. a.serial < b.serial) frames
   pub named : All (λ frame. All IsNamed frame.datagrams) frames

@@ -53,13 +53,13 @@ sent_again again carried =
 abbrev pub with_again : List Named → AwaitedFrame → AwaitedFrame
 with_again again frame = record { serial = frame.serial; datagrams = map (sent_again again) frame.datagrams }
 
--- and one that is the newest of no datagram is awaited no longer
+-- and a frame is awaited as long as it is the newest of one datagram at least
 abbrev pub is_alive : AwaitedFrame → Bool
 is_alive frame = list_any (λ carried. carried.newest) frame.datagrams
 
 abbrev pub sent : Waiting → Frame → Waiting
 sent waiting frame =
-    record waiting { frames = filter is_alive (map (with_again frame.datagrams) waiting.frames) ++ as_sent frame ∷ [] }
+    record waiting { frames = filter is_alive (map (with_again frame.datagrams) waiting.frames ++ as_sent frame ∷ []) }
 
 -- frames one after another
 abbrev pub all_sent : Waiting → List Frame → Waiting

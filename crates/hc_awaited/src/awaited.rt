@@ -1,8 +1,8 @@
 //! What was sent and can still be answered with news.
-ghost use Rattle.std.specs.Prelude.{◌≡◌, ◌==◌, ◌≤◌, ◌++◌, false, All, Contains, IfSome, filter, find, length, map, option_map, vec_capacity};
+ghost use Rattle.std.specs.Prelude.{◌≡◌, ◌==◌, ◌<◌, ◌≤◌, [], ◌∷◌, ◌++◌, false, true, All, AllPairs, Contains, IfSome, filter, find, if◌then◌else◌, length, map, option_map, vec_capacity, vec_len};
 ghost use Rattle.std.specs.Option.{option_map_or};
 ghost use Rattle.hc_events.specs.Sendings.{Named};
-ghost use Rattle.hc_awaited.specs.Kept.{AreKept, awaited_frames, kept_of, newest_after, newest_of, told_by};
+ghost use Rattle.hc_awaited.specs.Kept.{awaited_frames, kept_of, newest_after, newest_of, told_by};
 ghost use Rattle.hc_awaited.specs.Waiting.{IsNamed, is_alive};
 
 use crate::kept::Kept;
@@ -55,7 +55,7 @@ impl Model for Awaited {
 
     ghost view = { λ awaited. record { frames = awaited_frames awaited.newest awaited.frames.items; write = awaited.write } };
 
-    ghost invariant = { λ awaited. AreKept awaited.frames.items × (PLACES ≤ vec_capacity awaited.frames) };
+    ghost invariant = { λ awaited. AreKept awaited.newest awaited.frames.items × (PLACES ≤ vec_capacity awaited.frames) };
 }
 
 /// Whether there is a write with this serial.
@@ -71,7 +71,8 @@ fn has_serial(write: &Option<Write>, serial: u64) -> bool
 /// Each frame is the newest of its datagrams, the last one last.
 fn note_all(newest: &mut Newest, frames: &[Sending])
     requires { All (λ frame. All IsNamed frame.datagrams) frames.now }
-    ensures { (named : Named) → IsNamed named → newest_of newest.new named ≡ newest_after named (newest_of newest.old named) frames.now }
+    ensures noted { (named : Named) → IsNamed named → newest_of newest.new named ≡ newest_after named (newest_of newest.old named) frames.now }
+    ensures places { length newest.new ≡ length newest.old }
 {
     for frame in frames {
         newest.note(frame.serial(), frame.datagrams());
@@ -80,49 +81,50 @@ fn note_all(newest: &mut Newest, frames: &[Sending])
 
 /// Whether a frame is the newest of one of its datagrams at least.
 pub(crate) fn is_alive(newest: &Newest, frame: &Kept) -> bool
-    requires { All IsNamed frame.now.datagrams }
     ensures { result ≡ is_alive (told_by newest.now frame.now) }
 {
-    frame
-        .datagrams()
-        .iter()
-        .any(|datagram| newest.is(frame.serial, *datagram))
+    newest.is_any(frame.serial(), frame.datagrams())
 }
 
 /// The frames stay that are the newest of a datagram.
 fn keep_alive(frames: &mut Vec<Kept>, newest: &Newest)
-    requires { All (λ frame. All IsNamed frame.datagrams) frames.old.items }
     ensures frames { frames.new.items ≡ filter (λ frame. is_alive (told_by newest.now frame)) frames.old.items }
     ensures room { vec_capacity frames.new ≡ vec_capacity frames.old }
 {
     frames.retain(|frame| is_alive(newest, frame));
 }
 
-/// Those of the frames that are the newest of a datagram come behind the ones that are kept, for which
-/// there is room.
-fn add_alive(frames: &mut Vec<Kept>, newest: &Newest, more: &[Sending])
-    requires named { All (λ frame. All IsNamed frame.datagrams) more.now }
-    requires room { length (frames.old.items ++ filter (λ frame. is_alive (told_by newest.now frame)) (map kept_of more.now)) ≤ vec_capacity frames.old }
+/// The frame comes behind the others where it is the newest of a datagram; then there is room for it.
+fn add_alive(frames: &mut Vec<Kept>, newest: &Newest, frame: Kept)
+    requires { is_alive (told_by newest.now frame) ≡ true → vec_len frames.old < vec_capacity frames.old }
+    ensures frames { frames.new.items ≡ frames.old.items ++ (if is_alive (told_by newest.now frame) then frame ∷ [] else []) }
+    ensures room { vec_capacity frames.new ≡ vec_capacity frames.old }
+{
+    if is_alive(newest, &frame) {
+        frames.push_reserved(frame);
+    }
+}
+
+/// Those of the frames that are the newest of a datagram come behind the others; there is room for them.
+fn add_all(frames: &mut Vec<Kept>, newest: &Newest, more: &[Sending])
+    requires { length (frames.old.items ++ filter (λ frame. is_alive (told_by newest.now frame)) (map kept_of more.now)) ≤ vec_capacity frames.old }
     ensures frames { frames.new.items ≡ frames.old.items ++ filter (λ frame. is_alive (told_by newest.now frame)) (map kept_of more.now) }
     ensures room { vec_capacity frames.new ≡ vec_capacity frames.old }
 {
     for frame in more {
-        let frame = Kept::of(frame);
-        if is_alive(newest, &frame) {
-            let _room = frames.push(frame);
-        }
+        add_alive(frames, newest, Kept::of(frame));
     }
 }
 
 /// The frame with a serial, where it is the newest of a datagram.
 pub(crate) fn find_frame<'a>(newest: &Newest, frames: &'a [Kept], serial: u64) -> Option<&'a Kept>
-    requires { AreKept frames.now }
+    requires { AllPairs (λ a b. a.serial < b.serial) frames.now }
     ensures found { option_map (λ frame. told_by newest.now frame.now) result ≡ find (λ frame. frame.serial == serial) (awaited_frames newest.now frames.now) }
     ensures among { IfSome result (λ frame. Contains frames.now frame.now) }
 {
-    let index = frames.partition_point(|frame| frame.serial < serial);
+    let index = frames.partition_point(|frame| frame.serial() < serial);
     let frame = frames.get(index)?;
-    if frame.serial == serial && is_alive(newest, frame) {
+    if frame.serial() == serial && is_alive(newest, frame) {
         Some(frame)
     } else {
         None
@@ -164,7 +166,7 @@ impl Awaited {
         keep_alive(&mut self.frames, &self.newest);
         note_all(&mut self.newest, frames);
         keep_alive(&mut self.frames, &self.newest);
-        add_alive(&mut self.frames, &self.newest, frames);
+        add_all(&mut self.frames, &self.newest, frames);
     }
 
     /// A register write is sent, and is the one that is awaited from now on. It takes no memory.

@@ -101,7 +101,7 @@ fn outcomes(
         let Some(part) = parts.next() else {
             return Ok(None);
         };
-        let is_newest = newest.is(frame.serial, *datagram);
+        let is_newest = newest.is(frame.serial(), *datagram);
         let Some(outcome) = outcome(plan, *datagram, is_newest, &part) else {
             return Ok(None);
         };

@@ -6,7 +6,7 @@ use std::marker::Model;
 /// The serial of a frame, and its datagrams in order. It owns no memory.
 #[derive(Debug, Drop)]
 pub(crate) struct Kept {
-    pub(crate) serial: u64,
+    serial: u64,
     datagrams: ArrayVec<Named, 115>,
 }
 
@@ -34,6 +34,13 @@ impl Kept {
             serial: frame.serial(),
             datagrams,
         }
+    }
+
+    /// Its serial.
+    pub(crate) fn serial(&self) -> u64
+        ensures { result ≡ self.now.serial }
+    {
+        self.serial
     }
 
     /// Its datagrams, in order.

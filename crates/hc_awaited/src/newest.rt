@@ -1,8 +1,6 @@
 //! In which frame each datagram was sent last.
-ghost use Rattle.std.specs.Prelude.{◌≡◌, ◌<◌};
-ghost use Rattle.hc_awaited.specs.Kept.{place_of};
-ghost use Rattle.hc_awaited.specs.Waiting.{IsNamed};
-ghost use Rattle.hc_awaited.specs.declared.newest.TheConstants.{PLACES};
+ghost use Rattle.std.specs.Prelude.{◌≡◌, ℕ, None, length, slice_index_or};
+ghost use Rattle.hc_awaited.specs.Kept.{place_of, without};
 
 use hc_events::sending::Named;
 use hc_records::limits::{MOST_DATAGRAMS, TASKS};
@@ -33,19 +31,16 @@ impl Model for Newest {
 
 /// Where a datagram stands among those of all tasks.
 fn place_of(datagram: Named) -> usize
-    requires { IsNamed datagram }
-    ensures place { result ≡ place_of datagram }
-    ensures low { result < PLACES }
+    ensures { result ≡ place_of datagram }
 {
-    usize::from(datagram.0) * MOST_DATAGRAMS + usize::from(datagram.1)
+    MOST_DATAGRAMS * usize::from(datagram.0) + usize::from(datagram.1)
 }
 
 impl Newest {
-    ghost use Rattle.std.specs.Prelude.{◌≡◌, ◌==◌, not, All, IfOk, length, if◌then◌else◌, option_and_then};
+    ghost use Rattle.std.specs.Prelude.{◌≡◌, All, IfOk, Some, length, if◌then◌else◌};
     ghost use Rattle.std.specs.List.{list_any};
-    ghost use Rattle.hc_events.specs.Answering.{only_if};
     ghost use Rattle.hc_events.specs.Sendings.{Named};
-    ghost use Rattle.hc_awaited.specs.Kept.{is_newest, newest_of};
+    ghost use Rattle.hc_awaited.specs.Kept.{is_newest, newest_of, without};
     ghost use Rattle.hc_awaited.specs.Waiting.{IsNamed, is_named};
     ghost use Rattle.hc_awaited.specs.declared.newest.TheConstants.{PLACES};
 
@@ -60,16 +55,26 @@ impl Newest {
 
     /// Whether the newest frame that a datagram was sent in has this serial.
     pub(crate) fn is(&self, serial: u64, datagram: Named) -> bool
-        requires { IsNamed datagram }
         ensures { result ≡ is_newest self.now serial datagram }
     {
-        self.serials[place_of(datagram)] == Some(serial)
+        match self.serials.get(place_of(datagram)) {
+            Some(newest) => *newest == Some(serial),
+            None => false,
+        }
+    }
+
+    /// Whether the frame with this serial is the newest of one of these datagrams.
+    pub(crate) fn is_any(&self, serial: u64, datagrams: &[Named]) -> bool
+        ensures { result ≡ list_any (is_newest self.now serial) datagrams.now }
+    {
+        datagrams.iter().any(|datagram| self.is(serial, *datagram))
     }
 
     /// Datagrams are sent in a frame with this serial.
     pub(crate) fn note(&mut self, serial: u64, datagrams: &[Named])
         requires { All IsNamed datagrams.now }
-        ensures { (named : Named) → IsNamed named → newest_of self.new named ≡ (if list_any (is_named named) datagrams.now then Some serial else newest_of self.old named) }
+        ensures places { length self.new ≡ length self.old }
+        ensures noted { (named : Named) → IsNamed named → newest_of self.new named ≡ (if list_any (is_named named) datagrams.now then Some serial else newest_of self.old named) }
     {
         for datagram in datagrams {
             self.serials[place_of(*datagram)] = Some(serial);
@@ -78,12 +83,21 @@ impl Newest {
 
     /// The frame with this serial was answered.
     pub(crate) fn forget(&mut self, serial: u64)
-        ensures { (named : Named) → newest_of self.new named ≡ option_and_then (only_if (λ other. not (other == serial))) (newest_of self.old named) }
+        ensures places { length self.new ≡ length self.old }
+        ensures forgotten { (named : Named) → newest_of self.new named ≡ without serial (newest_of self.old named) }
     {
-        for newest in self.serials.iter_mut() {
-            if *newest == Some(serial) {
-                *newest = None;
-            }
+        forget(&mut self.serials, serial);
+    }
+}
+
+/// No datagram has this serial any more.
+fn forget(serials: &mut [Option<u64>], serial: u64)
+    ensures forgotten { (place : ℕ) → slice_index_or serials.new place None ≡ without serial (slice_index_or serials.old place None) }
+    ensures places { length serials.new ≡ length serials.old }
+{
+    for newest in serials {
+        if *newest == Some(serial) {
+            *newest = None;
         }
     }
 }
