@@ -1,14 +1,15 @@
 -- A frame is answered: it is the newest of no datagram any more.
 use Rattle.std.proofs.Common.{◌≡◌, ℕ, ◌==◌, Bool, true, false, cond, not, ◌&&◌, ◌||◌, List, [], ◌∷◌, map, filter, refl, sym, ap, ◌∙◌, Option, Some, None}
-use Rattle.std.specs.Prelude.{option_and_then}
+use Rattle.std.specs.Prelude.{All, option_and_then}
+use Rattle.std.specs.Option.{option_map_or}
 use Rattle.std.specs.List.{list_any}
 use Rattle.hc_events.specs.Sendings.{Named}
 use Rattle.hc_events.specs.Answering.{only_if}
 use Rattle.hc_events.proofs.lemmas.Awaited.{by_bool}
-use Rattle.hc_awaited.specs.Waiting.{AwaitedFrame, AwaitedWrite, Carried, Waiting, ended, is_alive}
-use Rattle.hc_awaited.specs.Kept.{Kept, is_serial, without}
+use Rattle.hc_awaited.specs.Waiting.{AwaitedFrame, AwaitedWrite, Carried, IsNamed, ended, is_alive}
+use Rattle.hc_awaited.specs.Kept.{Kept, Newest, is_serial, newest_of, without}
 use Rattle.hc_awaited.proofs.Noted.{forgotten}
-use Rattle.hc_awaited.proofs.Alive.{Table, alive_at, told_at}
+use Rattle.hc_awaited.proofs.Alive.{Table, alive-same, alive_at, told_at}
 
 abbrev pub without_at : ℕ → Table → Table
 without_at serial at = λ named. without serial (at named)
@@ -42,9 +43,6 @@ as-before at serial kept t (d ∷ ds) =
 told-before : (at : Table) (serial : ℕ) (kept : Kept) → (kept.serial == serial) ≡ false → told_at (without_at serial at) kept ≡ told_at at kept
 told-before at serial kept t = ap (λ (datagrams : List Carried). record { serial = kept.serial; datagrams = datagrams }) (as-before at serial kept t kept.datagrams)
 
-other : ℕ → AwaitedFrame → Bool
-other serial frame = not (frame.serial == serial)
-
 dropped : (serial : ℕ) (frame : AwaitedFrame) (before : List AwaitedFrame) (b : Bool) → (frame.serial == serial) ≡ true
     → filter (λ (one : AwaitedFrame). not (one.serial == serial)) (cond b (frame ∷ before) before) ≡ filter (λ (one : AwaitedFrame). not (one.serial == serial)) before
 dropped serial frame before true t = rw t refl
@@ -74,3 +72,23 @@ pub all-ended : (at : Table) (serial : ℕ) (frames : List Kept) (before after :
 all-ended at serial frames before after is =
     ap (λ (all : List AwaitedFrame). record { frames = all; write = after }) (frames-ended at serial frames)
     ∙ ap (λ (write : Option AwaitedWrite). record { frames = filter (λ (frame : AwaitedFrame). not (frame.serial == serial)) (alive_at at frames); write = write }) is
+
+-- the write goes where it has the serial, else it stays
+pub write-gone : (serial : ℕ) (write : Option AwaitedWrite) → option_map_or (λ (one : AwaitedWrite). one.serial == serial) write false ≡ true
+    → None ≡ option_and_then (only_if (λ (one : AwaitedWrite). not (one.serial == serial))) write
+write-gone serial None e = cc
+write-gone serial (Some write) e = rw e refl
+
+pub write-stays : (serial : ℕ) (write : Option AwaitedWrite) → option_map_or (λ (one : AwaitedWrite). one.serial == serial) write false ≡ false
+    → write ≡ option_and_then (only_if (λ (one : AwaitedWrite). not (one.serial == serial))) write
+write-stays serial None e = refl
+write-stays serial (Some write) e = rw e refl
+
+-- a table from which the serial was taken
+pub table-ended : (before after : Newest) (serial : ℕ) (frames : List Kept) (write left : Option AwaitedWrite)
+    → ((d : Named) → newest_of after d ≡ without serial (newest_of before d)) → All (λ (frame : Kept). All IsNamed frame.datagrams) frames
+    → left ≡ option_and_then (only_if (λ (one : AwaitedWrite). not (one.serial == serial))) write
+    → record { frames = alive_at (newest_of after) frames; write = left } ≡ ended serial (record { frames = alive_at (newest_of before) frames; write = write })
+table-ended before after serial frames write left gone named is =
+    ap (λ (all : List AwaitedFrame). record { frames = all; write = left }) (alive-same (newest_of after) (without_at serial (newest_of before)) (λ d own. gone d) frames named)
+    ∙ all-ended (newest_of before) serial frames write left is

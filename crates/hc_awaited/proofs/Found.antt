@@ -1,7 +1,8 @@
 -- The frame with a serial, where serials ascend.
-use Rattle.std.proofs.Common.{◌≡◌, ℕ, ◌<◌, ◌==◌, Bool, true, false, cond, ◌&&◌, List, [], ◌∷◌, map, filter, refl, sym, ap, ◌∙◌, arith, Option, Some, None}
+use Rattle.std.proofs.Common.{◌≡◌, ℕ, ◌<◌, ◌≤◌, ◌==◌, Bool, true, false, cond, ◌&&◌, List, [], ◌∷◌, map, filter, get_or, refl, sym, ap, ◌∙◌, arith, Option, Some, None}
 use Rattle.std.specs.Prelude.{AllPairs, find, nat_lt, option_and_then, option_map, slice_get}
-use Rattle.std.specs.List.Sorted.{IsPartitionPoint}
+use Rattle.std.specs.List.Sorted.{IsPartitionedBy, IsPartitionPoint}
+use Rattle.std.proofs.lemmas.List.Sorted.{IsPartitionedBy-ltb}
 use Rattle.std.proofs.lemmas.Bool.Decides.{nat_tests}
 use Rattle.hc_cuts.proofs.lemmas.Found.{find-reached, kept}
 use Rattle.hc_events.proofs.lemmas.Awaited.{by_bool}
@@ -24,6 +25,26 @@ above a b serial below reached = grind (arith, nat_tests)
 
 behind : (at : Table) (serial : ℕ) (a b : Kept) → a.serial < b.serial → nat_lt a.serial serial ≡ false → is_sought at serial a ≡ false → is_sought at serial b ≡ false
 behind at serial a b below reached none = let other = above a.serial b.serial serial below reached in rw other refl
+
+-- serials that ascend don't fall
+is-later : (i j : ℕ) → nat_lt i j ≡ true → i < j
+is-later i j t = grind (arith, nat_tests)
+
+is-same : (i j : ℕ) → i ≤ j → nat_lt i j ≡ false → i ≡ j
+is-same i j low t = grind (arith, nat_tests)
+
+at-most : (m n : ℕ) → m ≡ n → m ≤ n
+at-most m n e = omega (arith, e)
+
+less : (m n : ℕ) → m < n → m ≤ n
+less m n below = omega arith
+
+pub serials-parted : (frames : List Kept) (serial : ℕ) → AllPairs (λ a b. a.serial < b.serial) frames → IsPartitionedBy (λ (frame : Kept). nat_lt frame.serial serial) frames
+serials-parted frames serial ascend =
+    IsPartitionedBy-ltb (λ (frame : Kept). frame.serial) frames serial
+    (λ i j d low within. by_bool (nat_lt i j)
+    (λ t. less (get_or frames i d).serial (get_or frames j d).serial (ascend i j d (is-later i j t) within))
+    (λ t. at-most (get_or frames i d).serial (get_or frames j d).serial (ap (λ n. (get_or frames n d).serial) (is-same i j low t))))
 
 found-either : (at : Table) (serial : ℕ) (frame : Kept) (frames : List AwaitedFrame) (rest : Option Kept) (alive same : Bool)
     → is_alive (told_at at frame) ≡ alive → (frame.serial == serial) ≡ same
@@ -48,3 +69,23 @@ found-at at serial frames place reached ascend parts is =
     ap (λ (found : Option Kept). option_map (told_at at) (option_and_then (kept (is_sought at serial)) found)) (sym is)
     ∙ ap (option_map (told_at at)) (sym (find-reached (λ (frame : Kept). nat_lt frame.serial serial) (is_sought at serial) (λ (a b : Kept). a.serial < b.serial) (not-sought at serial) (behind at serial) frames place ascend parts))
     ∙ sought-found at serial frames
+
+-- whether it is the one that is sought
+
+same-is : (a b : ℕ) → a ≡ b → (a == b) ≡ true
+same-is a b e = grind (arith, nat_tests)
+
+other-is : (a b : ℕ) → (a ≡ b → ⊥) → (a == b) ≡ false
+other-is a b e = grind (arith, nat_tests)
+
+pub sought-is : (at : Table) (serial : ℕ) (frame : Kept) → frame.serial ≡ serial → is_alive (told_at at frame) ≡ true
+    → option_map (told_at at) (option_and_then (kept (is_sought at serial)) (Some frame)) ≡ Some (told_at at frame)
+sought-is at serial frame is alive = let same = same-is frame.serial serial is in rw (same, alive) refl
+
+pub sought-not : (at : Table) (serial : ℕ) (frame : Kept) → is_alive (told_at at frame) ≡ false
+    → option_map (told_at at) (option_and_then (kept (is_sought at serial)) (Some frame)) ≡ None
+sought-not at serial frame dead = by_bool (frame.serial == serial) (λ t. rw (t, dead) refl) (λ t. rw t refl)
+
+pub not-serial : (at : Table) (serial : ℕ) (frame : Kept) → (frame.serial ≡ serial → ⊥)
+    → option_map (told_at at) (option_and_then (kept (is_sought at serial)) (Some frame)) ≡ None
+not-serial at serial frame other = let apart' = other-is frame.serial serial other in rw apart' refl

@@ -4,3 +4,6 @@ pub mod Sent
 pub mod Ended
 pub mod Found
 pub mod Room
+pub mod Rows
+pub mod Walked
+pub mod Told

@@ -3,8 +3,10 @@ use Rattle.std.specs.Prelude.{ℕ, ◌==◌, Bool, true, if◌then◌else◌, Li
 use Rattle.std.specs.Option.{option_map_or, option_or}
 use Rattle.std.specs.List.{zip}
 use Rattle.hc_records.specs.Line.{Member}
+use Rattle.hc_registers.specs.declared.counters.TheConstants.{WRITE_COUNT}
+use Rattle.hc_frames.specs.declared.commands.Command.TheVariants.{Fpwr}
 use Rattle.hc_events.specs.Arrivals.{Arrival, Part}
-use Rattle.hc_events.specs.Heads.{Head, data_head}
+use Rattle.hc_events.specs.Heads.{Head, Block, data_head}
 use Rattle.hc_events.specs.Answering.{Judged, Verdict, Good, Wrong, Stale, has_heads, only_if}
 use Rattle.hc_awaited.specs.Waiting.{AwaitedFrame, AwaitedWrite, Carried, Waiting}
 
@@ -20,9 +22,18 @@ due_of line carried = record { head = data_head line carried.datagram; newest = 
 abbrev pub frame_due : List Member → AwaitedFrame → List Due
 frame_due line frame = map (due_of line) frame.datagrams
 
--- of a register write
+-- of a register write: a write of its block, by one slave
+abbrev pub written_head : AwaitedWrite → Head
+written_head write = record {
+  item = Block write.station write.number;
+  command = Fpwr;
+  address = write.address;
+  length = write.length;
+  expected = WRITE_COUNT;
+}
+
 abbrev pub write_due : AwaitedWrite → List Due
-write_due write = record { head = write.head; newest = true } ∷ []
+write_due write = record { head = written_head write; newest = true } ∷ []
 
 -- what is awaited with a serial: the write under way, or a frame
 abbrev pub found_write : ℕ → Waiting → Option AwaitedWrite

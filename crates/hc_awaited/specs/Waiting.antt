@@ -1,11 +1,11 @@
 -- What was sent and can still be answered with news: frames of tasks, and a register write (this project's profile).
-use Rattle.std.specs.Prelude.{ℕ, ◌<◌, ◌==◌, ◌&&◌, not, Bool, true, List, [], ◌∷◌, ◌++◌, All, AllPairs, filter, fold, map, Option, Some, None, option_and_then}
+use Rattle.std.specs.Prelude.{ℕ, ◌<◌, ◌==◌, ◌&&◌, not, Bool, true, List, [], ◌∷◌, ◌++◌, All, AllPairs, filter, fold, length, map, Option, Some, None, option_and_then}
 use Rattle.std.specs.List.{list_any}
 use Rattle.hc_records.specs.declared.limits.TheConstants.{MOST_DATAGRAMS, TASKS}
 use Rattle.hc_records.specs.Line.{Member}
 use Rattle.hc_registers.specs.Blocks.{LineBlock}
+use Rattle.hc_frames.specs.FrameText.{station_address}
 use Rattle.hc_events.specs.Sendings.{Frame, Named}
-use Rattle.hc_events.specs.Heads.{Head, write_head}
 use Rattle.hc_events.specs.Answering.{only_if}
 use Rattle.hc_events.specs.Accepted.{StandsIn}
 
@@ -19,10 +19,13 @@ pub record AwaitedFrame : Type 0 where
   pub serial : ℕ
   pub datagrams : List Carried
 
--- a register write: its serial, and what it said of its block
+-- a register write: its serial, its block by the slave's station address and its number in the slave's order, and the address and the number of data bytes that it was sent with
 pub record AwaitedWrite : Type 0 where
   pub serial : ℕ
-  pub head : Head
+  pub station : ℕ
+  pub number : ℕ
+  pub address : ℕ
+  pub length : ℕ
 
 -- the awaited frames, the oldest first, and the write under way
 pub record Waiting : Type 0 where
@@ -66,8 +69,17 @@ abbrev pub all_sent : Waiting → List Frame → Waiting
 all_sent waiting frames = fold sent waiting frames
 
 -- a register write is sent: it takes the place of an older one
+abbrev pub written : ℕ → LineBlock → AwaitedWrite
+written serial block = record {
+  serial = serial;
+  station = block.station;
+  number = block.number;
+  address = station_address block.station block.block.register;
+  length = length block.block.bytes;
+}
+
 abbrev pub wrote : ℕ → LineBlock → Waiting → Waiting
-wrote serial block waiting = record waiting { write = Some (record { serial = serial; head = write_head block }) }
+wrote serial block waiting = record waiting { write = Some (written serial block) }
 
 -- what was sent with a serial was answered
 abbrev pub ended : ℕ → Waiting → Waiting

@@ -1,5 +1,6 @@
 //! What was sent and can still be answered with news.
-ghost use Rattle.std.specs.Prelude.{◌≡◌, ◌==◌, ◌<◌, ◌≤◌, [], ◌∷◌, ◌++◌, false, true, All, AllPairs, Contains, IfSome, filter, find, if◌then◌else◌, length, map, option_map, vec_capacity, vec_len};
+ghost use Rattle.std.specs.Prelude.{◌≡◌, ◌==◌, ◌<◌, ◌≤◌, [], ◌∷◌, ◌++◌, false, true, All, AllPairs, Contains, IfSome, filter, find, if◌then◌else◌, length, map, nat_lt, option_map, vec_capacity, vec_len};
+ghost use Rattle.std.specs.List.Sorted.{IsPartitionPoint};
 ghost use Rattle.std.specs.Option.{option_map_or};
 ghost use Rattle.hc_events.specs.Sendings.{Named};
 ghost use Rattle.hc_awaited.specs.Kept.{awaited_frames, kept_of, newest_after, newest_of, told_by};
@@ -23,14 +24,11 @@ pub(crate) struct Write {
 }
 
 impl Model for Write {
-    ghost use Rattle.hc_frames.specs.declared.commands.Command.TheVariants.{Fpwr};
-    ghost use Rattle.hc_registers.specs.declared.counters.TheConstants.{WRITE_COUNT};
-    ghost use Rattle.hc_events.specs.Heads.{Block};
     ghost use Rattle.hc_awaited.specs.Waiting.{AwaitedWrite};
 
     ghost Value = { AwaitedWrite };
 
-    ghost view = { λ write. record { serial = write.serial; head = record { item = Block write.station write.number; command = Fpwr; address = write.address; length = write.length; expected = WRITE_COUNT } } };
+    ghost view = { λ write. record { serial = write.serial; station = write.station; number = write.number; address = write.address; length = write.length } };
 }
 
 /// The frames of tasks and the register write that are awaited. Contracts see a `Waiting`: the frames in
@@ -116,14 +114,22 @@ fn add_all(frames: &mut Vec<Kept>, newest: &Newest, more: &[Sending])
     }
 }
 
+/// How many frames have a lower serial.
+fn count_below(frames: &[Kept], serial: u64) -> usize
+    requires { AllPairs (λ a b. a.serial < b.serial) frames.now }
+    ensures { IsPartitionPoint (λ frame. nat_lt frame.serial serial ≡ true) (λ frame. nat_lt frame.serial serial ≡ false) frames.now result }
+{
+    frames.partition_point(|frame| frame.serial() < serial)
+}
+
 /// The frame with a serial, where it is the newest of a datagram.
 pub(crate) fn find_frame<'a>(newest: &Newest, frames: &'a [Kept], serial: u64) -> Option<&'a Kept>
     requires { AllPairs (λ a b. a.serial < b.serial) frames.now }
     ensures found { option_map (λ frame. told_by newest.now frame.now) result ≡ find (λ frame. frame.serial == serial) (awaited_frames newest.now frames.now) }
+    ensures alive { IfSome result (λ frame. is_alive (told_by newest.now frame.now) ≡ true) }
     ensures among { IfSome result (λ frame. Contains frames.now frame.now) }
 {
-    let index = frames.partition_point(|frame| frame.serial() < serial);
-    let frame = frames.get(index)?;
+    let frame = frames.get(count_below(frames, serial))?;
     if frame.serial() == serial && is_alive(newest, frame) {
         Some(frame)
     } else {

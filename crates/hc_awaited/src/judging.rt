@@ -1,12 +1,17 @@
 //! What an arrival is for what is awaited with its serial.
-ghost use Rattle.std.specs.Prelude.{◌≡◌, All, IfOk};
+ghost use Rattle.std.specs.Prelude.{◌≡◌, ◌==◌, All, IfOk, None, Some, if◌then◌else◌};
 ghost use Rattle.hc_records.specs.Line.{line};
+ghost use Rattle.hc_registers.specs.declared.counters.TheConstants.{WRITE_COUNT};
+ghost use Rattle.hc_places.specs.Table.{datagram_of};
 ghost use Rattle.hc_events.specs.Accepted.{StandsIn};
-ghost use Rattle.hc_events.specs.Steps.{told_of};
+ghost use Rattle.hc_events.specs.Answering.{Good, Wrong, has_head};
+ghost use Rattle.hc_events.specs.Heads.{data_head};
+ghost use Rattle.hc_events.specs.Sendings.{Named};
+ghost use Rattle.hc_events.specs.Steps.{outcome_for, told_of_block};
 ghost use Rattle.hc_awaited.specs.Waiting.{IsNamed};
-ghost use Rattle.hc_awaited.specs.Judging.{due_of, frame_due, judged_due, write_due};
+ghost use Rattle.hc_awaited.specs.Judging.{frame_due, judge_due};
 ghost use Rattle.hc_awaited.specs.Kept.{told_by};
-ghost use Rattle.hc_awaited.specs.Walk.{outcome_in, outcomes_in};
+ghost use Rattle.hc_awaited.specs.Walk.{head_of, outcomes_in};
 
 use crate::awaited::{Awaited, Write, find_frame};
 use crate::kept::Kept;
@@ -15,20 +20,32 @@ use hc_events::answer::{Answer, Outcome};
 use hc_events::sending::Named;
 use hc_frames::Command;
 use hc_frames::reading::{Part, Returned};
+use hc_places::table::Datagram;
 use hc_plan::plan::Plan;
 use hc_records::items::Items;
 use hc_registers::counters::WRITE_COUNT;
 use std::alloc::{AllocError, Global};
 
+/// What a register write is that came back with this working counter.
+fn told_of_write(counter: u16) -> Answer
+    ensures { result ≡ told_of_block (if counter == WRITE_COUNT then Good else Wrong) }
+{
+    if counter == WRITE_COUNT {
+        Answer::WriteDone
+    } else {
+        Answer::WriteMissed
+    }
+}
+
 impl Write {
     ghost use Rattle.std.specs.Prelude.{◌≡◌};
     ghost use Rattle.hc_events.specs.Answering.{has_head};
     ghost use Rattle.hc_events.specs.Steps.{told_of};
-    ghost use Rattle.hc_awaited.specs.Judging.{judged_due, write_due};
+    ghost use Rattle.hc_awaited.specs.Judging.{judged_due, write_due, written_head};
 
     /// Whether a datagram came back with the write's command, address and length.
     fn is_of(&self, part: &Part<'_>) -> bool
-        ensures { result ≡ has_head self.now.head part.now.carried }
+        ensures { result ≡ has_head (written_head self.now) part.now.carried }
     {
         part.command == Command::Fpwr
             && part.address == self.address
@@ -40,46 +57,52 @@ impl Write {
         ensures { result ≡ told_of (judged_due arrival.now (write_due self.now)) }
     {
         let mut parts = arrival.parts();
-        match parts.next() {
-            Some(part) if parts.next().is_none() && self.is_of(&part) => {
-                if part.counter == WRITE_COUNT {
-                    Answer::WriteDone
-                } else {
-                    Answer::WriteMissed
-                }
-            }
-            _ => Answer::Stale,
+        let Some(part) = parts.next() else {
+            return Answer::Stale;
+        };
+        if parts.next().is_some() || !self.is_of(&part) {
+            return Answer::Stale;
         }
+        told_of_write(part.counter)
     }
 }
 
-/// What a datagram is that came back, by whether it wasn't sent again since; none where its command, its
-/// address or its length isn't the one that it was sent with.
-fn outcome(plan: &Plan, datagram: Named, is_newest: bool, part: &Part<'_>) -> Option<Outcome>
-    requires named { IsNamed datagram }
-    requires stands { StandsIn (line plan.now) datagram }
-    ensures { result ≡ outcome_in (due_of (line plan.now) (record { datagram = datagram; newest = is_newest })) part.now.carried }
+/// Whether a datagram came back with the command, the address and the length of this one.
+fn is_of(part: &Part<'_>, sent: Datagram) -> bool
+    ensures { (named : Named) → result ≡ has_head (head_of named sent) part.now.carried }
 {
-    let sent = plan.places().datagram(datagram.0, datagram.1)?;
-    if part.command != Command::Lrw
-        || part.address != sent.address
-        || part.bytes.len() != usize::from(sent.length)
-    {
-        return None;
-    }
+    part.command == Command::Lrw
+        && part.address == sent.address
+        && part.bytes.len() == usize::from(sent.length)
+}
+
+/// What a datagram is that came back with its head, by whether it wasn't sent again since.
+fn judge(datagram: Named, sent: Datagram, is_newest: bool, part: &Part<'_>) -> Outcome
+    ensures { result ≡ outcome_for (judge_due (record { head = head_of datagram sent; newest = is_newest }, part.now.carried)) }
+{
     if !is_newest {
-        return Some(Outcome::Stale);
+        return Outcome::Stale;
     }
     if part.counter != sent.expected {
-        return Some(Outcome::WrongCount {
+        return Outcome::WrongCount {
             expected: sent.expected,
             got: part.counter,
-        });
+        };
     }
-    Some(Outcome::Inputs {
+    Outcome::Inputs {
         task: datagram.0,
         datagram: datagram.1,
-    })
+    }
+}
+
+/// The datagram of the plan's line, where it came back with its command, its address and its length.
+fn sent_datagram(plan: &Plan, datagram: Named, part: &Part<'_>) -> Option<Datagram>
+    requires named { IsNamed datagram }
+    requires stands { StandsIn (line plan.now) datagram }
+    ensures { result ≡ (if has_head (data_head (line plan.now) datagram) part.now.carried then Some (datagram_of (line plan.now) datagram.0 datagram.1) else None) }
+{
+    let sent = plan.places().datagram(datagram.0, datagram.1)?;
+    if is_of(part, sent) { Some(sent) } else { None }
 }
 
 /// What the datagrams of a frame are that came back as this arrival, in one walk over both; none where a
@@ -101,11 +124,11 @@ fn outcomes(
         let Some(part) = parts.next() else {
             return Ok(None);
         };
-        let is_newest = newest.is(frame.serial(), *datagram);
-        let Some(outcome) = outcome(plan, *datagram, is_newest, &part) else {
+        let Some(sent) = sent_datagram(plan, *datagram, &part) else {
             return Ok(None);
         };
-        outcomes.push(outcome)?;
+        let is_newest = newest.is(frame.serial(), *datagram);
+        outcomes.push(judge(*datagram, sent, is_newest, &part))?;
     }
     if parts.next().is_some() {
         return Ok(None);
