@@ -111,28 +111,33 @@ frame-stale line frame arrival e =
 
 -- what is found
 
-pub judged-write : (line : List Member) (waiting : Waiting) (arrival : Arrival) (write : AwaitedWrite) → waiting.write ≡ Some write → write.serial ≡ arrival.serial
-    → judged_due arrival (write_due write) ≡ judged_in line waiting arrival
-judged-write line waiting arrival write is same =
-    let yes : (write.serial == arrival.serial) ≡ true = grind (arith, nat_tests) in
-    let found : found_write arrival.serial waiting ≡ Some write = ap (option_and_then (only_if (λ (one : AwaitedWrite). one.serial == arrival.serial))) is ∙ ap (λ b. cond b (Some write) None) yes in
-    sym (ap (λ (one : Option AwaitedWrite). option_map_or (judged_due arrival) (option_or (option_map write_due one) (option_map (frame_due line) (found_frame arrival.serial waiting))) []) found)
-
-other-write : (serial : ℕ) (write : Option AwaitedWrite) → ((one : AwaitedWrite) → write ≡ Some one → one.serial ≡ serial → ⊥) → option_and_then (only_if (λ (one : AwaitedWrite). one.serial == serial)) write ≡ None
-other-write serial None other = refl
-other-write serial (Some one) other =
-    let no : (one.serial == serial) ≡ false = apart one.serial serial (other one refl) in rw no refl
+pub judged-write : (line : List Member) (waiting : Waiting) (arrival : Arrival) (write : Option AwaitedWrite) → write ≡ waiting.write
+    → option_map_or (λ (one : AwaitedWrite). one.serial == arrival.serial) write false ≡ true
+    → option_map_or (λ (one : AwaitedWrite). judged_due arrival (write_due one)) write [] ≡ judged_in line waiting arrival
+judged-write line waiting arrival write is has =
+    written write has
+    ∙ ap (λ (found : Option AwaitedWrite). option_map_or (judged_due arrival) (option_or (option_map write_due (option_and_then (only_if (λ (one : AwaitedWrite). one.serial == arrival.serial)) found)) (option_map (frame_due line) (found_frame arrival.serial waiting))) []) is
   where
-    apart : (a b : ℕ) → (a ≡ b → ⊥) → (a == b) ≡ false
-    apart a b e = grind (arith, nat_tests)
+    written : (found : Option AwaitedWrite) → option_map_or (λ (one : AwaitedWrite). one.serial == arrival.serial) found false ≡ true
+        → option_map_or (λ (one : AwaitedWrite). judged_due arrival (write_due one)) found []
+        ≡ option_map_or (judged_due arrival) (option_or (option_map write_due (option_and_then (only_if (λ (one : AwaitedWrite). one.serial == arrival.serial)) found)) (option_map (frame_due line) (found_frame arrival.serial waiting))) []
+    written None has = cc
+    written (Some one) has = rw has refl
 
-pub judged-frame : (line : List Member) (waiting : Waiting) (arrival : Arrival) (found : Option AwaitedFrame)
-    → ((one : AwaitedWrite) → waiting.write ≡ Some one → one.serial ≡ arrival.serial → ⊥)
+pub judged-frame : (line : List Member) (waiting : Waiting) (arrival : Arrival) (write : Option AwaitedWrite) (found : Option AwaitedFrame) → write ≡ waiting.write
+    → option_map_or (λ (one : AwaitedWrite). one.serial == arrival.serial) write false ≡ false
     → found ≡ found_frame arrival.serial waiting
     → option_map_or (judged_due arrival) (option_map (frame_due line) found) [] ≡ judged_in line waiting arrival
-judged-frame line waiting arrival found other is =
-    ap (λ (one : Option AwaitedFrame). option_map_or (judged_due arrival) (option_map (frame_due line) one) []) is
-    ∙ sym (ap (λ (one : Option AwaitedWrite). option_map_or (judged_due arrival) (option_or (option_map write_due one) (option_map (frame_due line) (found_frame arrival.serial waiting))) []) (other-write arrival.serial waiting.write other))
+judged-frame line waiting arrival write found is has there =
+    ap (λ (one : Option AwaitedFrame). option_map_or (judged_due arrival) (option_map (frame_due line) one) []) there
+    ∙ unwritten write has
+    ∙ ap (λ (found : Option AwaitedWrite). option_map_or (judged_due arrival) (option_or (option_map write_due (option_and_then (only_if (λ (one : AwaitedWrite). one.serial == arrival.serial)) found)) (option_map (frame_due line) (found_frame arrival.serial waiting))) []) is
+  where
+    unwritten : (found : Option AwaitedWrite) → option_map_or (λ (one : AwaitedWrite). one.serial == arrival.serial) found false ≡ false
+        → option_map_or (judged_due arrival) (option_map (frame_due line) (found_frame arrival.serial waiting)) []
+        ≡ option_map_or (judged_due arrival) (option_or (option_map write_due (option_and_then (only_if (λ (one : AwaitedWrite). one.serial == arrival.serial)) found)) (option_map (frame_due line) (found_frame arrival.serial waiting))) []
+    unwritten None has = refl
+    unwritten (Some one) has = rw has refl
 
 -- a frame that is found is one of those that are awaited
 pub found-holds : (P : AwaitedFrame → Type 0) (serial : ℕ) (frames : List AwaitedFrame) (frame : AwaitedFrame) → All P frames

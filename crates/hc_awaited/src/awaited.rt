@@ -57,7 +57,7 @@ impl Model for Awaited {
 }
 
 /// Whether there is a write with this serial.
-fn has_serial(write: &Option<Write>, serial: u64) -> bool
+pub(crate) fn has_serial(write: &Option<Write>, serial: u64) -> bool
     ensures { result ≡ option_map_or (λ write. write.serial == serial) write.now false }
 {
     match write {

@@ -1,5 +1,6 @@
 //! What an arrival is for what is awaited with its serial.
-ghost use Rattle.std.specs.Prelude.{◌≡◌, ◌==◌, All, IfOk, None, Some, if◌then◌else◌};
+ghost use Rattle.std.specs.Option.{option_map_or};
+ghost use Rattle.std.specs.Prelude.{◌≡◌, ◌==◌, [], All, IfOk, None, Some, if◌then◌else◌};
 ghost use Rattle.hc_records.specs.Line.{line};
 ghost use Rattle.hc_registers.specs.declared.counters.TheConstants.{WRITE_COUNT};
 ghost use Rattle.hc_places.specs.Table.{datagram_of};
@@ -7,13 +8,13 @@ ghost use Rattle.hc_events.specs.Accepted.{StandsIn};
 ghost use Rattle.hc_events.specs.Answering.{Good, Wrong, has_head};
 ghost use Rattle.hc_events.specs.Heads.{data_head};
 ghost use Rattle.hc_events.specs.Sendings.{Named};
-ghost use Rattle.hc_events.specs.Steps.{outcome_for, told_of_block};
+ghost use Rattle.hc_events.specs.Steps.{outcome_for, told_of, told_of_block};
 ghost use Rattle.hc_awaited.specs.Waiting.{IsNamed};
-ghost use Rattle.hc_awaited.specs.Judging.{frame_due, judge_due};
+ghost use Rattle.hc_awaited.specs.Judging.{frame_due, judge_due, judged_due, write_due};
 ghost use Rattle.hc_awaited.specs.Kept.{told_by};
 ghost use Rattle.hc_awaited.specs.Walk.{head_of, outcomes_in};
 
-use crate::awaited::{Awaited, Write, find_frame};
+use crate::awaited::{Awaited, Write, find_frame, has_serial};
 use crate::kept::Kept;
 use crate::newest::Newest;
 use hc_events::answer::{Answer, Outcome};
@@ -64,6 +65,16 @@ impl Write {
             return Answer::Stale;
         }
         told_of_write(part.counter)
+    }
+}
+
+/// What an arrival is for the write, if there is one.
+fn judge_write(write: &Option<Write>, arrival: &Returned<'_>) -> Answer
+    ensures { result ≡ told_of (option_map_or (λ write. judged_due arrival.now (write_due write)) write.now []) }
+{
+    match write {
+        Some(write) => write.judge(arrival),
+        None => Answer::Stale,
     }
 }
 
@@ -158,10 +169,8 @@ impl Awaited {
         requires { AllStand (line plan.now) self.now }
         ensures { IfOk result (λ answer. answer ≡ told_of (judged_in (line plan.now) self.now arrival.now)) }
     {
-        if let Some(write) = &self.write {
-            if write.serial == arrival.serial() {
-                return Ok(write.judge(arrival));
-            }
+        if has_serial(&self.write, arrival.serial()) {
+            return Ok(judge_write(&self.write, arrival));
         }
         let found = find_frame(&self.newest, self.frames.as_slice(), arrival.serial());
         let Some(frame) = found else {
