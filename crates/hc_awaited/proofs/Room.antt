@@ -1,5 +1,5 @@
 -- There are at most as many awaited frames as datagrams: each is the newest of one.
-use Rattle.std.proofs.Common.{◌≡◌, ◌≢◌, ℕ, ◌<◌, ◌≤◌, ◌==◌, Bool, true, false, ◌||◌, nat_eq, List, [], ◌∷◌, length, map, filter, get_or, refl, sym, ap, ◌∙◌, arith, Option, Some, None, zero, suc}
+use Rattle.std.proofs.Common.{◌≡◌, ◌≢◌, ℕ, ◌<◌, ◌≤◌, ◌==◌, Bool, true, false, ◌||◌, nat_eq, List, [], ◌∷◌, length, map, filter, get_or, refl, ap, ◌∙◌, arith, Option, Some, None, zero, suc}
 use Rattle.std.specs.Prelude.{All, AllPairs, unwrap_or}
 use Rattle.std.specs.List.{list_any, IsDistinct}
 use Rattle.std.specs.Set.{is_member}
@@ -12,9 +12,9 @@ use Rattle.std.proofs.lemmas.Map.Made.{IsDistinct-from_AllPairs, length-le_from_
 use Rattle.hc_records.proofs.lemmas.Lists.{AllPairs-map, AllPairs-weaker}
 use Rattle.hc_events.specs.Sendings.{Named}
 use Rattle.hc_events.proofs.lemmas.Awaited.{by_bool}
-use Rattle.hc_awaited.specs.Waiting.{Carried, is_alive}
+use Rattle.hc_awaited.specs.Waiting.{Carried}
 use Rattle.hc_awaited.specs.Kept.{Kept, Newest, is_serial, newest_of, place_of}
-use Rattle.hc_awaited.proofs.Alive.{stays_at, told_at}
+use Rattle.hc_awaited.proofs.Alive.{stays_at}
 
 below-apart : (a b : ℕ) → a < b → a ≢ b
 below-apart a b below same = omega (arith, below, same)

@@ -1,6 +1,6 @@
 -- Frames are sent: what is awaited behind them.
-use Rattle.std.proofs.Common.{◌≡◌, ℕ, ◌+◌, ◌<◌, ◌==◌, Bool, true, false, cond, not, ◌&&◌, ◌||◌, List, [], ◌∷◌, ◌++◌, length, map, filter, get_or, refl, sym, ap, ◌∙◌, subst, arith, append_assoc, append-nil, Option, Some, None, zero, suc}
-use Rattle.std.specs.Prelude.{All, AllPairs, fold}
+use Rattle.std.proofs.Common.{◌≡◌, ℕ, ◌<◌, ◌==◌, Bool, true, false, cond, not, ◌&&◌, ◌||◌, List, [], ◌∷◌, ◌++◌, length, map, filter, get_or, refl, sym, ap, ◌∙◌, subst, arith, append_assoc, append-nil, Option, Some, zero, suc}
+use Rattle.std.specs.Prelude.{All, AllPairs}
 use Rattle.std.specs.List.{list_any}
 use Rattle.std.proofs.lemmas.Bool.Decides.{nat_tests}
 use Rattle.std.proofs.lemmas.List.{map-append}
@@ -9,7 +9,7 @@ use Rattle.std.proofs.lemmas.List.Kept.{AllPairs-filter}
 use Rattle.hc_records.proofs.lemmas.Lists.{All-unmap, AllPairs-append, AllPairs-head, AllPairs-map, AllPairs-tail}
 use Rattle.hc_events.specs.Sendings.{Frame, Named}
 use Rattle.hc_events.proofs.lemmas.Awaited.{by_bool}
-use Rattle.hc_awaited.specs.Waiting.{AwaitedFrame, AwaitedWrite, Carried, IsNamed, Waiting, all_sent, as_sent, is_alive, is_named, just_sent, sent, sent_again, with_again}
+use Rattle.hc_awaited.specs.Waiting.{AwaitedFrame, AwaitedWrite, Carried, IsNamed, all_sent, as_sent, is_alive, is_named, just_sent, sent_again, with_again}
 use Rattle.hc_awaited.specs.Kept.{AreKept, Kept, Newest, is_serial, kept_of, newest_after, newest_of}
 use Rattle.hc_awaited.proofs.Alive.{Table, alive-same, alive-stays, alive_at, filter-map_is, map-all, stays_at, told_at}
 

@@ -1,10 +1,9 @@
 -- What an arrival is told, by what is awaited with its serial.
-use Rattle.std.proofs.Common.{◌≡◌, ℕ, ◌==◌, Bool, true, false, cond, not, ◌&&◌, ◌||◌, List, [], ◌∷◌, map, filter, refl, sym, ap, ◌∙◌, subst, arith, Option, Some, None}
+use Rattle.std.proofs.Common.{◌≡◌, ℕ, ◌==◌, true, false, cond, ◌&&◌, ◌||◌, List, [], ◌∷◌, map, refl, sym, ap, ◌∙◌, subst, Option, Some, None}
 use Rattle.std.specs.Prelude.{All, find, option_and_then, option_map}
 use Rattle.std.specs.List.{list_any, zip}
 use Rattle.std.specs.Option.{option_map_or, option_or}
 use Rattle.std.proofs.lemmas.Bool.{and_parts}
-use Rattle.std.proofs.lemmas.Bool.Decides.{nat_tests}
 use Rattle.std.proofs.lemmas.List.Elements.{All-head, All-tail}
 use Rattle.hc_records.specs.Line.{Member}
 use Rattle.hc_records.proofs.lemmas.Lists.{All-unmap}
@@ -13,14 +12,13 @@ use Rattle.hc_events.specs.declared.answer.Answer.{Answer}
 use Rattle.hc_events.specs.declared.answer.Answer.TheVariants as answer
 use Rattle.hc_events.specs.declared.answer.Outcome.{Outcome}
 use Rattle.hc_events.specs.Accepted.{StandsIn}
-use Rattle.hc_events.specs.Answering.{Judged, Good, Wrong, Stale, has_head, has_heads, is_news, is_stale, only_if}
+use Rattle.hc_events.specs.Answering.{Judged, Good, Wrong, has_head, has_heads, is_news, only_if}
 use Rattle.hc_events.specs.Arrivals.{Arrival, Part}
-use Rattle.hc_events.specs.Sendings.{Named}
 use Rattle.hc_events.specs.Steps.{outcome_for, told_of, told_of_block}
 use Rattle.hc_events.proofs.lemmas.Awaited.{by_bool}
-use Rattle.hc_awaited.specs.Judging.{Due, due_of, found_frame, found_write, frame_due, judge_due, judged_due, judged_in, write_due, written_head}
-use Rattle.hc_awaited.specs.Kept.{Kept, Newest, awaited_frames, carried_by, told_by}
-use Rattle.hc_awaited.specs.Waiting.{AllStand, AwaitedFrame, AwaitedWrite, Carried, Waiting, is_alive}
+use Rattle.hc_awaited.specs.Judging.{Due, due_of, found_frame, frame_due, judge_due, judged_due, judged_in, write_due, written_head}
+use Rattle.hc_awaited.specs.Kept.{Kept, Newest, carried_by, told_by}
+use Rattle.hc_awaited.specs.Waiting.{AwaitedFrame, AwaitedWrite, Carried, Waiting, is_alive}
 use Rattle.hc_awaited.specs.Walk.{outcomes_in}
 
 -- a register write
@@ -95,6 +93,7 @@ frame-told line frame arrival outcomes alive e =
   where
     same-some : (a b : List Outcome) → Some a ≡ Some b → a ≡ b
     same-some a b e = cc
+
     never : (a : List Outcome) → Some a ≡ None → ⊥
     never a e = cc
 

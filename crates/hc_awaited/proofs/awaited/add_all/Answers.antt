@@ -1,4 +1,4 @@
-use Rattle.std.proofs.Common.{◌≡◌, ◌∙◌, ◌++◌, [], ◌∷◌, ℕ, List, ap, arith, append_assoc, cond, filter, get_or, length, map, sym, take, vec_len}
+use Rattle.std.proofs.Common.{◌∙◌, ◌++◌, [], ◌∷◌, ℕ, List, ap, arith, append_assoc, cond, filter, get_or, length, map, sym, take}
 use Rattle.hc_events.specs.Sendings.{Frame}
 use Rattle.hc_awaited.specs.Kept.{Kept, kept_of, newest_of}
 use Rattle.hc_awaited.proofs.Alive.{Table, next-room, stays_at, stays-more}

@@ -1,10 +1,9 @@
-use Rattle.std.proofs.Common.{◌≡◌, ◌==◌, ◌∙◌, ℕ, ap, arith, sym, refl, true, false}
-use Rattle.std.specs.Prelude.{None, Some, option_and_then, option_map}
+use Rattle.std.proofs.Common.{◌∙◌, arith, sym}
+use Rattle.std.specs.Prelude.{None, Some}
 use Rattle.std.proofs.lemmas.Option.{gets}
 use Rattle.std.proofs.lemmas.Grind.{common_steps}
 use Rattle.hc_awaited.specs.Kept.{Kept, newest_of}
-use Rattle.hc_awaited.specs.Waiting.{AwaitedFrame}
-use Rattle.hc_awaited.proofs.Alive.{Table, told_at}
+use Rattle.hc_awaited.proofs.Alive.{Table}
 use Rattle.hc_awaited.proofs.Found.{found-at, not-serial, sought-is, sought-not}
 use Rattle.hc_awaited.proofs.awaited.find_frame.Goals as goal
 use Rattle.hc_awaited.proofs.awaited.find_frame.Goals.{else-serial-via-then-serial+else-is_alive, else-serial-via-else-serial}
@@ -28,6 +27,6 @@ returns-else-serial-clause-found c =
     let frame : Kept = c.in_ok-frame.frame.now in
     let found = found-at at c.args.serial c.args.frames.now c.count_below.result (Some frame) c.requires c.count_below.ensures (grind (arith, common_steps, gets)) in
     elim c.else-serial.branch [
-      else-serial-via-then-serial+else-is_alive w ↦ sym (sought-not at c.args.serial frame (sym w.is_alive.ensures ∙ w.if-is_alive.false)) ∙ found
-    | else-serial-via-else-serial w ↦ sym (not-serial at c.args.serial frame (λ same. w.if-serial.false (c.serial.ensures ∙ same))) ∙ found
+      | else-serial-via-then-serial+else-is_alive w ↦ sym (sought-not at c.args.serial frame (sym w.is_alive.ensures ∙ w.if-is_alive.false)) ∙ found
+      | else-serial-via-else-serial w ↦ sym (not-serial at c.args.serial frame (λ same. w.if-serial.false (c.serial.ensures ∙ same))) ∙ found
     ]

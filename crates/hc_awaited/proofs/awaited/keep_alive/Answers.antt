@@ -1,8 +1,5 @@
 use Rattle.std.proofs.Common.{rules}
 use Rattle.std.proofs.lemmas.Fn.{filter_same}
-use Rattle.hc_awaited.proofs.Room.{few-stay}
-use Rattle.hc_awaited.proofs.Found.{found-at}
-use Rattle.hc_awaited.proofs.Ended.{all-ended}
 use Rattle.hc_awaited.proofs.awaited.keep_alive.Goals as goal
 
 pub returns-clause-frames : goal.returns-clause-frames

@@ -2,7 +2,6 @@ use Rattle.std.proofs.Common.{◌≡◌, length, take}
 use Rattle.hc_events.specs.Sendings.{Named}
 use Rattle.hc_awaited.specs.Kept.{newest_after, newest_of}
 use Rattle.hc_awaited.specs.Waiting.{IsNamed}
-use Rattle.hc_awaited.proofs.Sent.{sent-all}
 use Rattle.hc_awaited.proofs.awaited.note_all.Given as goal
 
 abbrev pub invariant-loop-frame : goal.invariant-loop-frame

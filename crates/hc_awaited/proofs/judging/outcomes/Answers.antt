@@ -1,11 +1,8 @@
-use Rattle.std.proofs.Common.{◌≡◌, ◌∙◌, ap, sym, drop, get_or, length, ℕ, List, arith}
-use Rattle.std.specs.Prelude.{None, Option, Some}
+use Rattle.std.proofs.Common.{◌∙◌, ap, sym, drop, length, ℕ, List, arith}
 use Rattle.hc_frames.specs.Arrived.{Placed}
 use Rattle.hc_records.specs.Line.{line}
-use Rattle.hc_events.specs.declared.answer.Outcome.{Outcome}
-use Rattle.hc_events.specs.Sendings.{Named}
 use Rattle.hc_awaited.specs.Walk.{outcomes_in}
-use Rattle.hc_awaited.proofs.Walked.{behind, due_by, parts_of, walked-all, walked-more, walked-none, walked-other, walked-over, walked-short}
+use Rattle.hc_awaited.proofs.Walked.{behind, due_by, parts_of, walked-none, walked-short}
 use Rattle.hc_awaited.proofs.judging.outcomes.Goals as goal
 
 pub loop-datagram-init : goal.loop-datagram-init

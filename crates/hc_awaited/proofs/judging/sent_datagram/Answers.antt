@@ -1,7 +1,6 @@
-use Rattle.std.proofs.Common.{◌≡◌, ◌∙◌, Bool, ap, cond, sym, true, false}
-use Rattle.std.specs.Prelude.{None, Option, Some}
+use Rattle.std.proofs.Common.{◌≡◌, ◌∙◌, Bool, ap, cond, sym}
+use Rattle.std.specs.Prelude.{None, Some}
 use Rattle.hc_records.specs.Line.{line}
-use Rattle.hc_places.specs.declared.table.Datagram.{Datagram}
 use Rattle.hc_places.specs.Table.{Table, datagram_in, datagram_of}
 use Rattle.hc_awaited.proofs.Rows.{row-back, row-is}
 use Rattle.hc_awaited.proofs.judging.sent_datagram.Goals as goal

@@ -1,8 +1,8 @@
 use Rattle.std.proofs.Common.{◌≡◌, ◌==◌, ◌∙◌, ap, sym, true, false}
 use Rattle.std.specs.Prelude.{None}
 use Rattle.std.specs.Option.{option_map_or}
-use Rattle.hc_awaited.specs.Kept.{AreKept, Newest}
-use Rattle.hc_awaited.specs.Waiting.{AwaitedWrite, Waiting, ended}
+use Rattle.hc_awaited.specs.Kept.{AreKept}
+use Rattle.hc_awaited.specs.Waiting.{AwaitedWrite, ended}
 use Rattle.hc_awaited.proofs.Ended.{table-ended, write-gone, write-stays}
 use Rattle.hc_awaited.proofs.awaited.Awaited.end.Goals as goal
 

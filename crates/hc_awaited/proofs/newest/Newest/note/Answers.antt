@@ -1,4 +1,4 @@
-use Rattle.std.proofs.Common.{◌∙◌, ap, arith, cond, get_or, length-set, set, take, ℕ, List, Option, Some}
+use Rattle.std.proofs.Common.{◌∙◌, ap, arith, cond, get_or, length-set, set, ℕ, List, Some}
 use Rattle.std.specs.List.{list_any}
 use Rattle.std.proofs.lemmas.List.{take_all}
 use Rattle.hc_events.specs.Sendings.{Named}
