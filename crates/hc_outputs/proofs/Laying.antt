@@ -1,5 +1,5 @@
 -- Output variables are laid one after another into bytes that are all 0.
-use Rattle.std.proofs.Common.{◌≡◌, ◌≢◌, ◌⊎◌, inl, inr, ℕ, zero, suc, ◌+◌, ◌*◌, ◌<◌, ◌≤◌, ◌==◌, Bool, true, false, cond, get_or, List, [], ◌∷◌, length, replicate, refl, sym, ap, ◌∙◌, subst, arith, Option, Some, None}
+use Rattle.std.proofs.Common.{◌≡◌, ◌⊎◌, inl, inr, ℕ, zero, suc, ◌+◌, ◌*◌, ◌<◌, ◌≤◌, ◌==◌, Bool, true, false, cond, get_or, List, [], ◌∷◌, length, refl, sym, ap, ◌∙◌, subst, arith, Option, Some, None}
 use Rattle.std.specs.Prelude.{All, find, option_map}
 use Rattle.std.proofs.lemmas.Bool.{cases_eq, cases_lt, eqb-true}
 use Rattle.std.proofs.lemmas.Bool.Decides.{nat_tests}
@@ -9,7 +9,6 @@ use Rattle.hc_bits.proofs.lemmas.Places.{bit_of-zeros}
 use Rattle.hc_records.specs.declared.limits.TheConstants.{MOST_DATAGRAMS, TASKS}
 use Rattle.hc_records.specs.declared.records.Dir.TheVariants.{Out}
 use Rattle.hc_records.specs.Image.{VariablePlace}
-use Rattle.hc_records.specs.ImageLaws.{SharesNoBit}
 use Rattle.hc_records.proofs.lemmas.Finds.{mapped-some}
 use Rattle.hc_records.proofs.lemmas.Lists.{AllPairs-head, AllPairs-tail}
 use Rattle.hc_places.specs.Table.{Row, RowsAscend, Table, place_in}
@@ -202,7 +201,7 @@ one_written table n value old new run out ascend low dir laid writes same =
     record {
       all = writes.all ∙ laid.all;
       sizes = λ task d t e. kept_size old new b run task d e writes ∙ laid.sizes task d t e;
-          values = up_to (λ i. IsHeld value new (row_at table i)) n
+      values = up_to (λ i. IsHeld value new (row_at table i)) n
           (λ i less. held_still table i n value old new run out ascend less low writes (laid.values i less))
           (λ same_dir k below. writes.own.inside k below ∙ same k below);
       others = λ task d k t e misses.

@@ -1,2 +1,5 @@
-pub mod Masks
 pub mod Laying
+pub mod Masks
+pub mod Outcomes
+pub mod Numbered
+pub mod lemmas

@@ -1,5 +1,5 @@
 -- Ones in a run, and bytes under a mask.
-use Rattle.std.proofs.Common.{◌≡◌, ◌⊎◌, inl, inr, ℕ, ◌+◌, ◌-◌, ◌*◌, ◌/◌, ◌%◌, ◌^◌, ◌<◌, ◌≤◌, List, ◌++◌, length, get_or, min, replicate, refl, sym, ap, ap₂, ◌∙◌, arith, bit_and, pow_pos, subst}
+use Rattle.std.proofs.Common.{◌≡◌, inl, inr, ℕ, ◌+◌, ◌-◌, ◌/◌, ◌%◌, ◌^◌, ◌<◌, ◌≤◌, List, ◌++◌, length, get_or, min, replicate, sym, ap, ◌∙◌, arith, bit_and, pow_pos}
 use Rattle.std.proofs.lemmas.Bool.{cases_lt}
 use Rattle.std.proofs.lemmas.List.{get_or_append_left, get_or_past, get_or-replicate, length-replicate}
 use Rattle.std.proofs.Math.Seq.{get_or-append_right}

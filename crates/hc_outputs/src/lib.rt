@@ -3,6 +3,9 @@
 //! moves the values to their new places when the line changes.
 #![tactic(auto)]
 
+pub mod laws;
 pub mod outputs;
 mod row;
 mod rows;
+#[cfg(test)]
+mod tests;

@@ -1,11 +1,11 @@
 //! The output values of a line, packed as they are sent.
-ghost use Rattle.std.specs.Prelude.{◌≡◌, ◌*◌, ◌<◌, IfOk, drop, length};
-ghost use Rattle.hc_records.specs.declared.limits.TheConstants.{MOST_DATAGRAMS, TASKS};
+ghost use Rattle.std.specs.Prelude.{◌≡◌, ◌<◌, drop};
+ghost use Rattle.hc_records.specs.declared.limits.TheConstants.{TASKS};
 ghost use Rattle.hc_outputs.specs.Moves.{Posts};
 ghost use Rattle.hc_outputs.specs.Packed.{IsWhole};
 
 use crate::row::Row;
-use crate::rows::{SLOTS, blank, make_masks, move_values, slot_number};
+use crate::rows::{blank_rows, make_masks, move_values, slot_number};
 use hc_places::table::Places;
 use std::alloc::{AllocError, Global};
 use std::marker::Model;
@@ -33,17 +33,6 @@ impl Model for Outputs {
     ghost invariant = { λ outputs. IsWhole (record { sent = outputs.sent.items; masks = outputs.masks.items }) × (length outputs.next.items ≡ MOST_DATAGRAMS * TASKS) };
 }
 
-/// A row without bytes for each datagram that a line can have. `AllocError` where the growth was refused.
-fn rows(alloc: Global) -> Result<Vec<Row>, AllocError>
-    ensures { IfOk result (λ rows. length rows.items ≡ MOST_DATAGRAMS * TASKS) }
-{
-    let mut rows = Vec::with_capacity(alloc, SLOTS)?;
-    for _ in 0..SLOTS {
-        rows.push(Row::new())?;
-    }
-    Ok(rows)
-}
-
 /// The bytes from one on; none where there are fewer.
 fn from_byte(bytes: &[u8], offset: u16) -> &[u8]
     ensures { result.now ≡ drop offset bytes.now }
@@ -67,6 +56,15 @@ fn post_datagrams(sent: &mut [Row], masks: &[Row], places: &Places, task: u8, by
     }
 }
 
+/// The same of all rows that are kept.
+fn post_all(sent: &mut Vec<Row>, masks: &Vec<Row>, places: &Places, task: u8, bytes: &[u8])
+    requires task { task < TASKS }
+    requires whole { IsWhole (record { sent = sent.old.items; masks = masks.now.items }) }
+    ensures { Posts places.now sent.old.items sent.new.items masks.now.items task bytes.now }
+{
+    post_datagrams(sent.as_mut_slice(), masks.as_slice(), places, task, bytes);
+}
+
 impl Outputs {
     ghost use Rattle.std.specs.Prelude.{◌≡◌, ◌<◌, ℕ, IfOk};
     ghost use Rattle.hc_records.specs.declared.limits.TheConstants.{TASKS};
@@ -79,11 +77,10 @@ impl Outputs {
         requires { IsLaidOut places.now }
         ensures { IfOk result (λ outputs. Holds places.now (λ variable k. 0) outputs) }
     {
-        let mut sent = rows(alloc)?;
-        let mut masks = rows(alloc)?;
-        let next = rows(alloc)?;
-        blank(sent.as_mut_slice(), places);
-        make_masks(masks.as_mut_slice(), places);
+        let sent = blank_rows(alloc, places)?;
+        let mut masks = blank_rows(alloc, places)?;
+        make_masks(&mut masks, places);
+        let next = blank_rows(alloc, places)?;
         Ok(Outputs { sent, masks, next })
     }
 
@@ -95,13 +92,7 @@ impl Outputs {
         requires laid { IsLaidOut places.now }
         ensures { (value : ℕ → ℕ → ℕ) → Holds places.now value self.old → Holds places.now (posted places.now task bytes.now value) self.new }
     {
-        post_datagrams(
-            self.sent.as_mut_slice(),
-            self.masks.as_slice(),
-            places,
-            task,
-            bytes,
-        );
+        post_all(&mut self.sent, &self.masks, places, task, bytes);
     }
 
     /// The data with which a datagram of a task is sent; none where the table has no such datagram.
@@ -123,8 +114,7 @@ impl Outputs {
         requires sizes { HasSizes old.now self.old.sent }
         ensures { (value : ℕ → ℕ → ℕ) → Holds old.now value self.old → Holds new.now (kept old.now value) self.new }
     {
-        move_values(self.next.as_mut_slice(), new, self.sent.as_slice(), old);
-        make_masks(self.masks.as_mut_slice(), new);
-        std::mem::swap(&mut self.sent, &mut self.next);
+        move_values(&mut self.sent, &mut self.next, old, new);
+        make_masks(&mut self.masks, new);
     }
 }

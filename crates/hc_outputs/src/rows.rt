@@ -1,6 +1,6 @@
 //! The bytes of all datagrams that a line can have: made anew for a table, with its output variables' bits
 //! at their places.
-ghost use Rattle.std.specs.Prelude.{◌≡◌, ◌+◌, ◌*◌, ◌≤◌, ◌↔◌, IsTrue, length};
+ghost use Rattle.std.specs.Prelude.{◌≡◌, ◌+◌, ◌*◌, ◌≤◌, ◌↔◌, IfOk, IsTrue, length};
 ghost use Rattle.hc_bits.specs.Bits.{bit_of};
 ghost use Rattle.hc_records.specs.declared.limits.TheConstants.{MOST_DATAGRAMS, TASKS};
 ghost use Rattle.hc_records.specs.declared.records.Dir.TheVariants.{Out};
@@ -12,9 +12,10 @@ use crate::row::Row;
 use hc_places::table::{Place, Places};
 use hc_records::limits::{MOST_DATAGRAMS, TASKS};
 use hc_records::records::Dir;
+use std::alloc::{AllocError, Global};
 
 /// The datagrams that a line can have: 16 in each of the eight tasks.
-pub(crate) const SLOTS: usize = TASKS as usize * MOST_DATAGRAMS;
+const SLOTS: usize = TASKS as usize * MOST_DATAGRAMS;
 
 /// The place of a datagram's bytes among all.
 pub(crate) fn slot_number(task: u8, number: u8) -> usize
@@ -35,7 +36,7 @@ fn length_in(places: &Places, task: u8, number: u8) -> u16
 }
 
 /// Makes zeros for each datagram of a table, and no bytes for any other.
-pub(crate) fn blank(rows: &mut [Row], places: &Places)
+fn blank(rows: &mut [Row], places: &Places)
     requires { length rows.old ≡ MOST_DATAGRAMS * TASKS }
     ensures { AreBlank places.now rows.new }
 {
@@ -119,27 +120,43 @@ fn carry(rows: &mut [Row], new: &Places, from: &[Row], old: &Places)
     }
 }
 
-/// Makes the masks of a table.
-pub(crate) fn make_masks(rows: &mut [Row], places: &Places)
-    requires all { length rows.old ≡ MOST_DATAGRAMS * TASKS }
-    requires laid { IsLaidOut places.now }
-    ensures { Carries places.now (λ variable k. 1) rows.new }
+/// Rows for the datagrams of a table, all 0. `AllocError` where the growth was refused.
+pub(crate) fn blank_rows(alloc: Global, places: &Places) -> Result<Vec<Row>, AllocError>
+    ensures { IfOk result (λ rows. AreBlank places.now rows.items) }
 {
-    blank(rows, places);
-    mark(rows, places);
+    let mut rows = Vec::with_capacity(alloc, SLOTS)?;
+    for _ in 0..SLOTS {
+        rows.push(Row::new())?;
+    }
+    blank(rows.as_mut_slice(), places);
+    Ok(rows)
 }
 
-/// Makes the bytes of the new table, in which each output variable has the bits that it had in those of the
-/// old one.
-pub(crate) fn move_values(rows: &mut [Row], new: &Places, from: &[Row], old: &Places)
-    requires all { length rows.old ≡ MOST_DATAGRAMS * TASKS }
-    requires all_before { length from.now ≡ MOST_DATAGRAMS * TASKS }
+/// Makes the masks of a table.
+pub(crate) fn make_masks(rows: &mut Vec<Row>, places: &Places)
+    requires all { length rows.old.items ≡ MOST_DATAGRAMS * TASKS }
+    requires laid { IsLaidOut places.now }
+    ensures masks { Carries places.now (λ variable k. 1) rows.new.items }
+    ensures all { length rows.new.items ≡ MOST_DATAGRAMS * TASKS }
+{
+    blank(rows.as_mut_slice(), places);
+    mark(rows.as_mut_slice(), places);
+}
+
+/// Makes the bytes of the new table in `next`, in which each output variable has the bits that it had in
+/// those of the old one, and exchanges the two.
+pub(crate) fn move_values(sent: &mut Vec<Row>, next: &mut Vec<Row>, old: &Places, new: &Places)
+    requires all { length sent.old.items ≡ MOST_DATAGRAMS * TASKS }
+    requires all_next { length next.old.items ≡ MOST_DATAGRAMS * TASKS }
     requires laid { IsLaidOut new.now }
     requires laid_before { IsLaidOut old.now }
     requires entries { KeepEntries old.now new.now }
-    requires sizes { HasSizes old.now from.now }
-    ensures { Carries new.now (moved old.now from.now) rows.new }
+    requires sizes { HasSizes old.now sent.old.items }
+    ensures moved { Carries new.now (moved old.now sent.old.items) sent.new.items }
+    ensures all { length sent.new.items ≡ MOST_DATAGRAMS * TASKS }
+    ensures all_next { length next.new.items ≡ MOST_DATAGRAMS * TASKS }
 {
-    blank(rows, new);
-    carry(rows, new, from, old);
+    blank(next.as_mut_slice(), new);
+    carry(next.as_mut_slice(), new, sent.as_slice(), old);
+    std::mem::swap(sent, next);
 }

@@ -1,4 +1,4 @@
-use Rattle.std.proofs.Common.{◌≡◌, ◌≢◌, ◌⊎◌, ◌+◌, ◌*◌, ◌<◌, ◌≤◌, ℕ, [], drop, get_or, length, min}
+use Rattle.std.proofs.Common.{◌≡◌, ◌⊎◌, ◌+◌, ◌*◌, ◌<◌, ◌≤◌, ℕ, [], drop, get_or, length, min}
 use Rattle.hc_bits.specs.Bits.{bit_of}
 use Rattle.hc_outputs.specs.Packed.{bytes_of, offset_in}
 use Rattle.hc_outputs.proofs.outputs.post_datagrams.Given as goal

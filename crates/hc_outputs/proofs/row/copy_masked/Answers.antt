@@ -1,4 +1,4 @@
-use Rattle.std.proofs.Common.{◌≡◌, ◌+◌, ◌<◌, ℕ, arith, length, min}
+use Rattle.std.proofs.Common.{◌≡◌, ◌+◌, ◌<◌, arith, length, min}
 use Rattle.hc_outputs.proofs.Masks.{masked-copy}
 use Rattle.hc_outputs.proofs.row.copy_masked.Goals as goal
 

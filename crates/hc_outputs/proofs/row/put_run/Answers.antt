@@ -1,4 +1,4 @@
-use Rattle.std.proofs.Common.{◌≡◌, ℕ, ap, subst}
+use Rattle.std.proofs.Common.{ℕ, subst}
 use Rattle.std.specs.Int.{bit_at}
 use Rattle.hc_bits.specs.Bits.{ReplacesRun}
 use Rattle.hc_outputs.proofs.Masks.{run-told}

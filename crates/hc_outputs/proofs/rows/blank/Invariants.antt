@@ -1,4 +1,4 @@
-use Rattle.std.proofs.Common.{◌≡◌, ◌<◌, ◌/◌, ◌%◌, ℕ, get_or, length, replicate, []}
+use Rattle.std.proofs.Common.{◌≡◌, ◌<◌, ◌/◌, ◌%◌, ℕ, get_or, replicate, []}
 use Rattle.hc_outputs.specs.Packed.{length_in}
 use Rattle.hc_outputs.proofs.rows.blank.Given as goal
 

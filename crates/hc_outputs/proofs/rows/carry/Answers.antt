@@ -1,6 +1,5 @@
-use Rattle.std.proofs.Common.{◌≡◌, ℕ, ◌+◌, ◌*◌, ◌<◌, ◌≤◌, ◌∙◌, List, ap, arith, length, refl, subst, sym}
+use Rattle.std.proofs.Common.{◌≡◌, ℕ, ◌+◌, ◌*◌, ◌<◌, ◌≤◌, ◌∙◌, List, ap, arith, length, subst, sym}
 use Rattle.hc_bits.specs.Bits.{bit_of}
-use Rattle.hc_outputs.specs.Packed.{bytes_of}
 use Rattle.hc_outputs.specs.Moves.{moved}
 use Rattle.hc_outputs.proofs.Laying.{LaidUpTo, all-laid, fitted-before, moved-nowhere, moved-there, next-held, next-written, next-zero, not-both, nothing-laid, place-fits, row-is, row-there}
 use Rattle.hc_outputs.proofs.rows.carry.Goals as goal

@@ -31,7 +31,7 @@ loop-place-preserved c =
           (c.is_output.ensures.0 w.if-is_output.true) c.loop-place.invariant w.put_ones.ensures (λ k below. refl))
       | else-is_output w ↦
           subst (LaidUpTo table (n + 1) (λ variable k. 1)) (sym w.rows-is)
-          (next-held table n (λ variable k. 1) c.loop-place.rows row same c.loop-place.invariant 
+          (next-held table n (λ variable k. 1) c.loop-place.rows row same c.loop-place.invariant
           (λ dir k below. absurd (not-both c.is_output.result (c.is_output.ensures.1 dir) w.if-is_output.false)))
     ]
 
