@@ -1,3 +1,45 @@
+#!/bin/sh
+# Proves `hc_cuts` and what the benchmark needs of it under C names, in a scratch folder; links the benchmark to
+# that static library and runs it. KIT is the toolchain's folder, if it is not /opt/rattle.
+set -eu
+kit=${KIT:-/opt/rattle}
+here=$(cd "$(dirname "$0")" && pwd)
+scratch=$(mktemp -d)
+trap 'rm -rf "$scratch"' EXIT
+for crate in hc_records hc_bitsum hc_cuts; do
+    mkdir -p "$scratch/crates/$crate"
+    for part in src specs proofs; do
+        cp -r "$here/../../crates/$crate/$part" "$scratch/crates/$crate/"
+    done
+done
+{
+    grep -E '^(hc_records|hc_bitsum|hc_cuts):' "$here/../../crates.txt"
+    echo 'cuts_bench staticlib: hc_records hc_bitsum hc_cuts libc'
+} > "$scratch/crates.txt"
+bench="$scratch/crates/cuts_bench"
+mkdir -p "$bench/src"
+# What the prover is told of a function: one name and its value a call.
+told() {
+    file="$bench/proofs/$1/Invariants.antt"
+    if [ ! -e "$file" ]; then
+        mkdir -p "$bench/proofs/$1"
+        cat > "$file" <<END_OF_IMPORTS
+use Rattle.std.specs.Prelude.{◌≡◌, All}
+use Rattle.hc_records.specs.Laws.{IsPackable}
+use Rattle.cuts_bench.proofs.$1.Given as goal
+END_OF_IMPORTS
+    fi
+    printf '\nabbrev pub %s : goal.%s\n%s %s\n' "$2" "$2" "$2" "$3" >> "$file"
+}
+told set_widths invariant-loop-area 'l = l.task.tree.slaves ≡ l.slaves'
+told tree_of invariant-loop-area 'l = l.tree.slaves ≡ l.slaves'
+told list_of invariant-loop-area 'l = All IsPackable l.list.items'
+told cut_in_rounds invariant-loop-time 'g l = l.task.tree ≡ l.initial.task.tree'
+told cuts_set invariant-loop-time 'l = l.task.tree.slaves ≡ l.slaves'
+told cuts_set ghosts-cut_in_rounds 'a = record { name = a.blank.name; parts = a.blank.parts }'
+told cuts_cut ghosts-cut_in_rounds 'a = record { name = a.blank.name; parts = a.blank.parts }'
+told cuts_searched ghosts-searched_in_rounds 'a = record { name = a.blank.name; parts = a.blank.parts }'
+cat > "$bench/src/lib.rt" <<'END_OF_CODE'
 //! What the benchmark calls: each function makes a task of so many slaves with these areas and plays the same
 //! calls in it, in as many rounds as `times` has places, which get the nanoseconds of each round.
 #![tactic(auto)]
@@ -249,3 +291,9 @@ pub extern "C" fn cuts_folded(alloc: Global, areas: &[Area], times: &mut [u64]) 
     }
     told
 }
+END_OF_CODE
+(cd "$bench" && rt lib) > "$scratch/lib.txt" 2>&1 || { cat "$scratch/lib.txt"; exit 1; }
+# The library is made for x86-64-v2, so the plain Rust beside it is too.
+rustc --edition 2024 -O -C target-cpu=x86-64-v2 "$here/main.rs" -o "$scratch/bench" \
+    -L "$bench/out" -l static=cuts_bench -C link-arg="$kit/c/liblibc_c.a"
+"$scratch/bench" "$@"
