@@ -63,15 +63,15 @@ fn read_bit(memory: &[u8], logical: usize) -> Option<bool>
 }
 
 /// Reads each bit of the data, and answers whether there was one to read.
-fn read_all(memory: &[u8], from: usize, data: &mut [u8]) -> bool
+fn read_all(memory: &[u8], from: usize, bytes: &mut [u8]) -> bool
     requires memory { length memory.now ≡ 12288 }
     requires from { from < 2 ^ 40 }
-    requires short { length data.old ≤ 12 }
+    requires short { length bytes.old ≤ 12 }
 {
     let mut any = false;
-    for k in 0..8 * data.len() {
+    for k in 0..8 * bytes.len() {
         if let Some(bit) = read_bit(memory, from + k) {
-            set_bit(data, k, bit);
+            set_bit(bytes, k, bit);
             any = true;
         }
     }
