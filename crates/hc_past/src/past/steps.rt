@@ -58,15 +58,13 @@ impl Past {
         let text = text_of(bytes);
         Past::Came(Snapshot::of(self), Snapshot::of(&text))
     }
-}
 
-/// With frames of tasks behind it, one after another.
-pub fn sent_all(past: Past, frames: &[Sending]) -> Past
-    ensures { record_of result ≡ with_sent (record_of past) frames.now }
-{
-    let mut past = past;
-    for frame in frames {
-        past = past.sent(frame);
+    /// Frames of tasks come behind it, one after another.
+    pub fn sent_all(&mut self, frames: &[Sending])
+        ensures { record_of self.new ≡ with_sent (record_of self.old) frames.now }
+    {
+        for frame in frames {
+            *self = self.sent(frame);
+        }
     }
-    past
 }
