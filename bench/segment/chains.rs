@@ -59,11 +59,11 @@ fn print_rows(program: &str, plain: &str, line: &Path, slaves: usize) {
     }
 }
 
-/// The table of lines of 64 and 256 slaves.
+/// The table of lines of 64, 256 and 512 slaves.
 pub fn print_table(program: &str, plain: &str, line: &Path) {
     println!("| Segments | Ratio to plain Rust | Times as fast as one segment | The same, plain Rust |");
     println!("|---|---|---|---|");
-    for slaves in [64, 256] {
+    for slaves in [64, 256, 512] {
         print_rows(program, plain, line, slaves);
     }
 }
