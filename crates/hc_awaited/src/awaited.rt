@@ -161,7 +161,7 @@ impl Awaited {
     }
 
     /// Frames of tasks are sent, in this order: each is the newest of its datagrams, and frames before it
-    /// that are left without one are awaited no longer. The serials are above all earlier ones. It takes
+    /// that are left without one are awaited no longer. The serials are above those awaited. It takes
     /// no memory.
     pub fn send(&mut self, frames: &[Sending])
         requires named { All (λ frame. All IsNamed frame.datagrams) frames.now }

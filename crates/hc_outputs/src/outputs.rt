@@ -95,7 +95,8 @@ impl Outputs {
         post_all(&mut self.sent, &self.masks, places, task, bytes);
     }
 
-    /// The data with which a datagram of a task is sent; none where the table has no such datagram.
+    /// The data with which a datagram is sent, by its task, 0 to 7, and its number in the task, 0 to 15; none
+    /// where the table has no such datagram.
     pub fn bytes(&self, task: u8, number: u8) -> &[u8]
         ensures { result.now ≡ bytes_of self.now.sent task number }
     {
