@@ -1,10 +1,30 @@
 //! What is kept of the blocks of a line: an entry and a bit for each, and the count of the bits.
+ghost use Rattle.std.specs.Prelude.{◌≡◌, option_map};
+ghost use Rattle.hc_owed.specs.Kept.{differs};
+ghost use Rattle.hc_owed.specs.Entries.{one};
+
 use crate::entries::Entry;
 use crate::flags::Flags;
-use hc_records::records::Slave;
 use hc_registers::blocks::Block;
 use std::alloc::{AllocError, Global};
 use std::marker::Model;
+
+/// 1 for a block that is owed.
+fn one(owed: bool) -> usize
+    ensures { result ≡ one owed }
+{
+    if owed { 1 } else { 0 }
+}
+
+/// Whether the known bytes of a block aren't those that the line configures, or there are none.
+fn differs(entry: &Entry, block: &Block) -> bool
+    ensures { result ≡ differs block.now.bytes (option_map (λ known. known.bytes) entry.now.known) }
+{
+    match &entry.known {
+        Some(known) => block.bytes() != known.bytes(),
+        None => true,
+    }
+}
 
 /// What is kept of blocks, in line and block order. It never grows over its room.
 #[derive(Debug, Drop)]
@@ -29,12 +49,12 @@ impl Model for Blocks {
 }
 
 impl Blocks {
-    ghost use Rattle.std.specs.Prelude.{◌≡◌, ◌≤◌, ◌<◌, ◌+◌, ◌^◌, [], ◌∷◌, ◌++◌, length, option_map, slice_get, true, None, Some, IfOk};
+    ghost use Rattle.std.specs.Prelude.{◌≡◌, ◌≤◌, ◌<◌, ◌+◌, ◌^◌, [], ◌∷◌, ◌++◌, length, slice_get, Some, IfOk};
     ghost use Rattle.hc_records.specs.Lists.{changed_at};
-    ghost use Rattle.hc_owed.specs.Kept.{differs, first_owed, owed_count, name_at};
+    ghost use Rattle.hc_owed.specs.Kept.{first_owed, name_at, owed_count};
     ghost use Rattle.hc_owed.specs.Writes.{forgotten, written};
     ghost use Rattle.hc_owed.specs.Edits.{compared};
-    ghost use Rattle.hc_owed.specs.Entries.{kept};
+    ghost use Rattle.hc_owed.specs.Entries.{judged, kept, learnt};
 
     /// Nothing kept, with room for so many blocks. `AllocError` where a growth was refused.
     pub(crate) fn with_room(alloc: Global, room: usize) -> Result<Blocks, AllocError>
@@ -77,7 +97,7 @@ impl Blocks {
 
     /// The position of the first owed one; none where nothing is owed.
     pub(crate) fn first(&self) -> Option<usize>
-        ensures value { result ≡ first_owed self.now.blocks }
+        ensures { result ≡ first_owed self.now.blocks }
     {
         self.owed.first()
     }
@@ -86,7 +106,10 @@ impl Blocks {
     pub(crate) fn name(&self, n: usize) -> Option<(u16, u8)>
         ensures { result ≡ name_at self.now.blocks n }
     {
-        let entry = self.entries.get(n)?;
+        if n >= self.entries.len() {
+            return None;
+        }
+        let entry = &self.entries[n];
         Some((entry.station, entry.number))
     }
 
@@ -97,23 +120,17 @@ impl Blocks {
     {
         self.entries.push_reserved(entry);
         self.owed.push(owed);
-        if owed {
-            self.count += 1;
-        }
+        self.count += one(owed);
     }
 
     /// Sets whether a block is owed.
     fn set(&mut self, n: usize, owed: bool)
         requires { n < length self.old.blocks }
-        ensures { self.new ≡ record self.old { blocks = changed_at n (λ block. record block { owed = owed }) self.old.blocks } }
+        ensures { self.new ≡ record self.old { blocks = changed_at n (judged owed) self.old.blocks } }
     {
-        if self.owed.get(n) {
-            self.count -= 1;
-        }
+        let was = self.owed.get(n);
         self.owed.set(n, owed);
-        if owed {
-            self.count += 1;
-        }
+        self.count = self.count - one(was) + one(owed);
     }
 
     /// Forgets what is known of a block.
@@ -124,12 +141,20 @@ impl Blocks {
         self.entries[n].known = None;
     }
 
+    /// The bytes of a block are known.
+    fn learn(&mut self, n: usize, block: Block)
+        requires { n < length self.old.blocks }
+        ensures { self.new ≡ record self.old { blocks = changed_at n (learnt block.bytes) self.old.blocks } }
+    {
+        self.entries[n].known = Some(block);
+    }
+
     /// Its slave has these bytes of a block, which isn't owed.
     pub(crate) fn confirm(&mut self, n: usize, block: Block)
         requires { n < length self.old.blocks }
         ensures { self.new ≡ record self.old { blocks = changed_at n (written block.bytes) self.old.blocks } }
     {
-        self.entries[n].known = Some(block);
+        self.learn(n, block);
         self.set(n, false);
     }
 
@@ -138,20 +163,9 @@ impl Blocks {
         requires { n < length self.old.blocks }
         ensures { self.new ≡ record self.old { blocks = changed_at n (compared block.now.bytes) self.old.blocks } }
     {
-        let owed = match &self.entries[n].known {
-            Some(known) => block.bytes() != known.bytes(),
-            None => true,
-        };
+        let owed = differs(&self.entries[n], block);
         self.set(n, owed);
     }
-}
-
-impl Blocks {
-    ghost use Rattle.std.specs.Prelude.{◌≡◌, ◌<◌, length, slice_get, Some};
-    ghost use Rattle.hc_records.specs.Lists.{changed_at};
-    ghost use Rattle.hc_records.specs.declared.records.Slave.{Slave};
-    ghost use Rattle.hc_owed.specs.Writes.{forgotten};
-    ghost use Rattle.hc_owed.specs.Entries.{kept};
 
     /// Takes what is known of a block out of the list, which then knows nothing of it, and tells whether the
     /// block is owed.

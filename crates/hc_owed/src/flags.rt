@@ -1,10 +1,42 @@
 //! A list of bits in words of 64, whose first set one is found by words.
+ghost use Rattle.std.specs.Prelude.{◌≡◌, ℕ, ◌*◌, ◌<◌, ◌==◌, ◌≢◌, length, MatchOption};
+ghost use Rattle.std.specs.Int.{bit_at};
+ghost use Rattle.hc_owed.specs.Flags.{IsLowestIn, SetsFlag};
 
 use std::alloc::{AllocError, Global};
 use std::marker::Model;
 
 /// The bits of a word.
 const WORD_BITS: usize = 64;
+
+/// The word with the bit at a place, counted from the lowest, set or cleared.
+fn with_bit(word: u64, place: usize, set: bool) -> u64
+    requires { place < 64 }
+    ensures here { (bit_at result place == 1) ≡ set }
+    ensures others { (i : ℕ) → i < 64 → i ≢ place → bit_at result i ≡ bit_at word i }
+{
+    let bit = 1_u64 << place;
+    if set { word | bit } else { word & !bit }
+}
+
+/// Sets or clears the bit with a number.
+fn set_bit(words: &mut [u64], n: usize, set: bool)
+    requires { n < 64 * length words.old }
+    ensures { SetsFlag words.old words.new n set }
+{
+    let at = n / WORD_BITS;
+    words[at] = with_bit(words[at], n % WORD_BITS, set);
+}
+
+/// The place of the lowest bit that is set in a word; none in 0.
+fn lowest_place(word: u64) -> Option<usize>
+    ensures { MatchOption result (word ≡ 0) (IsLowestIn word) }
+{
+    if word == 0 {
+        return None;
+    }
+    Some(word.trailing_zeros() as usize)
+}
 
 /// A list of flags, each a bit. It never grows over its room.
 #[derive(Debug, Drop)]
@@ -14,14 +46,14 @@ pub(crate) struct Flags {
 }
 
 impl Model for Flags {
-    ghost use Rattle.std.specs.Prelude.{◌*◌, ◌≤◌, vec_len};
+    ghost use Rattle.std.specs.Prelude.{◌*◌, ◌^◌, ◌<◌, ◌≤◌, vec_len};
     ghost use Rattle.hc_owed.specs.Flags.{Flags, flags_from};
 
     ghost Value = { Flags };
 
-    ghost view = { λ flags. record { list = flags_from flags.words.items 0 flags.len; room = 64 * vec_len flags.words } };
+    ghost view = { λ flags. record { list = flags_from flags.words.items flags.len 0; room = 64 * vec_len flags.words } };
 
-    ghost invariant = { λ flags. flags.len ≤ 64 * vec_len flags.words };
+    ghost invariant = { λ flags. (flags.len ≤ 64 * vec_len flags.words) × (vec_len flags.words < 2 ^ 32) };
 }
 
 impl Flags {
@@ -34,7 +66,7 @@ impl Flags {
         ensures empty { IfOk result (λ flags. flags.list ≡ []) }
         ensures room { IfOk result (λ flags. room ≤ flags.room) }
     {
-        let count = room.div_ceil(WORD_BITS);
+        let count = (room + WORD_BITS - 1) / WORD_BITS;
         let mut words = Vec::with_capacity(alloc, count)?;
         for _ in 0..count {
             words.push(0)?;
@@ -49,23 +81,12 @@ impl Flags {
         self.len = 0;
     }
 
-    /// Sets the bit with a number in its word.
-    fn set_bit(&mut self, n: usize, flag: bool) {
-        let bit = 1_u64 << (n % WORD_BITS);
-        let word = &mut self.words[n / WORD_BITS];
-        if flag {
-            *word |= bit;
-        } else {
-            *word &= !bit;
-        }
-    }
-
     /// Adds a flag behind the others.
     pub(crate) fn push(&mut self, flag: bool)
         requires { length self.old.list < self.old.room }
         ensures { self.new ≡ record self.old { list = self.old.list ++ flag ∷ [] } }
     {
-        self.set_bit(self.len, flag);
+        set_bit(&mut self.words, self.len, flag);
         self.len += 1;
     }
 
@@ -74,7 +95,7 @@ impl Flags {
         requires { n < length self.old.list }
         ensures { self.new ≡ record self.old { list = changed_at n (λ _. flag) self.old.list } }
     {
-        self.set_bit(n, flag);
+        set_bit(&mut self.words, n, flag);
     }
 
     /// The flag at an index.
@@ -91,9 +112,8 @@ impl Flags {
         ensures { result ≡ position (λ flag. flag) self.now.list }
     {
         for i in 0..self.words.len() {
-            let word = self.words[i];
-            if word != 0 {
-                let n = WORD_BITS * i + word.trailing_zeros() as usize;
+            if let Some(place) = lowest_place(self.words[i]) {
+                let n = WORD_BITS * i + place;
                 return if n < self.len { Some(n) } else { None };
             }
         }

@@ -1,0 +1,2 @@
+mod FlagLists
+mod KeptLists
