@@ -1,2 +1,4 @@
+mod Declaring
 mod FlagLists
 mod KeptLists
+mod Walks

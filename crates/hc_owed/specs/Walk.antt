@@ -1,5 +1,5 @@
 -- How what is kept is taken over an edit: in one walk over the declared slaves, with what was kept beside it, and one over the new line, with the moved blocks beside it.
-use Rattle.std.specs.Prelude.{ℕ, ◌==◌, ◌&&◌, ◌*◌, not, nat_lt, Bool, true, false, if◌then◌else◌, List, [], ◌∷◌, ◌++◌, drop, length, map, take, Option, Some, None}
+use Rattle.std.specs.Prelude.{ℕ, ◌==◌, ◌&&◌, ◌*◌, nat_le, slice_get, Bool, true, false, if◌then◌else◌, List, [], ◌∷◌, ◌++◌, drop, length, map, take, Option, Some, None}
 use Rattle.std.specs.List.{range_with_len}
 use Rattle.hc_records.specs.declared.records.Slave.{Slave}
 use Rattle.hc_records.specs.declared.records.Declared.{Declared}
@@ -14,7 +14,7 @@ begins_with station [] = false
 begins_with station (kept ∷ rest) = kept.station == station
 
 abbrev pub goes_on : Slave → List Kept → Bool
-goes_on slave old = begins_with slave.station old && not (nat_lt (length old) (block_count slave))
+goes_on slave old = begins_with slave.station old && nat_le (block_count slave) (length old)
 
 -- nothing is known of the blocks of a slave
 abbrev pub unknown_at : ℕ → ℕ → Kept
@@ -50,11 +50,14 @@ abbrev pub compared_with : Option LineBlock → Kept → Kept
 compared_with None kept = kept
 compared_with (Some block) kept = compared block.block.bytes kept
 
--- each block that has the name of the next moved one is compared
+-- the block has the name of the next moved one
+abbrev pub is_next : List (ℕ × ℕ) → Kept → Bool
+is_next [] kept = false
+is_next (name ∷ moved) kept = same_name (name_kept kept) name
+
+-- each block that has the name of the next moved one is compared with the block of the line beside it
 abbrev pub walked : List (ℕ × ℕ) → List LineBlock → List Kept → List Kept
 walked moved blocks [] = []
-walked moved [] (kept ∷ rest) = kept ∷ rest
-walked [] (block ∷ blocks) (kept ∷ rest) = kept ∷ rest
-walked (name ∷ moved) (block ∷ blocks) (kept ∷ rest) =
-    if same_name (name_kept kept) name then compared block.block.bytes kept ∷ walked moved blocks rest
-    else kept ∷ walked (name ∷ moved) blocks rest
+walked moved blocks (kept ∷ rest) =
+    if is_next moved kept then compared_with (slice_get blocks 0) kept ∷ walked (drop 1 moved) (drop 1 blocks) rest
+    else kept ∷ walked moved (drop 1 blocks) rest

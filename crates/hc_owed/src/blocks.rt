@@ -49,7 +49,7 @@ impl Model for Blocks {
 }
 
 impl Blocks {
-    ghost use Rattle.std.specs.Prelude.{◌≡◌, ◌≤◌, ◌<◌, ◌+◌, ◌^◌, [], ◌∷◌, ◌++◌, length, slice_get, Some, IfOk};
+    ghost use Rattle.std.specs.Prelude.{◌≡◌, ◌<◌, ◌^◌, [], ◌∷◌, ◌++◌, length, slice_get, Some, IfOk, IfSome};
     ghost use Rattle.hc_records.specs.Lists.{changed_at};
     ghost use Rattle.hc_owed.specs.Kept.{first_owed, name_at, owed_count};
     ghost use Rattle.hc_owed.specs.Writes.{forgotten, written};
@@ -83,7 +83,7 @@ impl Blocks {
     /// How many blocks there are.
     pub(crate) fn len(&self) -> usize
         ensures value { result ≡ length self.now.blocks }
-        ensures few { result ≤ self.now.room }
+        ensures low { result < 2 ^ 32 }
     {
         self.entries.len()
     }
@@ -97,7 +97,8 @@ impl Blocks {
 
     /// The position of the first owed one; none where nothing is owed.
     pub(crate) fn first(&self) -> Option<usize>
-        ensures { result ≡ first_owed self.now.blocks }
+        ensures value { result ≡ first_owed self.now.blocks }
+        ensures low { IfSome result (λ n. n < 2 ^ 32) }
     {
         self.owed.first()
     }

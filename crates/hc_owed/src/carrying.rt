@@ -1,6 +1,6 @@
 //! How what is kept of a line is taken over to a new one: in one walk over the declared slaves, with what was
 //! kept beside it. Both are in the declared order.
-ghost use Rattle.std.specs.Prelude.{◌≡◌, ◌+◌, ◌≤◌, ◌++◌, All, drop, length, sum_by, take};
+ghost use Rattle.std.specs.Prelude.{◌≡◌, ◌+◌, ◌≤◌, ◌++◌, ◌<◌, ◌^◌, true, All, drop, length, sum_by, take};
 ghost use Rattle.hc_records.specs.declared.limits.TheConstants.{MOST_AREAS};
 ghost use Rattle.hc_owed.specs.Kept.{block_count, declared_blocks};
 ghost use Rattle.hc_owed.specs.Walk.{all_unknown, goes_on, groups_kept, slave_kept, slave_left, slaves_kept, slaves_left};
@@ -20,11 +20,14 @@ fn block_count(slave: &Slave) -> u8
 /// Whether what is kept goes on, from a position, with the blocks of a slave.
 fn goes_on(old: &Blocks, at: usize, slave: &Slave) -> bool
     requires { length slave.now.areas ≤ MOST_AREAS }
-    ensures { result ≡ goes_on slave.now (drop at old.now.blocks) }
+    ensures value { result ≡ goes_on slave.now (drop at old.now.blocks) }
+    ensures inside { result ≡ true → at + block_count slave.now ≤ length old.now.blocks }
+    ensures low { length old.now.blocks < 2 ^ 32 }
 {
+    let len = old.len();
     match old.name(at) {
         Some((station, _)) => {
-            station == slave.station && old.len() - at >= usize::from(block_count(slave))
+            station == slave.station && usize::from(block_count(slave)) <= len - at
         }
         None => false,
     }
@@ -44,6 +47,7 @@ fn add_unknown(next: &mut Blocks, slave: &Slave)
 /// Adds so many blocks as they were kept.
 fn add_kept(old: &mut Blocks, at: usize, count: u8, next: &mut Blocks)
     requires there { at + count ≤ length old.old.blocks }
+    requires low { length old.old.blocks < 2 ^ 32 }
     requires room { length next.old.blocks + count ≤ next.old.room }
     ensures kept { next.new ≡ record next.old { blocks = next.old.blocks ++ take count (drop at old.old.blocks) } }
     ensures behind { drop (at + count) old.new.blocks ≡ drop (at + count) old.old.blocks }

@@ -57,7 +57,7 @@ impl Model for Flags {
 }
 
 impl Flags {
-    ghost use Rattle.std.specs.Prelude.{◌≡◌, ◌≤◌, ◌<◌, ◌^◌, [], ◌∷◌, ◌++◌, length, position, slice_get, IfOk, Some};
+    ghost use Rattle.std.specs.Prelude.{◌≡◌, ◌≤◌, ◌<◌, ◌^◌, [], ◌∷◌, ◌++◌, length, position, slice_get, IfOk, IfSome, Some};
     ghost use Rattle.hc_records.specs.Lists.{changed_at};
 
     /// No flag, with room for so many, fewer than 2^32. `AllocError` where a growth was refused.
@@ -109,7 +109,8 @@ impl Flags {
 
     /// The index of the first flag that is set; none where none is.
     pub(crate) fn first(&self) -> Option<usize>
-        ensures { result ≡ position (λ flag. flag) self.now.list }
+        ensures value { result ≡ position (λ flag. flag) self.now.list }
+        ensures low { IfSome result (λ n. n < length self.now.list) }
     {
         for i in 0..self.words.len() {
             if let Some(place) = lowest_place(self.words[i]) {

@@ -27,4 +27,4 @@ returns c =
     c.set.ensures ∙ ap (λ (blocks : List Kept). owed_of blocks c.args.self.now.room)
     (changed-alike c.args.n (judged c.differs-owed.result) (compared c.args.block.now.bytes) c.args.self.now.blocks
     (λ block here. ap (λ (owed : Bool). record block { owed = owed })
-        (c.differs-owed.ensures ∙ ap (differs c.args.block.now.bytes) (known-kept entries c.self.inside.owed.list c.args.n entry block is (ap (λ (blocks : List Kept). slice_get blocks c.args.n) (sym are.blocks) ∙ here)))))
+    (c.differs-owed.ensures ∙ ap (differs c.args.block.now.bytes) (known-kept entries c.self.inside.owed.list c.args.n entry block is (ap (λ (blocks : List Kept). slice_get blocks c.args.n) (sym are.blocks) ∙ here)))))

@@ -9,9 +9,12 @@ use Rattle.hc_owed.specs.Entries.{kept, kept_list, judged, learnt, set_count, on
 use Rattle.hc_owed.proofs.KeptLists.{are-blocks, changed-alike, changed-twice, count-kept, count-le, count-pushed, count-set, first-kept, get-only, kept-entry, kept-flag, kept-get, kept-pushed, length-changed, length-kept, owed_of, read-some}
 use Rattle.hc_owed.proofs.blocks.Blocks.first.Goals as goal
 
-pub returns : goal.returns
-returns c =
+pub returns-clause-value : goal.returns-clause-value
+returns-clause-value c =
     let entries = c.self.inside.entries.items in
     let inv = c.self.invariant in
     let are = are-blocks entries c.self.inside.owed.list c.self.inside.room c.args.self.now inv.paired c.self.view_is in
-    c.first.ensures ∙ first-kept entries c.self.inside.owed.list inv.paired ∙ ap first_owed (sym are.blocks)
+    c.first.ensures.value ∙ first-kept entries c.self.inside.owed.list inv.paired ∙ ap first_owed (sym are.blocks)
+
+pub returns-clause-low : goal.returns-clause-low
+returns-clause-low c = ?
