@@ -15,10 +15,13 @@ use Rattle.hc_records.specs.Limits.{IsSlaveInside}
 use Rattle.hc_records.specs.Project.{lowest_fault, slaves_of}
 use Rattle.hc_records.proofs.lemmas.Limits.{project-inside}
 use Rattle.hc_records.proofs.lemmas.Lines.{declared_slaves, each-group}
-use Rattle.hc_registers.specs.Blocks.{RegisterBlock, area_blocks, line_blocks, member_blocks, numbered, slave_blocks}
+use Rattle.hc_registers.specs.Blocks.{LineBlock, area_blocks, line_blocks, member_blocks, numbered, slave_blocks}
 use Rattle.hc_owed.specs.Kept.{block_count, declared_blocks}
 
-pub few-areas : (groups : List Declared) → lowest_fault (groups_of groups) ≡ None → All (λ declared. All (λ slave. length slave.areas ≤ MOST_AREAS) declared.group.slaves) groups
+abbrev pub HaveFewAreas : List Declared → Type 0
+HaveFewAreas groups = All (λ declared. All (λ slave. length slave.areas ≤ MOST_AREAS) declared.group.slaves) groups
+
+pub few-areas : (groups : List Declared) → lowest_fault (groups_of groups) ≡ None → HaveFewAreas groups
 few-areas groups none =
     each-group (λ slave. length slave.areas ≤ MOST_AREAS) groups
     (All-weaker IsSlaveInside (λ slave. length slave.areas ≤ MOST_AREAS) (λ slave inside. inside.few) (declared_slaves groups) (project-inside (groups_of groups) none).slaves)
@@ -33,7 +36,7 @@ length-areas line rank first (area ∷ areas) = let rest = length-areas line ran
 
 pub length-member : (line : List Member) (member : Member) → length (member_blocks line member) ≡ block_count member.slave
 length-member line member =
-    length-map (λ e. record { station = member.slave.station; number = e.0; block = e.1 }) (enumerate_from 0 (slave_blocks line member))
+    length-map (enumerate_from 0 (slave_blocks line member)) (λ e. let found : LineBlock = record { station = member.slave.station; number = e.0; block = e.1 } in found)
     ∙ length-enumerate_from 0 (slave_blocks line member) ∙ length-areas line member.rank 0 member.slave.areas
 
 slaves-length : (line : List Member) (rank : ℕ) (slaves : List Slave) → length (flat_map (member_blocks line) (members_from rank slaves)) ≡ sum_by block_count slaves

@@ -2,7 +2,7 @@
 use Rattle.std.proofs.Common.{◌≡◌, ℕ, zero, suc, ◌+◌, ◌-◌, ◌<◌, ◌≤◌, Bool, true, false, cond, List, [], ◌∷◌, ◌++◌, length, take, drop, map, refl, sym, ap, ◌∙◌, arith}
 use Rattle.std.proofs.lemmas.List.{length-append}
 use Rattle.std.proofs.lemmas.Iterator.Adapters.{position_from-zero}
-use Rattle.std.specs.Prelude.{filter, position, slice_get, slice_index_or, slice_set, unwrap_or, option_map, Option, Some, None}
+use Rattle.std.specs.Prelude.{filter, position, slice_get, slice_index_or, slice_set, unwrap_or, ◌^◌, IfSome, option_map, Option, Some, None}
 use Rattle.std.specs.List.{position_from}
 use Rattle.hc_records.specs.Lists.{changed_at}
 use Rattle.hc_registers.specs.Blocks.{RegisterBlock}
@@ -195,3 +195,7 @@ known-kept (e ∷ entries) [] n entry block is here = cc
 known-kept (e ∷ entries) (f ∷ flags) zero entry block is here =
     ap (λ (o : Option Entry). option_map (λ (b : RegisterBlock). b.bytes) (unwrap_or o entry).known) (sym is) ∙ ap (λ (o : Option Kept). (unwrap_or o block).known) here
 known-kept (e ∷ entries) (f ∷ flags) (suc n) entry block is here = known-kept entries flags n entry block is here
+
+pub low-first : (found : Option ℕ) (size : ℕ) → IfSome found (λ n. n < size) → size < 2 ^ 32 → IfSome found (λ n. n < 2 ^ 32)
+low-first None size inside low = tt
+low-first (Some n) size inside low = omega (arith, inside, low)

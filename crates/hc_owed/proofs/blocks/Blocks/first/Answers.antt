@@ -6,7 +6,7 @@ use Rattle.hc_owed.specs.Flags.{Flags}
 use Rattle.hc_owed.specs.Writes.{forgotten, written}
 use Rattle.hc_owed.specs.declared.entries.Entry.{Entry}
 use Rattle.hc_owed.specs.Entries.{kept, kept_list, judged, learnt, set_count, one}
-use Rattle.hc_owed.proofs.KeptLists.{are-blocks, changed-alike, changed-twice, count-kept, count-le, count-pushed, count-set, first-kept, get-only, kept-entry, kept-flag, kept-get, kept-pushed, length-changed, length-kept, owed_of, read-some}
+use Rattle.hc_owed.proofs.KeptLists.{are-blocks, low-first, changed-alike, changed-twice, count-kept, count-le, count-pushed, count-set, first-kept, get-only, kept-entry, kept-flag, kept-get, kept-pushed, length-changed, length-kept, owed_of, read-some}
 use Rattle.hc_owed.proofs.blocks.Blocks.first.Goals as goal
 
 pub returns-clause-value : goal.returns-clause-value
@@ -17,4 +17,6 @@ returns-clause-value c =
     c.first.ensures.value ∙ first-kept entries c.self.inside.owed.list inv.paired ∙ ap first_owed (sym are.blocks)
 
 pub returns-clause-low : goal.returns-clause-low
-returns-clause-low c = ?
+returns-clause-low c =
+    let inv = c.self.invariant in
+    low-first c.first.result (length c.self.inside.owed.list) c.first.ensures.low (omega (arith, inv.within, inv.paired, inv.low))
