@@ -1,3 +1,4 @@
+mod Changing
 mod Declaring
 mod FlagLists
 mod KeptLists

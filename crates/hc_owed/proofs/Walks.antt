@@ -156,8 +156,8 @@ pub one-carried : (first now : List Kept) (at i : ℕ) (k : Kept) → at ≤ i �
 one-carried first now at i k high same is =
     let place : at + (i - at) ≡ i = omega (arith, high) in
     let there : slice_get (drop at first) (i - at) ≡ Some k =
-        get-behind first at (i - at) ∙ ap (slice_get first) place ∙ get-front first i
-        ∙ sym (ap (λ (rest : List Kept). slice_get rest 0) same) ∙ sym (get-front now i) ∙ is in
+    get-behind first at (i - at) ∙ ap (slice_get first) place ∙ get-front first i
+    ∙ sym (ap (λ (rest : List Kept). slice_get rest 0) same) ∙ sym (get-front now i) ∙ is in
     let next : i + 1 - at ≡ suc (i - at) = omega (arith, high) in
     ap (λ (n : ℕ). take n (drop at first)) next ∙ take-more (drop at first) (i - at) k there
 

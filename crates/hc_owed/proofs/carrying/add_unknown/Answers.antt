@@ -27,5 +27,5 @@ loop-number-preserved c =
     ∙ ap (λ (e : Entry). owed_of (c.loop-number.next.blocks ++ kept e true ∷ []) c.loop-number.next.room) c.unknown.ensures
     ∙ ap (λ (o : Owed). owed_of (o.blocks ++ unknown_at station n ∷ []) o.room) c.loop-number.invariant
     ∙ ap (λ (blocks : List Kept). owed_of blocks added.room)
-      (append_assoc added.blocks (map (unknown_at station) (range_with_len 0 n)) (unknown_at station n ∷ [])
-      ∙ ap (λ (more : List Kept). added.blocks ++ more) (sym (map-range_with_len_more (unknown_at station) 0 n n (omega arith))))
+    (append_assoc added.blocks (map (unknown_at station) (range_with_len 0 n)) (unknown_at station n ∷ [])
+    ∙ ap (λ (more : List Kept). added.blocks ++ more) (sym (map-range_with_len_more (unknown_at station) 0 n n (omega arith))))

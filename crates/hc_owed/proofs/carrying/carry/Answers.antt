@@ -23,12 +23,13 @@ loop-declared-preserved c =
     let left = c.carry_slaves-at.ensures.left ∙ ap (λ (list : List Slave). slaves_left list old) named in
     let size = ap (λ (o : Owed). length o.blocks) kept ∙ length-append added (slaves_kept declared.present slaves old) in
     let own = slaves-fit declared.present slaves old in
-    let sum = ap declared_blocks all ∙ sum_by-cons (λ (d : Declared). sum_by block_count d.group.slaves) declared behind in
-    (ap (λ (o : Owed). o.blocks ++ groups_kept behind (drop c.carry_slaves-at.result c.carry_slaves-at.new.old.blocks)) kept
-    ∙ ap (λ (rest : List Kept). added ++ slaves_kept declared.present slaves old ++ groups_kept behind rest) left
-    ∙ append_assoc added (slaves_kept declared.present slaves old) (groups_kept behind (slaves_left slaves old))
-    ∙ ap (λ (groups : List Declared). added ++ groups_kept groups old) (sym all)
-    ∙ inv.0,
-    ap (λ (o : Owed). o.room) kept ∙ inv.1,
-    omega (arith, size, own, sum, inv.2),
-    c.carry_slaves-at.ensures.old_room ∙ inv.3)
+    let sum = ap declared_blocks all ∙ sum_by-cons (λ (d : Declared). sum_by block_count d.group.slaves) declared behind in (
+      ap (λ (o : Owed). o.blocks ++ groups_kept behind (drop c.carry_slaves-at.result c.carry_slaves-at.new.old.blocks)) kept
+          ∙ ap (λ (rest : List Kept). added ++ slaves_kept declared.present slaves old ++ groups_kept behind rest) left
+          ∙ append_assoc added (slaves_kept declared.present slaves old) (groups_kept behind (slaves_left slaves old))
+          ∙ ap (λ (groups : List Declared). added ++ groups_kept groups old) (sym all)
+          ∙ inv.0,
+      ap (λ (o : Owed). o.room) kept ∙ inv.1,
+      omega (arith, size, own, sum, inv.2),
+      c.carry_slaves-at.ensures.old_room ∙ inv.3,
+    )

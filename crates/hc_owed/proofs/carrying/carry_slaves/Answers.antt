@@ -21,13 +21,14 @@ loop-slave-preserved c =
     let left = c.carry_slave-at.ensures.left in
     let size = ap (λ (o : Owed). length o.blocks) kept ∙ length-append added (slave_kept present slave old) in
     let own = slave-fits present slave old in
-    let sum = ap (λ (slaves : List Slave). sum_by block_count slaves) all ∙ sum_by-cons block_count slave behind in
-    (ap (λ (o : Owed). o.blocks ++ slaves_kept present behind (drop c.carry_slave-at.result c.carry_slave-at.new.old.blocks)) kept
-    ∙ ap (λ (rest : List Kept). added ++ slave_kept present slave old ++ slaves_kept present behind rest) left
-    ∙ append_assoc added (slave_kept present slave old) (slaves_kept present behind (slave_left slave old))
-    ∙ ap (λ (slaves : List Slave). added ++ slaves_kept present slaves old) (sym all)
-    ∙ inv.0,
-    ap (λ (rest : List Kept). slaves_left behind rest) left ∙ ap (λ (slaves : List Slave). slaves_left slaves old) (sym all) ∙ inv.1,
-    ap (λ (o : Owed). o.room) kept ∙ inv.2,
-    omega (arith, size, own, sum, inv.3),
-    c.carry_slave-at.ensures.old_room ∙ inv.4)
+    let sum = ap (λ (slaves : List Slave). sum_by block_count slaves) all ∙ sum_by-cons block_count slave behind in (
+      ap (λ (o : Owed). o.blocks ++ slaves_kept present behind (drop c.carry_slave-at.result c.carry_slave-at.new.old.blocks)) kept
+          ∙ ap (λ (rest : List Kept). added ++ slave_kept present slave old ++ slaves_kept present behind rest) left
+          ∙ append_assoc added (slave_kept present slave old) (slaves_kept present behind (slave_left slave old))
+          ∙ ap (λ (slaves : List Slave). added ++ slaves_kept present slaves old) (sym all)
+          ∙ inv.0,
+      ap (λ (rest : List Kept). slaves_left behind rest) left ∙ ap (λ (slaves : List Slave). slaves_left slaves old) (sym all) ∙ inv.1,
+      ap (λ (o : Owed). o.room) kept ∙ inv.2,
+      omega (arith, size, own, sum, inv.3),
+      c.carry_slave-at.ensures.old_room ∙ inv.4,
+    )

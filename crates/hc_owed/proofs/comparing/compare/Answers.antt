@@ -23,22 +23,24 @@ loop-n-preserved c =
     let before = c.loop-n.invariant in
     elim c.if-is_next.branch [
       | then-is_next w ↦
-          let same = w.kept-is ∙ w.compare_nth.ensures in
-          (ap (λ (k : ℕ). at-walk k c.if-is_next.next moved blocks c.if-is_next.kept.blocks) (add-one n)
-          ∙ ap (λ (k : ℕ). at-walk (suc n) k moved blocks c.if-is_next.kept.blocks) (w.next-is ∙ add-one next)
-          ∙ ap (λ (o : Owed). at-walk (suc n) (suc next) moved blocks o.blocks) same
-          ∙ walk-compared n next moved blocks kept.blocks low (λ block is. sym w.if-is_next.true ∙ c.is_next.ensures block is)
-          ∙ before.0,
-          ap (λ (o : Owed). length o.blocks) same ∙ length-changed n (compared_with (slice_get blocks n)) kept.blocks ∙ before.1,
-          ap (λ (o : Owed). o.room) same ∙ before.2,
-          omega (arith, w.next-is, before.3))
-      | else-is_next w ↦
-          (ap (λ (k : ℕ). at-walk k c.if-is_next.next moved blocks c.if-is_next.kept.blocks) (add-one n)
-          ∙ ap (λ (k : ℕ). at-walk (suc n) k moved blocks c.if-is_next.kept.blocks) w.next-is
-          ∙ ap (λ (o : Owed). at-walk (suc n) next moved blocks o.blocks) w.kept-is
-          ∙ walk-passed n next moved blocks kept.blocks low (λ block is. sym w.if-is_next.false ∙ c.is_next.ensures block is)
-          ∙ before.0,
-          ap (λ (o : Owed). length o.blocks) w.kept-is ∙ before.1,
-          ap (λ (o : Owed). o.room) w.kept-is ∙ before.2,
-          omega (arith, w.next-is, before.3))
+          let same = w.kept-is ∙ w.compare_nth.ensures in (
+            ap (λ (k : ℕ). at-walk k c.if-is_next.next moved blocks c.if-is_next.kept.blocks) (add-one n)
+                ∙ ap (λ (k : ℕ). at-walk (suc n) k moved blocks c.if-is_next.kept.blocks) (w.next-is ∙ add-one next)
+                ∙ ap (λ (o : Owed). at-walk (suc n) (suc next) moved blocks o.blocks) same
+                ∙ walk-compared n next moved blocks kept.blocks low (λ block is. sym w.if-is_next.true ∙ c.is_next.ensures block is)
+                ∙ before.0,
+            ap (λ (o : Owed). length o.blocks) same ∙ length-changed n (compared_with (slice_get blocks n)) kept.blocks ∙ before.1,
+            ap (λ (o : Owed). o.room) same ∙ before.2,
+            omega (arith, w.next-is, before.3),
+          )
+      | else-is_next w ↦ (
+        ap (λ (k : ℕ). at-walk k c.if-is_next.next moved blocks c.if-is_next.kept.blocks) (add-one n)
+            ∙ ap (λ (k : ℕ). at-walk (suc n) k moved blocks c.if-is_next.kept.blocks) w.next-is
+            ∙ ap (λ (o : Owed). at-walk (suc n) next moved blocks o.blocks) w.kept-is
+            ∙ walk-passed n next moved blocks kept.blocks low (λ block is. sym w.if-is_next.false ∙ c.is_next.ensures block is)
+            ∙ before.0,
+        ap (λ (o : Owed). length o.blocks) w.kept-is ∙ before.1,
+        ap (λ (o : Owed). o.room) w.kept-is ∙ before.2,
+        omega (arith, w.next-is, before.3),
+      )
     ]
