@@ -8,6 +8,7 @@ use Rattle.hc_plan.specs.declared.report.Report.{Report}
 use Rattle.hc_owed.specs.Kept.{Kept}
 use Rattle.hc_owed.specs.Edits.{IsEdited, changed}
 use Rattle.hc_owed.specs.Walk.{groups_kept, walked}
+use Rattle.hc_owed.proofs.Named.{walked-judges}
 
 pub walks-change : (blocks : List Kept) (new : State) (report : Report) → IsEdited blocks new report → lowest_fault (groups_of new.groups) ≡ None
     → walked report.blocks (line_blocks (line new)) (groups_kept new.groups blocks) ≡ changed blocks report.blocks (line_blocks (line new))

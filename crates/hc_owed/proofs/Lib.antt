@@ -1,3 +1,4 @@
+mod Named
 mod Changing
 mod Declaring
 mod FlagLists
