@@ -24,8 +24,8 @@ use Rattle.hc_events.specs.Images.{Fresh, fresh}
 use Rattle.hc_events.specs.Steps.{sent_datagram, told_of, told_of_arrival}
 use Rattle.hc_events.specs.SendingLaws.{heads_of, is_sending}
 use Rattle.hc_events.specs.AnswerLaws.{LeavesOpen, ReturnsWell, good_part, good_parts, sent_datagrams}
-use Rattle.hc_events.proofs.SentBits.{sent-data}
-use Rattle.hc_events.proofs.Answers.{answer-is, chosen, none-ends, none-opened}
+use Rattle.hc_events.proofs.lemmas.SentBits.{sent-data}
+use Rattle.hc_events.proofs.lemmas.Answers.{answer-is, chosen, none-ends, none-opened}
 use Rattle.hc_events.proofs.lemmas.Standing.{found-under, sent_at}
 
 -- the frame fits

@@ -16,7 +16,7 @@ use Rattle.hc_events.specs.Owed.{owed_blocks}
 use Rattle.hc_events.specs.Steps.{has_serials, proposal, sent_text, write_text}
 use Rattle.hc_events.specs.Calls.{frames_size, preview, write_size}
 use Rattle.hc_events.specs.CallLaws.{IsPreview}
-use Rattle.hc_events.proofs.Proposals.{alone-counted, frame-sized, frames-sized}
+use Rattle.hc_events.proofs.lemmas.Frames.{alone-counted, frame-sized, frames-sized}
 
 abbrev IsSized : Record → Frame → Type 0
 IsSized past frame = length (sent_text past frame) ≡ size_of frame

@@ -1,10 +1,10 @@
 pub mod Answering
 pub mod Editing
 pub mod Compared
-pub mod Configured
 pub mod LineBlocks
 pub mod Mapped
 pub mod Numbered
 pub mod Opening
 pub mod Registers
 pub mod Unmoved
+pub mod lemmas

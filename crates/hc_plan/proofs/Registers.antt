@@ -14,7 +14,7 @@ use Rattle.hc_records.proofs.lemmas.Slaves.{line-inside}
 use Rattle.hc_registers.specs.declared.registers.TheConstants.{FMMU_BLOCKS, FMMU_BLOCK_BYTES, SYNC_MANAGER_BLOCKS, SYNC_MANAGER_BLOCK_BYTES}
 use Rattle.hc_registers.specs.Blocks.{LineBlock, RegisterBlock, fmmu_block, line_blocks, mapping_of, slave_blocks, sync_manager_block}
 use Rattle.hc_places.proofs.lemmas.Found.{find-holds}
-use Rattle.hc_plan.proofs.Configured.{configured-block}
+use Rattle.hc_plan.proofs.lemmas.Configured.{configured-block}
 use Rattle.hc_plan.proofs.Numbered.{get-first, get-numbered-from-0, get-second, map-twice}
 use Rattle.hc_records.proofs.lemmas.Stations.{project-distinct}
 

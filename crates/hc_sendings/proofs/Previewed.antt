@@ -9,7 +9,7 @@ use Rattle.hc_places.specs.Table.{datagrams_in, table_of}
 use Rattle.hc_events.specs.Sendings.{Named, alone, length_of}
 use Rattle.hc_events.specs.Steps.{serials_left}
 use Rattle.hc_sendings.specs.Previews.{preview_in}
-use Rattle.hc_sendings.proofs.Listed.{listed-count, listed-length}
+use Rattle.hc_sendings.proofs.lemmas.Listed.{listed-count, listed-length}
 
 if-sendable : (sendable : Bool) (serial : ℕ) (datagram : Named) (own listed : ℕ) → (sendable ≡ true → own ≡ listed)
     → cond sendable (Some (alone serial datagram own)) None ≡ cond sendable (Some (alone serial datagram listed)) None

@@ -10,7 +10,7 @@ use Rattle.hc_records.specs.Image.{datagram_count, task_places}
 use Rattle.hc_records.proofs.lemmas.Lists.{All-flat_map}
 use Rattle.hc_events.specs.Sendings.{Frame, Named, sendings_of, size_of, task_datagrams}
 use Rattle.hc_sendings.specs.Parts.{frame_part, own_bytes, own_share, padding_bytes, part_size, share}
-use Rattle.hc_sendings.proofs.Whole.{IsWhole, whole-frames}
+use Rattle.hc_sendings.proofs.lemmas.Whole.{IsWhole, whole-frames}
 use Rattle.hc_sendings.proofs.Sums.{each-one, is_one_of, one-share, sum-both, sum-same, sum-swapped}
 
 abbrev IsOwn : List ℕ → Named → Type 0

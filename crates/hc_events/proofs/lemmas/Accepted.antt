@@ -6,6 +6,7 @@ use Rattle.std.proofs.lemmas.Bool.Decides.{nat_tests}
 use Rattle.std.proofs.lemmas.List.Elements.{All-nil, All-cons, All-head, All-tail, All-append, All-contains_itself}
 use Rattle.hc_records.specs.declared.limits.TheConstants.{TASKS}
 use Rattle.hc_records.specs.declared.faults.EditFault.{EditFault}
+use Rattle.hc_records.specs.declared.records.Group.{Group}
 use Rattle.hc_records.specs.Lists.{lowest}
 use Rattle.hc_records.specs.Line.{Member}
 use Rattle.hc_records.specs.Image.{datagram_count, output_length, task_places}
@@ -16,12 +17,12 @@ use Rattle.hc_events.specs.declared.faults.CoreFault.{CoreFault}
 use Rattle.hc_events.specs.declared.faults.CoreFault.TheVariants.{NoSuchTask, PostLength, SerialsSpent, StalePost, Unprogrammed}
 use Rattle.hc_events.specs.Faults.{edit_refusal}
 use Rattle.hc_events.specs.Arrivals.{Arrival, arrival_in}
-use Rattle.hc_events.specs.Entries.{Entry, Record, Edited, Posted, Sent, Wrote, Came}
+use Rattle.hc_events.specs.Entries.{Entry, Record, Opened, Edited, Posted, Sent, Wrote, Came}
 use Rattle.hc_events.specs.Points.{epoch_of, line_of, next_serial, state_of}
 use Rattle.hc_events.specs.Sendings.{Frame, Named, alone, framed, framed_behind, has_room, joined, length_of, task_datagrams}
 use Rattle.hc_events.specs.Owed.{owed_blocks}
 use Rattle.hc_events.specs.Steps.{Step, Edits, Posts, SendsTasks, SendsWrite, Arrives, Reads, kept_if, edit_refused, is_no_task, post_faults, proposal, has_serials, task_faults, with_sent, write_faults, with_write, with_arrival, entries_after, entries_after_all}
-use Rattle.hc_events.specs.Accepted.{IsAccepted, IsPost, StandsIn, frames_of}
+use Rattle.hc_events.specs.Accepted.{AreAccepted, IsAccepted, IsPost, StandsIn, frames_of, just_opened}
 
 -- the datagrams of a proposal are those of the line
 
@@ -160,3 +161,24 @@ kept-after P keeps past (Reads task) before = before
 pub kept-after_all : (P : Record → Type 0) → Keeps P → (past : Record) (steps : List Step) → P past → P (entries_after_all past steps)
 kept-after_all P keeps past [] before = before
 kept-after_all P keeps past (step ∷ steps) before = kept-after_all P keeps (entries_after past step) steps (kept-after P keeps past step before)
+
+-- an entry that is accepted leads to a record of accepted entries
+
+pub accepted-more : Keeps AreAccepted
+accepted-more past (Opened groups) accepted before = absurd accepted
+accepted-more past (Edited edit) accepted before = (accepted, before)
+accepted-more past (Posted task bytes) accepted before = (accepted, before)
+accepted-more past (Sent frame) accepted before = (accepted, before)
+accepted-more past (Wrote block) accepted before = (accepted, before)
+accepted-more past (Came arrival) accepted before = (accepted, before)
+
+-- what each accepted entry keeps holds of each record of accepted entries
+
+pub held-of_accepted : (P : Record → Type 0) → Keeps P → ((groups : List Group) → P (just_opened groups)) → (past : Record) → AreAccepted past → P past
+held-of_accepted P keeps just [] all = absurd all
+held-of_accepted P keeps just (Opened groups ∷ past) all = subst (λ before. P (Opened groups ∷ before)) (sym all) (just groups)
+held-of_accepted P keeps just (Edited edit ∷ past) all = keeps past (Edited edit) all.0 (held-of_accepted P keeps just past all.1)
+held-of_accepted P keeps just (Posted task bytes ∷ past) all = keeps past (Posted task bytes) all.0 (held-of_accepted P keeps just past all.1)
+held-of_accepted P keeps just (Sent frame ∷ past) all = keeps past (Sent frame) all.0 (held-of_accepted P keeps just past all.1)
+held-of_accepted P keeps just (Wrote block ∷ past) all = keeps past (Wrote block) all.0 (held-of_accepted P keeps just past all.1)
+held-of_accepted P keeps just (Came arrival ∷ past) all = keeps past (Came arrival) all.0 (held-of_accepted P keeps just past all.1)

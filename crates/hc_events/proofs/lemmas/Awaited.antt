@@ -177,9 +177,10 @@ awaited-grows a b serial (Wrote block) n l same =
 
 -- a stale arrival
 
-unless_other : (serial : ℕ) (arrival : Arrival) (found : Option Sending) → (serial == arrival.serial) ≡ false → option_and_then (unless_fits serial arrival) found ≡ found
-unless_other serial arrival None e = refl
-unless_other serial arrival (Some s) e = rw e refl
+-- an arrival ends nothing that is awaited with another serial
+pub unless-other : (serial : ℕ) (arrival : Arrival) (found : Option Sending) → (serial == arrival.serial) ≡ false → option_and_then (unless_fits serial arrival) found ≡ found
+unless-other serial arrival None e = refl
+unless-other serial arrival (Some s) e = rw e refl
 
 unless_stale : (arrival : Arrival) (found : Option Sending) → list_any is_news (option_map_or (judged arrival) (option_and_then (only_if (is_answer arrival)) found) []) ≡ false → option_and_then (unless_fits arrival.serial arrival) (option_and_then (alive arrival.serial) found) ≡ option_and_then (alive arrival.serial) found
 unless_stale arrival None k = refl
@@ -198,7 +199,7 @@ came_stale arrival serial found k =
     by_bool (serial == arrival.serial)
     (λ t. let same : serial ≡ arrival.serial = same_number serial arrival.serial t in
     subst (λ m. option_and_then (unless_fits m arrival) (option_and_then (alive m) found) ≡ option_and_then (alive m) found) (sym same) (unless_stale arrival found (k same)))
-    (λ t. unless_other serial arrival (option_and_then (alive serial) found) t)
+    (λ t. unless-other serial arrival (option_and_then (alive serial) found) t)
 
 -- a stale arrival ends nothing that is awaited
 pub awaited-stale : (past : Record) (arrival : Arrival) (serial : ℕ) → list_any is_news (judged_by past arrival) ≡ false → awaited (Came arrival ∷ past) serial ≡ awaited past serial

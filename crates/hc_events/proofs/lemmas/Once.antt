@@ -23,11 +23,11 @@ none_below serial = grind (arith, nat_tests)
 
 -- the sending that an arrival answers
 
-picked : (b : Bool) (other sending : Sending) → cond b (Some other) None ≡ Some sending → (b ≡ true) × (other ≡ sending)
+picked : {X : Type 0} (b : Bool) (other sending : X) → cond b (Some other) None ≡ Some sending → (b ≡ true) × (other ≡ sending)
 picked true other sending e = (refl, cc)
 picked false other sending e = cc
 
-pub only-if_some : (found : Option Sending) (test : Sending → Bool) (sending : Sending) → option_and_then (only_if test) found ≡ Some sending → (found ≡ Some sending) × (test sending ≡ true)
+pub only-if_some : {X : Type 0} (found : Option X) (test : X → Bool) (sending : X) → option_and_then (only_if test) found ≡ Some sending → (found ≡ Some sending) × (test sending ≡ true)
 only-if_some None test sending e = cc
 only-if_some (Some other) test sending e =
     let found = picked (test other) other sending e in (ap Some found.1, ap test (sym found.1) ∙ found.0)

@@ -17,8 +17,8 @@ use Rattle.hc_events.specs.Answering.{Sending, Judged, Verdict, Good, Wrong, Sta
 use Rattle.hc_events.specs.Awaited.{all_sent_again, alive, awaited, is_ended, is_no_arrival, is_write}
 use Rattle.hc_events.specs.Owed.{if_confirmed, is_owed, last_write, owed_blocks, was_confirmed}
 use Rattle.hc_events.specs.Steps.{Step}
-use Rattle.hc_events.specs.Accepted.{just_opened, record_of}
-use Rattle.hc_events.proofs.lemmas.Accepted.{Keeps, kept-after_all}
+use Rattle.hc_events.specs.Accepted.{AreAccepted, just_opened, record_of}
+use Rattle.hc_events.proofs.lemmas.Accepted.{Keeps, held-of_accepted, kept-after_all}
 use Rattle.hc_events.proofs.lemmas.Awaited.{by_bool, news_from, same_is, awaited-any, unless_fits, unless_again, alive_edited, alive_came, alive_other}
 use Rattle.hc_events.proofs.lemmas.Once.{serial-made}
 
@@ -122,18 +122,18 @@ confirmed_same past arrival serial none =
     (λ t. rw (t, none) refl)
     (λ t. rw t refl)
 
-known_same : (past : Record) (arrival : Arrival) (write : Option (ℕ × List ℕ)) → list_any has_good (judged_by past arrival) ≡ false → option_and_then (if_confirmed (Came arrival ∷ past)) write ≡ option_and_then (if_confirmed past) write
-known_same past arrival None none = refl
-known_same past arrival (Some write) none = ap (λ b. cond b (Some write.1) None) (confirmed_same past arrival write.0 none)
+pub known-same : (past : Record) (arrival : Arrival) (write : Option (ℕ × List ℕ)) → list_any has_good (judged_by past arrival) ≡ false → option_and_then (if_confirmed (Came arrival ∷ past)) write ≡ option_and_then (if_confirmed past) write
+known-same past arrival None none = refl
+known-same past arrival (Some write) none = ap (λ b. cond b (Some write.1) None) (confirmed_same past arrival write.0 none)
 
-filter_same : (p q : LineBlock → Bool) → ((x : LineBlock) → p x ≡ q x) → (xs : List LineBlock) → filter p xs ≡ filter q xs
-filter_same p q k [] = refl
-filter_same p q k (x ∷ xs) = ap (λ b. cond b (x ∷ filter p xs) (filter p xs)) (k x) ∙ ap (λ ys. cond (q x) (x ∷ ys) ys) (filter_same p q k xs)
+pub filter-same : (p q : LineBlock → Bool) → ((x : LineBlock) → p x ≡ q x) → (xs : List LineBlock) → filter p xs ≡ filter q xs
+filter-same p q k [] = refl
+filter-same p q k (x ∷ xs) = ap (λ b. cond b (x ∷ filter p xs) (filter p xs)) (k x) ∙ ap (λ ys. cond (q x) (x ∷ ys) ys) (filter-same p q k xs)
 
-owed_same : (past : Record) (arrival : Arrival) → list_any has_good (judged_by past arrival) ≡ false → owed_blocks (Came arrival ∷ past) ≡ owed_blocks past
-owed_same past arrival none =
-    filter_same (is_owed (Came arrival ∷ past)) (is_owed past)
-    (λ block. ap (λ known. not (option_map_or (bytes_eq block.block.bytes) known false)) (known_same past arrival (last_write past block.station block.number) none))
+pub owed-same : (past : Record) (arrival : Arrival) → list_any has_good (judged_by past arrival) ≡ false → owed_blocks (Came arrival ∷ past) ≡ owed_blocks past
+owed-same past arrival none =
+    filter-same (is_owed (Came arrival ∷ past)) (is_owed past)
+    (λ block. ap (λ known. not (option_map_or (bytes_eq block.block.bytes) known false)) (known-same past arrival (last_write past block.station block.number) none))
     (line_blocks (line_of past))
 
 -- a good answer is one to what is awaited
@@ -154,10 +154,10 @@ any_news (datagram ∷ datagrams) e =
     (λ t. or_left (is_news datagram) _ (good_news datagram.verdict t))
     (λ t. or_right (is_news datagram) _ (any_news datagrams (sym (ap (λ b. b || list_any has_good datagrams) t) ∙ e)))
 
-record IsFor (past : Record) (arrival : Arrival) : Type 0 where
-  sending : Sending
-  there : awaited past arrival.serial ≡ Some sending
-  fit : has_heads sending.heads arrival.parts ≡ true
+pub record IsFor (past : Record) (arrival : Arrival) : Type 0 where
+  pub sending : Sending
+  pub there : awaited past arrival.serial ≡ Some sending
+  pub fit : has_heads sending.heads arrival.parts ≡ true
 
 is_for : (past : Record) (arrival : Arrival) (found : Option Sending) → awaited past arrival.serial ≡ found → list_any is_news (news_from found arrival) ≡ true → IsFor past arrival
 is_for past arrival None there e = cc
@@ -166,8 +166,8 @@ is_for past arrival (Some sending) there e =
     (λ t. record { sending = sending; there = there; fit = t })
     (λ t. let never : false ≡ true = rw t at e in cc)
 
-good_for : (past : Record) (arrival : Arrival) → list_any has_good (judged_by past arrival) ≡ true → IsFor past arrival
-good_for past arrival e =
+pub good-for : (past : Record) (arrival : Arrival) → list_any has_good (judged_by past arrival) ≡ true → IsFor past arrival
+good-for past arrival e =
     is_for past arrival (awaited past arrival.serial) refl (sym (awaited-any past arrival) ∙ any_news (judged_by past arrival) e)
 
 -- a write just sent isn't confirmed
@@ -179,7 +179,7 @@ unanswered arrival (Some sending) e = cc
 not_below : (serial m n : ℕ) → (serial == n) ≡ true → m ≤ n → nat_lt serial m ≡ false
 not_below serial m n e above = grind (arith, nat_tests)
 
-unconfirmed : (past : Record) (serial : ℕ) → next_serial past ≤ serial → was_confirmed past serial ≡ false
+pub unconfirmed : (past : Record) (serial : ℕ) → next_serial past ≤ serial → was_confirmed past serial ≡ false
 unconfirmed [] serial above = refl
 unconfirmed (Opened groups ∷ past) serial above = refl
 unconfirmed (Edited edit ∷ past) serial above = unconfirmed past serial above
@@ -196,13 +196,13 @@ unconfirmed (Came arrival ∷ past) serial above =
 at_least : (n : ℕ) → n ≤ n
 at_least n = omega arith
 
-written_is_owed : (past : Record) (block other : LineBlock) → same_item (block_item other) (block_item block) ≡ true → is_owed (Wrote block ∷ past) other ≡ true
-written_is_owed past block other e =
+pub written-is_owed : (past : Record) (block other : LineBlock) → same_item (block_item other) (block_item block) ≡ true → is_owed (Wrote block ∷ past) other ≡ true
+written-is_owed past block other e =
     let none : was_confirmed past (next_serial past) ≡ false = unconfirmed past (next_serial past) (at_least (next_serial past)) in
     rw (e, none) refl
 
-others_as_before : (past : Record) (block other : LineBlock) → same_item (block_item other) (block_item block) ≡ false → is_owed (Wrote block ∷ past) other ≡ is_owed past other
-others_as_before past block other e = rw e refl
+pub others-as_before : (past : Record) (block other : LineBlock) → same_item (block_item other) (block_item block) ≡ false → is_owed (Wrote block ∷ past) other ≡ is_owed past other
+others-as_before past block other e = rw e refl
 
 numbers_turned : (a b c d : ℕ) → ((a == b) && (c == d)) ≡ true → ((b == a) && (d == c)) ≡ true
 numbers_turned a b c d e = grind (arith, nat_tests)
@@ -222,7 +222,7 @@ first_behind : (past : Record) (block : LineBlock) (blocks rest : List LineBlock
 first_behind past block [] rest e = cc
 first_behind past block (x ∷ xs) rest e =
     by_bool (same_item (block_item x) (block_item block))
-    (λ t. let owes : is_owed (Wrote block ∷ past) x ≡ true = written_is_owed past block x t in
+    (λ t. let owes : is_owed (Wrote block ∷ past) x ≡ true = written-is_owed past block x t in
     record {
       first = x;
       rest = filter (is_owed (Wrote block ∷ past)) xs;
@@ -236,7 +236,7 @@ first_behind past block (x ∷ xs) rest e =
     let never : true ≡ false = sym itself ∙ sym (ap (λ y. same_item (block_item y) (block_item block)) one) ∙ t in cc)
     (λ u. let left : filter (is_owed past) xs ≡ block ∷ rest = sym (ap (λ b. cond b (x ∷ filter (is_owed past) xs) (filter (is_owed past) xs)) u) ∙ e in
     let behind = first_behind past block xs rest left in
-    let not_owed : is_owed (Wrote block ∷ past) x ≡ false = others_as_before past block x t ∙ u in
+    let not_owed : is_owed (Wrote block ∷ past) x ≡ false = others-as_before past block x t ∙ u in
     record {
       first = behind.first;
       rest = behind.rest;
@@ -246,18 +246,18 @@ first_behind past block (x ∷ xs) rest e =
 
 -- a write that is awaited: of the first owed block, and nothing else is awaited
 
-record IsAlone (past : Record) (serial : ℕ) (now : Sending) : Type 0 where
-  head : Head
-  heads : now.heads ≡ head ∷ []
-  first : LineBlock
-  rest : List LineBlock
-  owed : owed_blocks past ≡ first ∷ rest
-  same : same_item head.item (block_item first) ≡ true
-  alone : (other : ℕ) (sending : Sending) → awaited past other ≡ Some sending → other ≡ serial
+pub record IsAlone (past : Record) (serial : ℕ) (now : Sending) : Type 0 where
+  pub head : Head
+  pub heads : now.heads ≡ head ∷ []
+  pub first : LineBlock
+  pub rest : List LineBlock
+  pub owed : owed_blocks past ≡ first ∷ rest
+  pub same : same_item head.item (block_item first) ≡ true
+  pub alone : (other : ℕ) (sending : Sending) → awaited past other ≡ Some sending → other ≡ serial
 
-record WritesAlone (past : Record) : Type 0 where
-  writes : (serial : ℕ) (now : Sending) → awaited past serial ≡ Some now → is_write now ≡ true → IsAlone past serial now
-  frames : (serial : ℕ) (now : Sending) → awaited past serial ≡ Some now → is_write now ≡ false → owed_blocks past ≡ []
+pub record WritesAlone (past : Record) : Type 0 where
+  pub writes : (serial : ℕ) (now : Sending) → awaited past serial ≡ Some now → is_write now ≡ true → IsAlone past serial now
+  pub frames : (serial : ℕ) (now : Sending) → awaited past serial ≡ Some now → is_write now ≡ false → owed_blocks past ≡ []
 
 write_was : (now before : Sending) → now.heads ≡ before.heads → is_write before ≡ is_write now
 write_was now before same = ap (list_any (λ head. is_block head.item)) (sym same)
@@ -276,7 +276,7 @@ same_one past serial arrival a b first second fit = ap (λ s. has_heads s.heads 
 no_good : (past : Record) (serial : ℕ) (before : Sending) (arrival : Arrival) → awaited past serial ≡ Some before → ((other : ℕ) (sending : Sending) → awaited past other ≡ Some sending → other ≡ serial) → fits serial before.heads arrival ≡ false → list_any has_good (judged_by past arrival) ≡ false
 no_good past serial before arrival there alone other =
     by_bool (list_any has_good (judged_by past arrival))
-    (λ t. let for = good_for past arrival t in
+    (λ t. let for = good-for past arrival t in
     let same : arrival.serial ≡ serial = alone arrival.serial for.sending for.there in
     let fit : has_heads before.heads arrival.parts ≡ true =
     same_one past serial arrival before for.sending there (sym (ap (awaited past) same) ∙ for.there) for.fit in
@@ -295,7 +295,7 @@ came_write past arrival serial now all still w =
       heads = still.was.heads ∙ one.heads;
       first = one.first;
       rest = one.rest;
-      owed = owed_same past arrival none ∙ one.owed;
+      owed = owed-same past arrival none ∙ one.owed;
       same = one.same;
       alone = λ other sending e. let was = (still_came past other arrival sending e).was in one.alone other was.before was.there;
     }
@@ -326,8 +326,8 @@ alive_heads : (serial : ℕ) (sending now : Sending) (over : Bool) → cond over
 alive_heads serial sending now true e = absurd (none_some now e)
 alive_heads serial sending now false e = ap (λ s. s.heads) (sym (same_sending _ now e))
 
-alive_same : (serial : ℕ) (sending now : Sending) → alive serial sending ≡ Some now → now.heads ≡ sending.heads
-alive_same serial sending now e = alive_heads serial sending now (is_ended serial sending || all_sent_again sending.since sending.heads) e
+pub awaited-heads : (serial : ℕ) (sending now : Sending) → alive serial sending ≡ Some now → now.heads ≡ sending.heads
+awaited-heads serial sending now e = alive_heads serial sending now (is_ended serial sending || all_sent_again sending.since sending.heads) e
 
 no_blocks : (line : List Member) (frame : List Named) → list_any (λ head. is_block head.item) (data_heads line frame) ≡ false
 no_blocks line [] = refl
@@ -353,12 +353,12 @@ older_wrote past block serial now e t =
 
 new_wrote : (past : Record) (block : LineBlock) (serial : ℕ) (now : Sending) → awaited (Wrote block ∷ past) serial ≡ Some now → (next_serial past == serial) ≡ true → now.heads ≡ write_head block ∷ []
 new_wrote past block serial now e t =
-    alive_same serial (just_sent (write_head block ∷ [])) now
+    awaited-heads serial (just_sent (write_head block ∷ [])) now
     (new_or_older serial (next_serial past == serial) (Some (just_sent (write_head block ∷ []))) (option_map (followed_by (Wrote block)) (sending_of past serial)) now e t)
 
 new_sent : (past : Record) (frame : List Named) (serial : ℕ) (now : Sending) → awaited (Sent frame ∷ past) serial ≡ Some now → (next_serial past == serial) ≡ true → now.heads ≡ data_heads (line_of past) frame
 new_sent past frame serial now e t =
-    alive_same serial (just_sent (data_heads (line_of past) frame)) now
+    awaited-heads serial (just_sent (data_heads (line_of past) frame)) now
     (new_or_older serial (next_serial past == serial) (Some (just_sent (data_heads (line_of past) frame))) (option_map (followed_by (Sent frame)) (sending_of past serial)) now e t)
 
 -- frames are sent where nothing is owed, so no write is awaited then
@@ -413,37 +413,41 @@ wrote_frames past block rest serial now all owed e w =
     (λ t. let never : true ≡ false = sym (ap (list_any (λ head. is_block head.item)) (new_wrote past block serial now e t)) ∙ w in cc)
     (λ t. nothing_older past block rest serial now all owed (older_wrote past block serial now e t))
 
-alone_grows : Keeps WritesAlone
-alone_grows past (Opened groups) accepted all = absurd accepted
-alone_grows past (Edited edit) accepted all = record {
+pub alone-grows : Keeps WritesAlone
+alone-grows past (Opened groups) accepted all = absurd accepted
+alone-grows past (Edited edit) accepted all = record {
   writes = λ serial now e w. absurd (none_some now (sym (alive_edited serial edit (sending_of past serial)) ∙ e));
   frames = λ serial now e w. absurd (none_some now (sym (alive_edited serial edit (sending_of past serial)) ∙ e));
 }
-alone_grows past (Posted task bytes) accepted all = record {
+alone-grows past (Posted task bytes) accepted all = record {
   writes = λ serial now e w. posted_write past task bytes serial now all (still_other past serial (Posted task bytes) now (λ heads. refl) refl e) w;
   frames = λ serial now e w.
       let still = still_other past serial (Posted task bytes) now (λ heads. refl) refl e in
       all.frames serial still.was.before still.was.there (write_was now still.was.before still.was.heads ∙ w);
 }
-alone_grows past (Sent frame) accepted all = record {
+alone-grows past (Sent frame) accepted all = record {
   writes = λ serial now e w. absurd (sent_write past frame serial now all accepted.programmed e w);
   frames = λ serial now e w. accepted.programmed;
 }
-alone_grows past (Wrote block) accepted all = record {
+alone-grows past (Wrote block) accepted all = record {
   writes = λ serial now e w. wrote_write past block accepted.rest serial now all accepted.first e;
   frames = λ serial now e w. absurd (wrote_frames past block accepted.rest serial now all accepted.first e w);
 }
-alone_grows past (Came arrival) accepted all = record {
+alone-grows past (Came arrival) accepted all = record {
   writes = λ serial now e w. came_write past arrival serial now all (still_came past serial arrival now e) w;
   frames = λ serial now e w. came_frames past arrival serial now all (still_came past serial arrival now e) w;
 }
 
-just_opened_alone : (groups : List Group) → WritesAlone (just_opened groups)
-just_opened_alone groups = record {
+pub just-opened_alone : (groups : List Group) → WritesAlone (just_opened groups)
+just-opened_alone groups = record {
   writes = λ serial now e w. absurd (none_some now e);
   frames = λ serial now e w. absurd (none_some now e);
 }
 
+-- so it is of each record of accepted entries
+pub all-alone : (past : Record) → AreAccepted past → WritesAlone past
+all-alone past all = held-of_accepted WritesAlone alone-grows just-opened_alone past all
+
 pub writes-alone : (groups : List Group) (steps : List Step) (serial other : ℕ) (write sending : Sending) → awaited (record_of groups steps) serial ≡ Some write → is_write write ≡ true → awaited (record_of groups steps) other ≡ Some sending → other ≡ serial
 writes-alone groups steps serial other write sending there w e =
-    ((kept-after_all WritesAlone alone_grows (just_opened groups) steps (just_opened_alone groups)).writes serial write there w).alone other sending e
+    ((kept-after_all WritesAlone alone-grows (just_opened groups) steps (just-opened_alone groups)).writes serial write there w).alone other sending e

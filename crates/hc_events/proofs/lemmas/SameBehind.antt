@@ -156,8 +156,9 @@ stale_told (datagram ∷ datagrams) e =
     (λ t. rw t (block_told datagram.verdict first))
     (λ t. rw (t, e) refl)
 
-told_of_news : (datagrams : List Judged) → told_of datagrams ≡ told_of (news datagrams)
-told_of_news datagrams =
+-- an arrival is told as its news are
+pub told-of_news : (datagrams : List Judged) → told_of datagrams ≡ told_of (news datagrams)
+told-of_news datagrams =
     by_bool (list_any is_news datagrams)
     (λ t. sym (ap (λ b. told_of (cond b datagrams [])) t))
     (λ t. stale_told datagrams t ∙ sym (ap (λ b. told_of (cond b datagrams [])) t))
@@ -168,7 +169,7 @@ same_news a b arrival same = sym (without-news a arrival) ∙ ap (λ past. news 
 same_told : (a b : Record) (read : Result Arrival FrameFault) → SameWithout a b → told_of_arrival a read ≡ told_of_arrival b read
 same_told a b (Err fault) same = refl
 same_told a b (Ok arrival) same =
-    told_of_news (judged_by a arrival) ∙ ap told_of (same_news a b arrival same) ∙ sym (told_of_news (judged_by b arrival))
+    told-of_news (judged_by a arrival) ∙ ap told_of (same_news a b arrival same) ∙ sym (told-of_news (judged_by b arrival))
 
 -- events
 

@@ -147,14 +147,14 @@ any_none (datagram ∷ datagrams) e =
     let bad : has_good datagram ≡ false = good_news datagram.verdict parts.0 in
     rw bad (any_none datagrams parts.1)
 
-goods_of_news : (datagrams : List Judged) → flat_map fresh datagrams ≡ flat_map fresh (news datagrams)
-goods_of_news datagrams =
+pub goods-of_news : (datagrams : List Judged) → flat_map fresh datagrams ≡ flat_map fresh (news datagrams)
+goods-of_news datagrams =
     by_bool (list_any is_news datagrams)
     (λ t. rw t refl)
     (λ t. goods_none datagrams t ∙ sym (ap (λ b. flat_map fresh (cond b datagrams [])) t))
 
-any_of_news : (datagrams : List Judged) → list_any has_good datagrams ≡ list_any has_good (news datagrams)
-any_of_news datagrams =
+pub any-of_news : (datagrams : List Judged) → list_any has_good datagrams ≡ list_any has_good (news datagrams)
+any-of_news datagrams =
     by_bool (list_any is_news datagrams)
     (λ t. rw t refl)
     (λ t. any_none datagrams t ∙ sym (ap (λ b. list_any has_good (cond b datagrams [])) t))
@@ -162,13 +162,13 @@ any_of_news datagrams =
 -- so the good answers of an arrival
 pub without-fresh : (past : Record) (arrival : Arrival) → fresh_by (without_stale past) arrival ≡ fresh_by past arrival
 without-fresh past arrival =
-    goods_of_news (judged_by (without_stale past) arrival) ∙ ap (flat_map fresh) (without-news past arrival) ∙ sym (goods_of_news (judged_by past arrival))
+    goods-of_news (judged_by (without_stale past) arrival) ∙ ap (flat_map fresh) (without-news past arrival) ∙ sym (goods-of_news (judged_by past arrival))
 
 pub without-good : (past : Record) (arrival : Arrival) → list_any has_good (judged_by (without_stale past) arrival) ≡ list_any has_good (judged_by past arrival)
 without-good past arrival =
-    any_of_news (judged_by (without_stale past) arrival)
+    any-of_news (judged_by (without_stale past) arrival)
     ∙ ap (list_any has_good) (without-news past arrival)
-    ∙ sym (any_of_news (judged_by past arrival))
+    ∙ sym (any-of_news (judged_by past arrival))
 
 pub without-slot : (past : Record) (task d : ℕ) → slot_of (without_stale past) task d ≡ slot_of past task d
 without-slot [] task d = refl

@@ -1,4 +1,4 @@
-use Rattle.hc_events.proofs.Answers.{answered-of_line}
+use Rattle.hc_events.proofs.lemmas.Answers.{answered-of_line}
 use Rattle.hc_events.proofs.laws.answered_are_of_the_line.Goals as goal
 
 pub returns : goal.returns

@@ -1,4 +1,4 @@
-use Rattle.hc_events.proofs.Answers.{answers-first}
+use Rattle.hc_events.proofs.lemmas.Answers.{answers-first}
 use Rattle.hc_events.proofs.laws.answers_the_serial.Goals as goal
 
 pub returns : goal.returns

@@ -1,4 +1,4 @@
-use Rattle.hc_events.proofs.Answers.{awaited-answered}
+use Rattle.hc_events.proofs.lemmas.Answers.{awaited-answered}
 use Rattle.hc_events.proofs.laws.awaited_are_answered.Goals as goal
 
 pub returns : goal.returns

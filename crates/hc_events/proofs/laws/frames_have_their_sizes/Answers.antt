@@ -1,4 +1,4 @@
-use Rattle.hc_events.proofs.Proposals.{frames-sized}
+use Rattle.hc_events.proofs.lemmas.Frames.{frames-sized}
 use Rattle.hc_events.proofs.laws.frames_have_their_sizes.Goals as goal
 
 pub returns : goal.returns

@@ -1,4 +1,4 @@
-use Rattle.hc_events.proofs.Numbers.{proposals-numbered}
+use Rattle.hc_events.proofs.lemmas.Frames.{proposals-numbered}
 use Rattle.hc_events.proofs.laws.proposals_are_numbered.Goals as goal
 
 pub returns : goal.returns

@@ -1,4 +1,4 @@
-use Rattle.hc_plan.proofs.Configured.{block-configured, configured-block}
+use Rattle.hc_plan.proofs.lemmas.Configured.{block-configured, configured-block}
 use Rattle.hc_plan.proofs.laws.blocks_are_configured.Goals as goal
 
 pub returns : goal.returns

@@ -7,7 +7,7 @@ use Rattle.hc_places.specs.declared.table.Datagram.{Datagram}
 use Rattle.hc_places.specs.Table.{Table, datagrams_in}
 use Rattle.hc_sendings.specs.Framing.{done_by, framed_from, last_with}
 use Rattle.hc_sendings.proofs.Framed.{framed-more, numbers-more, serial-more}
-use Rattle.hc_sendings.proofs.Listed.{listed-count, listed-length}
+use Rattle.hc_sendings.proofs.lemmas.Listed.{listed-count, listed-length}
 use Rattle.hc_sendings.proofs.framing.place_task.Goals as goal
 
 abbrev blank : Datagram

@@ -1,7 +1,7 @@
 use Rattle.std.proofs.Common.{◌∙◌, ◌+◌, ◌<◌, ℕ, ap, arith, get_or, length}
 use Rattle.hc_places.specs.declared.table.Datagram.{Datagram}
 use Rattle.hc_places.specs.Table.{Table, datagrams_in}
-use Rattle.hc_sendings.proofs.Listed.{listed-count, listed-length}
+use Rattle.hc_sendings.proofs.lemmas.Listed.{listed-count, listed-length}
 use Rattle.hc_sendings.proofs.parts.own_bytes.Goals as goal
 
 abbrev blank : Datagram

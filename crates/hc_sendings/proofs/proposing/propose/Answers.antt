@@ -3,7 +3,7 @@ use Rattle.std.specs.Prelude.{All}
 use Rattle.hc_records.specs.Line.{line}
 use Rattle.hc_events.specs.Accepted.{StandsIn}
 use Rattle.hc_events.specs.Sendings.{Frame}
-use Rattle.hc_sendings.proofs.Whole.{frames-stand}
+use Rattle.hc_sendings.proofs.lemmas.Whole.{frames-stand}
 use Rattle.hc_sendings.proofs.proposing.propose.Goals as goal
 
 pub returns-clause-stand : goal.returns-clause-stand

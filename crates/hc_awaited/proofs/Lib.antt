@@ -1,0 +1,9 @@
+pub mod Noted
+pub mod Alive
+pub mod Sent
+pub mod Ended
+pub mod Found
+pub mod Room
+pub mod Rows
+pub mod Walked
+pub mod Told

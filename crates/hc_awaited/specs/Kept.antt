@@ -1,0 +1,59 @@
+-- How awaited frames are kept: with a table that has, for each datagram, the serial of the newest frame that it was sent in. Contracts inside the crate cite it.
+use Rattle.std.specs.Prelude.{◌≡◌, ◌<◌, ℕ, ◌+◌, ◌*◌, ◌==◌, not, Bool, false, if◌then◌else◌, List, All, AllPairs, filter, fold, length, map, slice_index_or, Option, Some, None, option_and_then}
+use Rattle.std.specs.List.{list_any}
+use Rattle.std.specs.Option.{option_map_or}
+use Rattle.hc_records.specs.declared.limits.TheConstants.{MOST_DATAGRAMS, TASKS}
+use Rattle.hc_events.specs.Sendings.{Frame, Named}
+use Rattle.hc_events.specs.Answering.{only_if}
+use Rattle.hc_awaited.specs.Waiting.{AwaitedFrame, Carried, IsNamed, is_alive, is_named}
+
+-- the datagrams of the tasks one after another, sixteen a task
+abbrev pub place_of : Named → ℕ
+place_of named = MOST_DATAGRAMS * named.0 + named.1
+
+-- the newest frame's serial of each; none where a datagram wasn't sent or its newest frame was answered
+abbrev pub Newest : Type 0
+Newest = List (Option ℕ)
+
+abbrev pub newest_of : Newest → Named → Option ℕ
+newest_of newest named = slice_index_or newest (place_of named) None
+
+abbrev pub is_serial : ℕ → Option ℕ → Bool
+is_serial serial found = option_map_or (λ other. other == serial) found false
+
+abbrev pub is_newest : Newest → ℕ → Named → Bool
+is_newest newest serial named = is_serial serial (newest_of newest named)
+
+-- without this one
+abbrev pub without : ℕ → Option ℕ → Option ℕ
+without serial found = option_and_then (only_if (λ other. not (other == serial))) found
+
+-- the newest frame of a datagram behind these frames
+abbrev pub newest_after : Named → Option ℕ → List Frame → Option ℕ
+newest_after named newest frames =
+    fold (λ found frame. if list_any (is_named named) frame.datagrams then Some frame.serial else found) newest frames
+
+-- a frame as it is kept: its serial and its datagrams
+pub record Kept : Type 0 where
+  pub serial : ℕ
+  pub datagrams : List Named
+
+abbrev pub kept_of : Frame → Kept
+kept_of frame = record { serial = frame.serial; datagrams = frame.datagrams }
+
+-- what the table says of it
+abbrev pub carried_by : Newest → ℕ → Named → Carried
+carried_by newest serial named = record { datagram = named; newest = is_newest newest serial named }
+
+abbrev pub told_by : Newest → Kept → AwaitedFrame
+told_by newest frame = record { serial = frame.serial; datagrams = map (carried_by newest frame.serial) frame.datagrams }
+
+-- those are awaited that are the newest of some datagram
+abbrev pub awaited_frames : Newest → List Kept → List AwaitedFrame
+awaited_frames newest frames = filter is_alive (map (told_by newest) frames)
+
+-- the table has a place for each datagram; serials ascend; datagrams have a place
+pub record AreKept (newest : Newest) (frames : List Kept) : Type 0 where
+  pub places : length newest ≡ TASKS * MOST_DATAGRAMS
+  pub ascend : AllPairs (λ a b. a.serial < b.serial) frames
+  pub named : All (λ frame. All IsNamed frame.datagrams) frames

@@ -1,0 +1,4 @@
+pub mod Waiting
+pub mod Judging
+pub mod Kept
+pub mod Walk

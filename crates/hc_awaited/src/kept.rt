@@ -1,0 +1,52 @@
+//! A frame of tasks as it is kept while it is awaited.
+use arrayvec::ArrayVec;
+use hc_events::sending::{Named, Sending};
+use std::marker::Model;
+
+/// The serial of a frame, and its datagrams in order. It owns no memory.
+#[derive(Debug, Drop)]
+pub(crate) struct Kept {
+    serial: u64,
+    datagrams: ArrayVec<Named, 115>,
+}
+
+impl Model for Kept {
+    ghost use Rattle.hc_awaited.specs.Kept.{Kept};
+
+    ghost Value = { Kept };
+
+    ghost view = { λ kept. record { serial = kept.serial; datagrams = kept.datagrams.items } };
+}
+
+impl Kept {
+    ghost use Rattle.std.specs.Prelude.{◌≡◌};
+    ghost use Rattle.hc_awaited.specs.Kept.{kept_of};
+
+    /// What is kept of a frame.
+    pub(crate) fn of(frame: &Sending) -> Kept
+        ensures { result ≡ kept_of frame.now }
+    {
+        let mut datagrams = ArrayVec::new();
+        for datagram in frame.datagrams() {
+            datagrams.push(*datagram);
+        }
+        Kept {
+            serial: frame.serial(),
+            datagrams,
+        }
+    }
+
+    /// Its serial.
+    pub(crate) fn serial(&self) -> u64
+        ensures { result ≡ self.now.serial }
+    {
+        self.serial
+    }
+
+    /// Its datagrams, in order.
+    pub(crate) fn datagrams(&self) -> &[Named]
+        ensures { result.now ≡ self.now.datagrams }
+    {
+        self.datagrams.as_slice()
+    }
+}

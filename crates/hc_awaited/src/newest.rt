@@ -1,0 +1,103 @@
+//! In which frame each datagram was sent last.
+ghost use Rattle.std.specs.Prelude.{◌≡◌, ℕ, None, length, slice_index_or};
+ghost use Rattle.hc_awaited.specs.Kept.{place_of, without};
+
+use hc_events::sending::Named;
+use hc_records::limits::{MOST_DATAGRAMS, TASKS};
+use std::alloc::{AllocError, Global};
+use std::marker::Model;
+
+/// The datagrams that tasks can have, 16 each.
+pub(crate) const PLACES: usize = TASKS as usize * MOST_DATAGRAMS;
+
+/// For each datagram that a task can have the serial of the newest frame that it was sent in; none where
+/// it wasn't sent, or that frame was answered.
+#[derive(Debug, Drop)]
+pub(crate) struct Newest {
+    serials: Vec<Option<u64>>,
+}
+
+impl Model for Newest {
+    ghost use Rattle.std.specs.Prelude.{◌≡◌, length};
+    ghost use Rattle.hc_awaited.specs.Kept.{Newest};
+    ghost use Rattle.hc_awaited.specs.declared.newest.TheConstants.{PLACES};
+
+    ghost Value = { Newest };
+
+    ghost view = { λ newest. newest.serials.items };
+
+    ghost invariant = { λ newest. length newest.serials.items ≡ PLACES };
+}
+
+/// Where a datagram stands among those of all tasks.
+fn place_of(datagram: Named) -> usize
+    ensures { result ≡ place_of datagram }
+{
+    MOST_DATAGRAMS * usize::from(datagram.0) + usize::from(datagram.1)
+}
+
+impl Newest {
+    ghost use Rattle.std.specs.Prelude.{◌≡◌, All, IfOk, Some, length, if◌then◌else◌};
+    ghost use Rattle.std.specs.List.{list_any};
+    ghost use Rattle.hc_events.specs.Sendings.{Named};
+    ghost use Rattle.hc_awaited.specs.Kept.{is_newest, newest_of, without};
+    ghost use Rattle.hc_awaited.specs.Waiting.{IsNamed, is_named};
+    ghost use Rattle.hc_awaited.specs.declared.newest.TheConstants.{PLACES};
+
+    /// No datagram was sent. `AllocError` where the table's memory was refused.
+    pub(crate) fn new(alloc: Global) -> Result<Newest, AllocError>
+        ensures { IfOk result (λ newest. length newest ≡ PLACES) }
+    {
+        Ok(Newest {
+            serials: vec![in alloc; None; PLACES]?,
+        })
+    }
+
+    /// Whether the newest frame that a datagram was sent in has this serial.
+    pub(crate) fn is(&self, serial: u64, datagram: Named) -> bool
+        ensures { result ≡ is_newest self.now serial datagram }
+    {
+        match self.serials.get(place_of(datagram)) {
+            Some(newest) => *newest == Some(serial),
+            None => false,
+        }
+    }
+
+    /// Whether the frame with this serial is the newest of one of these datagrams.
+    pub(crate) fn is_any(&self, serial: u64, datagrams: &[Named]) -> bool
+        ensures { result ≡ list_any (is_newest self.now serial) datagrams.now }
+    {
+        datagrams.iter().any(|datagram| self.is(serial, *datagram))
+    }
+
+    /// Datagrams are sent in a frame with this serial.
+    pub(crate) fn note(&mut self, serial: u64, datagrams: &[Named])
+        requires { All IsNamed datagrams.now }
+        ensures places { length self.new ≡ length self.old }
+        ensures noted { (named : Named) → IsNamed named → newest_of self.new named ≡ (if list_any (is_named named) datagrams.now then Some serial else newest_of self.old named) }
+    {
+        for datagram in datagrams {
+            self.serials[place_of(*datagram)] = Some(serial);
+        }
+    }
+
+    /// The frame with this serial was answered.
+    pub(crate) fn forget(&mut self, serial: u64)
+        ensures places { length self.new ≡ length self.old }
+        ensures forgotten { (named : Named) → newest_of self.new named ≡ without serial (newest_of self.old named) }
+    {
+        forget(&mut self.serials, serial);
+    }
+}
+
+/// No datagram has this serial any more.
+fn forget(serials: &mut [Option<u64>], serial: u64)
+    ensures forgotten { (place : ℕ) → slice_index_or serials.new place None ≡ without serial (slice_index_or serials.old place None) }
+    ensures places { length serials.new ≡ length serials.old }
+{
+    for newest in serials {
+        if *newest == Some(serial) {
+            *newest = None;
+        }
+    }
+}

@@ -1,0 +1,246 @@
+-- An arrival answers a sending as its first answer, of the present line, and what is awaited is what is answered.
+use Rattle.std.proofs.Common.{◌≡◌, ℕ, ◌==◌, Bool, true, false, cond, not, ◌&&◌, ◌||◌, List, [], ◌∷◌, ◌++◌, filter, refl, sym, ap, ◌∙◌, subst, Option, Some, None}
+use Rattle.std.specs.Prelude.{All, Contains, option_and_then}
+use Rattle.std.specs.Option.{option_map_or}
+use Rattle.std.specs.List.{list_any, zip}
+use Rattle.std.proofs.lemmas.Bool.{and_parts, eq-eqb, eqb-true, not-true, or_parts}
+use Rattle.std.proofs.lemmas.List.Elements.{All-nil, All-cons, All-head, All-tail, All-contains_itself}
+use Rattle.hc_records.specs.declared.records.Group.{Group}
+use Rattle.hc_records.specs.Line.{Member}
+use Rattle.hc_registers.specs.Blocks.{LineBlock, line_blocks}
+use Rattle.hc_records.proofs.lemmas.Lists.{All-passing}
+use Rattle.hc_events.specs.Arrivals.{Arrival}
+use Rattle.hc_events.specs.Entries.{Entry, Record, Opened, Edited, Posted, Sent, Wrote, Came}
+use Rattle.hc_events.specs.Points.{line_of}
+use Rattle.hc_events.specs.Sendings.{Named}
+use Rattle.hc_events.specs.Heads.{Head, data_head, data_heads, write_head}
+use Rattle.hc_events.specs.Answering.{Sending, answered_by, ends, fits, has_heads, is_answer, is_news, is_stale_to, judged, only_if, sending_of}
+use Rattle.hc_events.specs.Awaited.{alive, all_sent_again, is_ended, is_no_arrival}
+use Rattle.hc_events.specs.Owed.{is_owed, owed_blocks}
+use Rattle.hc_events.specs.Steps.{Step}
+use Rattle.hc_events.specs.Accepted.{AreAccepted, IsAccepted, StandsIn, just_opened, record_of}
+use Rattle.hc_events.specs.SendingLaws.{heads_of, is_opening, is_sending}
+use Rattle.hc_events.specs.AnswerLaws.{AnswersTheAwaited, IsAnsweredAs, IsAwaited, IsFirstAnswer, IsHeadOf, LeavesOpen}
+use Rattle.hc_events.proofs.lemmas.Accepted.{accepted-more, kept-after_all}
+use Rattle.hc_events.proofs.lemmas.Awaited.{by_bool, judged-filter, news-is, same_is}
+use Rattle.hc_events.proofs.lemmas.Once.{only-if_some}
+use Rattle.hc_events.proofs.lemmas.Standing.{standing-found, stands-at}
+
+-- entries that leave a sending open are those that don't end it
+
+left_by_arrival : (serial : ℕ) (heads : List Head) (other : Arrival) → fits serial heads other ≡ false → LeavesOpen serial heads (Came other)
+left_by_arrival serial heads other none = λ same.
+    sym (ap (λ b. b && has_heads heads other.parts) (eq-eqb serial other.serial (sym same))) ∙ none
+
+still_open : (serial : ℕ) (heads : List Head) (since : List Entry) → list_any is_opening since ≡ false → list_any (ends serial heads) since ≡ false → All (LeavesOpen serial heads) since
+still_open serial heads [] running none = All-nil (LeavesOpen serial heads)
+still_open serial heads (Opened groups ∷ since) running none = cc
+still_open serial heads (Edited edit ∷ since) running none = cc
+still_open serial heads (Posted task bytes ∷ since) running none = All-cons (LeavesOpen serial heads) (Posted task bytes) since tt (still_open serial heads since running none)
+still_open serial heads (Sent frame ∷ since) running none = All-cons (LeavesOpen serial heads) (Sent frame) since tt (still_open serial heads since running none)
+still_open serial heads (Wrote block ∷ since) running none = All-cons (LeavesOpen serial heads) (Wrote block) since tt (still_open serial heads since running none)
+still_open serial heads (Came other ∷ since) running none =
+    let parts = or_parts (fits serial heads other) (list_any (ends serial heads) since) none in
+    All-cons (LeavesOpen serial heads) (Came other) since (left_by_arrival serial heads other parts.0) (still_open serial heads since running parts.1)
+
+unfit : (serial : ℕ) (heads : List Head) (other : Arrival) → LeavesOpen serial heads (Came other) → fits serial heads other ≡ false
+unfit serial heads other leaves =
+    by_bool (serial == other.serial)
+    (λ t. let none : has_heads heads other.parts ≡ false = leaves (sym (eqb-true serial other.serial t)) in rw (t, none) refl)
+    (λ t. rw t refl)
+
+pub none-ends : (serial : ℕ) (heads : List Head) (since : List Entry) → All (LeavesOpen serial heads) since → list_any (ends serial heads) since ≡ false
+none-ends serial heads [] all = refl
+none-ends serial heads (Opened groups ∷ since) all = absurd (All-head (LeavesOpen serial heads) (Opened groups) since all)
+none-ends serial heads (Edited edit ∷ since) all = absurd (All-head (LeavesOpen serial heads) (Edited edit) since all)
+none-ends serial heads (Posted task bytes ∷ since) all = none-ends serial heads since (All-tail (LeavesOpen serial heads) (Posted task bytes) since all)
+none-ends serial heads (Sent frame ∷ since) all = none-ends serial heads since (All-tail (LeavesOpen serial heads) (Sent frame) since all)
+none-ends serial heads (Wrote block ∷ since) all = none-ends serial heads since (All-tail (LeavesOpen serial heads) (Wrote block) since all)
+none-ends serial heads (Came other ∷ since) all =
+    ap (λ b. b || list_any (ends serial heads) since) (unfit serial heads other (All-head (LeavesOpen serial heads) (Came other) since all))
+    ∙ none-ends serial heads since (All-tail (LeavesOpen serial heads) (Came other) since all)
+
+pub none-opened : (serial : ℕ) (heads : List Head) (since : List Entry) → All (LeavesOpen serial heads) since → list_any is_opening since ≡ false
+none-opened serial heads [] all = refl
+none-opened serial heads (Opened groups ∷ since) all = absurd (All-head (LeavesOpen serial heads) (Opened groups) since all)
+none-opened serial heads (Edited edit ∷ since) all = none-opened serial heads since (All-tail (LeavesOpen serial heads) (Edited edit) since all)
+none-opened serial heads (Posted task bytes ∷ since) all = none-opened serial heads since (All-tail (LeavesOpen serial heads) (Posted task bytes) since all)
+none-opened serial heads (Sent frame ∷ since) all = none-opened serial heads since (All-tail (LeavesOpen serial heads) (Sent frame) since all)
+none-opened serial heads (Wrote block ∷ since) all = none-opened serial heads since (All-tail (LeavesOpen serial heads) (Wrote block) since all)
+none-opened serial heads (Came other ∷ since) all = none-opened serial heads since (All-tail (LeavesOpen serial heads) (Came other) since all)
+
+-- a first answer is the answer
+
+pub chosen : (test : Sending → Bool) (found : Option Sending) (sending : Sending) → found ≡ Some sending → test sending ≡ true → option_and_then (only_if test) found ≡ Some sending
+chosen test found sending there passes = ap (option_and_then (only_if test)) there ∙ ap (λ b. cond b (Some sending) None) passes
+
+pub answer-is : (arrival : Arrival) (sending : Sending) → has_heads sending.heads arrival.parts ≡ true → list_any (ends arrival.serial sending.heads) sending.since ≡ false → is_answer arrival sending ≡ true
+answer-is arrival sending fit none = rw (same_is arrival.serial, fit, none) refl
+
+first_answer : (past : Record) (arrival : Arrival) (sending : Sending) → answered_by past arrival ≡ Some sending → IsFirstAnswer past arrival sending
+first_answer past arrival sending e =
+    let found = only-if_some (sending_of past arrival.serial) (is_answer arrival) sending e in
+    let both = and_parts (fits arrival.serial sending.heads arrival) _ found.1 in
+    let at = stands-at past arrival.serial sending found.0 in
+    record {
+      stands = at;
+      fits = (and_parts (arrival.serial == arrival.serial) _ both.0).1;
+      left_open = still_open arrival.serial sending.heads sending.since at.running (not-true _ both.1);
+    }
+
+answer_first : (past : Record) (arrival : Arrival) (sending : Sending) → IsFirstAnswer past arrival sending → answered_by past arrival ≡ Some sending
+answer_first past arrival sending first =
+    chosen (is_answer arrival) (sending_of past arrival.serial) sending (standing-found past arrival.serial sending first.stands)
+    (answer-is arrival sending first.fits (none-ends arrival.serial sending.heads sending.since first.left_open))
+
+pub answers-first : (past : Record) (arrival : Arrival) (sending : Sending) → (answered_by past arrival ≡ Some sending → IsFirstAnswer past arrival sending) × (IsFirstAnswer past arrival sending → answered_by past arrival ≡ Some sending)
+answers-first past arrival sending = (first_answer past arrival sending, answer_first past arrival sending)
+
+-- an answered sending is of the present line
+
+same_line : (serial : ℕ) (heads : List Head) (since : List Entry) (past : Record) → All (LeavesOpen serial heads) since → line_of (since ++ past) ≡ line_of past
+same_line serial heads [] past all = refl
+same_line serial heads (Opened groups ∷ since) past all = absurd (All-head (LeavesOpen serial heads) (Opened groups) since all)
+same_line serial heads (Edited edit ∷ since) past all = absurd (All-head (LeavesOpen serial heads) (Edited edit) since all)
+same_line serial heads (Posted task bytes ∷ since) past all = same_line serial heads since past (All-tail (LeavesOpen serial heads) (Posted task bytes) since all)
+same_line serial heads (Sent frame ∷ since) past all = same_line serial heads since past (All-tail (LeavesOpen serial heads) (Sent frame) since all)
+same_line serial heads (Wrote block ∷ since) past all = same_line serial heads since past (All-tail (LeavesOpen serial heads) (Wrote block) since all)
+same_line serial heads (Came other ∷ since) past all = same_line serial heads since past (All-tail (LeavesOpen serial heads) (Came other) since all)
+
+same_sent : (before : Record) (entry : Entry) → is_sending entry ≡ true → line_of (entry ∷ before) ≡ line_of before
+same_sent before (Opened groups) sends = cc
+same_sent before (Edited edit) sends = cc
+same_sent before (Posted task bytes) sends = cc
+same_sent before (Came arrival) sends = cc
+same_sent before (Sent frame) sends = refl
+same_sent before (Wrote block) sends = refl
+
+pub all-accepted : (groups : List Group) (steps : List Step) → AreAccepted (record_of groups steps)
+all-accepted groups steps = kept-after_all AreAccepted accepted-more (just_opened groups) steps refl
+
+-- what lies behind entries was accepted too
+accepted_at : (since : List Entry) (before : Record) (entry : Entry) → list_any is_opening since ≡ false → is_sending entry ≡ true → AreAccepted (since ++ entry ∷ before) → IsAccepted before entry
+accepted_at [] before (Opened groups) running sends all = cc
+accepted_at [] before (Edited edit) running sends all = cc
+accepted_at [] before (Posted task bytes) running sends all = cc
+accepted_at [] before (Came arrival) running sends all = cc
+accepted_at [] before (Sent frame) running sends all = all.0
+accepted_at [] before (Wrote block) running sends all = all.0
+accepted_at (Opened groups ∷ since) before entry running sends all = cc
+accepted_at (Edited edit ∷ since) before entry running sends all = accepted_at since before entry running sends all.1
+accepted_at (Posted task bytes ∷ since) before entry running sends all = accepted_at since before entry running sends all.1
+accepted_at (Sent frame ∷ since) before entry running sends all = accepted_at since before entry running sends all.1
+accepted_at (Wrote block ∷ since) before entry running sends all = accepted_at since before entry running sends all.1
+accepted_at (Came arrival ∷ since) before entry running sends all = accepted_at since before entry running sends all.1
+
+frame_of_line : (line : List Member) (frame : List Named) → All (StandsIn line) frame → All (IsHeadOf line) (data_heads line frame)
+frame_of_line line [] all = All-nil (IsHeadOf line)
+frame_of_line line (named ∷ frame) all =
+    All-cons (IsHeadOf line) (data_head line named) (data_heads line frame) (All-head (StandsIn line) named frame all, refl)
+    (frame_of_line line frame (All-tail (StandsIn line) named frame all))
+
+of_filter : (test : LineBlock → Bool) (blocks : List LineBlock) → All (Contains blocks) (filter test blocks)
+of_filter test blocks = All-passing (Contains blocks) test blocks (λ k d within passes. All-contains_itself blocks k d within)
+
+-- an owed block is one of the line
+pub owed-in_line : (past : Record) (block : LineBlock) (rest : List LineBlock) → owed_blocks past ≡ block ∷ rest → Contains (line_blocks (line_of past)) block
+owed-in_line past block rest first =
+    All-head (Contains (line_blocks (line_of past))) block rest
+    (subst (All (Contains (line_blocks (line_of past)))) first (of_filter (is_owed past) (line_blocks (line_of past))))
+
+heads_of_line : (before : Record) (entry : Entry) → is_sending entry ≡ true → IsAccepted before entry → All (IsHeadOf (line_of before)) (heads_of before entry)
+heads_of_line before (Opened groups) sends accepted = cc
+heads_of_line before (Edited edit) sends accepted = cc
+heads_of_line before (Posted task bytes) sends accepted = cc
+heads_of_line before (Came arrival) sends accepted = cc
+heads_of_line before (Sent frame) sends accepted = frame_of_line (line_of before) frame accepted.stands
+heads_of_line before (Wrote block) sends accepted =
+    All-cons (IsHeadOf (line_of before)) (write_head block) [] (block, owed-in_line before block accepted.rest accepted.first, refl) (All-nil (IsHeadOf (line_of before)))
+
+pub of-line : (past : Record) (arrival : Arrival) (sending : Sending) → AreAccepted past → IsFirstAnswer past arrival sending → All (IsHeadOf (line_of past)) sending.heads
+of-line past arrival sending all first =
+    let at = first.stands in
+    let accepted = accepted_at sending.since at.before at.entry at.running at.sends (subst AreAccepted at.split all) in
+    let line : line_of past ≡ line_of at.before =
+    ap line_of at.split ∙ same_line arrival.serial sending.heads sending.since (at.entry ∷ at.before) first.left_open ∙ same_sent at.before at.entry at.sends in
+    subst (λ heads. All (IsHeadOf (line_of past)) heads) (sym at.heads)
+    (subst (λ members. All (IsHeadOf members) (heads_of at.before at.entry)) (sym line) (heads_of_line at.before at.entry at.sends accepted))
+
+pub answered-of_line : (groups : List Group) (steps : List Step) (arrival : Arrival) (sending : Sending) → answered_by (record_of groups steps) arrival ≡ Some sending → All (IsHeadOf (line_of (record_of groups steps))) sending.heads
+answered-of_line groups steps arrival sending e =
+    of-line (record_of groups steps) arrival sending (all-accepted groups steps) (first_answer (record_of groups steps) arrival sending e)
+
+-- what is awaited is what is answered
+
+same_sending : (a b : Sending) → Some a ≡ Some b → a ≡ b
+same_sending a b e = cc
+
+-- an awaited sending, as it was made
+record IsAlive (serial : ℕ) (found : Option Sending) (sending : Sending) : Type 0 where
+  made : Sending
+  there : found ≡ Some made
+  goes_on : is_ended serial made ≡ false
+  news : all_sent_again made.since made.heads ≡ false
+  same : record { heads = made.heads; since = filter is_no_arrival made.since } ≡ sending
+
+alive_is : (serial : ℕ) (found : Option Sending) (sending : Sending) → option_and_then (alive serial) found ≡ Some sending → IsAlive serial found sending
+alive_is serial None sending e = cc
+alive_is serial (Some made) sending e =
+    by_bool (is_ended serial made)
+    (λ t. let never : None ≡ Some sending = rw t at e in cc)
+    (λ t. by_bool (all_sent_again made.since made.heads)
+    (λ u. let never : None ≡ Some sending = rw (t, u) at e in cc)
+    (λ u. let now : Some (record { heads = made.heads; since = filter is_no_arrival made.since }) ≡ Some sending = rw (t, u) at e in
+    record { made = made; there = refl; goes_on = t; news = u; same = same_sending _ sending now }))
+
+answered_as : (past : Record) (arrival : Arrival) (made sending : Sending) → sending_of past arrival.serial ≡ Some made → is_ended arrival.serial made ≡ false → has_heads made.heads arrival.parts ≡ true
+    → record { heads = made.heads; since = filter is_no_arrival made.since } ≡ sending → IsAnsweredAs past arrival sending
+answered_as past arrival made sending there goes_on fit same =
+    let found : answered_by past arrival ≡ Some made = chosen (is_answer arrival) (sending_of past arrival.serial) made there (answer-is arrival made fit goes_on) in
+    record {
+      answered = made;
+      found = found;
+      heads = ap (λ s. s.heads) same;
+      judged = ap (λ answer. option_map_or (judged arrival) answer []) found
+          ∙ sym (judged-filter made.since (zip made.heads arrival.parts)) ∙ ap (judged arrival) same;
+    }
+
+answers_awaited : (past : Record) (arrival : Arrival) (a : IsAwaited past arrival) → IsAnsweredAs past arrival a.sending
+answers_awaited past arrival a =
+    let live = alive_is arrival.serial (sending_of past arrival.serial) a.sending a.there in
+    answered_as past arrival live.made a.sending live.there live.goes_on (ap (λ s. has_heads s.heads arrival.parts) live.same ∙ a.fits) live.same
+
+is_fresh : (past : Record) (arrival : Arrival) → IsAwaited past arrival → is_stale_to past arrival ≡ false
+is_fresh past arrival a =
+    let live = alive_is arrival.serial (sending_of past arrival.serial) a.sending a.there in
+    let fit : has_heads live.made.heads arrival.parts ≡ true = ap (λ s. has_heads s.heads arrival.parts) live.same ∙ a.fits in
+    let found : answered_by past arrival ≡ Some live.made = chosen (is_answer arrival) (sending_of past arrival.serial) live.made live.there (answer-is arrival live.made fit live.goes_on) in
+    ap (λ answer. not (list_any is_news (option_map_or (judged arrival) answer []))) found
+    ∙ ap not (news-is live.made.since live.made.heads arrival.parts fit ∙ ap not live.news)
+
+twice : (b : Bool) → not (not b) ≡ false → b ≡ false
+twice true e = cc
+twice false e = refl
+
+-- an arrival with news for what it answers is awaited
+fresh_one : (past : Record) (arrival : Arrival) (found : Option Sending) → sending_of past arrival.serial ≡ found → not (list_any is_news (option_map_or (judged arrival) (option_and_then (only_if (is_answer arrival)) found) [])) ≡ false → IsAwaited past arrival
+fresh_one past arrival None there e = cc
+fresh_one past arrival (Some made) there e =
+    by_bool (is_answer arrival made)
+    (λ t. let both = and_parts (fits arrival.serial made.heads arrival) _ t in
+    let fit = (and_parts (arrival.serial == arrival.serial) _ both.0).1 in
+    let goes_on : is_ended arrival.serial made ≡ false = not-true _ both.1 in
+    let told : not (list_any is_news (judged arrival made)) ≡ false = rw t at e in
+    let news : all_sent_again made.since made.heads ≡ false = twice (all_sent_again made.since made.heads) (sym (ap not (news-is made.since made.heads arrival.parts fit)) ∙ told) in
+    record {
+      sending = record { heads = made.heads; since = filter is_no_arrival made.since };
+      there = ap (option_and_then (alive arrival.serial)) there ∙ rw (goes_on, news) refl;
+      fits = fit;
+    })
+    (λ t. let never : true ≡ false = rw t at e in cc)
+
+pub awaited-answered : (past : Record) (arrival : Arrival) → AnswersTheAwaited past arrival
+awaited-answered past arrival = record {
+  news = (fresh_one past arrival (sending_of past arrival.serial) refl, is_fresh past arrival);
+  answers = answers_awaited past arrival;
+}

@@ -1,0 +1,62 @@
+//! The data of one datagram.
+ghost use Rattle.std.specs.Prelude.{◌≡◌, ◌≤◌, IfOk, length};
+ghost use Rattle.hc_records.specs.declared.limits.TheConstants.{MOST_DATAGRAM_BYTES};
+
+use arrayvec::ArrayVec;
+use hc_records::items::Items;
+use std::alloc::{AllocError, Global};
+use std::marker::Model;
+
+/// The data of a datagram's last good answer in an epoch, or none, with room for the longest data.
+#[derive(Debug, Drop)]
+pub(crate) struct Slot {
+    is_fresh: bool,
+    bytes: ArrayVec<u8, 1486>,
+}
+
+impl Model for Slot {
+    ghost use Rattle.std.specs.Prelude.{ℕ, List, Option, Some, None, if◌then◌else◌};
+
+    ghost Value = { Option (List ℕ) };
+
+    ghost view = { λ slot. if slot.is_fresh then Some slot.bytes.items else None };
+}
+
+impl Slot {
+    /// One without data.
+    pub(crate) fn new() -> Slot
+        ensures { result ≡ None }
+    {
+        Slot {
+            is_fresh: false,
+            bytes: ArrayVec::new(),
+        }
+    }
+
+    /// From now on it has no data.
+    pub(crate) fn clear(&mut self)
+        ensures { self.new ≡ None }
+    {
+        self.is_fresh = false;
+    }
+
+    /// From now on it has these data, at most 1,486 bytes.
+    pub(crate) fn put(&mut self, bytes: &[u8])
+        requires { length bytes.now ≤ MOST_DATAGRAM_BYTES }
+        ensures { self.new ≡ Some bytes.now }
+    {
+        self.bytes.clear();
+        self.bytes.try_extend_from_slice(bytes).unwrap();
+        self.is_fresh = true;
+    }
+
+    /// A copy of its data, or none. `AllocError` where a growth was refused.
+    pub(crate) fn read(&self, alloc: Global) -> Result<Option<Items<u8>>, AllocError>
+        ensures { IfOk result (λ copy. copy ≡ self.now) }
+    {
+        if !self.is_fresh {
+            return Ok(None);
+        }
+        Ok(Some(Items::of(Vec::from_slice(alloc, self.bytes.as_slice())?)))
+    }
+}

@@ -1,0 +1,81 @@
+-- The table of a project's line is laid out, and tells the lengths and the offsets of the line's datagrams.
+use Rattle.std.proofs.Common.{◌≡◌, ℕ, zero, suc, ◌+◌, ◌*◌, ◌<◌, ◌≤◌, nat_lt, Bool, false, List, length, map, refl, sym, ap, ◌∙◌, subst, arith, Some, None}
+use Rattle.std.specs.Prelude.{option_map, slice_get}
+use Rattle.std.specs.Option.{option_and_then, option_map_or}
+use Rattle.std.specs.List.{flat_map, range_with_len}
+use Rattle.std.proofs.lemmas.Bool.Decides.{nat_tests}
+use Rattle.std.proofs.lemmas.List.FromFn.{get_or-map-range_with_len, length-map-range_with_len}
+use Rattle.std.proofs.lemmas.Option.{slice_get-get_or}
+use Rattle.hc_records.specs.declared.limits.TheConstants.{MOST_DATAGRAMS, TASKS}
+use Rattle.hc_records.specs.Edits.{crowded_task}
+use Rattle.hc_records.specs.Line.{Member, State, groups_of, line}
+use Rattle.hc_records.specs.Image.{datagram_count, datagram_length, datagram_offset, task_places, task_variables, tasks, variable_place}
+use Rattle.hc_records.specs.Project.{lowest_fault}
+use Rattle.hc_records.proofs.lemmas.Finds.{each-task, found-none}
+use Rattle.hc_records.proofs.lemmas.VariableBits.{variables-apart}
+use Rattle.hc_records.proofs.lemmas.VariablePlaces.{variables-lie}
+use Rattle.hc_places.specs.declared.table.Datagram.{Datagram}
+use Rattle.hc_places.specs.Table.{Row, TaskTable, datagram_in, datagram_of, place_in, table_of, task_table}
+use Rattle.hc_places.proofs.lemmas.Sorted.{find-by_number}
+use Rattle.hc_outputs.specs.Packed.{IsLaidOut, length_in, offset_in}
+
+pub place-of_line : (line : List Member) (variable : ℕ) → place_in (table_of line) variable ≡ variable_place variable line
+place-of_line line variable = ap (option_map (λ (row : Row). row.1)) (find-by_number variable (flat_map (task_variables line) tasks))
+
+task_there : (line : List Member) (task : ℕ) → task < TASKS → slice_get (map (task_table line) tasks) task ≡ Some (task_table line task)
+task_there line zero low = refl
+task_there line (suc zero) low = refl
+task_there line (suc (suc zero)) low = refl
+task_there line (suc (suc (suc zero))) low = refl
+task_there line (suc (suc (suc (suc zero)))) low = refl
+task_there line (suc (suc (suc (suc (suc zero))))) low = refl
+task_there line (suc (suc (suc (suc (suc (suc zero)))))) low = refl
+task_there line (suc (suc (suc (suc (suc (suc (suc zero))))))) low = refl
+task_there line (suc (suc (suc (suc (suc (suc (suc (suc task)))))))) low = absurd (omega arith)
+
+abbrev blank : Datagram
+blank = record { address = 0; length = 0; expected = 0; offset = 0 }
+
+datagram_there : (line : List Member) (task d : ℕ) → task < TASKS → d < datagram_count (task_places task line) → datagram_in (table_of line) task d ≡ Some (datagram_of line task d)
+datagram_there line task d low stands =
+    let count = datagram_count (task_places task line) in
+    let own = map (datagram_of line task) (range_with_len 0 count) in
+    let size : length own ≡ count = length-map-range_with_len (datagram_of line task) 0 count in
+    ap (option_and_then (λ (t : TaskTable). slice_get t.datagrams d)) (task_there line task low)
+    ∙ slice_get-get_or own d blank (omega arith)
+    ∙ ap Some (get_or-map-range_with_len (datagram_of line task) 0 count d d blank stands (omega arith))
+
+pub length-of_line : (line : List Member) (task d : ℕ) → task < TASKS → d < datagram_count (task_places task line)
+    → length_in (table_of line) task d ≡ datagram_length (task_places task line) d
+length-of_line line task d low stands = ap (λ found. option_map_or (λ (datagram : Datagram). datagram.length) found 0) (datagram_there line task d low stands)
+
+pub offset-of_line : (line : List Member) (task d : ℕ) → task < TASKS → d < datagram_count (task_places task line)
+    → offset_in (table_of line) task d ≡ datagram_offset (task_places task line) d
+offset-of_line line task d low stands = ap (λ found. option_map_or (λ (datagram : Datagram). datagram.offset) found 0) (datagram_there line task d low stands)
+
+abbrev is_crowded : List Member → ℕ → Bool
+is_crowded line task = nat_lt MOST_DATAGRAMS (datagram_count (task_places task line))
+
+not_more : (m n : ℕ) → nat_lt m n ≡ false → n ≤ m
+not_more m n e = grind (arith, nat_tests)
+
+few_datagrams : (line : List Member) (task : ℕ) → crowded_task line ≡ None → task < TASKS → datagram_count (task_places task line) ≤ MOST_DATAGRAMS
+few_datagrams line task none low =
+    not_more MOST_DATAGRAMS (datagram_count (task_places task line))
+    (each-task (λ t. is_crowded line t ≡ false) (found-none (is_crowded line) tasks none) task low)
+
+pub line-laid_out : (state : State) → lowest_fault (groups_of state.groups) ≡ None → crowded_task (line state) ≡ None → IsLaidOut (table_of (line state))
+line-laid_out state none uncrowded = record {
+  inside = λ variable place there.
+      let lies = variables-lie state variable place none (sym (place-of_line (line state) variable) ∙ there) in
+      let few = few_datagrams (line state) place.task uncrowded lies.task in
+      let stands = lies.datagram in
+      record {
+        task = lies.task;
+        datagram = omega arith;
+        within = subst (λ (size : ℕ). place.bit + place.bits ≤ 8 * size) (sym (length-of_line (line state) place.task place.datagram lies.task lies.datagram)) lies.within;
+      };
+  apart = λ variable other place another different there there'.
+      variables-apart (line state) variable other place another different
+      (sym (place-of_line (line state) variable) ∙ there) (sym (place-of_line (line state) other) ∙ there');
+}

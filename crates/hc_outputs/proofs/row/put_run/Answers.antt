@@ -1,0 +1,10 @@
+use Rattle.std.proofs.Common.{ℕ, subst}
+use Rattle.std.specs.Int.{bit_at}
+use Rattle.hc_bits.specs.Bits.{ReplacesRun}
+use Rattle.hc_outputs.proofs.Masks.{run-told}
+use Rattle.hc_outputs.proofs.row.put_run.Goals as goal
+
+pub returns : goal.returns
+returns c =
+    run-told c.args.bytes.now c.put_bits.new.bytes c.args.at c.args.bits (bit_at c.ones.result) (λ k. 1) c.ones.ensures.ones
+    (subst (λ (n : ℕ). ReplacesRun c.args.bytes.now c.put_bits.new.bytes c.args.at n (bit_at c.ones.result)) c.from.ensures c.put_bits.ensures)

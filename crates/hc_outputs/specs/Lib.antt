@@ -1,0 +1,4 @@
+pub mod Laws
+pub mod Moves
+pub mod Packed
+pub mod Values

@@ -1,0 +1,84 @@
+-- The bytes of datagrams as they are sent: at each output variable's place stand the bits of its value, and every other bit is 0.
+use Rattle.std.specs.Prelude.{◌≡◌, ◌≢◌, ℕ, ◌+◌, ◌*◌, ◌<◌, ◌≤◌, List, [], length, slice_index_or, Some}
+use Rattle.std.specs.Option.{option_map_or}
+use Rattle.hc_bits.specs.Bits.{bit_of}
+use Rattle.hc_records.specs.declared.limits.TheConstants.{MOST_DATAGRAMS, TASKS}
+use Rattle.hc_records.specs.declared.records.Dir.TheVariants.{Out}
+use Rattle.hc_records.specs.Image.{VariablePlace}
+use Rattle.hc_records.specs.ImageLaws.{SharesNoBit}
+use Rattle.hc_places.specs.Table.{Table, datagram_in, place_in}
+
+-- bytes for each datagram that a line can have, task by task
+abbrev pub Bytes : Type 0
+Bytes = List (List ℕ)
+
+-- each of the eight tasks has sixteen
+abbrev pub slot_number : ℕ → ℕ → ℕ
+slot_number task d = MOST_DATAGRAMS * task + d
+
+abbrev pub bytes_of : Bytes → ℕ → ℕ → List ℕ
+bytes_of bytes task d = slice_index_or bytes (slot_number task d) []
+
+-- the length of a datagram in bytes, and where its data begin in its task's image; 0 where the task has no such datagram
+abbrev pub length_in : Table → ℕ → ℕ → ℕ
+length_in table task d = option_map_or (λ datagram. datagram.length) (datagram_in table task d) 0
+
+abbrev pub offset_in : Table → ℕ → ℕ → ℕ
+offset_in table task d = option_map_or (λ datagram. datagram.offset) (datagram_in table task d) 0
+
+-- a place lies in a datagram of a table
+pub record LiesInTable (table : Table) (place : VariablePlace) : Type 0 where
+  pub task : place.task < TASKS
+  pub datagram : place.datagram < MOST_DATAGRAMS
+  pub within : place.bit + place.bits ≤ 8 * length_in table place.task place.datagram
+
+-- so does each place of a table, and no two variables share a bit
+pub record IsLaidOut (table : Table) : Type 0 where
+  pub inside : (variable : ℕ) (place : VariablePlace) → place_in table variable ≡ Some place → LiesInTable table place
+  pub apart :
+      (variable other : ℕ) (place another : VariablePlace) → variable ≢ other
+      → place_in table variable ≡ Some place → place_in table other ≡ Some another → SharesNoBit place another
+
+-- a variable is an output of the table, with this place
+pub record IsOutput (table : Table) (variable : ℕ) (place : VariablePlace) : Type 0 where
+  pub there : place_in table variable ≡ Some place
+  pub output : place.dir ≡ Out
+
+-- a bit of a datagram of a task lies in a place
+pub record LiesIn (place : VariablePlace) (task d k : ℕ) : Type 0 where
+  pub task_is : place.task ≡ task
+  pub datagram : place.datagram ≡ d
+  pub from : place.bit ≤ k
+  pub below : k < place.bit + place.bits
+
+-- there are bytes for each datagram of the table, as many as it has, and none for any other
+abbrev pub HasSizes : Table → Bytes → Type 0
+HasSizes table bytes =
+    (task d : ℕ) → task < TASKS → d < MOST_DATAGRAMS → length (bytes_of bytes task d) ≡ length_in table task d
+
+-- so many, in which each output variable has the bits of its value, and each bit that lies in no output variable's place is 0
+pub record Carries (table : Table) (value : ℕ → ℕ → ℕ) (bytes : Bytes) : Type 0 where
+  pub sizes : HasSizes table bytes
+  pub values :
+      (variable k : ℕ) (place : VariablePlace) → IsOutput table variable place → k < place.bits
+      → bit_of (bytes_of bytes place.task place.datagram) (place.bit + k) ≡ value variable k
+  pub others :
+      (task d k : ℕ) → task < TASKS → d < MOST_DATAGRAMS
+      → ((variable : ℕ) (place : VariablePlace) → IsOutput table variable place → ¬ (LiesIn place task d k))
+      → bit_of (bytes_of bytes task d) k ≡ 0
+
+-- what is kept: the bytes as they are sent, and masks, in which just the bits of output variables are 1
+pub record Packed : Type 0 where
+  pub sent : Bytes
+  pub masks : Bytes
+
+-- the outputs of a table with these values: bit k of a variable's value is `value variable k`
+pub record Holds (table : Table) (value : ℕ → ℕ → ℕ) (packed : Packed) : Type 0 where
+  pub sent : Carries table value packed.sent
+  pub masks : Carries table (λ variable k. 1) packed.masks
+
+-- bytes and masks of a datagram are as many
+pub record IsWhole (packed : Packed) : Type 0 where
+  pub sent : length packed.sent ≡ MOST_DATAGRAMS * TASKS
+  pub masks : length packed.masks ≡ MOST_DATAGRAMS * TASKS
+  pub sizes : (n : ℕ) → length (slice_index_or packed.masks n []) ≡ length (slice_index_or packed.sent n [])

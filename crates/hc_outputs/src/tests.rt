@@ -1,0 +1,129 @@
+//! The output values of an axis and of a tool that comes and goes, as they are sent.
+ghost use Rattle.std.specs.Prelude.{◌<◌, ℕ, IfOk, OnOk};
+ghost use Rattle.hc_records.specs.Line.{line};
+ghost use Rattle.hc_records.specs.declared.limits.TheConstants.{TASKS};
+ghost use Rattle.hc_places.specs.Table.{table_of};
+ghost use Rattle.hc_outputs.specs.Packed.{Holds};
+
+use crate::outputs::Outputs;
+use hc_plan::plan::Plan;
+use hc_records::edit::Edit;
+use hc_records::items::Items;
+use hc_records::project::Project;
+use hc_records::records::{Area, Dir, Group, Pdo, Slave, VarId};
+use std::alloc::{AllocError, Global};
+use std::process::Abort;
+use std::test::Fail;
+
+/// An area of task 0 with one PDO of these entries, each a variable's number, 0 for a gap, and its bits.
+fn area(alloc: Global, dir: Dir, entries: &[(u32, u8)]) -> Result<Area, AllocError> {
+    let mut pdo = Pdo {
+        index: 0x1600,
+        entries: Items::new(alloc),
+    };
+    for (number, bits) in entries {
+        pdo.entries.push((VarId::new(*number), *bits))?;
+    }
+    let mut area = Area {
+        sm: 2,
+        dir,
+        phys: 0x1100,
+        offered: Items::new(alloc),
+        assigned: Items::new(alloc),
+        task: 0,
+    };
+    if dir == Dir::In {
+        area.sm = 3;
+        area.phys = 0x1180;
+    }
+    area.offered.push(pdo)?;
+    area.assigned.push(0x1600)?;
+    Ok(area)
+}
+
+/// A slave with an output area, and one with an input area where it has entries.
+fn slave(
+    alloc: Global,
+    station: u16,
+    outputs: &[(u32, u8)],
+    inputs: &[(u32, u8)],
+) -> Result<Slave, AllocError> {
+    let mut areas = Items::new(alloc);
+    areas.push(area(alloc, Dir::Out, outputs)?)?;
+    if !inputs.is_empty() {
+        areas.push(area(alloc, Dir::In, inputs)?)?;
+    }
+    Ok(Slave { station, areas })
+}
+
+/// A group of one slave.
+fn group(alloc: Global, alias: u16, slave: Slave) -> Result<Group, AllocError> {
+    let mut slaves = Items::new(alloc);
+    slaves.push(slave)?;
+    Ok(Group { alias, slaves })
+}
+
+/// The plan of an axis, 1001, with variables of 3 and of 11 bits behind which and before which 2 bits are a
+/// gap, and an input of 8 bits; its tool, with the alias 5, has a variable of 8 bits.
+fn tool_changer(alloc: Global) -> Result<Plan, Fail> {
+    let axis = slave(alloc, 1001, &[(1, 3), (0, 2), (2, 11)], &[(9, 8)])?;
+    let tool = slave(alloc, 1002, &[(3, 8)], &[])?;
+    let mut groups = Items::new(alloc);
+    groups.push(group(alloc, 0, axis)?)?;
+    groups.push(group(alloc, 5, tool)?)?;
+    Ok(Plan::new(alloc, Project::checked(alloc, groups)?)?)
+}
+
+/// The outputs of a plan's line.
+fn outputs_of(alloc: Global, plan: &Plan) -> Result<Outputs, AllocError>
+    ensures { IfOk result (λ outputs. (value : ℕ → ℕ → ℕ) × Holds (table_of (line plan.now)) value outputs) }
+{
+    let outputs = Outputs::new(alloc, plan.places())?;
+    Ok(outputs)
+}
+
+/// Posts a task's outputs.
+fn post(plan: &Plan, outputs: &mut Outputs, task: u8, bytes: &[u8])
+    requires task { task < TASKS }
+    requires held { (value : ℕ → ℕ → ℕ) × Holds (table_of (line plan.now)) value outputs.old }
+    ensures { (value : ℕ → ℕ → ℕ) × Holds (table_of (line plan.now)) value outputs.new }
+{
+    outputs.post(plan.places(), task, bytes);
+}
+
+/// Carries an edit out, over which the outputs keep their values.
+fn edit(alloc: Global, plan: &mut Plan, outputs: &mut Outputs, edit: &Edit) -> Result<(), Fail>
+    requires { (value : ℕ → ℕ → ℕ) × Holds (table_of (line plan.old)) value outputs.old }
+    ensures { OnOk result ((value : ℕ → ℕ → ℕ) × Holds (table_of (line plan.new)) value outputs.new) }
+{
+    let old = plan.places().copied(alloc)?;
+    plan.apply(alloc, edit)?;
+    outputs.change(&old, plan.places());
+    Ok(())
+}
+
+/// Gaps and inputs are never sent as posted. When the tool comes its value is 0; it keeps a posted value while
+/// the axis moves to another task and the tool's bits move to the front; after it was away its value is 0.
+#[test]
+fn values_follow_their_variables(rt: HostRuntime) -> Result<(), Fail> {
+    let alloc = rt.alloc();
+    let mut plan = tool_changer(alloc)?;
+    let mut outputs = outputs_of(alloc, &plan)?;
+    post(&plan, &mut outputs, 0, &[0xff, 0xff, 0xff]);
+    assert!(rt; outputs.bytes(0, 0) == [0xe7, 0xff, 0].as_slice());
+    edit(alloc, &mut plan, &mut outputs, &Edit::Connect(5))?;
+    assert!(rt; outputs.bytes(0, 0) == [0xe7, 0xff, 0, 0].as_slice());
+    post(&plan, &mut outputs, 0, &[0x01, 0x40, 0x81]);
+    let moved = Edit::Move {
+        station: 1001,
+        area: 0,
+        task: 1,
+    };
+    edit(alloc, &mut plan, &mut outputs, &moved)?;
+    assert!(rt; outputs.bytes(0, 0) == [0x81, 0].as_slice());
+    assert!(rt; outputs.bytes(1, 0) == [0x01, 0x40].as_slice());
+    edit(alloc, &mut plan, &mut outputs, &Edit::Disconnect(5))?;
+    edit(alloc, &mut plan, &mut outputs, &Edit::Connect(5))?;
+    assert!(rt; outputs.bytes(0, 0) == [0, 0].as_slice());
+    Ok(())
+}

@@ -1,0 +1,18 @@
+-- The record that a past stands for.
+use Rattle.std.specs.Prelude.{◌∷◌}
+use Rattle.hc_past.specs.declared.past.Past.{Past}
+use Rattle.hc_past.specs.declared.past.Past.TheVariants.{Opened, Edited', Posted', Sent', Wrote', Came'}
+use Rattle.hc_events.specs.Accepted.{just_opened}
+use Rattle.hc_events.specs.Arrivals.{arrival_in}
+use Rattle.hc_events.specs.Entries.{Record}
+use Rattle.hc_events.specs.Entries as entry
+use Rattle.hc_events.specs.Steps.{with_arrival}
+use Rattle.hc_past.specs.Texts.{bytes_of}
+
+abbrev pub record_of : Past → Record
+record_of (Opened project) = just_opened project.value
+record_of (Edited' m past edit) = entry.Edited edit.value ∷ record_of past
+record_of (Posted' m past task text) = entry.Posted task.value (bytes_of text.value) ∷ record_of past
+record_of (Sent' m past frame) = entry.Sent frame.value.datagrams ∷ record_of past
+record_of (Wrote' m past block) = entry.Wrote block.value ∷ record_of past
+record_of (Came' m past text) = with_arrival (record_of past) (arrival_in (bytes_of text.value))

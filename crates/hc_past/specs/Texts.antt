@@ -1,0 +1,8 @@
+-- The bytes of a text.
+use Rattle.std.specs.Prelude.{ℕ, List, [], ◌∷◌, ◌++◌}
+use Rattle.hc_past.specs.declared.text.Text.{Text}
+use Rattle.hc_past.specs.declared.text.Text.TheVariants.{Empty, Then'}
+
+abbrev pub bytes_of : Text → List ℕ
+bytes_of Empty = []
+bytes_of (Then' m text byte) = bytes_of text ++ byte.value ∷ []

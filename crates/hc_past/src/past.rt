@@ -1,0 +1,27 @@
+//! The record, entry by entry.
+use crate::text::Text;
+use hc_events::sending::Sending;
+use hc_plan::blocks::LineBlock;
+use hc_records::edit::Edit;
+use hc_records::project::Project;
+use std::snapshot::Snapshot;
+
+/// The record of a project: its opening, and behind it what was accepted, the last entry outermost.
+/// `specs/Records` says which record that is. At run time it is a tag.
+#[derive(Drop)]
+pub enum Past {
+    /// The project was opened.
+    Opened(Snapshot<Project>),
+    /// An edit was accepted.
+    Edited(Snapshot<Past>, Snapshot<Edit>),
+    /// A post of a task was accepted.
+    Posted(Snapshot<Past>, Snapshot<u8>, Snapshot<Text>),
+    /// A frame of tasks was sent.
+    Sent(Snapshot<Past>, Snapshot<Sending>),
+    /// A register block was sent.
+    Wrote(Snapshot<Past>, Snapshot<LineBlock>),
+    /// Bytes arrived.
+    Came(Snapshot<Past>, Snapshot<Text>),
+}
+
+mod steps;

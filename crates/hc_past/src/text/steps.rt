@@ -1,0 +1,17 @@
+//! How such bytes are taken from a slice.
+ghost use Rattle.std.specs.Prelude.{◌≡◌};
+ghost use Rattle.hc_past.specs.Texts.{bytes_of};
+
+use super::Text;
+use std::snapshot::Snapshot;
+
+/// The text of these bytes.
+pub fn text_of(bytes: &[u8]) -> Text
+    ensures { bytes_of result ≡ bytes.now }
+{
+    let mut text = Text::Empty;
+    for byte in bytes {
+        text = Text::Then(Snapshot::of(&text), Snapshot::of(byte));
+    }
+    text
+}
