@@ -30,7 +30,7 @@ length-pairs : {X Y : Type 0} (f g : X → Y) (xs : List X) → length (flat_map
 length-pairs f g [] = refl
 length-pairs f g (x ∷ xs) = let rest = length-pairs f g xs in omega (arith, rest)
 
-length-areas : (line : List Member) (rank first : ℕ) (areas : List Area) → length (flat_map (area_blocks line rank) (enumerate_from first areas)) ≡ 2 * length areas
+pub length-areas : (line : List Member) (rank first : ℕ) (areas : List Area) → length (flat_map (area_blocks line rank) (enumerate_from first areas)) ≡ 2 * length areas
 length-areas line rank first [] = refl
 length-areas line rank first (area ∷ areas) = let rest = length-areas line rank (first + 1) areas in omega (arith, rest)
 

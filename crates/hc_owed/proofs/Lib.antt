@@ -1,4 +1,6 @@
 mod Named
+mod Steps
+mod Shapes
 mod Changing
 mod Declaring
 mod FlagLists

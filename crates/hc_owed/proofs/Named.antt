@@ -14,7 +14,7 @@ use Rattle.hc_owed.specs.Walk.{compared_with, is_next, walked}
 abbrev pub Apart : LineBlock → LineBlock → Type 0
 Apart a b = name_of a ≢ name_of b
 
-same-itself : (a : ℕ × ℕ) → same_name a a ≡ true
+pub same-itself : (a : ℕ × ℕ) → same_name a a ≡ true
 same-itself a = both a.0 a.1
   where
     test : (n : ℕ) → (n == n) ≡ true
@@ -23,10 +23,10 @@ same-itself a = both a.0 a.1
     both : (m n : ℕ) → ((m == m) && (n == n)) ≡ true
     both m n = ap (λ (b : Bool). b && (n == n)) (test m) ∙ test n
 
-abbrev pair : ℕ → ℕ → ℕ × ℕ
+abbrev pub pair : ℕ → ℕ → ℕ × ℕ
 pair m n = (m, n)
 
-same-not : (m n p q : ℕ) → pair m n ≢ pair p q → ((m == p) && (n == q)) ≡ false
+pub same-not : (m n p q : ℕ) → pair m n ≢ pair p q → ((m == p) && (n == q)) ≡ false
 same-not m n p q other = by (m == p) (n == q) refl refl
   where
     equal : (a b : ℕ) → (a == b) ≡ true → a ≡ b
@@ -37,10 +37,10 @@ same-not m n p q other = by (m == p) (n == q) refl refl
     by true false e f = refl
     by false t e f = refl
 
-abbrev names : (LineBlock → Bool) → List LineBlock → List (ℕ × ℕ)
+abbrev pub names : (LineBlock → Bool) → List LineBlock → List (ℕ × ℕ)
 names test blocks = map name_of (filter test blocks)
 
-abbrev judged-by : (LineBlock → Bool) → (LineBlock → Kept) → LineBlock → Kept
+abbrev pub judged-by : (LineBlock → Bool) → (LineBlock → Kept) → LineBlock → Kept
 judged-by test keep b = cond (test b) (compared b.block.bytes (keep b)) (keep b)
 
 other-next : (test : LineBlock → Bool) (block : LineBlock) (blocks : List LineBlock) (k : Kept) → name_kept k ≡ name_of block → All (Apart block) blocks → is_next (names test blocks) k ≡ false
