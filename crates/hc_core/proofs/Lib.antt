@@ -1,0 +1,15 @@
+pub mod Arrivals
+pub mod Awaits
+pub mod Dues
+pub mod Ended
+pub mod Firsts
+pub mod GoodsSteps
+pub mod Known
+pub mod Names
+pub mod News
+pub mod Resent
+pub mod Sendings
+pub mod SentAll
+pub mod Shown
+pub mod Sorts
+pub mod Told

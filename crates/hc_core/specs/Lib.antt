@@ -1,0 +1,5 @@
+pub mod Waits
+pub mod Goods
+pub mod Firsts
+pub mod State
+pub mod Agreement

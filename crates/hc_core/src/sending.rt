@@ -1,0 +1,45 @@
+//! What is sent: frames of tasks and register writes.
+ghost use Rattle.std.specs.Prelude.{◌≡◌, ◌≢◌, ◌<◌, ◌∷◌, IfErr, IfOk, None, OnOk, Some};
+ghost use Rattle.hc_records.specs.Lists.{lowest};
+ghost use Rattle.hc_frames.specs.declared.limits.TheConstants.{SETUP_SERIAL};
+ghost use Rattle.hc_events.specs.declared.faults.CoreFault.TheVariants.{Memory};
+ghost use Rattle.hc_events.specs.Calls.{AreSentTogether};
+ghost use Rattle.hc_events.specs.Entries.{Wrote};
+ghost use Rattle.hc_events.specs.Steps.{proposal, task_faults};
+ghost use Rattle.hc_events.specs.Points.{next_serial};
+ghost use Rattle.hc_core.specs.Firsts.{IsFirstOwed};
+
+use crate::keeping::Core;
+use hc_events::faults::CoreFault;
+use hc_events::sending::Sending;
+use hc_plan::blocks::LineBlock;
+use hc_sendings::proposing::propose;
+use std::alloc::Global;
+
+impl Core {
+    /// The frames in which 1 to 8 distinct tasks would be sent next, in their order, with the next serials; none
+    /// where the tasks have no datagram. Nothing is sent by it. `NoSuchTask` where a number is over 7;
+    /// `Unprogrammed` where register blocks are owed, with their number; `SerialsSpent` where too few serials
+    /// are left; and of several the first of these. `Memory` where a growth was refused.
+    pub fn propose(&self, alloc: Global, tasks: &[u8]) -> Result<Vec<Sending>, CoreFault>
+        requires { AreSentTogether tasks.now }
+        ensures frames { IfOk result (λ frames. frames.items ≡ proposal self.now.past tasks.now) }
+        ensures accepted { OnOk result (lowest (task_faults self.now.past tasks.now) ≡ None) }
+        ensures refused { IfErr result (λ fault. fault ≢ Memory → lowest (task_faults self.now.past tasks.now) ≡ Some fault) }
+    {
+        let owed = self.owed.count();
+        propose(alloc, &self.plan, self.serial, owed, tasks)
+    }
+
+    /// The first owed block is sent, with the next serial. It takes no memory.
+    pub(crate) fn commit_write(&mut self, n: u32, block: &LineBlock)
+        requires first { IsFirstOwed self.old.past n block.now }
+        requires left { next_serial self.old.past < SETUP_SERIAL }
+        ensures { self.new ≡ record self.old { past = Wrote block.now ∷ self.old.past } }
+    {
+        self.awaited.write(self.serial, block);
+        self.owed.sent(n);
+        self.serial += 1;
+        self.past = self.past.wrote(block);
+    }
+}
