@@ -108,6 +108,11 @@ fn judged(region: &[u8], index: u8) -> Result<u64, u64> {
     }
 }
 
+/// The number of the frame's first fault.
+pub fn fault(frame: &[u8]) -> Option<u64> {
+    region_of(frame).and_then(|(serial, region)| judged(region, serial as u8)).err()
+}
+
 /// The part at the front of whole datagrams, and what stands behind it.
 fn part_of(bytes: &[u8]) -> Option<(&[u8; 10], usize, u16, &[u8])> {
     let (head, rest) = bytes.split_first_chunk::<10>()?;

@@ -6,4 +6,5 @@ pub mod Listed
 pub mod Halves
 pub mod From
 pub mod Kept
+pub mod Read
 pub mod lemmas

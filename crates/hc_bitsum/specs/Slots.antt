@@ -33,6 +33,12 @@ set_at at bits areas = changed_at at (λ area. (area.0, bits)) areas
 abbrev pub with_bits : Slots → ℕ → ℕ → Slots
 with_bits slots at bits = record { height = slots.height; areas = set_at at bits slots.areas }
 
+-- the width of the area at a place
+abbrev pub bits_at : ℕ → List Keyed → ℕ
+bits_at at [] = 0
+bits_at zero (area ∷ areas) = area.1
+bits_at (suc at) (area ∷ areas) = bits_at at areas
+
 -- the key at a place of a direction: 8 areas for each slave
 abbrev pub key_at : Dir → ℕ → Key
 key_at dir place = record { dir = dir; rank = place / 8 + 1; area = place % 8 }

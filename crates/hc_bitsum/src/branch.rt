@@ -2,7 +2,7 @@
 ghost use Rattle.std.specs.Prelude.{◌≡◌, ◌+◌, ◌*◌, ◌^◌, ◌<◌, ◌≤◌, ℕ, length, drop, ◌==◌, IfOk};
 ghost use Rattle.hc_records.specs.declared.limits.TheConstants.{MOST_AREA_BITS};
 ghost use Rattle.hc_bitsum.specs.Search.{IsInRoom, most_steps, scan};
-ghost use Rattle.hc_bitsum.specs.Slots.{IsShaped, blank_slots, fork_slots, key_at, leaf_slots, with_bits};
+ghost use Rattle.hc_bitsum.specs.Slots.{IsShaped, bits_at, blank_slots, fork_slots, key_at, leaf_slots, with_bits};
 ghost use Rattle.hc_bitsum.specs.Sums.{sum_of};
 
 use crate::filled::Filled;
@@ -198,6 +198,26 @@ impl Branch {
                 match left.fit(skip, filled, room, steps) {
                     Fit::Found(key) => Fit::Found(key),
                     Fit::Through(end) => right.fit(0, end, room, steps),
+                }
+            }
+        }
+    }
+
+    /// The width of the area behind `at` others, in bits. Each node and area that is read is a step.
+    pub(crate) fn width<L: Ledger>(&self, at: u32, reads: &mut Steps<L>) -> u16
+        requires { at < length self.now.areas }
+        ensures width { result ≡ bits_at at self.now.areas }
+        ensures steps { reads.new ≡ reads.old + 1 + self.now.height }
+    {
+        reads.tick();
+        match &self.node {
+            Node::Leaf(_, bits) => *bits,
+            Node::Fork(left, right) => {
+                let half = left.areas();
+                if at < half {
+                    left.width(at, reads)
+                } else {
+                    right.width(at - half, reads)
                 }
             }
         }

@@ -89,6 +89,7 @@ impl SumTree {
     ghost use Rattle.std.specs.Prelude.{◌≡◌, [], IfOk};
     ghost use Rattle.hc_records.specs.declared.keys.TheConstants.Key.{START};
     ghost use Rattle.hc_records.specs.declared.limits.TheConstants.{MOST_AREA_BITS};
+    ghost use Rattle.hc_records.specs.Boundaries.{width_in};
     ghost use Rattle.hc_records.specs.SpanLaws.{areas_from};
     ghost use Rattle.hc_bitsum.specs.Search.{begun, first_beyond};
     ghost use Rattle.hc_bitsum.specs.Sums.{sum_of};
@@ -109,16 +110,33 @@ impl SumTree {
     }
 
     /// Sets the width of an area of one of its slaves, at most 11,888 bits; an area of no bits takes no
-    /// place. It takes no memory.
+    /// place. Its areas are then a task's list again. It takes no memory.
     pub fn set(&mut self, key: Key, bits: u16)
         requires place { HasPlace self.old.slaves key }
         requires narrow { bits ≤ MOST_AREA_BITS }
-        ensures { self.new ≡ record self.old { list = with_width key bits self.old.list } }
+        ensures set { self.new ≡ record self.old { list = with_width key bits self.old.list } }
+        ensures holds { HoldsTaskList self.new }
     {
         let place = place_of(key);
         match key.dir {
             Dir::Out => self.outputs.set(place, bits),
             Dir::In => self.inputs.set(place, bits),
+        }
+    }
+
+    /// The width in bits of an area of one of its slaves, at most 11,888; 0 where it takes no place. Each
+    /// node and area that is read is a step, at least 1 and at most 16. It takes no memory.
+    pub fn width<L: Ledger>(&self, key: Key, steps: &mut Steps<L>) -> u16
+        requires { HasPlace self.now.slaves key }
+        ensures width { result ≡ width_in self.now.list key }
+        ensures narrow { result ≤ MOST_AREA_BITS }
+        ensures least { steps.old + 1 ≤ steps.new }
+        ensures most { steps.new ≤ steps.old + 16 }
+    {
+        let place = place_of(key);
+        match key.dir {
+            Dir::Out => self.outputs.width(place, steps),
+            Dir::In => self.inputs.width(place, steps),
         }
     }
 

@@ -108,7 +108,7 @@ not-from : (low high : Bool) → (high ≡ true → low ≡ true) → low ≡ fa
 not-from low true more less = let is = more refl in cc
 not-from low false more less = refl
 
-areas-twice : (low high : Key) (list : List Keyed) → is_within low high ≡ true → areas_from high (areas_from low list) ≡ areas_from high list
+pub areas-twice : (low high : Key) (list : List Keyed) → is_within low high ≡ true → areas_from high (areas_from low list) ≡ areas_from high list
 areas-twice low high [] below = refl
 areas-twice low high (area ∷ areas) below =
     twice-by (is_within low area.0) (is_within high area.0) area (areas_from low areas) (areas_from high areas) high refl

@@ -1,3 +1,4 @@
 pub mod Firsts
 pub mod Spans
 pub mod Starts
+pub mod Walk

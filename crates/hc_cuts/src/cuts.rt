@@ -1,5 +1,5 @@
 //! The areas of a task and the keys at which its datagrams begin, kept together.
-ghost use Rattle.std.specs.Prelude.{◌≡◌, ◌+◌, ◌*◌, ◌≤◌, ◌∷◌, ◌++◌, [], IfOk, OnErr, OnOk, length};
+ghost use Rattle.std.specs.Prelude.{◌≡◌, ◌+◌, ◌*◌, ◌<◌, ◌≤◌, ◌∷◌, ◌++◌, [], IfOk, OnErr, OnOk, length, slice_index_or};
 ghost use Rattle.hc_records.specs.Boundaries.{boundaries};
 ghost use Rattle.hc_records.specs.Image.{datagram_count};
 ghost use Rattle.hc_records.specs.Packing.{opening, packed};
@@ -10,6 +10,8 @@ ghost use Rattle.hc_cuts.specs.Starts.{most_read};
 
 use crate::fold::TooManyDatagrams;
 use crate::next::next_cut;
+use crate::packing::Placed;
+use crate::walk::add_span;
 use arrayvec::ArrayVec;
 use hc_bitsum::steps::Steps;
 use hc_bitsum::tree::SumTree;
@@ -31,6 +33,10 @@ impl Model for Cuts {
     ghost Value = { Kept };
 
     ghost view = { λ cuts. record { tree = cuts.tree; starts = cuts.starts.items } };
+
+    ghost use Rattle.hc_bitsum.specs.Tree.{HoldsTaskList};
+
+    ghost invariant = { λ cuts. HoldsTaskList cuts.tree };
 }
 
 /// The boundaries of a task's areas but the last, `Key::END`, each searched from the one before it.
@@ -61,10 +67,21 @@ fn searched_starts<L: Ledger>(
     }
 }
 
+/// The boundary behind one of those at which datagrams begin: the next of them, or `Key::END`.
+fn end_of(starts: &[Key], i: usize) -> Key
+    requires { i < length starts.now }
+    ensures { result ≡ slice_index_or (starts.now ++ END ∷ []) (i + 1) END }
+{
+    match starts.get(i + 1) {
+        Some(next) => *next,
+        None => Key::END,
+    }
+}
+
 impl Cuts {
     ghost use Rattle.std.specs.Prelude.{◌≡◌, ◌+◌, ◌*◌, ◌≤◌, ◌∷◌, ◌++◌, [], IfOk, OnErr, OnOk, length};
     ghost use Rattle.hc_records.specs.declared.limits.TheConstants.{MOST_AREA_BITS, MOST_SLAVES};
-    ghost use Rattle.hc_bitsum.specs.Tree.{HasPlace, with_width};
+    ghost use Rattle.hc_bitsum.specs.Tree.{HasPlace, HoldsTaskList, with_width};
     ghost use Rattle.hc_cuts.specs.Starts.{kept_empty};
 
     /// A task without areas of so many slaves, at most 2,048. `AllocError` where a growth was refused.
@@ -79,12 +96,14 @@ impl Cuts {
     }
 
     /// Sets the width of an area of one of its slaves, at most 11,888 bits; the boundaries stay those
-    /// that were last worked out. It takes no memory.
+    /// that were last worked out. Its areas are then a task's list again. It takes no
+    /// memory.
     pub fn set(&mut self, key: Key, bits: u16)
         requires place { HasPlace self.old.tree.slaves key }
         requires narrow { bits ≤ MOST_AREA_BITS }
         ensures areas { self.new.tree ≡ record self.old.tree { list = with_width key bits self.old.tree.list } }
         ensures starts { self.new.starts ≡ self.old.starts }
+        ensures holds { HoldsTaskList self.new.tree }
     {
         self.tree.set(key, bits);
     }
@@ -112,5 +131,25 @@ impl Cuts {
     {
         self.starts = searched_starts(&self.tree, steps)?;
         Ok(())
+    }
+
+    /// The areas of the task with their places, in key order: packed one after another from the empty
+    /// first datagram. The boundaries are those of its areas, as `cut` leaves them; the areas of each
+    /// datagram are walked in the tree. `AllocError` where a growth was refused.
+    pub fn places<L: Ledger>(
+        &self,
+        alloc: Global,
+        steps: &mut Steps<L>,
+    ) -> Result<Vec<Placed>, AllocError>
+        requires { self.now.starts ++ END ∷ [] ≡ boundaries self.now.tree.list }
+        ensures { IfOk result (λ places. places.items ≡ packed opening self.now.tree.list) }
+    {
+        let mut places = Vec::new(alloc);
+        let starts = self.starts.as_slice();
+        for i in 0..starts.len() {
+            let span = (starts[i], end_of(starts, i));
+            add_span(&mut places, &self.tree, span, i as u16, steps)?;
+        }
+        Ok(places)
     }
 }

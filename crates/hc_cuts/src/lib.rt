@@ -7,3 +7,4 @@ pub mod laws;
 pub mod next;
 pub mod packing;
 pub mod settled;
+mod walk;

@@ -108,14 +108,22 @@ impl Placed {
 impl Front {
     ghost use Rattle.std.specs.Prelude.{◌≡◌, ◌+◌, ◌<◌, ◌≤◌};
     ghost use Rattle.hc_records.specs.Packing.{beginning, fits, opening, placed_at};
+    ghost use Rattle.hc_cuts.specs.Walk.{blank_datagram};
     ghost use Rattle.hc_records.specs.declared.limits.TheConstants.{MOST_AREA_BITS};
 
     /// The empty first datagram.
     pub fn opening() -> Front
         ensures { result ≡ opening }
     {
+        Front::blank(0)
+    }
+
+    /// The datagram with a number, before an area stands in it.
+    pub(crate) fn blank(datagram: u16) -> Front
+        ensures { result ≡ blank_datagram datagram }
+    {
         Front {
-            datagram: 0,
+            datagram,
             bit: 0,
             last: Dir::Out,
         }

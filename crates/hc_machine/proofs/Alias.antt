@@ -54,6 +54,9 @@ same-kept : (memory : List ℕ) (d : Carried) → length memory ≡ 12288 → Sa
 unfolding kept
 same-kept memory d long = same-after d.command memory d.bytes d.address long
 
+pub length-kept : (memory : List ℕ) (d : Carried) → length memory ≡ 12288 → length (kept memory d) ≡ 12288
+length-kept memory d long = (same-kept memory d long).long
+
 same-all : (memory : List ℕ) (ds : List Carried) → length memory ≡ 12288 → SameAlias memory (all_kept memory ds)
 same-all memory [] long = record { long = long; low = refl; high = refl }
 same-all memory (d ∷ ds) long =

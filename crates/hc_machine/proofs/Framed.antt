@@ -20,7 +20,7 @@ pub ok-unless-fault : (frame : List ℕ) (result : Result Reading FrameFault) �
 ok-unless-fault frame (Ok reading) read = sym (ap is_none read.0)
 ok-unless-fault frame (Err fault) faulty = sym (ap is_none faulty)
 
-no-fault : (fault : Option FrameFault) → is_none fault ≡ true → fault ≡ None
+pub no-fault : (fault : Option FrameFault) → is_none fault ≡ true → fault ≡ None
 no-fault None none = refl
 no-fault (Some fault) none = cc
 
@@ -67,7 +67,7 @@ readable-whole bytes none =
 pub all-bytes : (xs : List ℕ) → ((i : ℕ) → get_or xs i 0 < 256) → All (λ b. b < 256) xs
 all-bytes xs small = λ k d inside. rw (get_or_default_zero xs k d inside) (small k)
 
-head-long : (destination : List ℕ) (first serial size : ℕ) → length destination ≡ 6 → length (head_to destination first serial size) ≡ 16
+pub head-long : (destination : List ℕ) (first serial size : ℕ) → length destination ≡ 6 → length (head_to destination first serial size) ≡ 16
 head-long destination first serial size six = simp length-append (omega arith)
 
 -- a frame round its datagrams
@@ -127,11 +127,3 @@ module _ (bytes : List ℕ) (all : All (λ b. b < 256) bytes) (none : is_none (f
     pub memory-served : memory' ≡ memory_behind memory bytes
     unfolding memory_behind
     memory-served = done.1 ∙ sym (ap (λ (b : Bool). if b then all_kept memory parts else memory) none)
-
-pub frame-stays : (memory bytes : List ℕ) → is_none (fault_in bytes) ≡ false → bytes ≡ frame_after memory bytes
-unfolding frame_after
-frame-stays memory bytes faulty = rw faulty refl
-
-pub memory-stays : (memory bytes : List ℕ) → is_none (fault_in bytes) ≡ false → memory ≡ memory_behind memory bytes
-unfolding memory_behind
-memory-stays memory bytes faulty = rw faulty refl

@@ -6,5 +6,8 @@ pub mod Framed
 pub mod Paired
 pub mod Lowest
 pub mod Unmapped
+pub mod Counts
 pub mod Alias
 pub mod Mapped
+pub mod Unmixed
+pub mod lemmas

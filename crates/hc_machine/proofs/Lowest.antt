@@ -77,7 +77,7 @@ unfolding bit_of
 bit_of-small xs k = bit_at-lt (get_or xs (k / 8) 0) (k % 8)
 
 -- ---- tests
-both-true : (a b : Bool) → a ≡ true → b ≡ true → (a && b) ≡ true
+pub both-true : (a b : Bool) → a ≡ true → b ≡ true → (a && b) ≡ true
 both-true a b p q = rw (p, q) refl
 
 pub parts-true : (a b : Bool) → (a && b) ≡ true → (a ≡ true) × (b ≡ true)

@@ -5,8 +5,9 @@ use Rattle.std.specs.List.{list_any}
 use Rattle.std.proofs.lemmas.Bool.Decides.{nat_tests}
 use Rattle.std.proofs.lemmas.List.{get_or-take, get_or-drop}
 use Rattle.hc_machine.specs.declared.fmmu.Fmmu.{Fmmu}
-use Rattle.hc_machine.specs.Fmmus.{block_at, is_within}
+use Rattle.hc_machine.specs.Fmmus.{block_at, fmmu_of, idle, is_active, is_within}
 use Rattle.hc_machine.specs.Logical.{bit_read, bit_written, logical_bit, meets, memory_bit, reads_any, writes_any}
+use Rattle.hc_machine.proofs.Paired.{fmmu-idle}
 
 -- the activation byte of a block
 pub activation-at : (memory : List ℕ) (i : ℕ) → slice_index (block_at memory i) 12 ≡ slice_index memory (1536 + 16 * i + 12)
@@ -56,22 +57,36 @@ written-mapped (f ∷ fs) came from size m was = by (meets from size f) refl (wr
         others
         ∙ sym (ap (λ (b : Bool). if b then came (logical_bit f m - from) else bit_written fs came from size m was) (unmet-written f from size m e))
 
--- a test that holds of none that isn't met
-any-mapped : (p : Fmmu → Bool) (fs : List Fmmu) (from size : ℕ) → list_any (λ f. p f && meets from size f) (filter (meets from size) fs) ≡ list_any (λ f. p f && meets from size f) fs
+-- a test of the FMMUs that are met
+any-mapped : (p : Fmmu → Bool) (fs : List Fmmu) (from size : ℕ) → list_any p (filter (meets from size) fs) ≡ list_any (λ f. p f && meets from size f) fs
 any-mapped p [] from size = refl
 any-mapped p (f ∷ fs) from size = by (meets from size f) refl (any-mapped p fs from size)
   where
-    off : (a b : Bool) → b ≡ false → (a && b) ≡ false
-    off true b e = e
-    off false b e = refl
+    on : (a : Bool) → (a && true) ≡ a
+    on true = refl
+    on false = refl
 
-    by : (b : Bool) → meets from size f ≡ b → list_any (λ g. p g && meets from size g) (filter (meets from size) fs) ≡ list_any (λ g. p g && meets from size g) fs
-        → list_any (λ g. p g && meets from size g) (cond b (f ∷ filter (meets from size) fs) (filter (meets from size) fs)) ≡ list_any (λ g. p g && meets from size g) (f ∷ fs)
-    by true e others = ap (λ (b : Bool). (p f && meets from size f) || b) others
-    by false e others = others ∙ sym (ap (λ (b : Bool). b || list_any (λ g. p g && meets from size g) fs) (off (p f) (meets from size f) e))
+    off : (a : Bool) → (a && false) ≡ false
+    off true = refl
+    off false = refl
 
-pub reads-mapped : (fs : List Fmmu) (from size : ℕ) → reads_any from size (filter (meets from size) fs) ≡ reads_any from size fs
+    by : (b : Bool) → meets from size f ≡ b → list_any p (filter (meets from size) fs) ≡ list_any (λ g. p g && meets from size g) fs
+        → list_any p (cond b (f ∷ filter (meets from size) fs) (filter (meets from size) fs)) ≡ list_any (λ g. p g && meets from size g) (f ∷ fs)
+    by true e others =
+        ap (λ (b : Bool). p f || b) others
+        ∙ ap (λ (b : Bool). b || list_any (λ g. p g && meets from size g) fs) (sym (on (p f)) ∙ ap (λ (b : Bool). p f && b) (sym e))
+    by false e others =
+        others ∙ ap (λ (b : Bool). b || list_any (λ g. p g && meets from size g) fs) (sym (off (p f)) ∙ ap (λ (b : Bool). p f && b) (sym e))
+
+pub reads-mapped : (fs : List Fmmu) (from size : ℕ) → list_any (λ f. f.reads) (filter (meets from size) fs) ≡ reads_any from size fs
 reads-mapped fs from size = any-mapped (λ f. f.reads) fs from size
 
-pub writes-mapped : (fs : List Fmmu) (from size : ℕ) → writes_any from size (filter (meets from size) fs) ≡ writes_any from size fs
+pub writes-mapped : (fs : List Fmmu) (from size : ℕ) → list_any (λ f. f.writes) (filter (meets from size) fs) ≡ writes_any from size fs
 writes-mapped fs from size = any-mapped (λ f. f.writes) fs from size
+
+-- an FMMU that isn't active is met by no datagram
+pub idle-unmet : (block : List ℕ) (from size : ℕ) → is_active block ≡ false → meets from size (fmmu_of block) ≡ false
+idle-unmet block from size off = ap (meets from size) (sym (fmmu-idle block off)) ∙ none from size
+  where
+    none : (from size : ℕ) → meets from size idle ≡ false
+    none from size = grind (arith, nat_tests)

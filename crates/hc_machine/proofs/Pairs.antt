@@ -1,8 +1,8 @@
 -- One FMMU's part in what a datagram reads and writes, and a list of FMMUs by its first one.
-use Rattle.std.proofs.Common.{◌≡◌, ℕ, ◌+◌, ◌-◌, ◌<◌, ◌≤◌, Bool, true, false, List, [], ◌∷◌, min, max, length, get_or, take, drop, refl, sym, ◌∙◌, ap, arith, inl, inr}
+use Rattle.std.proofs.Common.{◌≡◌, ℕ, ◌+◌, ◌-◌, ◌<◌, ◌≤◌, Bool, true, false, List, [], ◌∷◌, min, max, length, get_or, drop, length-drop, refl, sym, ◌∙◌, ap, arith, inl, inr}
 use Rattle.std.specs.Prelude.{◌&&◌, if◌then◌else◌}
 use Rattle.std.proofs.lemmas.Bool.{cases_lt}
-use Rattle.std.proofs.lemmas.Slice.{first_rest}
+use Rattle.std.proofs.lemmas.List.{drop_more}
 use Rattle.std.proofs.lemmas.Bool.Decides.{nat_tests}
 use Rattle.hc_bits.specs.Bits.{bit_of, ReplacesRun}
 use Rattle.hc_machine.specs.declared.fmmu.Fmmu.{Fmmu}
@@ -136,12 +136,12 @@ clip_no_write f sent first n start stop m was e g none =
     ]
 
 -- a list of FMMUs by its first and the rest
-pub read_none : (fs : List Fmmu) (memory : ℕ → ℕ) (x was : ℕ) → length fs < 1 → was ≡ bit_read fs memory x was
+read_none : (fs : List Fmmu) (memory : ℕ → ℕ) (x was : ℕ) → length fs < 1 → was ≡ bit_read fs memory x was
 unfolding bit_read
 read_none [] memory x was h = refl
 read_none (f ∷ fs) memory x was h = absurd (omega arith)
 
-pub written_none : (fs : List Fmmu) (sent : ℕ → ℕ) (from n m was : ℕ) → length fs < 1 → was ≡ bit_written fs sent from n m was
+written_none : (fs : List Fmmu) (sent : ℕ → ℕ) (from n m was : ℕ) → length fs < 1 → was ≡ bit_written fs sent from n m was
 unfolding bit_written
 written_none [] sent from n m was h = refl
 written_none (f ∷ fs) sent from n m was h = absurd (omega arith)
@@ -152,5 +152,18 @@ read_first fs rest f memory x was e = sym (bit_read-over f rest memory x was) �
 pub written_first : (fs rest : List Fmmu) (f : Fmmu) (sent : ℕ → ℕ) (from n m was : ℕ) → fs ≡ f ∷ rest → bit_written (f ∷ []) sent from n m (bit_written rest sent from n m was) ≡ bit_written fs sent from n m was
 written_first fs rest f sent from n m was e = sym (bit_written-over f rest sent from n m was) ∙ ap (λ l. bit_written l sent from n m was) (sym e)
 
-pub first_is : (fs : List Fmmu) → 0 < length fs → fs ≡ get_or fs 0 idle ∷ take (length fs - 1) (drop 1 fs)
-first_is fs h = first_rest fs idle h
+-- the FMMUs from one on are it and those behind it
+pub laid-next : (fs : List Fmmu) (k : ℕ) → k < length fs → drop (length fs - (k + 1)) fs ≡ get_or fs (length fs - 1 - k) idle ∷ drop (length fs - k) fs
+laid-next fs k low =
+    let here : length fs - (k + 1) ≡ length fs - 1 - k = omega arith in
+    let behind : length fs - 1 - k + 1 ≡ length fs - k = omega arith in
+    ap (λ (n : ℕ). drop n fs) here ∙ drop_more fs (length fs - 1 - k) idle (omega arith) ∙ ap (λ (n : ℕ). get_or fs (length fs - 1 - k) idle ∷ drop n fs) behind
+
+none-laid : (fs : List Fmmu) → length (drop (length fs - 0) fs) < 1
+none-laid fs = omega (arith, length-drop (length fs - 0) fs)
+
+pub read_start : (fs : List Fmmu) (memory : ℕ → ℕ) (x was : ℕ) → was ≡ bit_read (drop (length fs - 0) fs) memory x was
+read_start fs memory x was = read_none (drop (length fs - 0) fs) memory x was (none-laid fs)
+
+pub written_start : (fs : List Fmmu) (sent : ℕ → ℕ) (from n m was : ℕ) → was ≡ bit_written (drop (length fs - 0) fs) sent from n m was
+written_start fs sent from n m was = written_none (drop (length fs - 0) fs) sent from n m was (none-laid fs)

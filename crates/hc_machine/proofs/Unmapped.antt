@@ -19,7 +19,7 @@ none-holds : (p : Fmmu → Bool) (fs : List Fmmu) → ((j : ℕ) → j < length 
 none-holds p [] none = refl
 none-holds p (f ∷ fs) none = ap (λ (b : Bool). b || list_any p fs) (none 0 (omega arith)) ∙ none-holds p fs (λ j h. none (suc j) (omega arith))
 
-meets-some : (f : Fmmu) (from size : ℕ) → meets from size f ≡ true → max f.logical from < min (f.logical + f.width) (from + size)
+pub meets-some : (f : Fmmu) (from size : ℕ) → meets from size f ≡ true → max f.logical from < min (f.logical + f.width) (from + size)
 meets-some f from size e = grind (arith, nat_tests)
 
 module _ (memory : List ℕ) (from size : ℕ) (none : (j n m : ℕ) → j < 16 → n < size → ¬ IsPair (block_at memory j) (from + n) m) where

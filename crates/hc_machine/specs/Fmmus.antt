@@ -1,4 +1,4 @@
--- The FMMUs that a slave's memory holds (ETG.1000.4, 6.6): each pairs logical bits with memory bits.
+-- The FMMUs that a slave's memory holds (ETG.1000.4, 6.6): each pairs logical bits with memory bits. A run is how the pairs are written down; `IsPair` in Laws says which they are.
 use Rattle.std.specs.Prelude.{ℕ, ◌+◌, ◌-◌, ◌*◌, ◌/◌, ◌%◌, ◌^◌, ◌<◌, ◌≤◌, ◌==◌, Bool, false, ◌&&◌, nat_le, nat_lt, if◌then◌else◌, min, List, map, slice_index, slice_range}
 use Rattle.std.specs.List.{range_with_len}
 use Rattle.hc_registers.specs.declared.registers.TheConstants.{FMMU_BLOCKS, FMMU_BLOCK_BYTES}
@@ -21,7 +21,7 @@ is_read block = slice_index block 11 % 2 == 1
 abbrev pub is_write : List ℕ → Bool
 is_write block = slice_index block 11 / 2 % 2 == 1
 
--- the first logical bit, and the one behind the last: the stop bit is in the last of `length` bytes, and the numbers don't wrap. Of the bit fields the low three bits count
+-- the first logical bit, and the one behind the last: the stop bit is in the last of `length` bytes, and the numbers don't wrap. Of the bit fields the low three bits count. The difference stops at 0, so that a length of 0 at address 0 pairs nothing
 abbrev pub first_logical : List ℕ → ℕ
 first_logical block = 8 * long_at block 0 + slice_index block 6 % 8
 

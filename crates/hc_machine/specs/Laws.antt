@@ -1,13 +1,14 @@
 -- What follows from the definitions: what an FMMU block pairs, what a logical datagram reads and writes, and what no frame changes.
-use Rattle.std.specs.Prelude.{◌≡◌, ℕ, ◌+◌, ◌*◌, ◌%◌, ◌<◌, ◌≤◌, ◌↔◌, ◌⊎◌, true, List, length, slice_index}
+use Rattle.std.specs.Prelude.{◌≡◌, All, ℕ, ◌+◌, ◌*◌, ◌%◌, ◌<◌, ◌≤◌, ◌↔◌, ◌⊎◌, true, List, is_none, length, slice_index}
 use Rattle.hc_bits.specs.Bits.{AreBytes, bit_of}
+use Rattle.hc_frames.specs.Arrived.{fault_in}
 use Rattle.hc_frames.specs.FrameText.{Carried}
 use Rattle.hc_registers.specs.Fields.{long_at, word_at}
 use Rattle.hc_machine.specs.declared.fmmu.Fmmu.{Fmmu}
 use Rattle.hc_machine.specs.declared.limits.TheConstants.{FMMUS, MEMORY_BITS, MEMORY_BYTES}
 use Rattle.hc_machine.specs.Commands.{served}
 use Rattle.hc_machine.specs.Fmmus.{block_at, fmmu_of, is_active, is_read, is_write}
-use Rattle.hc_machine.specs.Frames.{memory_behind}
+use Rattle.hc_machine.specs.Frames.{frame_after, memory_behind}
 use Rattle.hc_machine.specs.Logical.{logical_count, logical_data, logical_memory, memory_bit}
 
 -- logical bit x and memory bit m are a pair of an FMMU block: it is active; x lies from bit `8 * start + start bit` to bit `8 * (start + length - 1) + stop bit`, both included; m is as far from bit `8 * physical start + start bit` as x is from the first; and m lies in memory
@@ -64,9 +65,34 @@ UnmappedDatagramsPass =
     (memory bytes : List ℕ) (from : ℕ) → length memory ≡ MEMORY_BYTES → AreBytes memory → AreBytes bytes → ((j n m : ℕ) → j < FMMUS → n < 8 * length bytes → ¬ IsPair (block_at memory j) (from + n) m)
     → (logical_data memory from bytes ≡ bytes) × (logical_memory memory from bytes ≡ memory) × (logical_count memory from (length bytes) ≡ 0)
 
+-- an FMMU reads one of the bits of n bytes of data, or writes one: into the alias too, which stays
+abbrev pub IsRead : List ℕ → ℕ → ℕ → Type 0
+IsRead memory from n = (i : ℕ) × (k : ℕ) × (m : ℕ) × (i < FMMUS) × (k < 8 * n) × Reads memory i (from + k) m
+
+abbrev pub IsWritten : List ℕ → ℕ → ℕ → Type 0
+IsWritten memory from n = (i : ℕ) × (k : ℕ) × (m : ℕ) × (i < FMMUS) × (k < 8 * n) × Writes memory i (from + k) m
+
+-- a working counter tells the pairs: 1 where a bit is read and 2 where one is written, however many there are
+abbrev pub LogicalCountsTellPairs : Type 0
+LogicalCountsTellPairs =
+    (memory : List ℕ) (from n : ℕ) → (r : ℕ) × (w : ℕ) × (logical_count memory from n ≡ r + w)
+    × (((r ≡ 1) × IsRead memory from n) ⊎ ((r ≡ 0) × (¬ IsRead memory from n)))
+    × (((w ≡ 2) × IsWritten memory from n) ⊎ ((w ≡ 0) × (¬ IsWritten memory from n)))
+
 -- a working counter rises by 0 to 3, and wraps
 abbrev pub CountersRise : Type 0
 CountersRise = (memory : List ℕ) (d : Carried) → (n : ℕ) × (n ≤ 3) × ((served memory d).counter ≡ (d.counter + n) % 65536)
+
+-- a frame that is read is read behind a slave too
+abbrev pub ServedFramesAreRead : Type 0
+ServedFramesAreRead =
+    (memory frame : List ℕ) → length memory ≡ MEMORY_BYTES → All (λ b. b < 256) frame → is_none (fault_in frame) ≡ true → is_none (fault_in (frame_after memory frame)) ≡ true
+
+-- a slave passes on as many bytes as came: of a datagram's data, and of a frame
+abbrev pub SizesStay : Type 0
+SizesStay =
+    (memory : List ℕ) → length memory ≡ MEMORY_BYTES
+    → ((d : Carried) → length (served memory d).bytes ≡ length d.bytes) × ((frame : List ℕ) → All (λ b. b < 256) frame → length (frame_after memory frame) ≡ length frame)
 
 -- no frame changes the configured station alias, nor how many bytes memory has
 abbrev pub AliasStays : Type 0

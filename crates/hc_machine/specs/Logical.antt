@@ -38,6 +38,10 @@ reads_any from n fs = list_any (λ f. f.reads && meets from n f) fs
 abbrev pub writes_any : ℕ → ℕ → List Fmmu → Bool
 writes_any from n fs = list_any (λ f. f.writes && meets from n f) fs
 
+-- a logical bit is both read and written
+abbrev pub mixes_any : List Fmmu → Bool
+mixes_any fs = list_any (λ f. f.writes && reads_any f.logical f.width fs) fs
+
 -- the data behind a datagram at this logical bit
 unfoldable pub logical_data : List ℕ → ℕ → List ℕ → List ℕ
 logical_data memory from bytes =

@@ -1,6 +1,6 @@
 //! The four commands (ETG.1000.4, 5.4).
 
-ghost use Rattle.std.specs.Prelude.{◌≡◌, ◌≤◌, length, take};
+ghost use Rattle.std.specs.Prelude.{◌≡◌, ◌≤◌, length};
 ghost use Rattle.hc_frames.specs.declared.commands.Command.TheVariants.{Aprd, Apwr, Fpwr};
 ghost use Rattle.hc_machine.specs.Commands.{address_after, count_of, data_after, is_at_position, is_at_station, memory_after, lies_in_memory, register_of};
 
@@ -98,14 +98,6 @@ fn serve_station(memory: &mut [u8], address: u32, bytes: &[u8]) -> u16
     1
 }
 
-/// Puts bytes at the head of a slice.
-fn keep(spare: &mut [u8], bytes: &[u8])
-    requires { length bytes.now ≤ length spare.old }
-    ensures { take (length bytes.now) spare.new ≡ bytes.now }
-{
-    spare[..bytes.len()].copy_from_slice(bytes);
-}
-
 /// Serves the data of a datagram, and answers what it adds to the working counter. `spare` has room for the data that
 /// came in.
 pub(crate) fn serve(
@@ -126,10 +118,6 @@ pub(crate) fn serve(
         Command::Aprd => serve_read(memory, address, bytes),
         Command::Apwr => serve_position(memory, address, bytes),
         Command::Fpwr => serve_station(memory, address, bytes),
-        Command::Lrw => {
-            keep(spare, bytes);
-            let size = bytes.len();
-            serve_logical(memory, address, &spare[..size], bytes)
-        }
+        Command::Lrw => serve_logical(memory, spare, address, bytes),
     }
 }

@@ -27,15 +27,6 @@ pub(crate) struct Fmmu {
     pub(crate) writes: bool,
 }
 
-/// Pairs nothing.
-const IDLE: Fmmu = Fmmu {
-    logical: 0,
-    memory: 0,
-    width: 0,
-    reads: false,
-    writes: false,
-};
-
 /// A copy of the block of FMMU `i`.
 fn block_at(memory: &[u8], i: usize) -> [u8; 16]
     requires memory { length memory.now ≡ MEMORY_BYTES }
@@ -70,20 +61,6 @@ fn fmmu_of(block: &[u8; 16]) -> Fmmu
     }
 }
 
-/// FMMU `i`, as it stands in memory.
-fn fmmu_at(memory: &[u8], i: usize) -> Fmmu
-    requires memory { length memory.now ≡ MEMORY_BYTES }
-    requires number { i < FMMUS }
-    ensures value { result ≡ fmmu_of (block_at memory.now i) }
-    ensures in_memory { IsInMemory result }
-{
-    // most aren't active: no more of their block is looked at than this
-    if memory[usize::from(FMMU_BLOCKS) + usize::from(FMMU_BLOCK_BYTES) * i + 12] % 2 != 1 {
-        return IDLE;
-    }
-    fmmu_of(&block_at(memory, i))
-}
-
 /// Whether an FMMU pairs one of the `n` logical bits from `from` on.
 pub(crate) fn meets(fmmu: &Fmmu, from: usize, n: usize) -> bool
     requires in_memory { IsInMemory fmmu.now }
@@ -93,16 +70,22 @@ pub(crate) fn meets(fmmu: &Fmmu, from: usize, n: usize) -> bool
     fmmu.logical.max(from) < (fmmu.logical + fmmu.width).min(from + n)
 }
 
-/// Adds an FMMU where it pairs one of the `n` logical bits from `from` on.
-fn add_mapped(mapped: &mut ArrayVec<Fmmu, 16>, fmmu: Fmmu, from: usize, n: usize)
+/// Adds FMMU `i`, as it stands in memory, where it pairs one of the `n` logical bits from `from` on.
+fn add_mapped(mapped: &mut ArrayVec<Fmmu, 16>, memory: &[u8], i: usize, from: usize, n: usize)
+    requires memory { length memory.now ≡ MEMORY_BYTES }
+    requires number { i < FMMUS }
     requires room { length mapped.old.items < 16 }
-    requires in_memory { IsInMemory fmmu }
     requires all_in_memory { All IsInMemory mapped.old.items }
     requires fits { from + n < 2 ^ 41 }
-    ensures value { mapped.new.items ≡ mapped.old.items ++ cond (meets from n fmmu) (fmmu ∷ []) [] }
+    ensures value { mapped.new.items ≡ mapped.old.items ++ cond (meets from n (fmmu_of (block_at memory.now i))) (fmmu_of (block_at memory.now i) ∷ []) [] }
     ensures room { length mapped.new.items ≤ length mapped.old.items + 1 }
     ensures in_memory { All IsInMemory mapped.new.items }
 {
+    // most aren't active: no more of their block is looked at than this
+    if memory[usize::from(FMMU_BLOCKS) + usize::from(FMMU_BLOCK_BYTES) * i + 12] % 2 != 1 {
+        return;
+    }
+    let fmmu = fmmu_of(&block_at(memory, i));
     if meets(&fmmu, from, n) {
         mapped.push(fmmu);
     }
@@ -117,7 +100,7 @@ pub(crate) fn mapped_fmmus(memory: &[u8], from: usize, n: usize) -> ArrayVec<Fmm
 {
     let mut mapped = ArrayVec::new();
     for i in 0..FMMUS {
-        add_mapped(&mut mapped, fmmu_at(memory, i), from, n);
+        add_mapped(&mut mapped, memory, i, from, n);
     }
     mapped
 }

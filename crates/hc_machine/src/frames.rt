@@ -10,8 +10,8 @@ use crate::limits::MEMORY_BYTES;
 use hc_frames::limits::{HEAD_BYTES, MAX_DATA};
 use hc_frames::reading::read_frame;
 
-/// Whether the reader reads a frame.
-fn is_readable(frame: &[u8]) -> bool
+/// Whether the reader reads a frame, so that slaves act on it.
+pub fn is_readable(frame: &[u8]) -> bool
     ensures { result ≡ is_none (fault_in frame.now) }
 {
     read_frame(frame).is_ok()
@@ -28,16 +28,15 @@ fn end_of_datagrams(frame: &[u8]) -> usize
     HEAD_BYTES + usize::from(word_at(frame, 14) % 2048)
 }
 
-/// Serves a frame; one that isn't read stays, and so does memory.
+/// Serves a frame that is read.
 pub(crate) fn serve_frame(memory: &mut [u8], spare: &mut [u8], frame: &mut [u8])
     requires memory { length memory.old ≡ MEMORY_BYTES }
     requires spare { length spare.old ≡ MAX_DATA }
+    requires readable { is_none (fault_in frame.old) ≡ true }
     ensures frame { frame.new ≡ frame_after memory.old frame.old }
     ensures memory { memory.new ≡ memory_behind memory.old frame.old }
+    ensures readable { is_none (fault_in frame.new) ≡ true }
 {
-    if !is_readable(frame) {
-        return;
-    }
     let end = end_of_datagrams(frame);
     serve_datagrams(memory, spare, &mut frame[HEAD_BYTES..end]);
 }

@@ -1,6 +1,6 @@
 //! What follows from the definitions of `specs/`, so that a reader can trust them and a caller can use it: each function
 //! here does nothing, and its contract is a law. Nobody calls it.
-ghost use Rattle.hc_machine.specs.Laws.{AliasStays, CountersRise, FmmusAreTheirPairs, ReadBitsComeFromMemory, UnmappedDatagramsPass, UnreadBitsStay, UnwrittenBitsStay, WrittenBitsComeFromData};
+ghost use Rattle.hc_machine.specs.Laws.{AliasStays, CountersRise, FmmusAreTheirPairs, LogicalCountsTellPairs, ReadBitsComeFromMemory, ServedFramesAreRead, SizesStay, UnmappedDatagramsPass, UnreadBitsStay, UnwrittenBitsStay, WrittenBitsComeFromData};
 
 /// An FMMU has exactly the pairs that its block says: the k-th logical bit with the k-th memory bit, from the start bit of
 /// the first byte to the stop bit of the last, as far as memory goes; none where it isn't active, where its length is 0, or
@@ -35,12 +35,29 @@ pub fn unmapped_datagrams_pass()
     ensures { UnmappedDatagramsPass }
 {}
 
+/// A logical datagram's working counter rises by 1 where an FMMU pairs a bit of it for reading, and by 2 where one pairs a bit
+/// of it for writing, each once however many bits and FMMUs there are. A bit written into the alias counts though the alias
+/// stays.
+pub fn logical_counts_tell_pairs()
+    ensures { LogicalCountsTellPairs }
+{}
+
 /// A working counter rises by 0 to 3, and wraps at 65,536.
 pub fn counters_rise()
     ensures { CountersRise }
 {}
 
-/// No frame changes the configured station alias.
+/// A slave passes on as many bytes of data in each datagram as came, and as many bytes of a frame.
+pub fn sizes_stay()
+    ensures { SizesStay }
+{}
+
+/// No frame changes the configured station alias, nor how many bytes memory has.
 pub fn alias_stays()
     ensures { AliasStays }
+{}
+
+/// A frame that the reader reads is read behind a slave too.
+pub fn served_frames_are_read()
+    ensures { ServedFramesAreRead }
 {}

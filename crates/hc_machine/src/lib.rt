@@ -13,4 +13,5 @@ mod logical;
 mod machine;
 mod memory;
 
+pub use frames::is_readable;
 pub use machine::SlaveMachine;

@@ -1,12 +1,13 @@
 //! A slave of the line.
 
-ghost use Rattle.std.specs.Prelude.{◌≡◌, IfOk, length, vec_len};
+ghost use Rattle.std.specs.Prelude.{◌≡◌, IfOk, is_none, length, true, vec_len};
 ghost use Rattle.std.specs.Borrow.{sem};
+ghost use Rattle.hc_frames.specs.Arrived.{fault_in};
 ghost use Rattle.hc_machine.specs.Frames.{frame_after, memory_behind};
 ghost use Rattle.hc_machine.specs.Lending.{LendsMemory};
 ghost use Rattle.hc_machine.specs.Memory.{fresh_memory, zeros};
 
-use crate::frames::serve_frame;
+use crate::frames::{is_readable, serve_frame};
 use crate::limits::MEMORY_BYTES;
 use crate::memory::put_part;
 use hc_frames::limits::{ALIAS_REGISTER, MAX_DATA};
@@ -53,7 +54,8 @@ fn fresh_memory(alloc: Global, alias: u16) -> Result<Vec<u8>, AllocError>
 }
 
 impl SlaveMachine {
-    /// A slave whose memory is zeros but for its configured station alias. `AllocError` where the room was refused.
+    /// A slave whose memory is zeros but for its configured station alias, 0 to 65,535 (ETG.1000.4, 6.1.2). `AllocError` where
+    /// the room was refused.
     pub fn new(alloc: Global, alias: u16) -> Result<SlaveMachine, AllocError>
         ensures { IfOk result (λ machine. machine ≡ fresh_memory alias) }
     {
@@ -67,6 +69,19 @@ impl SlaveMachine {
     pub fn process(&mut self, frame: &mut [u8])
         ensures frame { frame.new ≡ frame_after self.old frame.old }
         ensures memory { self.new ≡ memory_behind self.old frame.old }
+    {
+        if is_readable(frame) {
+            self.process_readable(frame);
+        }
+    }
+
+    /// Does what `process` does with a frame that the reader reads, and doesn't read it once more: who passes a frame through
+    /// many slaves reads it once, since it is read behind each of them too. Takes no memory.
+    pub fn process_readable(&mut self, frame: &mut [u8])
+        requires { is_none (fault_in frame.old) ≡ true }
+        ensures frame { frame.new ≡ frame_after self.old frame.old }
+        ensures memory { self.new ≡ memory_behind self.old frame.old }
+        ensures readable { is_none (fault_in frame.new) ≡ true }
     {
         serve_frame(&mut self.memory, &mut self.spare, frame);
     }

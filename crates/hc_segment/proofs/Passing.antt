@@ -1,6 +1,9 @@
 -- Frames added at the end, and machines added at the end.
-use Rattle.std.proofs.Common.{◌≡◌, ℕ, zero, suc, ◌+◌, ◌<◌, List, [], ◌∷◌, ◌++◌, length, take, drop, get_or, set, refl, ap, ap₂, sym, ◌∙◌, arith}
+use Rattle.std.proofs.Common.{◌≡◌, false, ℕ, zero, suc, ◌+◌, ◌<◌, List, [], ◌∷◌, ◌++◌, length, take, drop, get_or, set, refl, ap, ap₂, sym, ◌∙◌, arith}
+use Rattle.std.specs.Prelude.{is_none}
+use Rattle.hc_frames.specs.Arrived.{fault_in}
 use Rattle.hc_machine.specs.Frames.{frame_after, memory_behind}
+use Rattle.hc_machine.proofs.lemmas.Passed.{frame-stays, memory-stays}
 use Rattle.hc_segment.specs.Line.{frame_through, frames_through, machines_after, machines_behind}
 
 abbrev pub Machines : Type 0
@@ -59,3 +62,13 @@ frame_through-append (m ∷ a) b f = frame_through-append a b (frame_after m f)
 pub machines_behind-append : (a b : Machines) (f : List ℕ) → machines_behind (a ++ b) f ≡ machines_behind a f ++ machines_behind b (frame_through a f)
 machines_behind-append [] b f = refl
 machines_behind-append (m ∷ a) b f = ap (λ (rest : Machines). memory_behind m f ∷ rest) (machines_behind-append a b (frame_after m f))
+
+-- a frame that isn't read passes, and the machines stay
+pub unread-passes : (ms : Machines) (f : List ℕ) → is_none (fault_in f) ≡ false → (f ≡ frame_through ms f) × (ms ≡ machines_behind ms f)
+unread-passes [] f faulty = (refl, refl)
+unread-passes (m ∷ ms) f faulty =
+    let stays : f ≡ frame_after m f = frame-stays m f faulty in
+    let others = unread-passes ms f faulty in (
+      others.0 ∙ ap (frame_through ms) stays,
+      ap₂ (λ (x : List ℕ) (xs : Machines). x ∷ xs) (memory-stays m f faulty) (others.1 ∙ ap (machines_behind ms) stays),
+    )

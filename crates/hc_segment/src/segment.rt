@@ -1,10 +1,11 @@
 //! A segment of a line: machines that frames meet in order.
-ghost use Rattle.std.specs.Prelude.{◌≡◌};
+ghost use Rattle.std.specs.Prelude.{◌≡◌, is_none, true};
 ghost use Rattle.std.specs.Borrow.{sem};
+ghost use Rattle.hc_frames.specs.Arrived.{fault_in};
 ghost use Rattle.hc_segment.specs.Lending.{LendsMachines};
 ghost use Rattle.hc_segment.specs.Line.{frame_through, machines_behind};
 
-use hc_machine::SlaveMachine;
+use hc_machine::{SlaveMachine, is_readable};
 use std::marker::Model;
 
 /// Machines in their order on the line. Contracts see them as the list of their memories.
@@ -21,13 +22,14 @@ impl Model for Segment {
     ghost view = { λ segment. segment.machines.items };
 }
 
-/// Passes a frame through machines one after another.
+/// Passes a frame that is read through machines one after another.
 fn pass(machines: &mut [SlaveMachine], frame: &mut [u8])
+    requires { is_none (fault_in frame.old) ≡ true }
     ensures frame { frame.new ≡ frame_through machines.old frame.old }
     ensures machines { machines.new ≡ machines_behind machines.old frame.old }
 {
     for machine in machines.iter_mut() {
-        machine.process(frame);
+        machine.process_readable(frame);
     }
 }
 
@@ -44,7 +46,10 @@ impl Segment {
         ensures frame { frame.new ≡ frame_through self.old frame.old }
         ensures machines { self.new ≡ machines_behind self.old frame.old }
     {
-        pass(self.machines.as_mut_slice(), frame);
+        // a frame that is read is read behind each machine too
+        if is_readable(frame) {
+            pass(self.machines.as_mut_slice(), frame);
+        }
     }
 
     /// The machines, in their order.

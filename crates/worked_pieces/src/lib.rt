@@ -8,6 +8,8 @@ mod cuts;
 #[cfg(test)]
 mod edits;
 #[cfg(test)]
+mod longest;
+#[cfg(test)]
 mod places;
 #[cfg(test)]
 mod project_texts;

@@ -1,5 +1,5 @@
 //! Chains of one, two and four segments, and that their threads run at once.
-use super::frame_of;
+use super::{equal, frame_of};
 use crate::{Segment, SlaveMachine, chain};
 use hc_lend::Gate;
 use hc_rings::FrameBox;
@@ -177,6 +177,12 @@ fn machines_stay_where_a_chain_is_refused(rt: HostRuntime) -> Result<(), Fail> {
     match chain(&rt, alloc, &mut segments, frames, &Open) {
         Ok(out) => {
             assert_eq!(rt; out.len(), 1);
+            // each slave's byte was 100 and its place; each of the eight counts 1 for a read and 2 for a write
+            for frame in &out {
+                assert_eq!(rt; frame.bytes().len(), 64);
+                let wanted = [100, 101, 102, 103, 104, 105, 106, 107, 24, 0];
+                equal(&rt, &frame.bytes()[26..36], &wanted, "data and counter");
+            }
             bytes_ascend(&rt, &segments, 1);
         }
         Err(fault) => {
@@ -187,7 +193,8 @@ fn machines_stay_where_a_chain_is_refused(rt: HostRuntime) -> Result<(), Fail> {
     Ok(())
 }
 
-/// A body that begins with a segment once the one in front of it is done gives the same frames and machines; the gate tells.
+/// A body that begins with a segment once the one in front of it is done gives the frames and machines that `chain` gives;
+/// the gate alone tells.
 #[test]
 fn the_gate_tells_segments_in_turn(rt: HostRuntime) -> Result<(), Fail> {
     let alloc = rt.alloc();
@@ -204,5 +211,8 @@ fn the_gate_tells_segments_in_turn(rt: HostRuntime) -> Result<(), Fail> {
         }
     }
     assert!(rt; !gate.second_was_seen.load(Ordering::SeqCst));
+    let mut chained = segments_of(alloc, 4)?;
+    let out = chain(&rt, alloc, &mut chained, frames_of(alloc)?, &Open)?;
+    assert!(rt; bytes_of(alloc, &out, &chained)? == bytes_of(alloc, &frames, &segments)?);
     Ok(())
 }

@@ -59,11 +59,11 @@ fn bits_over_byte_edges(rt: HostRuntime) -> Result<(), Fail> {
         // four bits are written over a byte's edge, from memory bit 5 on
         Row {
             blocks: [[0, 0, 0, 1, 2, 0, 6, 1, 0, 0x10, 5, 2, 1, 0, 0, 0], NONE],
-            memory: [(0x1000, 0x00), (0x1001, 0xff)],
+            memory: [(0x1000, 0x80), (0x1001, 0xfe)],
             came: [0xc0, 0x02],
             left: [0xc0, 0x02],
             counter: 2,
-            // bits 1, 1, 0, 1 at bits 5, 6, 7 and 8
+            // bits 1, 1, 0, 1 at bits 5, 6, 7 and 8, where 0, 0, 1, 0 stood
             kept: [(0x1000, 0x60), (0x1001, 0xff)],
         },
     ] {
@@ -182,7 +182,7 @@ fn both_directions(rt: HostRuntime) -> Result<(), Fail> {
             counter: 3,
             kept: [(0x1000, 0x55), (0x1001, 0x66)],
         },
-        // two FMMUs of each slave count once
+        // two FMMUs of each direction count once
         Row {
             blocks: [
                 [0, 0, 0, 1, 1, 0, 0, 7, 0, 0x10, 0, 3, 1, 0, 0, 0],
@@ -269,7 +269,35 @@ fn ends_of_a_datagram(rt: HostRuntime) -> Result<(), Fail> {
             counter: 1,
             kept: [(0x1000, 0), (0x1001, 0x7e)],
         },
-        // the alias is written over: it stays, and the write counts
+    ] {
+        process_row(&rt, &mut SlaveMachine::new(rt.alloc(), 100)?, &row);
+    }
+    Ok(())
+}
+
+/// The alias is 100 in 0x0012 and 0x0013: both stay, the bytes beside them don't, and the writes count.
+#[test]
+fn the_alias_is_not_mapped_for_writing(rt: HostRuntime) -> Result<(), Fail> {
+    for row in [
+        // the byte before the alias, and its low byte
+        Row {
+            blocks: [[0, 0, 0, 1, 2, 0, 0, 7, 0x11, 0, 0, 2, 1, 0, 0, 0], NONE],
+            memory: [(0x0011, 7), (0x0014, 8)],
+            came: [0x12, 0x34],
+            left: [0x12, 0x34],
+            counter: 2,
+            kept: [(0x0011, 0x12), (0x0012, 100)],
+        },
+        // its high byte, and the byte behind it
+        Row {
+            blocks: [[0, 0, 0, 1, 2, 0, 0, 7, 0x13, 0, 0, 2, 1, 0, 0, 0], NONE],
+            memory: [(0x0011, 7), (0x0014, 8)],
+            came: [0x12, 0x34],
+            left: [0x12, 0x34],
+            counter: 2,
+            kept: [(0x0013, 0), (0x0014, 0x34)],
+        },
+        // it alone: the write counts all the same
         Row {
             blocks: [[0, 0, 0, 1, 2, 0, 0, 7, 0x12, 0, 0, 2, 1, 0, 0, 0], NONE],
             memory: [(0x0011, 7), (0x0014, 8)],
@@ -281,6 +309,27 @@ fn ends_of_a_datagram(rt: HostRuntime) -> Result<(), Fail> {
     ] {
         process_row(&rt, &mut SlaveMachine::new(rt.alloc(), 100)?, &row);
     }
+    Ok(())
+}
+
+/// FMMU 15 reads the first byte from 0x1000. The block behind it, at 0x0700, would read the second from 0x1001: it is no FMMU.
+#[test]
+fn the_sixteenth_fmmu_is_the_last(rt: HostRuntime) -> Result<(), Fail> {
+    let mut machine = SlaveMachine::new(rt.alloc(), 0)?;
+    put(
+        &mut machine,
+        0x06f0,
+        &[0, 0, 0, 1, 1, 0, 0, 7, 0, 0x10, 0, 1, 1, 0, 0, 0],
+    );
+    put(
+        &mut machine,
+        0x0700,
+        &[1, 0, 0, 1, 1, 0, 0, 7, 1, 0x10, 0, 1, 1, 0, 0, 0],
+    );
+    put(&mut machine, 0x1000, &[0x5a, 0xa5]);
+    let mut frame = frame_of(12, 0x0100_0000, &[1, 2]);
+    machine.process(&mut frame);
+    equal(&rt, &frame[26..30], &[0x5a, 2, 1, 0], "data and counter");
     Ok(())
 }
 
@@ -326,7 +375,38 @@ fn logical_bits_do_not_wrap(rt: HostRuntime) -> Result<(), Fail> {
     Ok(())
 }
 
-/// A frame of two datagrams: the first writes the block of FMMU 1, which the second then meets; the first doesn't.
+/// FMMU 0 writes the data into the block of FMMU 1, and they are a block that reads their own first byte from 0x1000. So
+/// the first datagram writes alone; the second, of the same data, is read too.
+#[test]
+fn a_datagram_meets_fmmus_as_they_stood_before_it(rt: HostRuntime) -> Result<(), Fail> {
+    let mut machine = SlaveMachine::new(rt.alloc(), 0)?;
+    put(
+        &mut machine,
+        0x0600,
+        &[0, 0, 0, 1, 16, 0, 0, 7, 0x10, 0x06, 0, 2, 1, 0, 0, 0],
+    );
+    put(&mut machine, 0x1000, &[0x5a]);
+    let block = [0, 0, 0, 1, 1, 0, 0, 7, 0, 0x10, 0, 1, 1, 0, 0, 0];
+    let mut first = frame_of(12, 0x0100_0000, &block);
+    machine.process(&mut first);
+    equal(
+        &rt,
+        &first[26..44],
+        &[0, 0, 0, 1, 1, 0, 0, 7, 0, 0x10, 0, 1, 1, 0, 0, 0, 2, 0],
+        "the first",
+    );
+    let mut second = frame_of(12, 0x0100_0000, &block);
+    machine.process(&mut second);
+    equal(
+        &rt,
+        &second[26..44],
+        &[0x5a, 0, 0, 1, 1, 0, 0, 7, 0, 0x10, 0, 1, 1, 0, 0, 0, 3, 0],
+        "the second",
+    );
+    Ok(())
+}
+
+/// A frame of two datagrams: the first writes the block of FMMU 1, which then pairs a byte of the second.
 #[test]
 fn second_datagram_meets_what_the_first_wrote(rt: HostRuntime) -> Result<(), Fail> {
     let mut machine = SlaveMachine::new(rt.alloc(), 0)?;
@@ -378,13 +458,27 @@ fn unreadable_frames_stay(rt: HostRuntime) -> Result<(), Fail> {
         0x0600,
         &[0, 0, 0, 1, 1, 0, 0, 7, 0, 0x10, 0, 3, 1, 0, 0, 0],
     );
-    let mut frame = frame_of(12, 0x0100_0000, &[7]);
-    // the circulating bit
-    frame[23] = 0x40;
-    let before = frame;
-    machine.process(&mut frame);
-    equal(&rt, &frame, &before, "the frame");
-    equal(&rt, &machine.memory()[0x1000..0x1001], &[0], "memory");
+    let mut circulating = frame_of(12, 0x0100_0000, &[7]);
+    circulating[23] = 0x40;
+    // a logical write alone is not served
+    let unserved = frame_of(11, 0x0100_0000, &[7]);
+    // nor is a frame whose second datagram is one: 26 bytes of datagrams, the second from byte 29 on
+    let mut second_unserved = frame_of(12, 0x0100_0000, &[7]);
+    second_unserved[14] = 26;
+    second_unserved[23] = 0x80;
+    second_unserved[29] = 11;
+    second_unserved[35] = 1;
+    for before in [circulating, unserved, second_unserved] {
+        let mut frame = before;
+        machine.process(&mut frame);
+        equal(&rt, &frame, &before, "the frame");
+        equal(&rt, &machine.memory()[0x1000..0x1001], &[0], "memory");
+    }
     machine.process(&mut []);
+    // the first datagram of the last one alone acts
+    let mut served = frame_of(12, 0x0100_0000, &[7]);
+    machine.process(&mut served);
+    equal(&rt, &served[26..29], &[0, 3, 0], "data and counter");
+    equal(&rt, &machine.memory()[0x1000..0x1001], &[7], "memory");
     Ok(())
 }

@@ -81,6 +81,24 @@ fn stations_are_written_and_met(rt: HostRuntime) -> Result<(), Fail> {
     Ok(())
 }
 
+/// The first datagram writes station 1001 by position, the second meets it by that station.
+#[test]
+fn a_station_is_met_once_it_is_written(rt: HostRuntime) -> Result<(), Fail> {
+    let mut segment = segment_of(rt.alloc(), &[0])?;
+    // 28 bytes of datagrams; more follow the first
+    let mut frame = [
+        0xff, 0xff, 0xff, 0xff, 0xff, 0xff, 2, 0, 0, 0, 0, 0, 0x88, 0xa4, 28, 0x10, 2, 0, 0, 0,
+        0x10, 0, 2, 0x80, 0, 0, 0xe9, 3, 0, 0, 5, 0, 0xe9, 3, 0, 0x10, 2, 0, 0, 0, 5, 6, 0, 0,
+    ];
+    segment.process(&mut frame);
+    equal(&rt, &frame[26..30], &[0xe9, 3, 1, 0], "the first");
+    equal(&rt, &frame[40..44], &[5, 6, 1, 0], "the second");
+    for machine in segment.machines() {
+        equal(&rt, &machine.memory()[0x1000..0x1002], &[5, 6], "memory");
+    }
+    Ok(())
+}
+
 #[test]
 fn writes_leave_the_alias(rt: HostRuntime) -> Result<(), Fail> {
     let mut machine = SlaveMachine::new(rt.alloc(), 0x0164)?;

@@ -1,4 +1,4 @@
-use Rattle.std.proofs.Common.{◌≡◌, ℕ, List, ◌++◌, [], ◌∷◌, cond, map, sym, ap, ap₂, ◌∙◌, arith}
+use Rattle.std.proofs.Common.{◌≡◌, ℕ, List, ◌++◌, [], ◌∷◌, cond, map, sym, ap, ◌∙◌, arith}
 use Rattle.std.specs.Prelude.{filter}
 use Rattle.std.specs.List.{range_with_len}
 use Rattle.std.proofs.lemmas.List.FromFn.{filter_of_map_range_with_len_more}
@@ -12,7 +12,7 @@ loop-i-preserved c =
     let a = c.args in
     let i = c.loop-i.invariant in
     record {
-      value = c.add_mapped.ensures.value ∙ ap₂ (λ (xs : List Fmmu) (f : Fmmu). xs ++ cond (meets a.from a.n f) (f ∷ []) []) i.value c.fmmu_at.ensures.value
+      value = c.add_mapped.ensures.value ∙ ap (λ (xs : List Fmmu). xs ++ cond (meets a.from a.n (fmmu_of (block_at a.memory.now c.loop-i.i))) (fmmu_of (block_at a.memory.now c.loop-i.i) ∷ []) []) i.value
           ∙ sym (filter_of_map_range_with_len_more (meets a.from a.n) (λ i. fmmu_of (block_at a.memory.now i)) 0 c.loop-i.i c.loop-i.i (omega arith));
       few = let more = c.add_mapped.ensures.room in omega arith;
       in_memory = c.add_mapped.ensures.in_memory;

@@ -7,8 +7,8 @@ use Rattle.hc_machine.proofs.Bytes.{bytes-spelled}
 use Rattle.hc_machine.proofs.Mapped.{read-mapped}
 use Rattle.hc_machine.proofs.logical.read_data.Goals as goal
 
-pub returns : goal.returns
-returns c =
+pub returns-clause-data : goal.returns-clause-data
+returns-clause-data c =
     let a = c.args in
     bytes-spelled c.read_bits.new.bytes (length a.bytes.now) _ (λ i h. (c.type_inv.bytes i).fits) (omega arith) (λ k h.
     c.read_bits.ensures k h ∙ ap (λ (fs : List Fmmu). bit_read fs (bit_of a.memory.now) (a.from + k) (bit_of a.bytes.now k)) c.requires.mapped

@@ -3,8 +3,9 @@ use Rattle.hc_records.specs.declared.records.Dir.{Dir}
 use Rattle.hc_records.specs.declared.records.Dir.TheVariants.{Out, In}
 use Rattle.hc_records.specs.declared.keys.Key.{Key}
 use Rattle.hc_records.specs.TaskList.{Keyed}
-use Rattle.hc_bitsum.specs.Slots.{key_at}
+use Rattle.hc_bitsum.specs.Slots.{key_at, with_bits}
 use Rattle.hc_bitsum.specs.Tree.{HasPlace, Tree}
+use Rattle.hc_bitsum.proofs.Kept.{holds-list}
 use Rattle.hc_bitsum.proofs.Halves.{wide-inputs, wide-outputs, with_bits-keeps}
 use Rattle.hc_bitsum.proofs.tree.SumTree.set.Goals as goal
 
@@ -28,8 +29,8 @@ invariant_of-self-in-In c =
     let own = placed-at c.args.self.now.slaves c.self.inside.slaves c.args.key (key_at In place) slaves key c.requires.place in
     (c.self.invariant.0, rw c.set-in-In.ensures (with_bits-keeps In c.self.inside.slaves c.self.inside.inputs place c.args.bits c.requires.narrow own c.self.invariant.1))
 
-pub returns-in-Out : goal.returns-in-Out
-returns-in-Out c =
+pub returns-in-Out-clause-set : goal.returns-in-Out-clause-set
+returns-in-Out-clause-set c =
     let place = c.place_of-place.result in
     let key : c.args.key ≡ key_at Out place = c.place_of-place.ensures.value ∙ ap (λ (d : Dir). key_at d place) c.in-Out.is in
     let slaves : c.self.inside.slaves ≡ c.args.self.now.slaves = ap (λ (tree : Tree). tree.slaves) c.self.view_is in
@@ -42,8 +43,8 @@ returns-in-Out c =
     rw (← c.self.view_is, c.set.ensures, key)
     (ap (λ (list : List Keyed). let tree : Tree = record { slaves = c.self.inside.slaves; list = list } in tree) set)
 
-pub returns-in-In : goal.returns-in-In
-returns-in-In c =
+pub returns-in-In-clause-set : goal.returns-in-In-clause-set
+returns-in-In-clause-set c =
     let place = c.place_of-place.result in
     let key : c.args.key ≡ key_at In place = c.place_of-place.ensures.value ∙ ap (λ (d : Dir). key_at d place) c.in-In.is in
     let slaves : c.self.inside.slaves ≡ c.args.self.now.slaves = ap (λ (tree : Tree). tree.slaves) c.self.view_is in
@@ -55,3 +56,21 @@ returns-in-In c =
     let set = wide-inputs place c.args.bits c.self.inside.outputs.areas c.self.inside.inputs.areas c.self.invariant.0.keys c.self.invariant.1.keys inside in
     rw (← c.self.view_is, c.set-in-In.ensures, key)
     (ap (λ (list : List Keyed). let tree : Tree = record { slaves = c.self.inside.slaves; list = list } in tree) set)
+
+pub returns-in-Out-clause-holds : goal.returns-in-Out-clause-holds
+returns-in-Out-clause-holds c =
+    let place = c.place_of-place.result in
+    let key : c.args.key ≡ key_at Out place = c.place_of-place.ensures.value ∙ ap (λ (d : Dir). key_at d place) c.in-Out.is in
+    let slaves : c.self.inside.slaves ≡ c.args.self.now.slaves = ap (λ (tree : Tree). tree.slaves) c.self.view_is in
+    let own = placed-at c.args.self.now.slaves c.self.inside.slaves c.args.key (key_at Out place) slaves key c.requires.place in
+    let keeps = with_bits-keeps Out c.self.inside.slaves c.self.inside.outputs place c.args.bits c.requires.narrow own c.self.invariant.0 in
+    rw c.set.ensures (holds-list c.self.inside.slaves (with_bits c.self.inside.outputs place c.args.bits) c.self.inside.inputs keeps c.self.invariant.1)
+
+pub returns-in-In-clause-holds : goal.returns-in-In-clause-holds
+returns-in-In-clause-holds c =
+    let place = c.place_of-place.result in
+    let key : c.args.key ≡ key_at In place = c.place_of-place.ensures.value ∙ ap (λ (d : Dir). key_at d place) c.in-In.is in
+    let slaves : c.self.inside.slaves ≡ c.args.self.now.slaves = ap (λ (tree : Tree). tree.slaves) c.self.view_is in
+    let own = placed-at c.args.self.now.slaves c.self.inside.slaves c.args.key (key_at In place) slaves key c.requires.place in
+    let keeps = with_bits-keeps In c.self.inside.slaves c.self.inside.inputs place c.args.bits c.requires.narrow own c.self.invariant.1 in
+    rw c.set-in-In.ensures (holds-list c.self.inside.slaves c.self.inside.outputs (with_bits c.self.inside.inputs place c.args.bits) c.self.invariant.0 keeps)

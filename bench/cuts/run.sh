@@ -1,0 +1,299 @@
+#!/bin/sh
+# Proves `hc_cuts` and what the benchmark needs of it under C names, in a scratch folder; links the benchmark to
+# that static library and runs it. KIT is the toolchain's folder, if it is not /opt/rattle.
+set -eu
+kit=${KIT:-/opt/rattle}
+here=$(cd "$(dirname "$0")" && pwd)
+scratch=$(mktemp -d)
+trap 'rm -rf "$scratch"' EXIT
+for crate in hc_records hc_bitsum hc_cuts; do
+    mkdir -p "$scratch/crates/$crate"
+    for part in src specs proofs; do
+        cp -r "$here/../../crates/$crate/$part" "$scratch/crates/$crate/"
+    done
+done
+{
+    grep -E '^(hc_records|hc_bitsum|hc_cuts):' "$here/../../crates.txt"
+    echo 'cuts_bench staticlib: hc_records hc_bitsum hc_cuts libc'
+} > "$scratch/crates.txt"
+bench="$scratch/crates/cuts_bench"
+mkdir -p "$bench/src"
+# What the prover is told of a function: one name and its value a call.
+told() {
+    file="$bench/proofs/$1/Invariants.antt"
+    if [ ! -e "$file" ]; then
+        mkdir -p "$bench/proofs/$1"
+        cat > "$file" <<END_OF_IMPORTS
+use Rattle.std.specs.Prelude.{◌≡◌, All}
+use Rattle.hc_records.specs.Laws.{IsPackable}
+use Rattle.cuts_bench.proofs.$1.Given as goal
+END_OF_IMPORTS
+    fi
+    printf '\nabbrev pub %s : goal.%s\n%s %s\n' "$2" "$2" "$2" "$3" >> "$file"
+}
+told set_widths invariant-loop-area 'l = l.task.tree.slaves ≡ l.slaves'
+told tree_of invariant-loop-area 'l = l.tree.slaves ≡ l.slaves'
+told list_of invariant-loop-area 'l = All IsPackable l.list.items'
+told cut_in_rounds invariant-loop-time 'g l = l.task.tree ≡ l.initial.task.tree'
+told cuts_set invariant-loop-time 'l = l.task.tree.slaves ≡ l.slaves'
+told cuts_set ghosts-cut_in_rounds 'a = record { name = a.blank.name; parts = a.blank.parts }'
+told cuts_cut ghosts-cut_in_rounds 'a = record { name = a.blank.name; parts = a.blank.parts }'
+told cuts_searched ghosts-searched_in_rounds 'a = record { name = a.blank.name; parts = a.blank.parts }'
+cat > "$bench/src/lib.rt" <<'END_OF_CODE'
+//! What the benchmark calls: each function makes a task of so many slaves with these areas and plays the same
+//! calls in it, in as many rounds as `times` has places, which get the nanoseconds of each round.
+#![tactic(auto)]
+
+ghost use Rattle.std.specs.Prelude.{◌≡◌, ◌≤◌, ◌<◌, IfOk, IsTrue, All};
+ghost use Rattle.hc_records.specs.Laws.{IsPackable};
+ghost use Rattle.hc_records.specs.declared.limits.TheConstants.{MOST_SLAVES};
+ghost use Rattle.hc_bitsum.specs.Tree.{HasPlace};
+
+use hc_bitsum::steps::Steps;
+use hc_bitsum::tree::SumTree;
+use hc_cuts::cuts::Cuts;
+use hc_cuts::fold::fold_cuts;
+use hc_cuts::next::next_cut;
+use hc_records::keys::Key;
+use hc_records::limits::{MOST_AREA_BITS, MOST_SLAVES};
+use hc_records::records::Dir;
+use std::alloc::{AllocError, Global};
+use std::marker::Brand;
+use std::sync::ledger::{Blank, Ledger};
+
+/// An area with its width in bits.
+#[repr(C)]
+pub struct Area {
+    pub is_input: bool,
+    pub area: u8,
+    pub rank: u16,
+    pub bits: u16,
+}
+
+fn key_of(area: &Area) -> Key {
+    Key {
+        dir: if area.is_input { Dir::In } else { Dir::Out },
+        rank: area.rank,
+        area: area.area,
+    }
+}
+
+/// Whether an area is one of so many slaves.
+fn has_place(key: Key, slaves: u16) -> bool
+    ensures { IsTrue result → HasPlace slaves key }
+{
+    1 <= key.rank && key.rank <= slaves && key.area < 8
+}
+
+/// A key as a number.
+fn number_of(key: Key) -> u32 {
+    let direction = if key.dir == Dir::In { 1 << 24 } else { 0 };
+    direction | u32::from(key.rank) << 8 | u32::from(key.area)
+}
+
+/// A key, mixed into what was told before.
+fn told_of(told: u64, key: Key) -> u64 {
+    told.wrapping_mul(0x9e37_79b9_7f4a_7c15) ^ u64::from(number_of(key))
+}
+
+/// The nanoseconds of a clock that never goes back.
+fn nanoseconds() -> u64 {
+    let mut time = libc::types::timespec {
+        tv_sec: 0,
+        tv_nsec: 0,
+    };
+    libc::clock_gettime(libc::CLOCK_MONOTONIC, &mut time);
+    time.tv_sec
+        .unsigned_abs()
+        .wrapping_mul(1_000_000_000)
+        .wrapping_add(time.tv_nsec.unsigned_abs())
+}
+
+/// Sets the widths of the areas that have a place.
+fn set_widths(task: &mut Cuts, slaves: u16, areas: &[Area])
+    requires { task.old.tree.slaves ≡ slaves }
+    ensures { task.new.tree.slaves ≡ slaves }
+{
+    for area in areas {
+        let key = key_of(area);
+        if has_place(key, slaves) && u32::from(area.bits) <= MOST_AREA_BITS {
+            task.set(key, area.bits);
+        }
+    }
+}
+
+/// A task with these areas.
+fn task_of(alloc: Global, slaves: u16, areas: &[Area]) -> Result<Cuts, AllocError>
+    requires { slaves ≤ MOST_SLAVES }
+    ensures { IfOk result (λ task. task.tree.slaves ≡ slaves) }
+{
+    let mut task = Cuts::new(alloc, slaves)?;
+    set_widths(&mut task, slaves, areas);
+    Ok(task)
+}
+
+/// A tree with these areas.
+fn tree_of(alloc: Global, slaves: u16, areas: &[Area]) -> Result<SumTree, AllocError>
+    requires { slaves ≤ MOST_SLAVES }
+    ensures { IfOk result (λ tree. tree.slaves ≡ slaves) }
+{
+    let mut tree = SumTree::new(alloc, slaves)?;
+    for area in areas {
+        let key = key_of(area);
+        if has_place(key, slaves) && u32::from(area.bits) <= MOST_AREA_BITS {
+            tree.set(key, area.bits);
+        }
+    }
+    Ok(tree)
+}
+
+/// The next boundary from each of these areas, mixed into one number.
+fn searched<L: Ledger>(task: &SumTree, slaves: u16, asked: &[Area], steps: &mut Steps<L>) -> u64
+    requires { task.now.slaves ≡ slaves }
+{
+    let mut told = 0;
+    for area in asked {
+        let key = key_of(area);
+        if has_place(key, slaves) {
+            told = told_of(told, next_cut(task, key, steps));
+        }
+    }
+    told
+}
+
+fn searched_in_rounds<L: Ledger>(
+    task: &SumTree,
+    slaves: u16,
+    asked: &[Area],
+    times: &mut [u64],
+    blank: Blank,
+) -> u64
+    requires name { blank.name ≡ L.name }
+    requires parts { blank.parts ≡ L.parts }
+    requires one { L.parts ≡ 1 }
+    requires slaves { task.now.slaves ≡ slaves }
+{
+    let mut steps: Steps<L> = Steps::start(blank);
+    let mut told = 0;
+    for time in times.iter_mut() {
+        let begun = nanoseconds();
+        told = searched(task, slaves, asked, &mut steps);
+        *time = nanoseconds().wrapping_sub(begun);
+    }
+    told
+}
+
+/// Searches the next boundary from each of these areas. The answers as one number, 0 without memory.
+#[unsafe(no_mangle)]
+pub extern "C" fn cuts_searched(
+    alloc: Global,
+    slaves: u16,
+    areas: &[Area],
+    asked: &[Area],
+    times: &mut [u64],
+) -> u64
+    requires { slaves ≤ MOST_SLAVES }
+{
+    match tree_of(alloc, slaves, areas) {
+        Ok(task) => searched_in_rounds::<Brand>(&task, slaves, asked, times, Blank::new(1)),
+        Err(_) => 0,
+    }
+}
+
+/// The boundaries of a task but the last, mixed into one number.
+fn told_of_starts(starts: &[Key]) -> u64 {
+    let mut told = 0;
+    for key in starts {
+        told = told_of(told, *key);
+    }
+    told
+}
+
+fn cut_in_rounds<L: Ledger>(task: &mut Cuts, times: &mut [u64], blank: Blank)
+    requires name { blank.name ≡ L.name }
+    requires parts { blank.parts ≡ L.parts }
+    requires one { L.parts ≡ 1 }
+    ensures { task.new.tree ≡ task.old.tree }
+{
+    let mut steps: Steps<L> = Steps::start(blank);
+    for time in times.iter_mut() {
+        let begun = nanoseconds();
+        let _ = task.cut(&mut steps).is_ok();
+        *time = nanoseconds().wrapping_sub(begun);
+    }
+}
+
+/// Searches all boundaries of the areas, once a round. The boundaries as one number, 0 without memory.
+#[unsafe(no_mangle)]
+pub extern "C" fn cuts_cut(alloc: Global, slaves: u16, areas: &[Area], times: &mut [u64]) -> u64
+    requires { slaves ≤ MOST_SLAVES }
+{
+    match task_of(alloc, slaves, areas) {
+        Ok(mut task) => {
+            cut_in_rounds::<Brand>(&mut task, times, Blank::new(1));
+            told_of_starts(task.starts())
+        }
+        Err(_) => 0,
+    }
+}
+
+/// Sets widths. The boundaries behind all of that as one number, 0 without memory.
+#[unsafe(no_mangle)]
+pub extern "C" fn cuts_set(
+    alloc: Global,
+    slaves: u16,
+    areas: &[Area],
+    changed: &[Area],
+    times: &mut [u64],
+) -> u64
+    requires { slaves ≤ MOST_SLAVES }
+{
+    let Ok(mut task) = task_of(alloc, slaves, areas) else {
+        return 0;
+    };
+    for time in times.iter_mut() {
+        let begun = nanoseconds();
+        set_widths(&mut task, slaves, changed);
+        *time = nanoseconds().wrapping_sub(begun);
+    }
+    cut_in_rounds::<Brand>(&mut task, &mut [0], Blank::new(1));
+    told_of_starts(task.starts())
+}
+
+/// The areas as a task's list.
+fn list_of(alloc: Global, areas: &[Area]) -> Result<Vec<(Key, u16)>, AllocError>
+    ensures { IfOk result (λ list. All IsPackable list.items) }
+{
+    let mut list = Vec::new(alloc);
+    for area in areas {
+        if 1 <= area.bits && u32::from(area.bits) <= MOST_AREA_BITS {
+            list.push((key_of(area), area.bits))?;
+        }
+    }
+    Ok(list)
+}
+
+/// Folds the list of the areas, which stand in key order, once a round. The boundaries as one number, 0
+/// without memory.
+#[unsafe(no_mangle)]
+pub extern "C" fn cuts_folded(alloc: Global, areas: &[Area], times: &mut [u64]) -> u64 {
+    let Ok(list) = list_of(alloc, areas) else {
+        return 0;
+    };
+    let mut told = 0;
+    for time in times.iter_mut() {
+        let begun = nanoseconds();
+        let starts = fold_cuts(&list);
+        *time = nanoseconds().wrapping_sub(begun);
+        if let Ok(keys) = starts {
+            told = told_of_starts(&keys);
+        }
+    }
+    told
+}
+END_OF_CODE
+(cd "$bench" && rt lib) > "$scratch/lib.txt" 2>&1 || { cat "$scratch/lib.txt"; exit 1; }
+# The library is made for x86-64-v2, so the plain Rust beside it is too.
+rustc --edition 2024 -O -C target-cpu=x86-64-v2 "$here/main.rs" -o "$scratch/bench" \
+    -L "$bench/out" -l static=cuts_bench -C link-arg="$kit/c/liblibc_c.a"
+"$scratch/bench" "$@"

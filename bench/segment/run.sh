@@ -1,0 +1,175 @@
+#!/bin/sh
+# Proves `hc_segment` and what the benchmark needs of it, in a scratch folder: a static library that passes frames through
+# a segment, and a program that passes them through chains, since a static library may start no thread. Builds the plain
+# Rust beside them and runs all. KIT is the toolchain's folder, if it is not /opt/rattle; with KEPT=1 the work that
+# earlier checks kept is taken over.
+set -eu
+kit=${KIT:-/opt/rattle}
+here=$(cd "$(dirname "$0")" && pwd)
+scratch=$(mktemp -d)
+trap 'rm -rf "$scratch"' EXIT
+for crate in hc_records hc_registers hc_frames hc_bits hc_lend hc_rings hc_machine hc_segment; do
+    mkdir -p "$scratch/crates/$crate"
+    for part in src specs proofs ${KEPT:+out}; do
+        [ ! -e "$here/../../crates/$crate/$part" ] || cp -rp "$here/../../crates/$crate/$part" "$scratch/crates/$crate/"
+    done
+done
+grep -E '^hc_(records|registers|frames|bits|lend|rings|machine|segment)[: ]' "$here/../../crates.txt" > "$scratch/crates.txt"
+cp "$here/../../HANDLES" "$scratch/"
+printf 'segment_bench staticlib: hc_segment\nchain_bench: hc_segment hc_lend hc_rings anyhow\n' >> "$scratch/crates.txt"
+mkdir -p "$scratch/crates/segment_bench/src" "$scratch/crates/chain_bench/src"
+cat > "$scratch/crates/segment_bench/src/lib.rt" <<'END_OF_CODE'
+#![tactic(auto)]
+
+use hc_segment::{Segment, SlaveMachine};
+use std::alloc::{AllocError, Global};
+
+const MEMORY: usize = 12_288;
+
+/// Slaves with these memories, one after another.
+fn machines_of(alloc: Global, memories: &[u8]) -> Result<Vec<SlaveMachine>, AllocError> {
+    let mut machines = Vec::new(alloc);
+    for k in 0..memories.len() / MEMORY {
+        let mut machine = SlaveMachine::new(alloc, 0)?;
+        machine
+            .memory_mut()
+            .copy_from_slice(&memories[MEMORY * k..MEMORY * k + MEMORY]);
+        machines.push(machine)?;
+    }
+    Ok(machines)
+}
+
+/// Copies the slaves' memories out, one after another.
+fn tell(machines: &[SlaveMachine], memories: &mut [u8]) {
+    for (k, machine) in machines.iter().enumerate() {
+        if k < memories.len() / MEMORY {
+            memories[MEMORY * k..MEMORY * k + MEMORY].copy_from_slice(machine.memory());
+        }
+    }
+}
+
+/// Passes the frame so many times through slaves with these memories. False where memory was refused.
+#[unsafe(no_mangle)]
+pub extern "C" fn segment_run(
+    alloc: Global,
+    memories: &mut [u8],
+    frame: &mut [u8],
+    turns: usize,
+) -> bool {
+    let Ok(machines) = machines_of(alloc, memories) else {
+        return false;
+    };
+    let mut segment = Segment::of(machines);
+    for _ in 0..turns {
+        segment.process(frame);
+    }
+    tell(segment.machines(), memories);
+    true
+}
+END_OF_CODE
+cat > "$scratch/crates/chain_bench/src/main.rt" <<'END_OF_CODE'
+//! `chain_bench SEGMENTS TURNS < LINE` passes 64 frames so many times through slaves in so many segments, each segment
+//! in a thread of its own, and prints a number that tells of frames and memories. LINE is the frame's 1,514 bytes, and
+//! then the slaves' memories.
+#![tactic(auto)]
+
+use hc_lend::Gate;
+use hc_rings::FrameBox;
+use hc_segment::{Segment, SlaveMachine, chain};
+use std::alloc::{AllocError, Global};
+use std::env;
+use std::io::Read;
+
+const FRAME: usize = 1514;
+const MEMORY: usize = 12_288;
+
+/// Lets every thread pass.
+#[derive(Drop)]
+struct Open;
+
+impl Gate for Open {
+    fn begun(&self, _worker: usize) {}
+}
+
+/// So many segments of slaves with these memories.
+fn segments_of(alloc: Global, memories: &[u8], count: usize) -> Result<Vec<Segment>, AllocError> {
+    let mut segments = Vec::new(alloc);
+    let mut machines = Vec::new(alloc);
+    let slaves = memories.len() / MEMORY;
+    for k in 0..slaves {
+        let mut machine = SlaveMachine::new(alloc, 0)?;
+        machine
+            .memory_mut()
+            .copy_from_slice(&memories[MEMORY * k..MEMORY * k + MEMORY]);
+        machines.push(machine)?;
+        if count == 0 || slaves / count <= machines.len() {
+            segments.push(Segment::of(machines))?;
+            machines = Vec::new(alloc);
+        }
+    }
+    Ok(segments)
+}
+
+/// 64 frames, each of the first bytes of the line.
+fn frames_of(alloc: Global, line: &[u8]) -> Result<Vec<FrameBox>, AllocError> {
+    let mut frames = Vec::new(alloc);
+    for _ in 0..64 {
+        frames.push(FrameBox::of(alloc, &line[..line.len().min(FRAME)])?)?;
+    }
+    Ok(frames)
+}
+
+/// A number that tells of these bytes, mixed into what was told before.
+fn told_of(told: u64, bytes: &[u8]) -> u64 {
+    let mut told = told;
+    for byte in bytes {
+        told = (told ^ u64::from(*byte)).wrapping_mul(0x0000_0100_0000_01b3);
+    }
+    told
+}
+
+fn told_of_all(frames: &[FrameBox], segments: &[Segment]) -> u64 {
+    let mut told = 0;
+    for frame in frames {
+        told = told_of(told, frame.bytes());
+    }
+    for segment in segments {
+        for machine in segment.machines() {
+            told = told_of(told, machine.memory());
+        }
+    }
+    told
+}
+
+/// The word with this number, counted from 0, as a number; 0 where it is none.
+fn number_of(words: &[String], place: usize) -> usize {
+    match words.get(place) {
+        Some(word) => word.parse().unwrap_or(0),
+        None => 0,
+    }
+}
+
+fn main(rt: HostRuntime) -> anyhow::Result<()> {
+    let alloc = rt.alloc();
+    let words: Vec<String> = env::args(&rt)?.collect(alloc)?;
+    let mut line = Vec::new(alloc);
+    rt.stdin().read_to_end(&mut line)?;
+    if line.len() < FRAME {
+        return Ok(());
+    }
+    let mut segments = segments_of(alloc, &line[FRAME..], number_of(&words, 1))?;
+    let mut frames = frames_of(alloc, &line)?;
+    for _ in 0..number_of(&words, 2) {
+        frames = chain(&rt, alloc, &mut segments, frames, &Open)?;
+    }
+    println!(rt; "{}", told_of_all(&frames, &segments))?;
+    Ok(())
+}
+END_OF_CODE
+(cd "$scratch/crates/segment_bench" && rt lib) > "$scratch/lib.txt" 2>&1 || { cat "$scratch/lib.txt"; exit 1; }
+(cd "$scratch/crates/chain_bench" && rt run < /dev/null) > "$scratch/program.txt" 2>&1 || { cat "$scratch/program.txt"; exit 1; }
+# The library and the program are made for x86-64-v2, so the plain Rust beside them is too.
+rustc --edition 2024 -O -C target-cpu=x86-64-v2 "$here/main.rs" -o "$scratch/bench" \
+    -L "$scratch/crates/segment_bench/out" -l static=segment_bench -C link-arg="$kit/c/liblibc_c.a"
+rustc --edition 2024 -O -C target-cpu=x86-64-v2 "$here/chain_plain.rs" -o "$scratch/chain_plain"
+"$scratch/bench" "$scratch/crates/chain_bench/out/chain_bench" "$scratch/chain_plain" "$scratch/line"

@@ -1,0 +1,173 @@
+-- The places of a task's list are those of its spans, one after another.
+use Rattle.std.specs.Prelude.{Contains, drop, slice_index_or}
+use Rattle.std.specs.List.{zip}
+use Rattle.std.proofs.Common.{◌≡◌, ℕ, zero, suc, ◌+◌, ◌<◌, ◌≤◌, ◌||◌, inl, inr, nat_le, Bool, true, false, List, [], ◌∷◌, ◌++◌, length, refl, sym, ap, subst, ◌∙◌, arith, if◌then◌else◌, length-append}
+use Rattle.std.proofs.lemmas.Bool.{cond-false, le-leb}
+use Rattle.std.proofs.lemmas.List.Elements.{All-head, All-weaker}
+use Rattle.hc_records.specs.declared.limits.TheConstants.{MOST_AREA_BITS}
+use Rattle.hc_records.specs.declared.records.Dir.TheVariants.{Out}
+use Rattle.hc_records.specs.declared.keys.Key.{Key}
+use Rattle.hc_records.specs.declared.keys.TheConstants.Key.{START, END}
+use Rattle.hc_records.specs.Keys.{is_before, is_turn, is_within}
+use Rattle.hc_records.specs.TaskList.{Keyed}
+use Rattle.hc_records.specs.Packing.{Front, Placed, opening, next_byte, beginning, fits, behind, packed}
+use Rattle.hc_records.specs.Boundaries.{boundaries}
+use Rattle.hc_records.specs.Laws.{IsPackable}
+use Rattle.hc_records.specs.SpanLaws.{IsTaskList, areas_from, carried, next_cut}
+use Rattle.hc_records.proofs.lemmas.KeyOrder.{before-apart, before-other, other-sym, within-from_before}
+use Rattle.hc_records.proofs.lemmas.Packed.{place}
+use Rattle.hc_records.proofs.lemmas.SpanCuts.{areas-from, span-alone, span-begins}
+use Rattle.hc_records.proofs.lemmas.Spans.{IsListFrom, cut-all, filter-keeps, list-behind, list-tail}
+use Rattle.hc_bitsum.specs.Tree.{CanBegin, HoldsTaskList, Tree}
+use Rattle.hc_cuts.specs.Starts.{next_boundary}
+use Rattle.hc_cuts.specs.Walk.{blank_datagram, span_places}
+use Rattle.hc_cuts.proofs.Chain.{areas-twice, goes-place}
+use Rattle.hc_cuts.proofs.Searched.{boundary-cut}
+use Rattle.hc_cuts.proofs.Walked.{append-none, cut-number, none-from_end, own-areas}
+
+-- the boundary with a number, END behind the last one
+abbrev pub boundary : List Key → ℕ → Key
+boundary keys at = slice_index_or keys at END
+
+span-at : (at : ℕ) (keys : List Key) → at + 1 < length keys → Contains (zip keys (drop 1 keys)) (boundary keys at, boundary keys (suc at))
+span-at at [] h = absurd (omega arith)
+span-at at (key ∷ []) h = absurd (omega arith)
+span-at zero (key ∷ (next ∷ keys)) h = (zero, omega arith, refl)
+span-at (suc at) (key ∷ (next ∷ keys)) h = let (k, within, found) = span-at at (next ∷ keys) (omega arith) in (suc k, omega arith, found)
+
+-- from each boundary, the next one is the one behind it
+next-at : (at : ℕ) (list : List Keyed) → IsTaskList list → at + 1 < length (boundaries list)
+    → boundary (boundaries list) (suc at) ≡ next_boundary (boundary (boundaries list) at) list
+next-at at list is within =
+    (span-alone list (boundary (boundaries list) at, boundary (boundaries list) (suc at)) is (span-at at (boundaries list) within)).next
+    ∙ sym (boundary-cut (boundary (boundaries list) at) list is)
+
+before-end : (at : ℕ) (list : List Keyed) → IsTaskList list → at + 1 < length (boundaries list) → is_before (boundary (boundaries list) at) END ≡ true
+before-end at list is within = span-begins list (boundary (boundaries list) at, boundary (boundaries list) (suc at)) is (span-at at (boundaries list) within)
+
+-- a span begins at the front, or at a key that has a place
+begins-at : (at : ℕ) (tree : Tree) → HoldsTaskList tree → at + 1 < length (boundaries tree.list) → CanBegin tree.slaves (boundary (boundaries tree.list) at)
+begins-at zero tree holds within = inl refl
+begins-at (suc at) tree holds within =
+    let keys = boundaries tree.list in
+    let other = other-sym END (boundary keys (suc at)) (before-other (boundary keys (suc at)) END (before-end (suc at) tree.list holds.list within)) in
+    inr (goes-place tree (boundary keys at) (boundary keys (suc at)) holds (next-at at tree.list holds.list (omega arith)) other)
+
+-- packing goes on in a blank datagram where an area doesn't fit
+
+blank-beginning : (datagram : ℕ) (area : Keyed) → beginning (blank_datagram datagram) area ≡ 0
+blank-beginning datagram area = by (nat_le 8 area.1 || is_turn Out area.0.dir)
+  where
+    by : (aligned : Bool) → (if aligned then next_byte 0 else 0) ≡ 0
+    by true = refl
+    by false = refl
+
+blank-fits : (datagram : ℕ) (area : Keyed) → area.1 ≤ MOST_AREA_BITS → fits (blank_datagram datagram) area ≡ true
+blank-fits datagram area narrow =
+    let first = blank-beginning datagram area in
+    le-leb (beginning (blank_datagram datagram) area + area.1) MOST_AREA_BITS (omega arith)
+
+in-blank : (fitting : Bool) (front : Front) (area : Keyed) → fitting ≡ true → beginning (blank_datagram (front.datagram + 1)) area ≡ 0
+    → place false front area ≡ place fitting (blank_datagram (front.datagram + 1)) area
+in-blank true front area test first = rw first refl
+in-blank false front area test first = cc
+
+goes-by : (fitting : Bool) (first : Key) (front : Front) (area : Keyed) (areas : List Keyed) → IsListFrom first (area ∷ areas)
+    → ((f : Front) → packed f areas ≡ carried f areas ++ packed (blank_datagram (f.datagram + 1)) (areas_from (next_cut f areas) areas))
+    → place fitting front area ∷ packed (behind (place fitting front area)) areas
+    ≡ (if fitting then place fitting front area ∷ carried (behind (place fitting front area)) areas else [])
+    ++ packed (blank_datagram (front.datagram + 1)) (areas_from (if fitting then next_cut (behind (place fitting front area)) areas else area.0) (area ∷ areas))
+goes-by true first front area areas is rest =
+    let next = behind (place true front area) in
+    let cut = next_cut next areas in
+    let before : is_before area.0 cut ≡ true =
+    cut-all (λ key. is_before area.0 key ≡ true) next areas (list-behind first area areas is) (All-head (λ a. is_before a.0 END ≡ true) area areas is.below) in
+    let skipped : areas_from cut (area ∷ areas) ≡ areas_from cut areas =
+    cond-false (is_within cut area.0) (area ∷ areas_from cut areas) (areas_from cut areas) (before-apart area.0 cut before) in
+    ap (λ (places : List Placed). place true front area ∷ places)
+    (rest next ∙ ap (λ (left : List Keyed). carried next areas ++ packed (blank_datagram (front.datagram + 1)) left) (sym skipped))
+goes-by false first front area areas is rest =
+    let narrow = (All-head IsPackable area areas is.packable).narrow in
+    let blank = blank_datagram (front.datagram + 1) in
+    let own = in-blank (fits blank area) front area (blank-fits (front.datagram + 1) area narrow) (blank-beginning (front.datagram + 1) area) in
+    ap (λ (placed : Placed). placed ∷ packed (behind placed) areas) own
+    ∙ ap (packed blank) (sym (own-areas first (area ∷ areas) is))
+
+packed-goes_on : (first : Key) (front : Front) (list : List Keyed) → IsListFrom first list
+    → packed front list ≡ carried front list ++ packed (blank_datagram (front.datagram + 1)) (areas_from (next_cut front list) list)
+packed-goes_on first front [] is = refl
+packed-goes_on first front (area ∷ areas) is =
+    goes-by (fits front area) first front area areas is (λ f. packed-goes_on first f areas (list-tail first area areas is))
+
+-- the places of the areas from the boundary with a number on
+abbrev pub places_from : ℕ → List Key → List Keyed → List Placed
+places_from at keys list = packed (blank_datagram at) (areas_from (boundary keys at) list)
+
+-- they are those of its span, and those from the next boundary on
+span-places : (at : ℕ) (list : List Keyed) → IsTaskList list → at + 1 < length (boundaries list)
+    → places_from at (boundaries list) list ≡ span_places at (boundary (boundaries list) at) list ++ places_from (at + 1) (boundaries list) list
+span-places at list is within =
+    let keys = boundaries list in
+    let from = boundary keys at in
+    let left = areas_from from list in
+    let own = areas-from from list is in
+    let more : suc at ≡ at + 1 = omega arith in
+    let cut : next_cut (blank_datagram at) left ≡ boundary keys (at + 1) =
+    cut-number at 0 0 Out left ∙ sym (boundary-cut from list is) ∙ sym (next-at at list is within) ∙ ap (boundary keys) more in
+    let low : is_within from (boundary keys (at + 1)) ≡ true =
+    subst (λ (key : Key). is_within from key ≡ true) cut
+    (cut-all (λ key. is_within from key ≡ true) (blank_datagram at) left own.from (within-from_before from END (before-end at list is within))) in
+    packed-goes_on from (blank_datagram at) left own
+    ∙ ap (λ (key : Key). carried (blank_datagram at) left ++ packed (blank_datagram (at + 1)) (areas_from key left)) cut
+    ∙ ap (λ (areas : List Keyed). carried (blank_datagram at) left ++ packed (blank_datagram (at + 1)) areas) (areas-twice from (boundary keys (at + 1)) list low)
+
+-- a walk over the spans: the places so far, and those that are left
+
+all-from : (list : List Keyed) → IsTaskList list → areas_from START list ≡ list
+all-from list is =
+    filter-keeps (λ area. is_within START area.0) list
+    (All-weaker (λ area. is_before START area.0 ≡ true) (λ area. is_within START area.0 ≡ true) (λ area above. within-from_before START area.0 above) list is.between.above)
+
+pub spans-begin : (keys : List Key) (list : List Keyed) → IsTaskList list → keys ≡ boundaries list → places_from 0 keys list ≡ packed opening list
+spans-begin keys list is all = rw all (ap (packed opening) (all-from list is))
+
+length-end : (starts : List Key) → length (starts ++ END ∷ []) ≡ length starts + 1
+length-end starts = length-append starts (END ∷ [])
+
+boundary-front : (keys behind : List Key) (at : ℕ) (other : Key) → at < length keys → slice_index_or keys at other ≡ boundary (keys ++ behind) at
+boundary-front [] behind at other h = absurd (omega arith)
+boundary-front (key ∷ keys) behind zero other h = refl
+boundary-front (key ∷ keys) behind (suc at) other h = boundary-front keys behind at other (omega arith)
+
+boundary-last : (starts : List Key) → boundary (starts ++ END ∷ []) (length starts) ≡ END
+boundary-last [] = refl
+boundary-last (key ∷ keys) = boundary-last keys
+
+-- a start with a number, and the boundary behind it
+pub record IsSpanAt (tree : Tree) (starts : List Key) (at : ℕ) (from next : Key) : Type 0 where
+  pub begins : CanBegin tree.slaves from
+  pub ends : next ≡ next_boundary from tree.list
+  pub rest : places_from at (starts ++ END ∷ []) tree.list ≡ span_places at from tree.list ++ places_from (at + 1) (starts ++ END ∷ []) tree.list
+
+pub is-span_at : (tree : Tree) (starts : List Key) (at : ℕ) (from next other : Key) → HoldsTaskList tree → starts ++ END ∷ [] ≡ boundaries tree.list → at < length starts
+    → from ≡ slice_index_or starts at other → next ≡ slice_index_or (starts ++ END ∷ []) (at + 1) END → IsSpanAt tree starts at from next
+is-span_at tree starts at from next other holds all within first last =
+    let many = length-end starts in
+    let same : length (starts ++ END ∷ []) ≡ length (boundaries tree.list) = ap length all in
+    let low : at + 1 < length (boundaries tree.list) = omega arith in
+    let here : from ≡ boundary (boundaries tree.list) at = first ∙ boundary-front starts (END ∷ []) at other within ∙ ap (λ (keys : List Key). boundary keys at) all in
+    let more : at + 1 ≡ suc at = omega arith in
+    let there : next ≡ boundary (boundaries tree.list) (suc at) = last ∙ ap (λ (keys : List Key). boundary keys (at + 1)) all ∙ ap (boundary (boundaries tree.list)) more in
+    record {
+      begins = rw here (begins-at at tree holds low);
+      ends = rw (here, there) (next-at at tree.list holds.list low);
+      rest = rw (here, all) (span-places at tree.list holds.list low);
+    }
+
+pub spans-end : (tree : Tree) (starts : List Key) (places : List Placed) (at : ℕ) → HoldsTaskList tree → at ≡ length starts
+    → places ++ places_from at (starts ++ END ∷ []) tree.list ≡ packed opening tree.list → places ≡ packed opening tree.list
+spans-end tree starts places at holds last whole =
+    let none : places_from at (starts ++ END ∷ []) tree.list ≡ [] =
+    rw last (ap (λ (key : Key). packed (blank_datagram (length starts)) (areas_from key tree.list)) (boundary-last starts)
+    ∙ ap (packed (blank_datagram (length starts))) (none-from_end tree.list holds.list.between.below)) in
+    sym (append-none places) ∙ ap (λ (rest : List Placed). places ++ rest) (sym none) ∙ whole

@@ -1,0 +1,52 @@
+use Rattle.std.proofs.Common.{◌≡◌, ◌+◌, ◌++◌, List, [], ◌∷◌, slice_index_or, refl, sym, ap, subst, ◌∙◌, arith, append_assoc}
+use Rattle.hc_records.specs.declared.keys.Key.{Key}
+use Rattle.hc_records.specs.declared.keys.TheConstants.Key.{START, END}
+use Rattle.hc_records.specs.Boundaries.{boundaries}
+use Rattle.hc_records.specs.Packing.{Placed, opening, packed}
+use Rattle.hc_cuts.specs.Starts.{Kept}
+use Rattle.hc_cuts.specs.Walk.{span_places}
+use Rattle.hc_cuts.proofs.Whole.{is-span_at, places_from, spans-begin, spans-end}
+use Rattle.hc_cuts.proofs.cuts.Cuts.places.Goals as goal
+
+-- the boundaries, as the caller has them and as they are kept
+own-boundaries : (kept own : Kept) (starts : List Key) → own ≡ kept → starts ≡ own.starts → kept.starts ++ END ∷ [] ≡ boundaries kept.tree.list
+    → starts ++ END ∷ [] ≡ boundaries own.tree.list
+own-boundaries kept own starts same are all =
+    ap (λ (keys : List Key). keys ++ END ∷ []) are ∙ subst (λ (k : Kept). k.starts ++ END ∷ [] ≡ boundaries k.tree.list) (sym same) all
+
+pub loop-i-init : goal.loop-i-init
+loop-i-init g c =
+    let all = own-boundaries c.args.self.now _ c.as_slice-starts.result.now c.self.view_is c.as_slice-starts.ensures.value c.requires in
+    rw c.new-places.ensures.items (spans-begin (c.as_slice-starts.result.now ++ END ∷ []) c.self.inside.tree.list c.self.invariant.list all)
+
+pub add_span-requires-clause-begins : goal.add_span-requires-clause-begins
+add_span-requires-clause-begins g c =
+    let all = own-boundaries c.args.self.now _ c.as_slice-starts.result.now c.self.view_is c.as_slice-starts.ensures.value c.requires in
+    (is-span_at c.self.inside.tree c.as_slice-starts.result.now c.loop-i.i _ c.end_of.result START c.self.invariant all c.loop-i-test.true refl c.end_of.ensures).begins
+
+pub add_span-requires-clause-ends : goal.add_span-requires-clause-ends
+add_span-requires-clause-ends g c =
+    let all = own-boundaries c.args.self.now _ c.as_slice-starts.result.now c.self.view_is c.as_slice-starts.ensures.value c.requires in
+    (is-span_at c.self.inside.tree c.as_slice-starts.result.now c.loop-i.i _ c.end_of.result START c.self.invariant all c.loop-i-test.true refl c.end_of.ensures).ends
+
+pub loop-i-preserved : goal.loop-i-preserved
+loop-i-preserved g c =
+    let starts = c.as_slice-starts.result.now in
+    let at = c.loop-i.i in
+    let tree = c.self.inside.tree in
+    let from = slice_index_or starts at START in
+    let all = own-boundaries c.args.self.now _ starts c.self.view_is c.as_slice-starts.ensures.value c.requires in
+    let span = is-span_at tree starts at from c.end_of.result START c.self.invariant all c.loop-i-test.true refl c.end_of.ensures in
+    rw c.in_ok-add_span.ensures
+    (append_assoc c.loop-i.places.items (span_places at from tree.list) (places_from (at + 1) (starts ++ END ∷ []) tree.list)
+    ∙ ap (λ (rest : List Placed). c.loop-i.places.items ++ rest) (sym span.rest)
+    ∙ c.loop-i.invariant)
+
+pub returns : goal.returns
+returns g c =
+    let starts = c.as_slice-starts.result.now in
+    let tree = c.self.inside.tree in
+    let low = c.loop-i.auto.i-end in
+    let high = c.loop-i-test.false in
+    spans-end tree starts c.loop-i.places.items c.loop-i.i c.self.invariant (omega arith) c.loop-i.invariant
+    ∙ ap (λ (kept : Kept). packed opening kept.tree.list) c.self.view_is

@@ -1,0 +1,15 @@
+-- The places of a task's areas, a span at a time.
+use Rattle.std.specs.Prelude.{ℕ, List}
+use Rattle.hc_records.specs.declared.records.Dir.TheVariants.{Out}
+use Rattle.hc_records.specs.declared.keys.Key.{Key}
+use Rattle.hc_records.specs.TaskList.{Keyed}
+use Rattle.hc_records.specs.Packing.{Front, Placed}
+use Rattle.hc_records.specs.SpanLaws.{areas_from, carried}
+
+-- the datagram with a number, before an area stands in it
+abbrev pub blank_datagram : ℕ → Front
+blank_datagram datagram = record { datagram = datagram; bit = 0; last = Out }
+
+-- the areas from a key on that the datagram with a number carries, each with its place
+abbrev pub span_places : ℕ → Key → List Keyed → List Placed
+span_places datagram from list = carried (blank_datagram datagram) (areas_from from list)

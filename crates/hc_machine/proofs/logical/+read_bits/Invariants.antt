@@ -1,5 +1,0 @@
-use Rattle.std.proofs.Common.{length}
-use Rattle.hc_machine.proofs.logical.+read_bits.Given as goal
-
-abbrev pub decreases-read_bits : goal.decreases-read_bits
-decreases-read_bits l = length l.fmmus.now

@@ -1,6 +1,0 @@
-use Rattle.std.proofs.Common.{◌≡◌, take, false}
-use Rattle.hc_machine.specs.Logical.{writes_any}
-use Rattle.hc_machine.proofs.logical.writes_any.Given as goal
-
-abbrev pub invariant-loop-fmmu : goal.invariant-loop-fmmu
-invariant-loop-fmmu l = writes_any l.from l.n (take l.fmmu-index l.fmmus) ≡ false

@@ -1,0 +1,4 @@
+pub mod Lines
+pub mod Setting
+pub mod Turned
+pub mod lemmas

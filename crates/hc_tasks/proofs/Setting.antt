@@ -1,0 +1,245 @@
+-- The widths of a task while they are set, key by key.
+use Rattle.std.specs.Prelude.{nat_lt, slice_get, slice_index_or, ◌&&◌, ◌||◌}
+use Rattle.std.proofs.Common.{◌≡◌, ℕ, zero, suc, ◌+◌, ◌<◌, ◌≤◌, ◌==◌, nat_le, Bool, true, false, List, [], ◌∷◌, length, refl, sym, ap, ◌∙◌, arith, if◌then◌else◌}
+use Rattle.std.proofs.lemmas.Bool.{cond-false, cond-true, eqb-true}
+use Rattle.std.proofs.lemmas.Bool.Decides.{nat_tests}
+use Rattle.hc_records.specs.declared.records.Dir.{Dir}
+use Rattle.hc_records.specs.declared.records.Dir.TheVariants.{Out, In}
+use Rattle.hc_records.specs.declared.records.Area.{Area}
+use Rattle.hc_records.specs.declared.keys.Key.{Key}
+use Rattle.hc_records.specs.Keys.{same_key}
+use Rattle.hc_records.specs.Boundaries.{width_in}
+use Rattle.hc_records.proofs.lemmas.KeyOrder.{same_key-same}
+use Rattle.hc_bitsum.specs.Tree.{HoldsTaskList, with_width}
+use Rattle.hc_bitsum.proofs.lemmas.Widths.{width-set}
+use Rattle.hc_cuts.specs.Starts.{Kept}
+use Rattle.hc_tasks.specs.Areas.{areas_at, own_width, slave_width, width_at}
+use Rattle.hc_tasks.specs.Widths.{IsSetTo, with_slave}
+
+abbrev key_of : Dir → ℕ → ℕ → Key
+key_of dir rank area = record { dir = dir; rank = rank; area = area }
+
+-- one key
+
+same-or : (same : Bool) (key other : Key) (bits : ℕ) (kept : Kept) → same_key key other ≡ same → width_in kept.tree.list key ≡ bits
+    → width_in kept.tree.list other ≡ (if same then bits else width_in kept.tree.list other)
+same-or true key other bits kept test is = ap (width_in kept.tree.list) (sym (same_key-same key other test)) ∙ is
+same-or false key other bits kept test is = refl
+
+pub key-kept : (kept : Kept) (key : Key) (bits : ℕ) → HoldsTaskList kept.tree → width_in kept.tree.list key ≡ bits
+    → IsSetTo kept kept (λ other. if same_key key other then bits else width_in kept.tree.list other)
+key-kept kept key bits holds is = record {
+  slaves = refl;
+  starts = refl;
+  holds = holds;
+  each = λ other. same-or (same_key key other) key other bits kept refl is;
+}
+
+pub key-set : (old new : Kept) (key : Key) (bits : ℕ) → HoldsTaskList old.tree → new.tree ≡ record old.tree { list = with_width key bits old.tree.list } → new.starts ≡ old.starts
+    → HoldsTaskList new.tree → IsSetTo old new (λ other. if same_key key other then bits else width_in old.tree.list other)
+key-set old new key bits was set starts holds = record {
+  slaves = ap (λ tree. tree.slaves) set;
+  starts = starts;
+  holds = holds;
+  each = λ other. ap (λ tree. width_in tree.list other) set ∙ width-set key other bits old.tree.list was.list;
+}
+
+-- both keys of a place in a slave's record
+
+abbrev pub with_area : ℕ → ℕ → ℕ → List Area → Kept → Key → ℕ
+with_area task rank area new kept key = if (rank == key.rank) && (area == key.area) then slave_width task new key else width_in kept.tree.list key
+
+abbrev with_key : ℕ → Key → List Area → Kept → Key → ℕ
+with_key task key new kept other = if same_key key other then slave_width task new key else width_in kept.tree.list other
+
+here-by : (same_rank same_area : Bool) (task : ℕ) (dir : Dir) (rank area r a : ℕ) (new : List Area) (rest : ℕ) → (rank == r) ≡ same_rank → (area == a) ≡ same_area
+    → (if same_rank && same_area then slave_width task new (key_of dir rank area) else rest) ≡ (if same_rank && same_area then slave_width task new (key_of dir r a) else rest)
+here-by true true task dir rank area r a new rest first second =
+    ap (λ (at : ℕ). own_width task dir (slice_get new at)) (eqb-true area a second)
+here-by true false task dir rank area r a new rest first second = refl
+here-by false same_area task dir rank area r a new rest first second = refl
+
+both-at : (dir : Dir) (task rank area r a : ℕ) (new : List Area) (old mid last : Kept) → IsSetTo old mid (with_key task (key_of Out rank area) new old)
+    → IsSetTo mid last (with_key task (key_of In rank area) new mid) → width_in last.tree.list (key_of dir r a) ≡ with_area task rank area new old (key_of dir r a)
+both-at Out task rank area r a new old mid last first second =
+    second.each (key_of Out r a) ∙ first.each (key_of Out r a)
+    ∙ here-by (rank == r) (area == a) task Out rank area r a new (width_in old.tree.list (key_of Out r a)) refl refl
+both-at In task rank area r a new old mid last first second =
+    second.each (key_of In r a)
+    ∙ ap (λ (bits : ℕ). if (rank == r) && (area == a) then slave_width task new (key_of In rank area) else bits) (first.each (key_of In r a))
+    ∙ here-by (rank == r) (area == a) task In rank area r a new (width_in old.tree.list (key_of In r a)) refl refl
+
+pub both-set : (task rank area : ℕ) (new : List Area) (old mid last : Kept) → IsSetTo old mid (with_key task (key_of Out rank area) new old)
+    → IsSetTo mid last (with_key task (key_of In rank area) new mid) → IsSetTo old last (with_area task rank area new old)
+both-set task rank area new old mid last first second = record {
+  slaves = second.slaves ∙ first.slaves;
+  starts = second.starts ∙ first.starts;
+  holds = second.holds;
+  each = λ key. both-at key.dir task rank area key.rank key.area new old mid last first second;
+}
+
+-- the areas of a slave, up to a place in its record
+
+abbrev pub with_areas : ℕ → ℕ → ℕ → List Area → Kept → Key → ℕ
+with_areas task rank count new kept key = if (rank == key.rank) && nat_lt key.area count then slave_width task new key else width_in kept.tree.list key
+
+none-yet : (same : Bool) (bits rest : ℕ) → rest ≡ (if same && false then bits else rest)
+none-yet true bits rest = refl
+none-yet false bits rest = refl
+
+pub areas-begin : (task rank : ℕ) (new : List Area) (kept : Kept) → HoldsTaskList kept.tree → IsSetTo kept kept (with_areas task rank 0 new kept)
+areas-begin task rank new kept holds = record {
+  slaves = refl;
+  starts = refl;
+  holds = holds;
+  each = λ key. let none : nat_lt key.area 0 ≡ false = grind (arith, nat_tests) in rw none (none-yet (rank == key.rank) (slave_width task new key) (width_in kept.tree.list key));
+}
+
+one-more : (same is below : Bool) (bits rest : ℕ)
+    → (if same && is then bits else (if same && below then bits else rest)) ≡ (if same && (below || is) then bits else rest)
+one-more true true true bits rest = refl
+one-more true true false bits rest = refl
+one-more true false true bits rest = refl
+one-more true false false bits rest = refl
+one-more false is below bits rest = refl
+
+below-next : (n count : ℕ) → (nat_lt n count || (count == n)) ≡ nat_lt n (count + 1)
+below-next n count = grind (arith, nat_tests)
+
+pub areas-go : (task rank count : ℕ) (new : List Area) (old mid last : Kept) → IsSetTo old mid (with_areas task rank count new old)
+    → IsSetTo mid last (with_area task rank count new mid) → IsSetTo old last (with_areas task rank (count + 1) new old)
+areas-go task rank count new old mid last first second = record {
+  slaves = second.slaves ∙ first.slaves;
+  starts = second.starts ∙ first.starts;
+  holds = second.holds;
+  each = λ key.
+      second.each key
+      ∙ ap (λ (bits : ℕ). if (rank == key.rank) && (count == key.area) then slave_width task new key else bits) (first.each key)
+      ∙ one-more (rank == key.rank) (count == key.area) (nat_lt key.area count) (slave_width task new key) (width_in old.tree.list key)
+      ∙ ap (λ (test : Bool). if (rank == key.rank) && test then slave_width task new key else width_in old.tree.list key) (below-next key.area count);
+}
+
+no-area : (areas : List Area) (at : ℕ) (task : ℕ) (dir : Dir) → length areas ≤ at → own_width task dir (slice_get areas at) ≡ 0
+no-area [] at task dir h = refl
+no-area (area ∷ areas) zero task dir h = absurd (omega arith)
+no-area (area ∷ areas) (suc at) task dir h = no-area areas at task dir (omega arith)
+
+rest-by : (below : Bool) (key : Key) (task count : ℕ) (old new : List Area) (bits : ℕ) → nat_lt key.area count ≡ below → length old ≤ count → length new ≤ count
+    → bits ≡ slave_width task old key → (if below then slave_width task new key else bits) ≡ slave_width task new key
+rest-by true key task count old new bits test few fewer was = refl
+rest-by false key task count old new bits test few fewer was =
+    let high : count ≤ key.area = grind (arith, nat_tests) in
+    was ∙ no-area old key.area task key.dir (omega arith) ∙ sym (no-area new key.area task key.dir (omega arith))
+
+slave-by : (same : Bool) (key : Key) (task rank count : ℕ) (old new : List Area) (bits : ℕ) → (rank == key.rank) ≡ same → length old ≤ count → length new ≤ count
+    → (key.rank ≡ rank → bits ≡ slave_width task old key)
+    → (if same && nat_lt key.area count then slave_width task new key else bits) ≡ (if same then slave_width task new key else bits)
+slave-by true key task rank count old new bits test few fewer was =
+    rest-by (nat_lt key.area count) key task count old new bits refl few fewer (was (sym (eqb-true rank key.rank test)))
+slave-by false key task rank count old new bits test few fewer was = refl
+
+pub areas-end : (task rank count : ℕ) (old new : List Area) (before last : Kept) → length old ≤ count → length new ≤ count
+    → ((key : Key) → key.rank ≡ rank → width_in before.tree.list key ≡ slave_width task old key)
+    → IsSetTo before last (with_areas task rank count new before) → IsSetTo before last (with_slave task rank new before)
+areas-end task rank count old new before last few fewer was set = record {
+  slaves = set.slaves;
+  starts = set.starts;
+  holds = set.holds;
+  each = λ key. set.each key ∙ slave-by (rank == key.rank) key task rank count old new (width_in before.tree.list key) refl few fewer (was key);
+}
+
+-- the width before, of a key that isn't reached
+not-reached : (same below : Bool) (bits rest : ℕ) → below ≡ false → (if same && below then bits else rest) ≡ rest
+not-reached true true bits rest test = cc
+not-reached true false bits rest test = refl
+not-reached false below bits rest test = refl
+
+pub areas-was : (task rank count : ℕ) (old new : List Area) (before mid : Kept)
+    → ((key : Key) → key.rank ≡ rank → width_in before.tree.list key ≡ slave_width task old key)
+    → IsSetTo before mid (with_areas task rank count new before)
+    → (key : Key) → key.rank ≡ rank → key.area ≡ count → width_in mid.tree.list key ≡ slave_width task old key
+areas-was task rank count old new before mid was set key here there =
+    let later : nat_lt key.area count ≡ false = grind (arith, nat_tests) in
+    set.each key ∙ not-reached (rank == key.rank) (nat_lt key.area count) (slave_width task new key) (width_in before.tree.list key) later ∙ was key here
+
+-- the slaves, up to a rank
+
+abbrev pub up_to : ℕ → ℕ → List (List Area) → List (List Area) → Key → ℕ
+up_to task rank old new key = if nat_le key.rank rank then width_at task new key else width_at task old key
+
+-- no slave has rank 0
+first-by : (none : Bool) (key : Key) (task : ℕ) (old new : List (List Area)) → nat_le key.rank 0 ≡ none → width_at task old key ≡ (if none then width_at task new key else width_at task old key)
+first-by true key task old new test =
+    let none : key.rank ≡ 0 = grind (arith, nat_tests) in
+    ap (λ (rank : ℕ). slave_width task (areas_at old rank) key) none ∙ sym (ap (λ (rank : ℕ). slave_width task (areas_at new rank) key) none)
+first-by false key task old new test = refl
+
+pub slaves-begin : (task : ℕ) (old new : List (List Area)) (kept : Kept) → HoldsTaskList kept.tree → ((key : Key) → width_in kept.tree.list key ≡ width_at task old key)
+    → IsSetTo kept kept (up_to task 0 old new)
+slaves-begin task old new kept holds was = record {
+  slaves = refl;
+  starts = refl;
+  holds = holds;
+  each = λ key. was key ∙ first-by (nat_le key.rank 0) key task old new refl;
+}
+
+next-by : (same below : Bool) (key : Key) (task rank : ℕ) (old new : List (List Area)) (areas : List Area) → (rank + 1 == key.rank) ≡ same → nat_le key.rank rank ≡ below
+    → areas ≡ areas_at new (rank + 1)
+    → (if same then slave_width task areas key else (if below then width_at task new key else width_at task old key)) ≡ up_to task (rank + 1) old new key
+next-by true below key task rank old new areas is test own =
+    let here : rank + 1 ≡ key.rank = eqb-true (rank + 1) key.rank is in
+    let within : nat_le key.rank (rank + 1) ≡ true = grind (arith, nat_tests) in
+    ap (λ (list : List Area). slave_width task list key) (own ∙ ap (areas_at new) here)
+    ∙ sym (cond-true (nat_le key.rank (rank + 1)) (width_at task new key) (width_at task old key) within)
+next-by false true key task rank old new areas is test own =
+    let within : nat_le key.rank (rank + 1) ≡ true = grind (arith, nat_tests) in
+    sym (cond-true (nat_le key.rank (rank + 1)) (width_at task new key) (width_at task old key) within)
+next-by false false key task rank old new areas is test own =
+    let beyond : nat_le key.rank (rank + 1) ≡ false = grind (arith, nat_tests) in
+    sym (cond-false (nat_le key.rank (rank + 1)) (width_at task new key) (width_at task old key) beyond)
+
+pub slaves-go : (task rank : ℕ) (old new : List (List Area)) (areas : List Area) (before mid last : Kept) → areas ≡ areas_at new (rank + 1)
+    → IsSetTo before mid (up_to task rank old new) → IsSetTo mid last (with_slave task (rank + 1) areas mid) → IsSetTo before last (up_to task (rank + 1) old new)
+slaves-go task rank old new areas before mid last own first second = record {
+  slaves = second.slaves ∙ first.slaves;
+  starts = second.starts ∙ first.starts;
+  holds = second.holds;
+  each = λ key.
+      second.each key
+      ∙ ap (λ (bits : ℕ). if rank + 1 == key.rank then slave_width task areas key else bits) (first.each key)
+      ∙ next-by (rank + 1 == key.rank) (nat_le key.rank rank) key task rank old new areas refl refl own;
+}
+
+pub slaves-was : (task rank : ℕ) (old new : List (List Area)) (areas : List Area) (before mid : Kept) → areas ≡ areas_at old (rank + 1)
+    → IsSetTo before mid (up_to task rank old new) → (key : Key) → key.rank ≡ rank + 1 → width_in mid.tree.list key ≡ slave_width task areas key
+slaves-was task rank old new areas before mid own set key here =
+    let later : nat_le key.rank rank ≡ false = grind (arith, nat_tests) in
+    set.each key
+    ∙ cond-false (nat_le key.rank rank) (width_at task new key) (width_at task old key) later
+    ∙ ap (λ (r : ℕ). slave_width task (areas_at old r) key) here
+    ∙ ap (λ (list : List Area). slave_width task list key) (sym own)
+
+no-slave : (slaves : List (List Area)) (rank : ℕ) → length slaves < rank → areas_at slaves rank ≡ []
+no-slave slaves zero h = absurd (omega arith)
+no-slave slaves (suc rank) h = behind slaves rank (omega arith)
+  where
+    behind : (xs : List (List Area)) (at : ℕ) → length xs ≤ at → slice_index_or xs at [] ≡ []
+    behind [] at h = refl
+    behind (x ∷ xs) zero h = absurd (omega arith)
+    behind (x ∷ xs) (suc at) h = behind xs at (omega arith)
+
+end-by : (below : Bool) (key : Key) (task rank : ℕ) (old new : List (List Area)) → nat_le key.rank rank ≡ below → length old ≤ rank → length new ≤ rank
+    → (if below then width_at task new key else width_at task old key) ≡ width_at task new key
+end-by true key task rank old new test few fewer = refl
+end-by false key task rank old new test few fewer =
+    let high : rank < key.rank = grind (arith, nat_tests) in
+    ap (λ (areas : List Area). slave_width task areas key) (no-slave old key.rank (omega arith) ∙ sym (no-slave new key.rank (omega arith)))
+
+pub slaves-end : (task rank : ℕ) (old new : List (List Area)) (before last : Kept) → length old ≤ rank → length new ≤ rank
+    → IsSetTo before last (up_to task rank old new) → IsSetTo before last (width_at task new)
+slaves-end task rank old new before last few fewer set = record {
+  slaves = set.slaves;
+  starts = set.starts;
+  holds = set.holds;
+  each = λ key. set.each key ∙ end-by (nat_le key.rank rank) key task rank old new refl few fewer;
+}

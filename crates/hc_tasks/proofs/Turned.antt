@@ -1,0 +1,116 @@
+-- A task that is turned into that of another line.
+use Rattle.std.specs.Prelude.{All, nat_lt, OnErr, Result, Ok, Err}
+use Rattle.std.proofs.Common.{◌≡◌, ℕ, ◌+◌, ◌<◌, ◌≤◌, Bool, true, false, List, [], ◌∷◌, ◌++◌, length, refl, sym, ap, subst, ◌∙◌, arith, if◌then◌else◌}
+use Rattle.std.proofs.lemmas.Bool.Decides.{nat_tests}
+use Rattle.std.proofs.lemmas.List.{append_cancel_right}
+use Rattle.std.proofs.lemmas.List.Elements.{All-append, All-cons, All-head, All-nil, All-tail}
+use Rattle.hc_records.specs.declared.limits.TheConstants.{MOST_DATAGRAMS}
+use Rattle.hc_records.specs.declared.records.Dir.{Dir}
+use Rattle.hc_records.specs.declared.records.Dir.TheVariants.{Out, In}
+use Rattle.hc_records.specs.declared.records.Area.{Area}
+use Rattle.hc_records.specs.declared.keys.Key.{Key}
+use Rattle.hc_records.specs.declared.keys.TheConstants.Key.{START, END}
+use Rattle.hc_records.specs.Area.{width}
+use Rattle.hc_records.specs.TaskList.{Keyed, belongs}
+use Rattle.hc_records.specs.Boundaries.{boundaries, later_keys, width_in}
+use Rattle.hc_records.specs.Image.{datagram_count}
+use Rattle.hc_records.specs.Packing.{opening, packed}
+use Rattle.hc_bitsum.specs.Tree.{HasPlace, HoldsTaskList, Tree}
+use Rattle.hc_bitsum.proofs.lemmas.Widths.{told-by_widths}
+use Rattle.hc_cuts.specs.Firsts.{IsCrowded}
+use Rattle.hc_cuts.specs.Starts.{Kept}
+use Rattle.hc_tasks.specs.Areas.{area_list, list_by, rank_list, width_at}
+use Rattle.hc_tasks.specs.Kept.{IsLine, is_crowded, kept_by, starts_by, tree_by}
+use Rattle.hc_tasks.specs.Widths.{AreKept, IsSetTo}
+use Rattle.hc_tasks.proofs.lemmas.Told.{width-by}
+
+-- a tree has a place for each area of a line
+
+area-by : (own : Bool) (slaves : ℕ) (area : Keyed) (areas : List Keyed) → HasPlace slaves area.0 → All (λ a. HasPlace slaves a.0) areas
+    → All (λ a. HasPlace slaves a.0) (if own then area ∷ areas else areas)
+area-by true slaves area areas place all = All-cons (λ a. HasPlace slaves a.0) area areas place all
+area-by false slaves area areas place all = all
+
+area-places : (slaves task : ℕ) (dir : Dir) (rank index : ℕ) (areas : List Area) → 1 ≤ rank → rank ≤ slaves → index + length areas ≤ 8
+    → All (λ a. HasPlace slaves a.0) (area_list task dir rank index areas)
+area-places slaves task dir rank index [] some low few = All-nil (λ a. HasPlace slaves a.0)
+area-places slaves task dir rank index (area ∷ areas) some low few =
+    area-by (belongs task dir area) slaves (record { dir = dir; rank = rank; area = index }, width area) (area_list task dir rank (index + 1) areas)
+    (record { first = some; last = low; area = omega arith })
+    (area-places slaves task dir rank (index + 1) areas some low (omega arith))
+
+rank-places : (slaves task : ℕ) (dir : Dir) (rank : ℕ) (lists : List (List Area)) → 1 ≤ rank → rank + length lists ≤ slaves + 1 → All AreKept lists
+    → All (λ a. HasPlace slaves a.0) (rank_list task dir rank lists)
+rank-places slaves task dir rank [] some low kept = All-nil (λ a. HasPlace slaves a.0)
+rank-places slaves task dir rank (areas ∷ lists) some low kept =
+    let few = (All-head AreKept areas lists kept).few in
+    All-append (λ a. HasPlace slaves a.0) (area_list task dir rank 0 areas) (rank_list task dir (rank + 1) lists)
+    (area-places slaves task dir rank 0 areas some (omega arith) (omega arith))
+    (rank-places slaves task dir (rank + 1) lists (omega arith) (omega arith) (All-tail AreKept areas lists kept))
+
+pub holds-by : (task : ℕ) (slaves : List (List Area)) → IsLine slaves → HoldsTaskList (tree_by task slaves)
+holds-by task slaves line = record {
+  list = line.lists task;
+  places =
+      All-append (λ a. HasPlace (length slaves) a.0) (rank_list task Out 1 slaves) (rank_list task In 1 slaves)
+      (rank-places (length slaves) task Out 1 slaves (omega arith) (omega arith) line.kept)
+      (rank-places (length slaves) task In 1 slaves (omega arith) (omega arith) line.kept);
+}
+
+pub tree-holds : (task : ℕ) (slaves : List (List Area)) (tree : Tree) → IsLine slaves → tree ≡ tree_by task slaves → HoldsTaskList tree
+tree-holds task slaves tree line is = subst (λ (t : Tree). HoldsTaskList t) (sym is) (holds-by task slaves line)
+
+pub tree-widths : (task : ℕ) (slaves : List (List Area)) (tree : Tree) → tree ≡ tree_by task slaves → (key : Key) → width_in tree.list key ≡ width_at task slaves key
+tree-widths task slaves tree is key = ap (λ (t : Tree). width_in t.list key) is ∙ width-by slaves task key
+
+-- a tree is told by its widths, and kept boundaries by those of its list
+
+tree-is : (tree : Tree) (slaves : ℕ) (list : List Keyed) → tree.slaves ≡ slaves → tree.list ≡ list → tree ≡ record { slaves = slaves; list = list }
+tree-is tree slaves list first second = rw (← first, ← second) refl
+
+kept-is : (kept : Kept) (tree : Tree) (starts : List Key) → kept.tree ≡ tree → kept.starts ≡ starts → kept ≡ record { tree = tree; starts = starts }
+kept-is kept tree starts first second = rw (← first, ← second) refl
+
+pub set-tree : (task : ℕ) (old new : List (List Area)) (before last : Kept) → IsLine new → length new ≡ length old → before.tree ≡ tree_by task old
+    → IsSetTo before last (width_at task new) → last.tree ≡ tree_by task new
+set-tree task old new before last line same was set =
+    tree-is last.tree (length new) (list_by task new) (set.slaves ∙ ap (λ (t : Tree). t.slaves) was ∙ sym same)
+    (told-by_widths last.tree.list (list_by task new) set.holds.list (line.lists task) (λ key. set.each key ∙ sym (width-by new task key)))
+
+pub cut-kept : (task : ℕ) (slaves : List (List Area)) (before last : Kept) → before.tree ≡ tree_by task slaves → last.tree ≡ before.tree
+    → last.starts ++ END ∷ [] ≡ boundaries before.tree.list → last ≡ kept_by task slaves
+cut-kept task slaves before last was same starts =
+    kept-is last (tree_by task slaves) (starts_by task slaves) (same ∙ was)
+    (append_cancel_right last.starts (starts_by task slaves) (END ∷ []) (starts ∙ ap (λ (t : Tree). boundaries t.list) was))
+
+-- a task whose list needs too many datagrams, or doesn't
+
+pub fits-by : (task : ℕ) (slaves : List (List Area)) (tree : Tree) → tree ≡ tree_by task slaves → datagram_count (packed opening tree.list) ≤ MOST_DATAGRAMS
+    → is_crowded task slaves ≡ false
+fits-by task slaves tree is few =
+    let low : datagram_count (packed opening (list_by task slaves)) ≤ MOST_DATAGRAMS = subst (λ (t : Tree). datagram_count (packed opening t.list) ≤ MOST_DATAGRAMS) is few in
+    grind (arith, nat_tests)
+
+pub crowds-by : (task : ℕ) (slaves : List (List Area)) (tree : Tree) → tree ≡ tree_by task slaves → IsCrowded tree.list → is_crowded task slaves ≡ true
+crowds-by task slaves tree is many =
+    let high : MOST_DATAGRAMS < datagram_count (packed opening (list_by task slaves)) = subst (λ (t : Tree). IsCrowded t.list) is many in
+    grind (arith, nat_tests)
+
+-- where no width differs, the task of the one line is that of the other
+
+same-lists : (task : ℕ) (old new : List (List Area)) (last : Kept) → last ≡ kept_by task old → last.tree ≡ tree_by task new → list_by task old ≡ list_by task new
+same-lists task old new last was is = sym (ap (λ (kept : Kept). kept.tree.list) was) ∙ ap (λ (tree : Tree). tree.list) is
+
+pub unturned : (task : ℕ) (old new : List (List Area)) (last : Kept) → last ≡ kept_by task old → last.tree ≡ tree_by task new → last ≡ kept_by task new
+unturned task old new last was is =
+    kept-is last (tree_by task new) (starts_by task new) is
+    (ap (λ (kept : Kept). kept.starts) was ∙ ap (λ (list : List Keyed). START ∷ later_keys list) (same-lists task old new last was is))
+
+pub unturned-fits : (task : ℕ) (old new : List (List Area)) (last : Kept) → last ≡ kept_by task old → last.tree ≡ tree_by task new → is_crowded task old ≡ false
+    → is_crowded task new ≡ false
+unturned-fits task old new last was is fits =
+    sym (ap (λ (list : List Keyed). nat_lt MOST_DATAGRAMS (datagram_count (packed opening list))) (same-lists task old new last was is)) ∙ fits
+
+pub on-err : {X Y : Type 0} (result : Result X Y) (P : Type 0) → P → OnErr result P
+on-err (Ok x) P holds = tt
+on-err (Err y) P holds = holds

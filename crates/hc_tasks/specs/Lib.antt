@@ -1,0 +1,4 @@
+pub mod Areas
+pub mod Kept
+pub mod Laws
+pub mod Widths

@@ -1,0 +1,9 @@
+//! The areas of the eight tasks of a line, kept in trees of sums: an edit sets the widths that it changes,
+//! and each task that it touches is cut anew. The plan keeps them.
+#![tactic(auto)]
+
+pub mod areas;
+pub mod laws;
+pub mod tasks;
+mod turning;
+mod widths;

@@ -1,0 +1,126 @@
+//! The eight tasks of a line: the areas of each in a tree of sums, with its boundaries.
+ghost use Rattle.std.specs.Prelude.{◌≡◌, [], IfOk, replicate};
+
+use crate::areas::SlaveAreas;
+use crate::turning::{put_tasks, turn_tasks};
+use hc_bitsum::steps::Steps;
+use hc_cuts::cuts::Cuts;
+use hc_cuts::packing::Placed;
+use hc_records::faults::EditFault;
+use hc_records::limits::TASKS;
+use std::alloc::{AllocError, Global};
+use std::marker::Model;
+use std::sync::ledger::Ledger;
+
+/// The areas and the boundaries of the eight tasks of a line.
+#[derive(Debug, Drop)]
+pub struct LineCuts {
+    tasks: Vec<Cuts>,
+}
+
+impl Model for LineCuts {
+    ghost use Rattle.std.specs.Prelude.{◌≡◌, All, List, length};
+    ghost use Rattle.hc_cuts.specs.Starts.{Kept};
+
+    ghost Value = { List Kept };
+
+    ghost use Rattle.hc_tasks.specs.Kept.{IsCut};
+
+    ghost view = { λ line. line.tasks.items };
+
+    ghost invariant = { λ line. (length line.tasks.items ≡ 8) × All IsCut line.tasks.items };
+}
+
+/// The areas of so many slaves none of which is present.
+fn absent_slaves<'a>(alloc: Global, slaves: usize) -> Result<Vec<SlaveAreas<'a>>, AllocError>
+    ensures { IfOk result (λ absent. absent.items ≡ replicate slaves []) }
+{
+    let mut absent = Vec::with_capacity(alloc, slaves)?;
+    for _ in 0..slaves {
+        absent.push(SlaveAreas::absent())?;
+    }
+    Ok(absent)
+}
+
+impl LineCuts {
+    ghost use Rattle.hc_records.specs.declared.records.Area.{Area};
+    ghost use Rattle.std.specs.Prelude.{◌≡◌, ◌≢◌, ◌<◌, ◌≤◌, List, [], IfErr, IfOk, None, OnErr, OnOk, Some, length, option_map, replicate};
+    ghost use Rattle.hc_records.specs.Packing.{opening, packed};
+    ghost use Rattle.hc_records.specs.declared.faults.EditFault.TheVariants.{Memory, TooManyDatagrams};
+    ghost use Rattle.hc_records.specs.declared.limits.TheConstants.{MOST_SLAVES, TASKS};
+    ghost use Rattle.hc_tasks.specs.Areas.{list_by};
+    ghost use Rattle.hc_tasks.specs.Kept.{IsLine, crowded_from, line_kept};
+
+    /// The tasks of a line of so many declared slaves, at most 2,048, none of which is present.
+    fn new(alloc: Global, slaves: u16) -> Result<LineCuts, AllocError>
+        requires { slaves ≤ MOST_SLAVES }
+        ensures { IfOk result (λ line. line ≡ line_kept (replicate slaves [])) }
+    {
+        let mut tasks = Vec::with_capacity(alloc, usize::from(TASKS))?;
+        for _ in 0..TASKS {
+            tasks.push(Cuts::new(alloc, slaves)?)?;
+        }
+        Ok(LineCuts { tasks })
+    }
+
+    /// Turns the tasks of a line into those of another line of the same declared slaves: the widths that
+    /// differ are set, and each task in which one does is cut anew. Otherwise the lowest task that needs
+    /// more than 16 datagrams; widths and boundaries are then put back. It takes no memory.
+    pub fn turn<L: Ledger>(
+        &mut self,
+        old: &[SlaveAreas],
+        new: &[SlaveAreas],
+        steps: &mut Steps<L>,
+    ) -> Result<(), u8>
+        requires old { IsLine old.now }
+        requires new { IsLine new.now }
+        requires same { length new.now ≡ length old.now }
+        requires was { self.old ≡ line_kept old.now }
+        requires fits { crowded_from 8 0 old.now ≡ None }
+        ensures turned { OnOk result (self.new ≡ line_kept new.now) }
+        ensures accepted { OnOk result (crowded_from 8 0 new.now ≡ None) }
+        ensures refused { IfErr result (λ task. crowded_from 8 0 new.now ≡ Some task) }
+        ensures unchanged { OnErr result (self.new ≡ self.old) }
+    {
+        match turn_tasks(self.tasks.as_mut_slice(), 0, old, new, steps) {
+            None => Ok(()),
+            Some(task) => {
+                put_tasks(self.tasks.as_mut_slice(), 0, new, old, steps);
+                Err(task)
+            }
+        }
+    }
+
+    /// The tasks of a line, from nothing. `TooManyDatagrams` with the lowest task that needs more than
+    /// 16, or `Memory` where a growth was refused.
+    pub fn open<L: Ledger>(
+        alloc: Global,
+        line: &[SlaveAreas],
+        steps: &mut Steps<L>,
+    ) -> Result<LineCuts, EditFault>
+        requires { IsLine line.now }
+        ensures kept { IfOk result (λ cuts. cuts ≡ line_kept line.now) }
+        ensures accepted { OnOk result (crowded_from 8 0 line.now ≡ None) }
+        ensures refused { IfErr result (λ fault. fault ≢ Memory → option_map TooManyDatagrams (crowded_from 8 0 line.now) ≡ Some fault) }
+    {
+        let absent = absent_slaves(alloc, line.len())?;
+        let mut cuts = LineCuts::new(alloc, line.len() as u16)?;
+        match cuts.turn(absent.as_slice(), line, steps) {
+            Ok(()) => Ok(cuts),
+            Err(task) => Err(EditFault::TooManyDatagrams(task)),
+        }
+    }
+
+    /// The areas of a task with their places, in key order. `AllocError` where a growth was refused.
+    pub fn places<L: Ledger>(
+        &self,
+        alloc: Global,
+        task: u8,
+        steps: &mut Steps<L>,
+    ) -> Result<Vec<Placed>, AllocError>
+        requires { task < TASKS }
+        ensures { IfOk result (λ places. (line : List (List Area)) → self.now ≡ line_kept line → places.items ≡ packed opening (list_by task line)) }
+    {
+        self.tasks[usize::from(task)].places(alloc, steps)
+    }
+}

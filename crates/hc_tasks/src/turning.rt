@@ -1,0 +1,109 @@
+//! The tasks of a line turned into those of another: widths that differ are set, and a task in which one
+//! does is cut anew.
+ghost use Rattle.std.specs.Prelude.{◌≡◌, ◌+◌, ◌<◌, ◌≤◌, None, OnErr, OnOk, false, length, map, true};
+ghost use Rattle.hc_tasks.specs.Kept.{IsLine, crowded_from, is_crowded, kept_by, kept_from, starts_by, tree_by, trees_from};
+
+use crate::areas::SlaveAreas;
+use crate::widths::set_widths;
+use hc_bitsum::steps::Steps;
+use hc_cuts::cuts::Cuts;
+use hc_cuts::fold::TooManyDatagrams;
+use std::sync::ledger::Ledger;
+
+/// Turns a task. `TooManyDatagrams` where it would need more than 16; then its widths are set, and its
+/// boundaries are as before.
+fn turn_task<L: Ledger>(
+    cuts: &mut Cuts,
+    task: u8,
+    old: &[SlaveAreas],
+    new: &[SlaveAreas],
+    steps: &mut Steps<L>,
+) -> Result<(), TooManyDatagrams>
+    requires old { IsLine old.now }
+    requires new { IsLine new.now }
+    requires same { length new.now ≡ length old.now }
+    requires was { cuts.old ≡ kept_by task old.now }
+    requires fits { is_crowded task old.now ≡ false }
+    ensures areas { cuts.new.tree ≡ tree_by task new.now }
+    ensures turned { OnOk result (cuts.new ≡ kept_by task new.now) }
+    ensures fits { OnOk result (is_crowded task new.now ≡ false) }
+    ensures refused { OnErr result (is_crowded task new.now ≡ true) }
+{
+    if set_widths(cuts, task, old, new) {
+        cuts.cut(steps)?;
+    }
+    Ok(())
+}
+
+/// Puts a task back that has the widths of another line, whatever its boundaries.
+fn put_task<L: Ledger>(
+    cuts: &mut Cuts,
+    task: u8,
+    from: &[SlaveAreas],
+    to: &[SlaveAreas],
+    steps: &mut Steps<L>,
+)
+    requires from { IsLine from.now }
+    requires to { IsLine to.now }
+    requires same { length to.now ≡ length from.now }
+    requires was { cuts.old.tree ≡ tree_by task from.now }
+    requires fits { is_crowded task to.now ≡ false }
+    ensures { cuts.new ≡ kept_by task to.now }
+{
+    set_widths(cuts, task, from, to);
+    let Ok(()) = cuts.cut(steps) else {
+        unreachable!()
+    };
+}
+
+/// Turns tasks in a row, the first of which has a number: each of them, also behind one that would need
+/// more than 16 datagrams. The first such task, if there is one.
+pub(crate) fn turn_tasks<L: Ledger>(
+    tasks: &mut [Cuts],
+    task: u8,
+    old: &[SlaveAreas],
+    new: &[SlaveAreas],
+    steps: &mut Steps<L>,
+) -> Option<u8>
+    requires numbers { task + length tasks.old ≤ 8 }
+    requires old { IsLine old.now }
+    requires new { IsLine new.now }
+    requires same { length new.now ≡ length old.now }
+    requires was { tasks.old ≡ kept_from (length tasks.old) task old.now }
+    requires fits { crowded_from (length tasks.old) task old.now ≡ None }
+    ensures crowded { result ≡ crowded_from (length tasks.old) task new.now }
+    ensures areas { map (λ kept. kept.tree) tasks.new ≡ trees_from (length tasks.old) task new.now }
+    ensures turned { result ≡ None → tasks.new ≡ kept_from (length tasks.old) task new.now }
+{
+    if tasks.is_empty() {
+        return None;
+    }
+    let (first, rest) = tasks.split_at_mut(1);
+    let turned = turn_task(&mut first[0], task, old, new, steps);
+    let behind = turn_tasks(rest, task + 1, old, new, steps);
+    if turned.is_err() { Some(task) } else { behind }
+}
+
+/// Puts tasks in a row back that have the widths of another line, whatever their boundaries.
+pub(crate) fn put_tasks<L: Ledger>(
+    tasks: &mut [Cuts],
+    task: u8,
+    from: &[SlaveAreas],
+    to: &[SlaveAreas],
+    steps: &mut Steps<L>,
+)
+    requires numbers { task + length tasks.old ≤ 8 }
+    requires from { IsLine from.now }
+    requires to { IsLine to.now }
+    requires same { length to.now ≡ length from.now }
+    requires was { map (λ kept. kept.tree) tasks.old ≡ trees_from (length tasks.old) task from.now }
+    requires fits { crowded_from (length tasks.old) task to.now ≡ None }
+    ensures { tasks.new ≡ kept_from (length tasks.old) task to.now }
+{
+    if tasks.is_empty() {
+        return;
+    }
+    let (first, rest) = tasks.split_at_mut(1);
+    put_task(&mut first[0], task, from, to, steps);
+    put_tasks(rest, task + 1, from, to, steps);
+}

@@ -1,0 +1,116 @@
+//! The widths of a task's areas, set where they differ between two lines.
+ghost use Rattle.std.specs.Prelude.{◌≡◌, ◌<◌, ◌≤◌, ◌==◌, ◌&&◌, All, false, if◌then◌else◌, length};
+ghost use Rattle.hc_bitsum.specs.Tree.{HasPlace, HoldsTaskList};
+ghost use Rattle.hc_records.specs.Boundaries.{width_in};
+ghost use Rattle.hc_records.specs.Keys.{same_key};
+ghost use Rattle.hc_records.specs.declared.keys.Key.{Key};
+ghost use Rattle.hc_records.specs.declared.limits.TheConstants.{MOST_AREAS, MOST_AREA_BITS, MOST_SLAVES};
+ghost use Rattle.hc_tasks.specs.Areas.{slave_width, width_at};
+ghost use Rattle.hc_tasks.specs.Widths.{AreKept, IsSetTo, with_slave};
+
+use crate::areas::SlaveAreas;
+use hc_cuts::cuts::Cuts;
+use hc_records::keys::Key;
+use hc_records::records::{Area, Dir};
+
+/// The width of a key in a task, by the areas of its slave, in bits.
+fn slave_width(areas: &[Area], task: u8, key: Key) -> u16
+    requires { AreKept areas.now }
+    ensures value { result ≡ slave_width task areas.now key }
+    ensures narrow { result ≤ MOST_AREA_BITS }
+{
+    match areas.get(usize::from(key.area)) {
+        Some(area) if area.task == task && area.dir == key.dir => area.width(),
+        _ => 0,
+    }
+}
+
+/// Sets the width of a key of a slave that had some areas and has others, where it differs. Whether it
+/// does.
+fn set_key(cuts: &mut Cuts, task: u8, key: Key, old: &[Area], new: &[Area]) -> bool
+    requires place { HasPlace cuts.old.tree.slaves key }
+    requires holds { HoldsTaskList cuts.old.tree }
+    requires old { AreKept old.now }
+    requires new { AreKept new.now }
+    requires was { width_in cuts.old.tree.list key ≡ slave_width task old.now key }
+    ensures widths { IsSetTo cuts.old cuts.new (λ other. if same_key key other then slave_width task new.now key else width_in cuts.old.tree.list other) }
+    ensures untouched { result ≡ false → cuts.new ≡ cuts.old }
+{
+    let bits = slave_width(new, task, key);
+    if slave_width(old, task, key) == bits {
+        return false;
+    }
+    cuts.set(key, bits);
+    true
+}
+
+/// Sets the widths of an output and of an input with a place in the record of a slave, where they
+/// differ. Whether one does.
+fn set_area(cuts: &mut Cuts, task: u8, rank: u16, area: u8, old: &[Area], new: &[Area]) -> bool
+    requires first { 1 ≤ rank }
+    requires last { rank ≤ cuts.old.tree.slaves }
+    requires area { area < MOST_AREAS }
+    requires holds { HoldsTaskList cuts.old.tree }
+    requires old { AreKept old.now }
+    requires new { AreKept new.now }
+    requires was { (key : Key) → key.rank ≡ rank → key.area ≡ area → width_in cuts.old.tree.list key ≡ slave_width task old.now key }
+    ensures widths { IsSetTo cuts.old cuts.new (λ key. if (rank == key.rank) && (area == key.area) then slave_width task new.now key else width_in cuts.old.tree.list key) }
+    ensures untouched { result ≡ false → cuts.new ≡ cuts.old }
+{
+    let output = Key {
+        dir: Dir::Out,
+        rank,
+        area,
+    };
+    let input = Key {
+        dir: Dir::In,
+        rank,
+        area,
+    };
+    let first = set_key(cuts, task, output, old, new);
+    let second = set_key(cuts, task, input, old, new);
+    first || second
+}
+
+/// Sets the widths of a slave that had some areas and has others, where they differ. Whether one does.
+fn set_slave(cuts: &mut Cuts, task: u8, rank: u16, old: &[Area], new: &[Area]) -> bool
+    requires first { 1 ≤ rank }
+    requires last { rank ≤ cuts.old.tree.slaves }
+    requires holds { HoldsTaskList cuts.old.tree }
+    requires old { AreKept old.now }
+    requires new { AreKept new.now }
+    requires was { (key : Key) → key.rank ≡ rank → width_in cuts.old.tree.list key ≡ slave_width task old.now key }
+    ensures widths { IsSetTo cuts.old cuts.new (with_slave task rank new.now cuts.old) }
+    ensures untouched { result ≡ false → cuts.new ≡ cuts.old }
+{
+    let mut touched = false;
+    for area in 0..old.len().max(new.len()) {
+        if set_area(cuts, task, rank, area as u8, old, new) {
+            touched = true;
+        }
+    }
+    touched
+}
+
+/// Sets the widths of a task whose slaves had some areas and have others, where they differ. Whether
+/// one does. It takes no memory.
+pub(crate) fn set_widths(cuts: &mut Cuts, task: u8, old: &[SlaveAreas], new: &[SlaveAreas]) -> bool
+    requires few { length old.now ≤ MOST_SLAVES }
+    requires slaves { cuts.old.tree.slaves ≡ length old.now }
+    requires same { length new.now ≡ length old.now }
+    requires holds { HoldsTaskList cuts.old.tree }
+    requires old { All AreKept old.now }
+    requires new { All AreKept new.now }
+    requires was { (key : Key) → width_in cuts.old.tree.list key ≡ width_at task old.now key }
+    ensures widths { IsSetTo cuts.old cuts.new (width_at task new.now) }
+    ensures untouched { result ≡ false → cuts.new ≡ cuts.old }
+{
+    let mut touched = false;
+    for i in 0..old.len() {
+        let rank = i as u16 + 1;
+        if set_slave(cuts, task, rank, old[i].as_slice(), new[i].as_slice()) {
+            touched = true;
+        }
+    }
+    touched
+}
