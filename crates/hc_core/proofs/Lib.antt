@@ -1,5 +1,6 @@
 pub mod Arrivals
 pub mod Awaits
+pub mod Commits
 pub mod Dues
 pub mod Ended
 pub mod Firsts

@@ -3,3 +3,4 @@ pub mod Goods
 pub mod Firsts
 pub mod State
 pub mod Agreement
+pub mod Proposed

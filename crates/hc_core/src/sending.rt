@@ -5,9 +5,10 @@ ghost use Rattle.hc_frames.specs.declared.limits.TheConstants.{SETUP_SERIAL};
 ghost use Rattle.hc_events.specs.declared.faults.CoreFault.TheVariants.{Memory};
 ghost use Rattle.hc_events.specs.Calls.{AreSentTogether};
 ghost use Rattle.hc_events.specs.Entries.{Wrote};
-ghost use Rattle.hc_events.specs.Steps.{proposal, task_faults};
+ghost use Rattle.hc_events.specs.Steps.{proposal, task_faults, with_sent};
 ghost use Rattle.hc_events.specs.Points.{next_serial};
 ghost use Rattle.hc_core.specs.Firsts.{IsFirstOwed};
+ghost use Rattle.hc_core.specs.Proposed.{IsProposal};
 
 use crate::keeping::Core;
 use hc_events::faults::CoreFault;
@@ -29,6 +30,17 @@ impl Core {
     {
         let owed = self.owed.count();
         propose(alloc, &self.plan, self.serial, owed, tasks)
+    }
+
+    /// All frames of the present proposal are sent, in their order: each is recorded, and is awaited from now on.
+    /// It takes no memory.
+    pub fn commit(&mut self, frames: &[Sending])
+        requires { IsProposal self.old.past frames.now }
+        ensures { self.new ≡ record self.old { past = with_sent self.old.past frames.now } }
+    {
+        self.awaited.send(frames);
+        self.serial += frames.len() as u64;
+        self.past.sent_all(frames);
     }
 
     /// The first owed block is sent, with the next serial. It takes no memory.
