@@ -2,6 +2,7 @@ pub mod Arrivals
 pub mod Awaits
 pub mod Commits
 pub mod Dues
+pub mod Edits
 pub mod Ended
 pub mod Firsts
 pub mod GoodsSteps
