@@ -6,6 +6,7 @@ use Rattle.std.proofs.lemmas.List.{map-append}
 use Rattle.hc_records.specs.declared.edit.Edit.{Edit}
 use Rattle.hc_records.specs.declared.faults.EditFault.{EditFault}
 use Rattle.hc_records.specs.declared.records.Declared.{Declared}
+use Rattle.hc_records.specs.Boundaries.{recut}
 use Rattle.hc_records.specs.Edits.{changed as changed_state, crowded_task, edit_faults, edited, refused_by, state_after}
 use Rattle.hc_records.specs.Line.{State, groups_of, line}
 use Rattle.hc_records.specs.Lists.{lowest}
@@ -17,6 +18,7 @@ use Rattle.hc_places.specs.Table.{table_of}
 use Rattle.hc_plan.specs.declared.report.Report.{Report}
 use Rattle.hc_plan.specs.Reports.{Tells, name_of}
 use Rattle.hc_frames.specs.declared.limits.TheConstants.{SETUP_SERIAL}
+use Rattle.hc_events.specs.declared.answer.Answer.TheVariants as answer
 use Rattle.hc_events.specs.declared.change.Change.{Change}
 use Rattle.hc_events.specs.declared.change.Change.TheVariants as change
 use Rattle.hc_events.specs.Changes.{News, Swapped, SwapsLeadFrom, news_of, told_by}
@@ -24,6 +26,7 @@ use Rattle.hc_events.specs.Entries.{Record, Edited}
 use Rattle.hc_events.specs.NewsLaws.{state_behind}
 use Rattle.hc_events.specs.Owed.{known_bytes}
 use Rattle.hc_events.specs.Points.{line_of, next_serial, state_of}
+use Rattle.hc_events.specs.Steps.{told_of_edit}
 use Rattle.hc_awaited.specs.Waiting.{nothing}
 use Rattle.hc_inputs.specs.Image.{HasNone, Image}
 use Rattle.hc_owed.specs.Edits.{IsEdited, changed}
@@ -41,6 +44,14 @@ accepted_next (Some fault) made next e = cc
 
 after_is : (state : State) (edit : Edit) (next : State) → edited state edit ≡ Ok next → state_after state edit ≡ next
 after_is state edit next e = ap (λ (made : Result State EditFault). result_unwrap_or made state) e
+
+pub edited-told : (old new : State) (edit : Edit) (report : Report) → edited old edit ≡ Ok new → Tells old edit new report
+    → answer.Edited report.epoch report.recut report.moved ≡ told_of_edit old (state_after old edit)
+edited-told old new edit report accepted tell =
+    ap (λ n. answer.Edited n report.recut report.moved) tell.epoch
+    ∙ ap (λ n. answer.Edited new.epoch n report.moved) tell.recut
+    ∙ ap (λ n. answer.Edited new.epoch (recut (line old) (line new)) n) tell.moved
+    ∙ ap (told_of_edit old) (sym (after_is old edit new accepted))
 
 -- a swap behind the changes
 

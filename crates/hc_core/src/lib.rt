@@ -2,6 +2,7 @@
 #![tactic(auto)]
 
 mod arriving;
+mod editing;
 mod goods;
 pub mod keeping;
 pub mod laws;
