@@ -11,7 +11,7 @@ use Rattle.hc_events.specs.Points.{state_of}
 use Rattle.hc_events.specs.Images.{Fresh, fresh_by}
 use Rattle.hc_events.specs.Changes.{Answered, SwapsLeadFrom, news_of, told_by}
 use Rattle.hc_events.specs.NewsLaws.{state_behind}
-use Rattle.hc_core.specs.Agreement.{TellNews}
+use Rattle.hc_core.specs.Agreement.{Agree, Kept, TellNews}
 use Rattle.hc_core.specs.Goods.{change_of}
 
 goods_told : (goods : List Fresh) → map told_by (map change_of goods) ≡ map Answered goods
@@ -47,4 +47,20 @@ news-none taken past arrival changes none tells = record {
   told = ap (λ all. news_of past ++ map Answered all) none ∙ append-nil (news_of past) ∙ tells.told;
   lead = tells.lead;
   behind = tells.behind;
+}
+
+-- behind their taking there are none
+
+pub agree-taken : (kept : Kept) (past taken : Record) → Agree kept past taken → Agree (record kept { changes = [] }) past past
+agree-taken kept past taken agree = record {
+  accepted = agree.accepted;
+  state = agree.state;
+  project = agree.project;
+  uncrowded = agree.uncrowded;
+  serial = agree.serial;
+  left = agree.left;
+  waits = agree.waits;
+  slots = agree.slots;
+  known = agree.known;
+  tells = record { told = sym (append-nil (news_of past)); lead = tt; behind = refl };
 }

@@ -9,3 +9,4 @@ pub mod laws;
 mod owing;
 mod reading;
 mod sending;
+mod taking;
