@@ -1,4 +1,4 @@
 pub mod Lines
 pub mod Setting
-pub mod Told
 pub mod Turned
+pub mod lemmas

@@ -22,7 +22,7 @@ use Rattle.hc_cuts.specs.Starts.{Kept}
 use Rattle.hc_tasks.specs.Areas.{area_list, list_by, rank_list, width_at}
 use Rattle.hc_tasks.specs.Kept.{IsLine, is_crowded, kept_by, starts_by, tree_by}
 use Rattle.hc_tasks.specs.Widths.{AreKept, IsSetTo}
-use Rattle.hc_tasks.proofs.Told.{width-by}
+use Rattle.hc_tasks.proofs.lemmas.Told.{width-by}
 
 -- a tree has a place for each area of a line
 

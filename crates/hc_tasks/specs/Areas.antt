@@ -27,6 +27,10 @@ own_width task dir (Some area) = if (area.task == task) && same_dir area.dir dir
 abbrev pub areas_at : List (List Area) → ℕ → List Area
 areas_at slaves rank = slice_index_or ([] ∷ slaves) rank []
 
+-- the area that a key names, if its slave has one
+abbrev pub area_in : List (List Area) → Key → Option Area
+area_in slaves key = slice_get (areas_at slaves key.rank) key.area
+
 -- the width of a key in a task, by the areas of its slave
 abbrev pub slave_width : ℕ → List Area → Key → ℕ
 slave_width task areas key = own_width task key.dir (slice_get areas key.area)

@@ -1,7 +1,8 @@
 //! The areas of the line by the ranks of their slaves.
-ghost use Rattle.std.specs.Prelude.{◌≡◌, ◌++◌, IfOk, OnOk};
-ghost use Rattle.hc_tasks.specs.Areas.{areas_by_rank, present_areas};
+ghost use Rattle.std.specs.Prelude.{◌≡◌, ◌++◌, IfOk, MatchOption, None, OnOk, Some};
+ghost use Rattle.hc_tasks.specs.Areas.{area_in, areas_by_rank, present_areas};
 
+use hc_records::keys::Key;
 use hc_records::records::{Area, Declared};
 use std::alloc::{AllocError, Global};
 use std::marker::Model;
@@ -68,4 +69,16 @@ pub fn areas_by_rank<'a>(
         add_group(&mut slaves, declared)?;
     }
     Ok(slaves)
+}
+
+/// The area that a key names: the one with its place in the record of the present slave with its rank;
+/// none where there is no such area. It takes no memory.
+pub fn find_area<'a>(slaves: &[SlaveAreas<'a>], key: Key) -> Option<&'a Area>
+    ensures { MatchOption result (area_in slaves.now key ≡ None) (λ area. area_in slaves.now key ≡ Some area.now) }
+{
+    if key.rank == 0 {
+        return None;
+    }
+    let slave = slaves.get(usize::from(key.rank) - 1)?;
+    slave.areas.get(usize::from(key.area))
 }

@@ -1,4 +1,4 @@
-use Rattle.hc_tasks.proofs.Told.{width-told}
+use Rattle.hc_tasks.proofs.lemmas.Told.{width-told}
 use Rattle.hc_tasks.proofs.laws.widths_are_the_areas.Goals as goal
 
 pub returns : goal.returns

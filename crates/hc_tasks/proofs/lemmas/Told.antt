@@ -69,7 +69,7 @@ rank_list-append task dir rank (x ∷ xs) ys =
     (rank_list-append task dir (rank + 1) xs ys ∙ ap (λ (n : ℕ). rank_list task dir (rank + 1) xs ++ rank_list task dir n ys) more)
     ∙ sym (append_assoc (area_list task dir rank 0 x) (rank_list task dir (rank + 1) xs) (rank_list task dir (rank + suc (length xs)) ys))
 
-length-present : (present : Bool) (slaves : List Slave) → length (map (λ slave. if present then slave.areas else []) slaves) ≡ length slaves
+pub length-present : (present : Bool) (slaves : List Slave) → length (map (λ slave. if present then slave.areas else []) slaves) ≡ length slaves
 length-present present [] = refl
 length-present present (slave ∷ slaves) = ap suc (length-present present slaves)
 

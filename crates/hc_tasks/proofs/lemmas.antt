@@ -1,0 +1,4 @@
+-- What the crates above cite, a file a subject.
+pub mod Named
+pub mod Projects
+pub mod Told

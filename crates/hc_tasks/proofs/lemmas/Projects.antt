@@ -1,0 +1,103 @@
+-- The areas of the slaves of a project's groups, and of those that an edit leaves.
+use Rattle.std.specs.Prelude.{All, None, Option, Some, find, map, nat_lt}
+use Rattle.std.proofs.Common.{◌≡◌, ℕ, ◌+◌, ◌==◌, Bool, true, false, List, [], ◌∷◌, length, refl, sym, ap, subst, ◌∙◌, arith, if◌then◌else◌, length-append}
+use Rattle.std.proofs.lemmas.List.{length-map}
+use Rattle.std.proofs.lemmas.List.Elements.{All-append, All-cons, All-head, All-nil, All-tail}
+use Rattle.hc_records.specs.declared.limits.TheConstants.{MOST_DATAGRAMS}
+use Rattle.hc_records.specs.declared.edit.Edit.{Edit}
+use Rattle.hc_records.specs.declared.edit.Edit.TheVariants.{Connect, Disconnect, Remap, Move}
+use Rattle.hc_records.specs.declared.records.Slave.{Slave}
+use Rattle.hc_records.specs.declared.records.Declared.{Declared}
+use Rattle.hc_records.specs.Edits.{crowded_task, groups_after, with_area, with_presence, with_slaves}
+use Rattle.hc_records.specs.Image.{datagram_count, task_places, tasks}
+use Rattle.hc_records.specs.Limits.{IsSlaveInside}
+use Rattle.hc_records.specs.Line.{State, groups_of, line_from}
+use Rattle.hc_records.specs.Packing.{opening, packed}
+use Rattle.hc_records.specs.Project.{lowest_fault}
+use Rattle.hc_records.specs.SpanLaws.{IsTaskList}
+use Rattle.hc_records.specs.TaskList.{Keyed}
+use Rattle.hc_records.proofs.lemmas.Limits.{project-inside}
+use Rattle.hc_records.proofs.lemmas.Lines.{declared_slaves, each-group}
+use Rattle.hc_records.proofs.lemmas.Projects.{project-few}
+use Rattle.hc_records.proofs.lemmas.TaskLists.{project-list}
+use Rattle.hc_tasks.specs.Areas.{areas_by_rank, present_areas}
+use Rattle.hc_tasks.specs.Kept.{IsLine, crowded_from, is_crowded}
+use Rattle.hc_tasks.specs.Widths.{AreKept}
+use Rattle.hc_tasks.proofs.lemmas.Told.{length-present, task-listed}
+
+-- a slave's areas, or none
+
+slave-kept : (present : Bool) (slave : Slave) → IsSlaveInside slave → AreKept (if present then slave.areas else [])
+slave-kept true slave inside = record { few = inside.few; narrow = λ k d within. (inside.areas k d within).narrow }
+slave-kept false slave inside = record { few = omega arith; narrow = λ k d within. absurd (omega arith) }
+
+group-kept : (present : Bool) (slaves : List Slave) → All IsSlaveInside slaves → All AreKept (map (λ slave. if present then slave.areas else []) slaves)
+group-kept present [] all = All-nil AreKept
+group-kept present (slave ∷ slaves) all =
+    All-cons AreKept (if present then slave.areas else []) (map (λ s. if present then s.areas else []) slaves)
+    (slave-kept present slave (All-head IsSlaveInside slave slaves all)) (group-kept present slaves (All-tail IsSlaveInside slave slaves all))
+
+groups-kept : (groups : List Declared) → All (λ declared. All IsSlaveInside declared.group.slaves) groups → All AreKept (areas_by_rank groups)
+groups-kept [] all = All-nil AreKept
+groups-kept (declared ∷ groups) all =
+    All-append AreKept (present_areas declared) (areas_by_rank groups)
+    (group-kept declared.present declared.group.slaves (All-head (λ d. All IsSlaveInside d.group.slaves) declared groups all))
+    (groups-kept groups (All-tail (λ d. All IsSlaveInside d.group.slaves) declared groups all))
+
+-- as many as are declared
+ranks-declared : (groups : List Declared) → length (areas_by_rank groups) ≡ length (declared_slaves groups)
+ranks-declared [] = refl
+ranks-declared (declared ∷ groups) =
+    length-append (present_areas declared) (areas_by_rank groups)
+    ∙ ap (λ (n : ℕ). n + length (areas_by_rank groups)) (length-present declared.present declared.group.slaves)
+    ∙ ap (λ (n : ℕ). length declared.group.slaves + n) (ranks-declared groups)
+    ∙ sym (length-append declared.group.slaves (declared_slaves groups))
+
+-- the line of a project's groups is one
+pub project-line : (groups : List Declared) → lowest_fault (groups_of groups) ≡ None → IsLine (areas_by_rank groups)
+project-line groups none = record {
+  few = let few = project-few (groups_of groups) none in let many = ranks-declared groups in omega (arith, few, many);
+  kept = groups-kept groups (each-group IsSlaveInside groups (project-inside (groups_of groups) none).slaves);
+  lists = λ task.
+      let state : State = record { groups = groups; epoch = 0 } in
+      subst (λ (list : List Keyed). IsTaskList list) (task-listed task groups) (project-list state task none);
+}
+
+-- the lowest crowded task of the line
+
+find-same : (p q : ℕ → Bool) → ((task : ℕ) → p task ≡ q task) → (list : List ℕ) → find p list ≡ find q list
+find-same p q same [] = refl
+find-same p q same (task ∷ list) =
+    ap (λ (rest : Option ℕ). if p task then Some task else rest) (find-same p q same list)
+    ∙ ap (λ (test : Bool). if test then Some task else find q list) (same task)
+
+pub line-crowded : (groups : List Declared) → crowded_task (line_from 1 groups) ≡ crowded_from 8 0 (areas_by_rank groups)
+line-crowded groups =
+    find-same (λ task. nat_lt MOST_DATAGRAMS (datagram_count (task_places task (line_from 1 groups)))) (λ task. is_crowded task (areas_by_rank groups))
+    (λ task. ap (λ (list : List Keyed). nat_lt MOST_DATAGRAMS (datagram_count (packed opening list))) (task-listed task groups)) tasks
+
+-- an edit declares no slave
+
+length-changed : (change : Declared → Declared) → ((declared : Declared) → length (change declared).group.slaves ≡ length declared.group.slaves)
+    → (groups : List Declared) → length (areas_by_rank (map change groups)) ≡ length (areas_by_rank groups)
+length-changed change same [] = refl
+length-changed change same (declared ∷ groups) =
+    length-append (present_areas (change declared)) (areas_by_rank (map change groups))
+    ∙ ap (λ (n : ℕ). n + length (areas_by_rank (map change groups)))
+    (length-present (change declared).present (change declared).group.slaves ∙ same declared ∙ sym (length-present declared.present declared.group.slaves))
+    ∙ ap (λ (n : ℕ). length (present_areas declared) + n) (length-changed change same groups)
+    ∙ sym (length-append (present_areas declared) (areas_by_rank groups))
+
+presence-by : (named present : Bool) (declared : Declared) → length (if named then record declared { present = present } else declared).group.slaves ≡ length declared.group.slaves
+presence-by true present declared = refl
+presence-by false present declared = refl
+
+pub edit-declares : (groups : List Declared) (edit : Edit) → length (areas_by_rank (groups_after groups edit)) ≡ length (areas_by_rank groups)
+edit-declares groups (Connect alias) = length-changed (with_presence alias true) (λ declared. presence-by (declared.group.alias == alias) true declared) groups
+edit-declares groups (Disconnect alias) = length-changed (with_presence alias false) (λ declared. presence-by (declared.group.alias == alias) false declared) groups
+edit-declares groups (Remap station area pdos) =
+    length-changed (with_slaves (with_area station area (λ a. record a { assigned = pdos })))
+    (λ declared. length-map declared.group.slaves (with_area station area (λ a. record a { assigned = pdos }))) groups
+edit-declares groups (Move station area task) =
+    length-changed (with_slaves (with_area station area (λ a. record a { task = task })))
+    (λ declared. length-map declared.group.slaves (with_area station area (λ a. record a { task = task }))) groups
