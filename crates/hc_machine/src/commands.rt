@@ -2,11 +2,13 @@
 
 ghost use Rattle.std.specs.Prelude.{◌≡◌, ◌≤◌, length};
 ghost use Rattle.hc_frames.specs.declared.commands.Command.TheVariants.{Aprd, Apwr, Fpwr};
-ghost use Rattle.hc_machine.specs.Commands.{address_after, count_of, data_after, is_at_position, is_at_station, memory_after, lies_in_memory, register_of};
+ghost use Rattle.hc_machine.specs.Commands.{address_after, count_of, data_after, is_at_position, is_at_station, memory_behind_command, lies_in_memory, register_of};
 
+use crate::fmmu::Fmmu;
 use crate::limits::MEMORY_BYTES;
 use crate::logical::serve_logical;
 use crate::memory::{read_memory, write_memory};
+use arrayvec::ArrayVec;
 use hc_frames::Command;
 use hc_frames::limits::{MAX_DATA, STATION_REGISTER};
 
@@ -74,7 +76,7 @@ fn serve_read(memory: &[u8], address: u32, bytes: &mut [u8]) -> u16
 fn serve_position(memory: &mut [u8], address: u32, bytes: &[u8]) -> u16
     requires memory { length memory.old ≡ MEMORY_BYTES }
     requires short { length bytes.now ≤ MAX_DATA }
-    ensures memory { memory.new ≡ memory_after Apwr memory.old address bytes.now }
+    ensures memory { memory.new ≡ memory_behind_command Apwr memory.old address bytes.now }
     ensures count { result ≡ count_of Apwr memory.old address (length bytes.now) }
 {
     if !is_at_position(address, bytes.len()) {
@@ -88,7 +90,7 @@ fn serve_position(memory: &mut [u8], address: u32, bytes: &[u8]) -> u16
 fn serve_station(memory: &mut [u8], address: u32, bytes: &[u8]) -> u16
     requires memory { length memory.old ≡ MEMORY_BYTES }
     requires short { length bytes.now ≤ MAX_DATA }
-    ensures memory { memory.new ≡ memory_after Fpwr memory.old address bytes.now }
+    ensures memory { memory.new ≡ memory_behind_command Fpwr memory.old address bytes.now }
     ensures count { result ≡ count_of Fpwr memory.old address (length bytes.now) }
 {
     if !is_at_station(memory, address, bytes.len()) {
@@ -99,10 +101,11 @@ fn serve_station(memory: &mut [u8], address: u32, bytes: &[u8]) -> u16
 }
 
 /// Serves the data of a datagram, and answers what it adds to the working counter. `spare` has room for the data that
-/// came in.
+/// came in, `mapped` for the FMMUs that it meets.
 pub(crate) fn serve(
     memory: &mut [u8],
     spare: &mut [u8],
+    mapped: &mut ArrayVec<Fmmu, 16>,
     command: Command,
     address: u32,
     bytes: &mut [u8],
@@ -110,7 +113,7 @@ pub(crate) fn serve(
     requires memory { length memory.old ≡ MEMORY_BYTES }
     requires spare { length spare.old ≡ MAX_DATA }
     requires short { length bytes.old ≤ MAX_DATA }
-    ensures memory { memory.new ≡ memory_after command memory.old address bytes.old }
+    ensures memory { memory.new ≡ memory_behind_command command memory.old address bytes.old }
     ensures data { bytes.new ≡ data_after command memory.old address bytes.old }
     ensures count { result ≡ count_of command memory.old address (length bytes.old) }
 {
@@ -118,6 +121,6 @@ pub(crate) fn serve(
         Command::Aprd => serve_read(memory, address, bytes),
         Command::Apwr => serve_position(memory, address, bytes),
         Command::Fpwr => serve_station(memory, address, bytes),
-        Command::Lrw => serve_logical(memory, spare, address, bytes),
+        Command::Lrw => serve_logical(memory, spare, mapped, address, bytes),
     }
 }

@@ -3,12 +3,14 @@
 ghost use Rattle.std.specs.Prelude.{◌≡◌, ◌+◌, ◌<◌, ◌≤◌, drop, length, take, true};
 ghost use Rattle.std.specs.List.{list_all};
 ghost use Rattle.hc_frames.specs.Arrived.{carried, data_size, datagrams_in, is_whole, long_at, word_at};
-ghost use Rattle.hc_machine.specs.Commands.{kept, served};
+ghost use Rattle.hc_machine.specs.Commands.{memory_behind_datagram, served};
 ghost use Rattle.hc_machine.specs.Rewriting.{ServesTexts, rewritten};
 
 use crate::commands::{address_after, serve};
+use crate::fmmu::Fmmu;
 use crate::limits::MEMORY_BYTES;
 use crate::memory::put_part;
+use arrayvec::ArrayVec;
 use hc_frames::Command;
 use hc_frames::limits::{BESIDE_DATA_BYTES, DATAGRAM_HEAD_BYTES, MAX_DATA};
 
@@ -29,20 +31,25 @@ fn long_at(bytes: &[u8], at: usize) -> u32
 }
 
 /// Serves one datagram, which fills the bytes: its address, data and working counter are changed in their places.
-fn serve_datagram(memory: &mut [u8], spare: &mut [u8], datagram: &mut [u8])
+fn serve_datagram(
+    memory: &mut [u8],
+    spare: &mut [u8],
+    mapped: &mut ArrayVec<Fmmu, 16>,
+    datagram: &mut [u8],
+)
     requires memory { length memory.old ≡ MEMORY_BYTES }
     requires spare { length spare.old ≡ MAX_DATA }
     requires exact { length datagram.old ≡ 12 + data_size datagram.old }
     requires short { data_size datagram.old ≤ MAX_DATA }
     ensures datagram { datagram.new ≡ rewritten datagram.old (served memory.old (carried datagram.old)) }
-    ensures memory { memory.new ≡ kept memory.old (carried datagram.old) }
+    ensures memory { memory.new ≡ memory_behind_datagram memory.old (carried datagram.old) }
 {
     let end = datagram.len() - 2;
     let command = Command::of(datagram[0]).unwrap_or(Command::Lrw);
     let address = long_at(datagram, 2);
     let counter = word_at(datagram, end);
     let data = &mut datagram[DATAGRAM_HEAD_BYTES..end];
-    let count = serve(memory, spare, command, address, data);
+    let count = serve(memory, spare, mapped, command, address, data);
     put_part(datagram, 2, &address_after(command, address).to_le_bytes());
     put_part(datagram, end, &counter.wrapping_add(count).to_le_bytes());
 }
@@ -61,7 +68,12 @@ fn first_size(region: &[u8]) -> usize
 }
 
 /// Serves the datagrams that fill the bytes, one after another.
-pub(crate) fn serve_datagrams(memory: &mut [u8], spare: &mut [u8], region: &mut [u8])
+pub(crate) fn serve_datagrams(
+    memory: &mut [u8],
+    spare: &mut [u8],
+    mapped: &mut ArrayVec<Fmmu, 16>,
+    region: &mut [u8],
+)
     requires memory { length memory.old ≡ MEMORY_BYTES }
     requires spare { length spare.old ≡ MAX_DATA }
     requires whole { list_all is_whole (datagrams_in region.old) ≡ true }
@@ -72,6 +84,6 @@ pub(crate) fn serve_datagrams(memory: &mut [u8], spare: &mut [u8], region: &mut 
     }
     let size = first_size(region);
     let (first, rest) = region.split_at_mut(size);
-    serve_datagram(memory, spare, first);
-    serve_datagrams(memory, spare, rest);
+    serve_datagram(memory, spare, mapped, first);
+    serve_datagrams(memory, spare, mapped, rest);
 }
