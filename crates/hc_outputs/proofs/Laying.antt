@@ -75,11 +75,13 @@ pub record LaidUpTo (table : Table) (n : ℕ) (value : ℕ → ℕ → ℕ) (byt
       (task d k : ℕ) → task < TASKS → d < MOST_DATAGRAMS → ((i : ℕ) → i < n → Misses task d k (row_at table i))
       → bit_of (bytes_of bytes task d) k ≡ 0
 
+zero_small : 0 < 256
+zero_small = omega arith
+
 pub zero-bytes : (n : ℕ) → AreBytes (replicate n 0)
 zero-bytes n i low =
     let there : get_or (replicate n 0) i 0 ≡ 0 = get_or-replicate n i 0 0 (omega (arith, length-replicate {A = ℕ} n 0)) in
-    let small : 0 < 256 = omega arith in
-    subst (λ (b : ℕ). b < 256) (sym there) small
+    subst (λ (b : ℕ). b < 256) (sym there) zero_small
 
 pub nothing-laid : (table : Table) (value : ℕ → ℕ → ℕ) (bytes : Bytes) → AreBlank table bytes → LaidUpTo table 0 value bytes
 nothing-laid table value bytes blank = record {
