@@ -7,5 +7,4 @@ pub mod Numbered
 pub mod Opening
 pub mod Registers
 pub mod Turned
-pub mod Unmoved
 pub mod lemmas

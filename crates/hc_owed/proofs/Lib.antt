@@ -1,0 +1,12 @@
+mod Named
+mod Steps
+mod Shapes
+mod Changing
+mod Declaring
+mod Editing
+mod FlagLists
+mod KeptLists
+mod Staying
+mod Walks
+mod Writing
+pub mod lemmas
