@@ -14,6 +14,15 @@ use arrayvec::ArrayVec;
 use hc_frames::Command;
 use hc_frames::limits::{BESIDE_DATA_BYTES, DATAGRAM_HEAD_BYTES, MAX_DATA};
 
+/// The first byte of a datagram's address (ETG.1000.4, datagram structure).
+const ADDRESS_AT: usize = 2;
+
+/// The first byte of the field with a datagram's length.
+const LENGTH_AT: usize = 6;
+
+/// A length has eleven bits, a datagram's and that of the EtherCAT header.
+pub(crate) const LENGTHS: u16 = 2_048;
+
 /// The number in two bytes, low byte first.
 pub(crate) fn word_at(bytes: &[u8], at: usize) -> u16
     requires { at + 2 ≤ length bytes.now }
@@ -46,11 +55,15 @@ fn serve_datagram(
 {
     let end = datagram.len() - 2;
     let command = Command::of(datagram[0]).unwrap_or(Command::Lrw);
-    let address = long_at(datagram, 2);
+    let address = long_at(datagram, ADDRESS_AT);
     let counter = word_at(datagram, end);
     let data = &mut datagram[DATAGRAM_HEAD_BYTES..end];
     let count = serve(memory, spare, mapped, command, address, data);
-    put_part(datagram, 2, &address_after(command, address).to_le_bytes());
+    put_part(
+        datagram,
+        ADDRESS_AT,
+        &address_after(command, address).to_le_bytes(),
+    );
     put_part(datagram, end, &counter.wrapping_add(count).to_le_bytes());
 }
 
@@ -64,7 +77,7 @@ fn first_size(region: &[u8]) -> usize
     ensures first { data_size (take result region.now) ≡ data_size region.now }
     ensures rest { list_all is_whole (datagrams_in (drop result region.now)) ≡ true }
 {
-    BESIDE_DATA_BYTES + usize::from(word_at(region, 6) % 2048)
+    BESIDE_DATA_BYTES + usize::from(word_at(region, LENGTH_AT) % LENGTHS)
 }
 
 /// Serves the datagrams that fill the bytes, one after another.
