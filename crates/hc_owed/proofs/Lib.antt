@@ -6,6 +6,7 @@ mod Declaring
 mod Editing
 mod FlagLists
 mod KeptLists
+mod Names
 mod Staying
 mod Walks
 mod Writing

@@ -11,3 +11,5 @@ mod flags;
 pub mod laws;
 pub mod owed;
 mod room;
+#[cfg(test)]
+mod tests;
