@@ -1,6 +1,6 @@
 -- A width set in a row: the areas, the sums that stay, and those that are made anew.
 use Rattle.std.specs.Prelude.{All}
-use Rattle.std.proofs.Common.{◌≡◌, ◌≢◌, ℕ, zero, suc, ◌+◌, ◌-◌, ◌*◌, ◌/◌, ◌%◌, ◌^◌, ◌<◌, ◌≤◌, List, [], ◌∷◌, ◌++◌, length, drop, get_or, set, Bool, true, false, ◌==◌, refl, sym, ap, subst, ◌∙◌, arith, length-set, get_or-set_other, get_or-set_same}
+use Rattle.std.proofs.Common.{◌≡◌, ◌≢◌, ℕ, zero, suc, ◌+◌, ◌-◌, ◌*◌, ◌/◌, ◌%◌, ◌<◌, ◌≤◌, List, [], ◌∷◌, ◌++◌, length, drop, get_or, set, Bool, true, false, ◌==◌, refl, sym, ap, ◌∙◌, arith, length-set, get_or-set_other, get_or-set_same}
 use Rattle.std.proofs.lemmas.List.Elements.{All-get_or, All-set}
 use Rattle.std.proofs.Math.Seq.{drop-append-add}
 use Rattle.std.proofs.lemmas.List.{drop-append-le}
@@ -9,11 +9,11 @@ use Rattle.hc_records.specs.declared.records.Dir.{Dir}
 use Rattle.hc_records.specs.TaskList.{Keyed}
 use Rattle.hc_bitsum.specs.declared.sum.Sum.{Sum}
 use Rattle.hc_bitsum.specs.declared.sum.Sum.TheVariants.{Empty}
-use Rattle.hc_bitsum.specs.Branch.{AreForks, AreRowSums, AreSums, IsNode}
+use Rattle.hc_bitsum.specs.Branch.{AreForks, AreRowSums, IsNode}
 use Rattle.hc_bitsum.specs.Rows.{IsRow, part, row_areas}
 use Rattle.hc_bitsum.specs.Slots.{bits_at, key_at, set_at}
 use Rattle.hc_bitsum.specs.Sums.{joined, sum_of}
-use Rattle.hc_bitsum.proofs.Parts.{length-part, length-row, part-one, part-same, part-split}
+use Rattle.hc_bitsum.proofs.Parts.{length-part, part-one, part-same, part-split}
 use Rattle.hc_bitsum.proofs.Read.{bits-back, bits-front}
 use Rattle.hc_bitsum.proofs.Shape.{set_at-back, set_at-front}
 use Rattle.hc_bitsum.proofs.Sums.{top-node}

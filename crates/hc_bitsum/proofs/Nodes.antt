@@ -1,15 +1,13 @@
 -- What a branch's nodes stand for, and what a search comes to at them.
-use Rattle.std.specs.Prelude.{All, drop}
-use Rattle.std.proofs.Common.{◌≡◌, ◌≢◌, ℕ, zero, suc, ◌+◌, ◌-◌, ◌*◌, ◌/◌, ◌%◌, ◌^◌, ◌<◌, ◌≤◌, List, [], ◌∷◌, ◌++◌, length, get_or, refl, sym, ap, subst, ◌∙◌, arith}
+use Rattle.std.specs.Prelude.{All}
+use Rattle.std.proofs.Common.{◌≡◌, ℕ, suc, ◌+◌, ◌-◌, ◌*◌, ◌/◌, ◌%◌, ◌^◌, ◌<◌, ◌≤◌, List, [], ◌∷◌, ◌++◌, length, get_or, refl, sym, ap, subst, ◌∙◌, arith}
 use Rattle.std.proofs.Math.Nat.{two-pow-succ}
 use Rattle.std.proofs.Math.Pow.{pow_mono}
-use Rattle.std.proofs.lemmas.List.{get_or_default}
 use Rattle.hc_records.specs.declared.records.Dir.{Dir}
 use Rattle.hc_records.specs.TaskList.{Keyed}
 use Rattle.hc_bitsum.specs.declared.branch.Branch.{Branch}
 use Rattle.hc_bitsum.specs.declared.filled.Filled.{Filled}
 use Rattle.hc_bitsum.specs.declared.row.Fit.{Fit}
-use Rattle.hc_bitsum.specs.declared.row.Fit.TheVariants.{Found, Through}
 use Rattle.hc_bitsum.specs.declared.sum.Sum.{Sum}
 use Rattle.hc_bitsum.specs.declared.sum.Sum.TheVariants.{Empty}
 use Rattle.hc_bitsum.specs.Branch.{AreForks, AreRowSums, IsBranch, IsNode, areas_behind, first_of, node_areas, slots_of}
@@ -21,8 +19,8 @@ use Rattle.hc_bitsum.specs.Sums.{EndsBelow, ended, joined, sum_of}
 use Rattle.hc_bitsum.proofs.Ends.{sum_of-append}
 use Rattle.hc_bitsum.proofs.Parts.{length-part, narrow-part, part-one, part-split}
 use Rattle.hc_bitsum.proofs.Room.{EndsBelow-sum_of, with_areas-few}
-use Rattle.hc_bitsum.proofs.Scan.{IsFound, found-both, found-in, kept-end, not-through, scan-all, scan-append-through}
-use Rattle.hc_bitsum.proofs.Sums.{left-node, next-first, next-node, node-inside, node-parts, node-some, node-sum, node-within, right-node, root-first, root-node, row-first, up-left, up-right}
+use Rattle.hc_bitsum.proofs.Scan.{found-both, found-in, kept-end, not-through, scan-all, scan-append-through}
+use Rattle.hc_bitsum.proofs.Sums.{left-node, next-first, next-node, node-inside, node-parts, node-some, node-sum, node-within, right-node, root-first, row-first, up-left, up-right}
 
 pub few-rows : (levels : ℕ) → levels ≤ 11 → 2 ^ levels ≤ 2048
 few-rows levels low = pow_mono {j = 11} low
@@ -174,19 +172,13 @@ node-index branch height node is at =
     let below = node-inside branch.levels height node at in
     omega arith
 
-own-sum : (branch : Branch) (height node : ℕ) (sum : Sum) → IsBranch branch → IsNode branch.levels height node → sum ≡ get_or branch.sums.items node sum
-    → sum ≡ get_or branch.sums.items node Empty
-own-sum branch height node sum is at read = read ∙ get_or_default branch.sums.items node sum Empty (node-index branch height node is at)
+pub read-low : (branch : Branch) (height node : ℕ) (filled : Filled) → IsBranch branch → IsNode branch.levels height node
+    → filled.bit < 2 ^ 30 → (ended (get_or branch.sums.items node Empty) filled).bit < 2 ^ 32
+read-low branch height node filled is at low = node-ends-low branch height node filled is at (node-some branch.levels height node at) low
 
-pub read-low : (branch : Branch) (height node : ℕ) (sum : Sum) (filled : Filled) → IsBranch branch → IsNode branch.levels height node
-    → sum ≡ get_or branch.sums.items node sum → filled.bit < 2 ^ 30 → (ended sum filled).bit < 2 ^ 32
-read-low branch height node sum filled is at read low =
-    rw (own-sum branch height node sum is at read) (node-ends-low branch height node filled is at (node-some branch.levels height node at) low)
-
-pub read-end : (branch : Branch) (height node : ℕ) (sum : Sum) (filled end : Filled) → IsBranch branch → IsNode branch.levels height node
-    → sum ≡ get_or branch.sums.items node sum → end ≡ ended sum filled → end ≡ with_areas filled (node_areas branch height node)
-read-end branch height node sum filled end is at read ends =
-    ends ∙ ap (λ (s : Sum). ended s filled) (own-sum branch height node sum is at read) ∙ node-end branch height node filled is at (node-some branch.levels height node at)
+pub read-end : (branch : Branch) (height node : ℕ) (filled end : Filled) → IsBranch branch → IsNode branch.levels height node
+    → end ≡ ended (get_or branch.sums.items node Empty) filled → end ≡ with_areas filled (node_areas branch height node)
+read-end branch height node filled end is at ends = ends ∙ node-end branch height node filled is at (node-some branch.levels height node at)
 
 pub end-beyond : (filled end : Filled) (areas : List Keyed) (room : ℕ) → end ≡ with_areas filled areas → room < end.bit → room < (with_areas filled areas).bit
 end-beyond filled end areas room is h = subst (λ (r : Filled). room < r.bit) is h

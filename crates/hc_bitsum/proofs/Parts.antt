@@ -1,9 +1,8 @@
 -- The areas of some rows.
 use Rattle.std.specs.Prelude.{All}
-use Rattle.std.proofs.Common.{◌≡◌, ◌≢◌, ℕ, zero, suc, ◌+◌, ◌-◌, ◌*◌, ◌^◌, ◌<◌, ◌≤◌, List, [], ◌∷◌, ◌++◌, length, get_or, refl, sym, ap, subst, ◌∙◌, arith, append_assoc, append-nil, length-append}
+use Rattle.std.proofs.Common.{◌≡◌, ℕ, zero, suc, ◌+◌, ◌*◌, ◌<◌, ◌≤◌, List, [], ◌∷◌, ◌++◌, length, get_or, refl, sym, ap, subst, ◌∙◌, arith, append_assoc, append-nil, length-append}
 use Rattle.std.proofs.lemmas.List.Elements.{All-nil, All-cons, All-head, All-tail, All-append, All-get_or}
 use Rattle.hc_records.specs.declared.records.Dir.{Dir}
-use Rattle.hc_records.specs.TaskList.{Keyed}
 use Rattle.hc_bitsum.specs.Places.{StandFrom}
 use Rattle.hc_bitsum.specs.Rows.{IsRow, part, row_areas}
 use Rattle.hc_bitsum.specs.Slots.{IsNarrow, key_at}

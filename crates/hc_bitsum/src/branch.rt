@@ -1,13 +1,14 @@
 //! A part of a tree: the areas of one direction, a row for each slave, and above the rows a tree of sums in an array.
 //! Node 1 is the root, below node `k` stand `2 * k` and `2 * k + 1`, and the last level has a node for each row.
-ghost use Rattle.std.specs.Prelude.{◌≡◌, ◌+◌, ◌*◌, ◌^◌, ◌<◌, ◌≤◌, ℕ, All, IfOk, length, drop};
+ghost use Rattle.std.specs.Prelude.{◌≡◌, ◌+◌, ◌*◌, ◌^◌, ◌<◌, ◌≤◌, ℕ, All, IfOk, length, drop, get_or};
 ghost use Rattle.hc_records.specs.declared.limits.TheConstants.{MOST_AREA_BITS};
 ghost use Rattle.hc_bitsum.specs.Branch.{AreForks, AreRowSums, AreSums, IsBranch, IsNode, areas_behind, node_areas, slots_of};
 ghost use Rattle.hc_bitsum.specs.Filling.{with_areas};
 ghost use Rattle.hc_bitsum.specs.Rows.{IsRow, blank_slots};
 ghost use Rattle.hc_bitsum.specs.Search.{IsInRoom, scan};
 ghost use Rattle.hc_bitsum.specs.Slots.{IsShaped, bits_at, with_bits};
-ghost use Rattle.hc_bitsum.specs.Sums.{sum_of};
+ghost use Rattle.hc_bitsum.specs.Sums.{ended, sum_of};
+ghost use Rattle.hc_bitsum.specs.declared.sum.Sum.TheVariants.{Empty};
 
 use crate::filled::Filled;
 use crate::row::{Fit, Row, fit_row, row_sum};
@@ -73,6 +74,18 @@ impl Branch {
         self.sums[1]
     }
 
+    /// How far a datagram is filled once all areas of a node stand in it. The node is read, a step.
+    fn behind_node<L: Ledger>(&self, node: usize, filled: Filled, steps: &mut Steps<L>) -> Filled
+        requires node { node < length self.now.sums.items }
+        requires here { filled.bit < 2 ^ 31 }
+        requires there { (ended (get_or self.now.sums.items node Empty) filled).bit < 2 ^ 32 }
+        ensures end { result ≡ ended (get_or self.now.sums.items node Empty) filled }
+        ensures step { steps.new ≡ steps.old + 1 }
+    {
+        steps.tick();
+        filled.after(&self.sums[node])
+    }
+
     /// Fills a datagram with the areas of a node that it has no room for all of, as long as each ends
     /// within the room, in bits. Each node and area that is read is a step.
     fn fit_below<L: Ledger>(
@@ -97,9 +110,8 @@ impl Branch {
         let mut so_far = filled;
         while height > 0 {
             height -= 1;
-            steps.tick();
             let left = 2 * node;
-            let end = so_far.after(&self.sums[left]);
+            let end = self.behind_node(left, so_far, steps);
             if end.bit <= room {
                 so_far = end;
                 node = left + 1;
@@ -142,8 +154,7 @@ impl Branch {
         let mut so_far = filled;
         while height < self.levels {
             if node % 2 == 0 {
-                steps.tick();
-                let end = so_far.after(&self.sums[node + 1]);
+                let end = self.behind_node(node + 1, so_far, steps);
                 if end.bit > room {
                     return self.fit_below(height, node + 1, so_far, room, steps);
                 }
@@ -166,8 +177,7 @@ impl Branch {
         ensures least { steps.old + 1 ≤ steps.new }
         ensures most { steps.new ≤ steps.old + 20 }
     {
-        steps.tick();
-        let end = filled.after(&self.sums[1]);
+        let end = self.behind_node(1, filled, steps);
         if end.bit <= room {
             return Fit::Through(end);
         }

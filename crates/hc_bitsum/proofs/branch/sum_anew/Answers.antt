@@ -1,9 +1,7 @@
-use Rattle.std.proofs.Common.{◌≡◌, ◌≢◌, ◌+◌, ◌-◌, ◌*◌, ◌/◌, ◌^◌, ◌<◌, ◌≤◌, [], get_or, length, set, ap, subst, sym, ◌∙◌, arith, length-set}
+use Rattle.std.proofs.Common.{◌≡◌, ◌≢◌, ◌+◌, ◌-◌, ◌*◌, ◌/◌, ◌^◌, length, set, ap, subst, sym, ◌∙◌, arith, length-set}
 use Rattle.hc_bitsum.specs.declared.sum.Sum.{Sum}
-use Rattle.hc_bitsum.specs.declared.sum.Sum.TheVariants.{Empty}
-use Rattle.hc_bitsum.specs.Branch.{AreForks, AreRowSums, IsNode}
-use Rattle.hc_bitsum.specs.Rows.{part}
-use Rattle.hc_bitsum.specs.Sums.{joined, sum_of}
+use Rattle.hc_bitsum.specs.Branch.{AreForks, IsNode}
+use Rattle.hc_bitsum.specs.Sums.{sum_of}
 use Rattle.hc_bitsum.proofs.Anew.{all-forks, fewer-forks, forks-put, forks-stay, leaves-put, leaves-stay}
 use Rattle.hc_bitsum.proofs.Nodes.{few-rows, forked-low, node-low}
 use Rattle.hc_bitsum.proofs.Parts.{part-one}

@@ -1,12 +1,10 @@
-use Rattle.std.proofs.Common.{◌≡◌, ◌+◌, ◌-◌, ◌*◌, ◌/◌, ◌%◌, ◌^◌, ◌<◌, ◌≤◌, ℕ, List, [], ◌++◌, drop, get_or, length, set, ap, subst, sym, ◌∙◌, arith, length-set}
+use Rattle.std.proofs.Common.{◌≡◌, ◌+◌, ◌*◌, ◌/◌, ◌%◌, [], drop, get_or, ap, subst, sym, ◌∙◌, arith}
 use Rattle.std.proofs.lemmas.List.{get_or_default}
-use Rattle.std.proofs.lemmas.List.Elements.{All-get_or, All-set}
-use Rattle.hc_records.specs.TaskList.{Keyed}
+use Rattle.std.proofs.lemmas.List.Elements.{All-get_or}
 use Rattle.hc_bitsum.specs.declared.row.Fit.TheVariants.{Found, Through}
-use Rattle.hc_bitsum.specs.Branch.{AreForks, AreRowSums, AreSums, areas_behind, slots_of}
-use Rattle.hc_bitsum.specs.Rows.{IsRow, part, row_areas}
+use Rattle.hc_bitsum.specs.Branch.{areas_behind}
+use Rattle.hc_bitsum.specs.Rows.{IsRow, row_areas}
 use Rattle.hc_bitsum.specs.Search.{scan}
-use Rattle.hc_bitsum.specs.Slots.{Slots, set_at}
 use Rattle.hc_bitsum.proofs.Anew.{drop-part}
 use Rattle.hc_bitsum.proofs.Nodes.{few-rows, row-inside}
 use Rattle.hc_bitsum.proofs.Scan.{found-both, scan-append-through}

@@ -1,29 +1,22 @@
-use Rattle.std.proofs.Common.{◌≡◌, ◌+◌, ◌-◌, ◌*◌, ◌/◌, ◌%◌, ◌^◌, ◌<◌, ◌≤◌, ℕ, List, [], ◌++◌, drop, get_or, length, ap, subst, sym, ◌∙◌, arith}
-use Rattle.std.proofs.lemmas.List.{get_or_default}
-use Rattle.hc_bitsum.specs.declared.filled.Filled.{Filled}
-use Rattle.hc_bitsum.specs.declared.sum.Sum.TheVariants.{Empty}
-use Rattle.hc_bitsum.specs.Branch.{IsNode, areas_behind, first_of, node_areas, slots_of}
-use Rattle.hc_bitsum.specs.Filling.{with_areas}
-use Rattle.hc_bitsum.specs.Rows.{IsRow, row_areas}
-use Rattle.hc_bitsum.specs.Search.{scan}
-use Rattle.hc_bitsum.specs.Sums.{ended}
+use Rattle.std.proofs.Common.{◌≡◌, ◌+◌, ◌%◌, ◌∙◌, arith}
+use Rattle.hc_bitsum.specs.Branch.{node_areas}
 use Rattle.hc_bitsum.proofs.Nodes.{behind-found, behind-same, behind-through, beyond-in, end-beyond, node-index, read-end, read-low}
 use Rattle.hc_bitsum.proofs.Sums.{next-node, up-node}
 use Rattle.hc_bitsum.proofs.branch.Branch.fit_behind.Goals as goal
 use Rattle.hc_bitsum.proofs.branch.Branch.fit_behind.Goals.{then-node-eq0+else-end-room, else-node-eq0}
 
-pub index-requires : goal.index-requires
-index-requires g c =
+pub behind_node-end-requires-clause-node : goal.behind_node-end-requires-clause-node
+behind_node-end-requires-clause-node g c =
     let next = next-node c.args.self.now.levels c.loop-height.height c.loop-height.node c.loop-height-test.true c.if-node-eq0.true c.loop-height.invariant.node in
     let inside = node-index c.args.self.now c.loop-height.height (c.loop-height.node + 1) c.requires.branch next in
-    omega (arith, c.args.self.now.sums.ok.0)
+    inside
 
-pub after-end-requires-clause-there : goal.after-end-requires-clause-there
-after-end-requires-clause-there g c =
+pub behind_node-end-requires-clause-there : goal.behind_node-end-requires-clause-there
+behind_node-end-requires-clause-there g c =
     let next = next-node c.args.self.now.levels c.loop-height.height c.loop-height.node c.loop-height-test.true c.if-node-eq0.true c.loop-height.invariant.node in
     let here = c.loop-height.invariant.here in
     let room = c.requires.room in
-    read-low c.args.self.now c.loop-height.height (c.loop-height.node + 1) c.index.result.now c.loop-height.so_far c.requires.branch next c.index.ensures (omega arith)
+    read-low c.args.self.now c.loop-height.height (c.loop-height.node + 1) c.loop-height.so_far c.requires.branch next (omega arith)
 
 pub fit_below-requires-clause-node : goal.fit_below-requires-clause-node
 fit_below-requires-clause-node g c =
@@ -33,15 +26,15 @@ pub fit_below-requires-clause-beyond : goal.fit_below-requires-clause-beyond
 fit_below-requires-clause-beyond g c =
     let branch = c.args.self.now in
     let next = next-node branch.levels c.loop-height.height c.loop-height.node c.loop-height-test.true c.if-node-eq0.true c.loop-height.invariant.node in
-    let end = read-end branch c.loop-height.height (c.loop-height.node + 1) c.index.result.now c.loop-height.so_far c.after-end.result c.requires.branch next c.index.ensures c.after-end.ensures in
-    end-beyond c.loop-height.so_far c.after-end.result (node_areas branch c.loop-height.height (c.loop-height.node + 1)) c.args.room end c.if-end-room.true
+    let end = read-end branch c.loop-height.height (c.loop-height.node + 1) c.loop-height.so_far c.behind_node-end.result c.requires.branch next c.behind_node-end.ensures.end in
+    end-beyond c.loop-height.so_far c.behind_node-end.result (node_areas branch c.loop-height.height (c.loop-height.node + 1)) c.args.room end c.if-end-room.true
 
 pub returns-then-end-room-clause-fit : goal.returns-then-end-room-clause-fit
 returns-then-end-room-clause-fit g c =
     let branch = c.args.self.now in
     let next = next-node branch.levels c.loop-height.height c.loop-height.node c.loop-height-test.true c.if-node-eq0.true c.loop-height.invariant.node in
-    let end = read-end branch c.loop-height.height (c.loop-height.node + 1) c.index.result.now c.loop-height.so_far c.after-end.result c.requires.branch next c.index.ensures c.after-end.ensures in
-    let beyond = end-beyond c.loop-height.so_far c.after-end.result (node_areas branch c.loop-height.height (c.loop-height.node + 1)) c.args.room end c.if-end-room.true in
+    let end = read-end branch c.loop-height.height (c.loop-height.node + 1) c.loop-height.so_far c.behind_node-end.result c.requires.branch next c.behind_node-end.ensures.end in
+    let beyond = end-beyond c.loop-height.so_far c.behind_node-end.result (node_areas branch c.loop-height.height (c.loop-height.node + 1)) c.args.room end c.if-end-room.true in
     behind-found branch c.loop-height.height c.loop-height.node c.args.room c.loop-height.so_far c.fit_below.result c.requires.branch c.loop-height-test.true c.if-node-eq0.true
     c.loop-height.invariant.node c.loop-height.invariant.here beyond c.fit_below.ensures.fit
     ∙ c.loop-height.invariant.fit
@@ -50,9 +43,9 @@ pub returns-then-end-room-clause-end : goal.returns-then-end-room-clause-end
 returns-then-end-room-clause-end g c =
     let branch = c.args.self.now in
     let next = next-node branch.levels c.loop-height.height c.loop-height.node c.loop-height-test.true c.if-node-eq0.true c.loop-height.invariant.node in
-    let end = read-end branch c.loop-height.height (c.loop-height.node + 1) c.index.result.now c.loop-height.so_far c.after-end.result c.requires.branch next c.index.ensures c.after-end.ensures in
+    let end = read-end branch c.loop-height.height (c.loop-height.node + 1) c.loop-height.so_far c.behind_node-end.result c.requires.branch next c.behind_node-end.ensures.end in
     beyond-in c.args.room c.loop-height.so_far (node_areas branch c.loop-height.height (c.loop-height.node + 1)) c.fit_below.result c.loop-height.invariant.here
-    (end-beyond c.loop-height.so_far c.after-end.result (node_areas branch c.loop-height.height (c.loop-height.node + 1)) c.args.room end c.if-end-room.true) c.fit_below.ensures.fit
+    (end-beyond c.loop-height.so_far c.behind_node-end.result (node_areas branch c.loop-height.height (c.loop-height.node + 1)) c.args.room end c.if-end-room.true) c.fit_below.ensures.fit
 
 pub loop-height-preserved : goal.loop-height-preserved
 loop-height-preserved g c =
@@ -67,12 +60,12 @@ loop-height-preserved g c =
       | then-node-eq0+else-end-room w ↦
           let even = w.if-node-eq0.true in
           let next = next-node branch.levels height node less even inv.node in
-          let end = read-end branch height (node + 1) w.index.result.now c.loop-height.so_far w.after-end.result c.requires.branch next w.index.ensures w.after-end.ensures in
-          let tick = w.tick.ensures in
+          let end = read-end branch height (node + 1) c.loop-height.so_far w.behind_node-end.result c.requires.branch next w.behind_node-end.ensures.end in
+          let tick = w.behind_node-end.ensures.step in
           let steps = w.steps-is in
           record {
             node = up-node branch.levels height node less inv.node;
-            fit = rw (w.so_far-is) (behind-through branch height node c.args.room c.loop-height.so_far w.after-end.result c.requires.branch less even inv.node end w.if-end-room.false ∙ inv.fit);
+            fit = rw (w.so_far-is) (behind-through branch height node c.args.room c.loop-height.so_far w.behind_node-end.result c.requires.branch less even inv.node end w.if-end-room.false ∙ inv.fit);
             here = rw (w.so_far-is) (w.if-end-room.false);
             least = omega arith;
             most = omega arith;

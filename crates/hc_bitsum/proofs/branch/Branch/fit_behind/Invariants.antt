@@ -1,4 +1,4 @@
-use Rattle.std.proofs.Common.{◌≡◌, ◌+◌, ◌-◌, ◌^◌, ◌<◌, ◌≤◌}
+use Rattle.std.proofs.Common.{◌≡◌, ◌+◌, ◌-◌, ◌^◌, ◌≤◌}
 use Rattle.hc_bitsum.specs.Branch.{IsNode, areas_behind, first_of}
 use Rattle.hc_bitsum.specs.Search.{scan}
 use Rattle.hc_bitsum.proofs.branch.Branch.fit_behind.Given as goal

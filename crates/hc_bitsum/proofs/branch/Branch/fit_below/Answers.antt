@@ -1,28 +1,24 @@
-use Rattle.std.proofs.Common.{◌≡◌, ◌+◌, ◌-◌, ◌*◌, ◌/◌, ◌%◌, ◌^◌, ◌<◌, ◌≤◌, ℕ, List, [], ◌++◌, drop, get_or, length, ap, subst, sym, ◌∙◌, arith}
+use Rattle.std.proofs.Common.{◌≡◌, ◌-◌, ◌*◌, [], get_or, length, ap, subst, sym, ◌∙◌, arith}
 use Rattle.std.proofs.lemmas.List.{get_or_default}
-use Rattle.hc_bitsum.specs.declared.filled.Filled.{Filled}
-use Rattle.hc_bitsum.specs.declared.sum.Sum.TheVariants.{Empty}
-use Rattle.hc_bitsum.specs.Branch.{IsNode, areas_behind, first_of, node_areas, slots_of}
-use Rattle.hc_bitsum.specs.Filling.{with_areas}
-use Rattle.hc_bitsum.specs.Rows.{IsRow, row_areas}
+use Rattle.hc_bitsum.specs.Branch.{IsNode, node_areas}
+use Rattle.hc_bitsum.specs.Rows.{row_areas}
 use Rattle.hc_bitsum.specs.Search.{scan}
-use Rattle.hc_bitsum.specs.Sums.{ended}
 use Rattle.hc_bitsum.proofs.Nodes.{beyond-right, end-beyond, few-rows, into-left, into-right, leaf-areas, leaf-row, node-index, read-end, read-low}
 use Rattle.hc_bitsum.proofs.Sums.{left-node, right-node}
 use Rattle.hc_bitsum.proofs.branch.Branch.fit_below.Goals as goal
 
-pub index-requires : goal.index-requires
-index-requires g c =
+pub behind_node-end-requires-clause-node : goal.behind_node-end-requires-clause-node
+behind_node-end-requires-clause-node g c =
     let left = left-node c.args.self.now.levels c.loop-height.height c.loop-height.node c.loop-height-test.true c.loop-height.invariant.node in
     let inside = node-index c.args.self.now (c.loop-height.height - 1) (2 * c.loop-height.node) c.requires.branch left in
-    omega (arith, c.args.self.now.sums.ok.0)
+    inside
 
-pub after-end-requires-clause-there : goal.after-end-requires-clause-there
-after-end-requires-clause-there g c =
+pub behind_node-end-requires-clause-there : goal.behind_node-end-requires-clause-there
+behind_node-end-requires-clause-there g c =
     let left = left-node c.args.self.now.levels c.loop-height.height c.loop-height.node c.loop-height-test.true c.loop-height.invariant.node in
     let here = c.loop-height.invariant.here in
     let room = c.requires.room in
-    read-low c.args.self.now (c.loop-height.height - 1) (2 * c.loop-height.node) c.index.result.now c.loop-height.so_far c.requires.branch left c.index.ensures (omega arith)
+    read-low c.args.self.now (c.loop-height.height - 1) (2 * c.loop-height.node) c.loop-height.so_far c.requires.branch left (omega arith)
 
 pub loop-height-preserved-then-end-room : goal.loop-height-preserved-then-end-room
 loop-height-preserved-then-end-room g c =
@@ -32,15 +28,15 @@ loop-height-preserved-then-end-room g c =
     let inv = c.loop-height.invariant in
     let some = c.loop-height-test.true in
     let left = left-node branch.levels height node some inv.node in
-    let end = read-end branch (height - 1) (2 * node) c.index.result.now c.loop-height.so_far c.after-end.result c.requires.branch left c.index.ensures c.after-end.ensures in
-    let tick = c.tick.ensures in
+    let end = read-end branch (height - 1) (2 * node) c.loop-height.so_far c.behind_node-end.result c.requires.branch left c.behind_node-end.ensures.end in
+    let tick = c.behind_node-end.ensures.step in
     let least = inv.least in
     let most = inv.most in
     record {
       node = right-node branch.levels height node some inv.node;
-      fit = into-right branch height node c.args.room c.loop-height.so_far c.after-end.result some inv.node end c.if-end-room.true ∙ inv.fit;
+      fit = into-right branch height node c.args.room c.loop-height.so_far c.behind_node-end.result some inv.node end c.if-end-room.true ∙ inv.fit;
       here = c.if-end-room.true;
-      beyond = beyond-right branch height node c.args.room c.loop-height.so_far c.after-end.result some inv.node end inv.beyond;
+      beyond = beyond-right branch height node c.args.room c.loop-height.so_far c.behind_node-end.result some inv.node end inv.beyond;
       least = omega arith;
       most = omega arith;
     }
@@ -53,9 +49,9 @@ loop-height-preserved g c =
     let inv = c.loop-height.invariant in
     let some = c.loop-height-test.true in
     let left = left-node branch.levels height node some inv.node in
-    let end = read-end branch (height - 1) (2 * node) c.index.result.now c.loop-height.so_far c.after-end.result c.requires.branch left c.index.ensures c.after-end.ensures in
-    let beyond = end-beyond c.loop-height.so_far c.after-end.result (node_areas branch (height - 1) (2 * node)) c.args.room end c.if-end-room.false in
-    let tick = c.tick.ensures in
+    let end = read-end branch (height - 1) (2 * node) c.loop-height.so_far c.behind_node-end.result c.requires.branch left c.behind_node-end.ensures.end in
+    let beyond = end-beyond c.loop-height.so_far c.behind_node-end.result (node_areas branch (height - 1) (2 * node)) c.args.room end c.if-end-room.false in
+    let tick = c.behind_node-end.ensures.step in
     let least = inv.least in
     let most = inv.most in
     record {
@@ -86,9 +82,9 @@ returns-clause-fit g c =
     let inside = leaf-row branch c.loop-height.node c.requires.branch leaf in
     let len : c.len.result ≡ length branch.rows.items = let len = c.len.ensures in omega (arith, branch.rows.ok.0) in
     let fit = rw len at c.fit_row.ensures.fit in
-    let own = rw len at c.index-2.ensures in
-    let row : c.index-2.result.now ≡ get_or branch.rows.items (c.loop-height.node - length branch.rows.items) [] =
-    own ∙ get_or_default branch.rows.items (c.loop-height.node - length branch.rows.items) c.index-2.result.now [] inside in
+    let own = rw len at c.index.ensures in
+    let row : c.index.result.now ≡ get_or branch.rows.items (c.loop-height.node - length branch.rows.items) [] =
+    own ∙ get_or_default branch.rows.items (c.loop-height.node - length branch.rows.items) c.index.result.now [] inside in
     fit
     ∙ ap (λ xs. scan c.args.room c.loop-height.so_far (row_areas branch.dir (8 * (c.loop-height.node - length branch.rows.items)) xs)) row
     ∙ ap (scan c.args.room c.loop-height.so_far) (leaf-areas branch c.loop-height.node c.requires.branch leaf)

@@ -1,14 +1,12 @@
-use Rattle.std.proofs.Common.{◌≡◌, ◌+◌, ◌-◌, ◌*◌, ◌/◌, ◌%◌, ◌^◌, ◌<◌, ◌≤◌, ℕ, List, [], ◌++◌, drop, get_or, length, set, ap, subst, sym, ◌∙◌, arith, length-set}
+use Rattle.std.proofs.Common.{◌≡◌, ◌+◌, ◌/◌, ◌%◌, ℕ, List, [], get_or, length, set, ap, subst, sym, ◌∙◌, arith, length-set}
 use Rattle.std.specs.Vec.{with_items}
 use Rattle.std.proofs.lemmas.List.{get_or_default, with_items_is}
 use Rattle.std.proofs.lemmas.List.Elements.{All-get_or, All-set}
 use Rattle.hc_records.specs.TaskList.{Keyed}
-use Rattle.hc_bitsum.specs.declared.row.Fit.TheVariants.{Found, Through}
-use Rattle.hc_bitsum.specs.Branch.{AreForks, AreRowSums, AreSums, areas_behind, slots_of}
-use Rattle.hc_bitsum.specs.Rows.{IsRow, part, row_areas}
-use Rattle.hc_bitsum.specs.Search.{scan}
-use Rattle.hc_bitsum.specs.Slots.{Slots, set_at}
-use Rattle.hc_bitsum.proofs.Anew.{others-stay, part-set, set-row}
+use Rattle.hc_bitsum.specs.Branch.{AreSums}
+use Rattle.hc_bitsum.specs.Rows.{IsRow, part}
+use Rattle.hc_bitsum.specs.Slots.{Slots}
+use Rattle.hc_bitsum.proofs.Anew.{part-set, set-row}
 use Rattle.hc_bitsum.proofs.Nodes.{row-inside}
 use Rattle.hc_bitsum.proofs.branch.Branch.set.Goals as goal
 

@@ -1,8 +1,7 @@
-use Rattle.std.proofs.Common.{◌≡◌, ◌<◌, ◌*◌, ◌/◌, ◌%◌, [], get_or, length, ap, ◌∙◌, arith}
+use Rattle.std.proofs.Common.{◌≡◌, ◌/◌, ◌%◌, [], get_or, ap, ◌∙◌, arith}
 use Rattle.std.proofs.lemmas.List.{get_or_default}
 use Rattle.hc_bitsum.proofs.Anew.{bits-part}
 use Rattle.hc_bitsum.proofs.Nodes.{row-inside}
-use Rattle.hc_bitsum.proofs.Parts.{length-part}
 use Rattle.hc_bitsum.proofs.branch.Branch.width.Goals as goal
 
 pub index-requires : goal.index-requires
