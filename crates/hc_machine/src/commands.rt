@@ -4,11 +4,9 @@ ghost use Rattle.std.specs.Prelude.{◌≡◌, ◌≤◌, length};
 ghost use Rattle.hc_frames.specs.declared.commands.Command.TheVariants.{Aprd, Apwr, Fpwr};
 ghost use Rattle.hc_machine.specs.Commands.{address_after, count_of, data_after, is_at_position, is_at_station, memory_behind_command, lies_in_memory, register_of};
 
-use crate::fmmu::Fmmu;
 use crate::limits::MEMORY_BYTES;
 use crate::logical::serve_logical;
 use crate::memory::{read_memory, write_memory};
-use arrayvec::ArrayVec;
 use hc_frames::Command;
 use hc_frames::limits::{MAX_DATA, STATION_REGISTER};
 
@@ -101,11 +99,10 @@ fn serve_station(memory: &mut [u8], address: u32, bytes: &[u8]) -> u16
 }
 
 /// Serves the data of a datagram, and answers what it adds to the working counter. `spare` has room for the data that
-/// came in, `mapped` for the FMMUs that it meets.
+/// came in.
 pub(crate) fn serve(
     memory: &mut [u8],
     spare: &mut [u8],
-    mapped: &mut ArrayVec<Fmmu, 16>,
     command: Command,
     address: u32,
     bytes: &mut [u8],
@@ -121,6 +118,6 @@ pub(crate) fn serve(
         Command::Aprd => serve_read(memory, address, bytes),
         Command::Apwr => serve_position(memory, address, bytes),
         Command::Fpwr => serve_station(memory, address, bytes),
-        Command::Lrw => serve_logical(memory, spare, mapped, address, bytes),
+        Command::Lrw => serve_logical(memory, spare, address, bytes),
     }
 }

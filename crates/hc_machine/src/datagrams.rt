@@ -7,10 +7,8 @@ ghost use Rattle.hc_machine.specs.Commands.{memory_behind_datagram, served};
 ghost use Rattle.hc_machine.specs.Rewriting.{ServesTexts, rewritten};
 
 use crate::commands::{address_after, serve};
-use crate::fmmu::Fmmu;
 use crate::limits::MEMORY_BYTES;
 use crate::memory::put_part;
-use arrayvec::ArrayVec;
 use hc_frames::Command;
 use hc_frames::limits::{BESIDE_DATA_BYTES, DATAGRAM_HEAD_BYTES, MAX_DATA};
 
@@ -40,12 +38,7 @@ fn long_at(bytes: &[u8], at: usize) -> u32
 }
 
 /// Serves one datagram, which fills the bytes: its address, data and working counter are changed in their places.
-fn serve_datagram(
-    memory: &mut [u8],
-    spare: &mut [u8],
-    mapped: &mut ArrayVec<Fmmu, 16>,
-    datagram: &mut [u8],
-)
+fn serve_datagram(memory: &mut [u8], spare: &mut [u8], datagram: &mut [u8])
     requires memory { length memory.old ≡ MEMORY_BYTES }
     requires spare { length spare.old ≡ MAX_DATA }
     requires exact { length datagram.old ≡ 12 + data_size datagram.old }
@@ -58,7 +51,7 @@ fn serve_datagram(
     let address = long_at(datagram, ADDRESS_AT);
     let counter = word_at(datagram, end);
     let data = &mut datagram[DATAGRAM_HEAD_BYTES..end];
-    let count = serve(memory, spare, mapped, command, address, data);
+    let count = serve(memory, spare, command, address, data);
     put_part(
         datagram,
         ADDRESS_AT,
@@ -81,12 +74,7 @@ fn first_size(region: &[u8]) -> usize
 }
 
 /// Serves the datagrams that fill the bytes, one after another.
-pub(crate) fn serve_datagrams(
-    memory: &mut [u8],
-    spare: &mut [u8],
-    mapped: &mut ArrayVec<Fmmu, 16>,
-    region: &mut [u8],
-)
+pub(crate) fn serve_datagrams(memory: &mut [u8], spare: &mut [u8], region: &mut [u8])
     requires memory { length memory.old ≡ MEMORY_BYTES }
     requires spare { length spare.old ≡ MAX_DATA }
     requires whole { list_all is_whole (datagrams_in region.old) ≡ true }
@@ -97,6 +85,6 @@ pub(crate) fn serve_datagrams(
     }
     let size = first_size(region);
     let (first, rest) = region.split_at_mut(size);
-    serve_datagram(memory, spare, mapped, first);
-    serve_datagrams(memory, spare, mapped, rest);
+    serve_datagram(memory, spare, first);
+    serve_datagrams(memory, spare, rest);
 }

@@ -6,9 +6,7 @@ ghost use Rattle.hc_frames.specs.Arrived.{datagram_bytes, datagrams_in, fault_in
 ghost use Rattle.hc_machine.specs.Frames.{frame_after, memory_behind};
 
 use crate::datagrams::{LENGTHS, serve_datagrams, word_at};
-use crate::fmmu::Fmmu;
 use crate::limits::MEMORY_BYTES;
-use arrayvec::ArrayVec;
 use hc_frames::limits::{HEAD_BYTES, MAX_DATA};
 use hc_frames::reading::read_frame;
 
@@ -34,12 +32,7 @@ fn end_of_datagrams(frame: &[u8]) -> usize
 }
 
 /// Serves a frame that is read.
-pub(crate) fn serve_frame(
-    memory: &mut [u8],
-    spare: &mut [u8],
-    mapped: &mut ArrayVec<Fmmu, 16>,
-    frame: &mut [u8],
-)
+pub(crate) fn serve_frame(memory: &mut [u8], spare: &mut [u8], frame: &mut [u8])
     requires memory { length memory.old ≡ MEMORY_BYTES }
     requires spare { length spare.old ≡ MAX_DATA }
     requires readable { is_none (fault_in frame.old) ≡ true }
@@ -48,5 +41,5 @@ pub(crate) fn serve_frame(
     ensures readable { is_none (fault_in frame.new) ≡ true }
 {
     let end = end_of_datagrams(frame);
-    serve_datagrams(memory, spare, mapped, &mut frame[HEAD_BYTES..end]);
+    serve_datagrams(memory, spare, &mut frame[HEAD_BYTES..end]);
 }

@@ -8,10 +8,9 @@ ghost use Rattle.hc_machine.specs.Fmmus.{fmmus_of, IsInMemory};
 ghost use Rattle.hc_machine.specs.Memory.{bytes_with};
 ghost use Rattle.hc_machine.specs.Logical.{bit_read, bit_written, logical_count, logical_data, logical_memory, meets, mixes_any, reads_any};
 
-use crate::fmmu::{Fmmu, find_mapped, meets};
+use crate::fmmu::{Fmmu, mapped_fmmus, meets};
 use crate::limits::MEMORY_BYTES;
 use crate::memory::{alias_of, put_back};
-use arrayvec::ArrayVec;
 use hc_bits::copy_bits;
 use hc_frames::limits::MAX_DATA;
 
@@ -186,11 +185,10 @@ fn count_of(fmmus: &[Fmmu]) -> u16
 }
 
 /// Serves a datagram at a logical address, and answers what it adds to the working counter. `spare` has room for the data
-/// that came in, `mapped` for the FMMUs that the datagram meets.
+/// that came in.
 pub(crate) fn serve_logical(
     memory: &mut [u8],
     spare: &mut [u8],
-    mapped: &mut ArrayVec<Fmmu, 16>,
     address: u32,
     bytes: &mut [u8],
 ) -> u16
@@ -204,7 +202,7 @@ pub(crate) fn serve_logical(
 {
     let from = 8 * address as usize;
     let n = 8 * bytes.len();
-    find_mapped(mapped, memory, from, n);
+    let mapped = mapped_fmmus(memory, from, n);
     let fmmus = mapped.as_slice();
     let alias = alias_of(memory);
     exchange_data(fmmus, memory, spare, from, bytes);

@@ -7,21 +7,18 @@ ghost use Rattle.hc_machine.specs.Frames.{frame_after, memory_behind};
 ghost use Rattle.hc_machine.specs.Lending.{LendsMemory};
 ghost use Rattle.hc_machine.specs.Memory.{fresh_memory, zeros};
 
-use crate::fmmu::Fmmu;
 use crate::frames::{is_readable, serve_frame};
 use crate::limits::MEMORY_BYTES;
 use crate::memory::put_part;
-use arrayvec::ArrayVec;
 use hc_frames::limits::{ALIAS_REGISTER, MAX_DATA};
 use std::alloc::{AllocError, Global};
 use std::marker::Model;
 
-/// A slave: its memory, and room for the data of a datagram and for the FMMUs that it meets. Contracts see it as the bytes of its memory.
+/// A slave: its memory, and room for the data of a datagram. Contracts see it as the bytes of its memory.
 #[derive(Drop)]
 pub struct SlaveMachine {
     memory: Vec<u8>,
     spare: Vec<u8>,
-    mapped: ArrayVec<Fmmu, 16>,
 }
 
 impl Model for SlaveMachine {
@@ -66,11 +63,7 @@ impl SlaveMachine {
     {
         let memory = fresh_memory(alloc, alias)?;
         let spare = zeros(alloc, usize::from(MAX_DATA))?;
-        Ok(SlaveMachine {
-            memory,
-            spare,
-            mapped: ArrayVec::new(),
-        })
+        Ok(SlaveMachine { memory, spare })
     }
 
     /// Does what the slave does with a frame, in the frame's place. A frame that the reader doesn't read stays as it is.
@@ -92,7 +85,7 @@ impl SlaveMachine {
         ensures memory { self.new ≡ memory_behind self.old frame.old }
         ensures readable { is_none (fault_in frame.new) ≡ true }
     {
-        serve_frame(&mut self.memory, &mut self.spare, &mut self.mapped, frame);
+        serve_frame(&mut self.memory, &mut self.spare, frame);
     }
 
     /// The bytes of its memory, 12,288 from register 0 on.
