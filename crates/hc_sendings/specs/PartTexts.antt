@@ -1,9 +1,8 @@
 -- The text of one task's part in frames of several tasks (this project's profile).
-use Rattle.std.specs.Prelude.{ℕ, ◌+◌, ◌-◌, ◌^◌, ◌<◌, ◌≤◌, All, ◌==◌, not, if◌then◌else◌, List, [], ◌∷◌, ◌++◌, length, slice_get, sum_by, Option}
+use Rattle.std.specs.Prelude.{ℕ, ◌≡◌, ◌+◌, ◌-◌, ◌^◌, ◌<◌, All, ◌==◌, not, if◌then◌else◌, List, [], ◌∷◌, ◌++◌, length, slice_get, sum_by, Option}
 use Rattle.std.specs.Option.{option_map_or}
 use Rattle.std.specs.List.{flat_map}
 use Rattle.hc_records.specs.declared.limits.TheConstants.{TASKS}
-use Rattle.hc_frames.specs.declared.limits.TheConstants.{MAX_ETHERCAT}
 use Rattle.hc_frames.specs.FrameText.{datagram_text, frame_head, padding}
 use Rattle.hc_events.specs.Sendings.{Frame, Named}
 use Rattle.hc_sendings.specs.Parts.{if_of}
@@ -39,8 +38,8 @@ part_text bytes task frames = flat_map (frame_part_text bytes task) frames
 abbrev pub own_bytes_of : Data → ℕ → List Named → ℕ
 own_bytes_of bytes task datagrams = sum_by (λ named. if_of task (12 + length (bytes named.0 named.1)) named) datagrams
 
--- a frame can be written with these data: it has a serial, its datagrams are of tasks that there are, and they fit one frame
+-- a frame can be written with these data: it has a serial, its datagrams are of tasks that there are, and with the data they have the bytes that it was planned with
 pub record CanBeWritten (bytes : Data) (frame : Frame) : Type 0 where
   pub serial : frame.serial < 2 ^ 40
   pub known : All (λ named. named.0 < TASKS) frame.datagrams
-  pub size : 2 + carried_bytes bytes frame.datagrams ≤ MAX_ETHERCAT
+  pub counted : carried_bytes bytes frame.datagrams ≡ frame.bytes

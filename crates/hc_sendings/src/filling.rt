@@ -103,13 +103,22 @@ fn padding_bytes(size: usize) -> usize
     usize::from(LEAST_FRAME).saturating_sub(HEAD_BYTES + size)
 }
 
+/// The bytes of a frame's datagrams.
+fn frame_bytes<D: SentData>(frame: &Sending, sent: &D) -> usize
+    requires { CanBeWritten (D.bytes sent.now) frame.now }
+    ensures bytes { result ≡ carried_bytes (D.bytes sent.now) frame.now.datagrams }
+    ensures most { 2 + carried_bytes (D.bytes sent.now) frame.now.datagrams ≤ MAX_ETHERCAT }
+{
+    carried_bytes(frame.datagrams(), sent)
+}
+
 /// The bytes of a task's part of a frame.
 fn frame_part_bytes<D: SentData>(frame: &Sending, task: u8, sent: &D) -> usize
-    requires { 2 + carried_bytes (D.bytes sent.now) frame.now.datagrams ≤ MAX_ETHERCAT }
+    requires { CanBeWritten (D.bytes sent.now) frame.now }
     ensures { result ≡ length (frame_part_text (D.bytes sent.now) task frame.now) }
 {
     let datagrams = frame.datagrams();
-    let padding = padding_bytes(carried_bytes(datagrams, sent));
+    let padding = padding_bytes(frame_bytes(frame, sent));
     let head = first_share(datagrams, task, HEAD_BYTES);
     let own = own_bytes(datagrams, task, sent);
     head + own + last_share(datagrams, task, padding)
@@ -122,7 +131,7 @@ fn fill_frame_part<D: SentData>(out: &mut [u8], frame: &Sending, task: u8, sent:
     ensures { out.new ≡ frame_part_text (D.bytes sent.now) task frame.now }
 {
     let datagrams = frame.datagrams();
-    let size = carried_bytes(datagrams, sent);
+    let size = frame_bytes(frame, sent);
     let own = own_bytes(datagrams, task, sent);
     let (head, rest) = out.split_at_mut(first_share(datagrams, task, HEAD_BYTES));
     let (texts, padding) = rest.split_at_mut(own);
@@ -134,8 +143,8 @@ fn fill_frame_part<D: SentData>(out: &mut [u8], frame: &Sending, task: u8, sent:
 /// Writes the part of one task in frames of several into a slice of its exact size: of each frame the task's
 /// datagrams, the 16 bytes before them where the frame's first datagram is the task's, and the zeros behind
 /// them where its last one is; no bytes where the task has none. Each datagram carries the data that `sent`
-/// has of it. Each frame has at most 1,498 bytes of datagrams, of tasks 0 to 7, and a serial below 2^40. It
-/// takes no memory. A proposal has 128 frames at most, so deep is this recursion.
+/// has of it, which are as many as it was planned with. Tasks are 0 to 7, and serials below 2^40. It takes no
+/// memory. A proposal has 128 frames at most, so deep is this recursion.
 pub fn fill_part<D: SentData>(out: &mut [u8], frames: &[Sending], task: u8, sent: &D)
     requires can { All (CanBeWritten (D.bytes sent.now)) frames.now }
     requires exact { length out.old ≡ length (part_text (D.bytes sent.now) task frames.now) }
