@@ -1,6 +1,6 @@
 -- The two walks of an edit are what the definition makes of what was kept.
 use Rattle.std.proofs.Common.{◌≡◌, ℕ, Bool, true, false, cond, List, [], ◌∷◌, map, refl, sym, ap, subst, ◌∙◌}
-use Rattle.std.specs.Prelude.{◌≢◌, ◌||◌, All, AllPairs, None, filter, not}
+use Rattle.std.specs.Prelude.{◌||◌, All, AllPairs, None, filter, not}
 use Rattle.std.specs.List.{list_any}
 use Rattle.std.proofs.lemmas.List.Elements.{All-nil, All-cons, All-head, All-tail, All-weaker}
 use Rattle.hc_records.proofs.lemmas.Lists.{AllPairs-head, AllPairs-tail, AllPairs-unmap}
@@ -16,7 +16,7 @@ use Rattle.hc_owed.specs.Kept.{Kept, name_kept}
 use Rattle.hc_owed.specs.Edits.{IsEdited, carried, changed, compared, is_moved, kept_after, same_name}
 use Rattle.hc_owed.specs.Walk.{groups_kept, walked}
 use Rattle.hc_owed.proofs.Named.{Apart, judged-by, names, same-itself, same-not, walked-judges}
-use Rattle.hc_owed.proofs.Steps.{OtherStation, Step, Unlike, carried_name, map-same, named-carried, new-apart, new_names, old_names, steps-carried, steps_kept}
+use Rattle.hc_owed.proofs.Steps.{OtherStation, Unlike, carried_name, map-same, named-carried, new-apart, new_names, steps-carried}
 use Rattle.hc_owed.proofs.Shapes.{accepted-groups, change-keeps, change_of, new-steps, old-steps, steps-apart, steps_of, walk-steps}
 
 -- among blocks with distinct names, a block has the name of one that passes a test if it passes it

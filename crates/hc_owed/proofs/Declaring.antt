@@ -1,5 +1,5 @@
 -- The blocks of declared slaves, and those of a line.
-use Rattle.std.proofs.Common.{◌≡◌, ℕ, ◌+◌, ◌*◌, ◌≤◌, Bool, true, false, List, [], ◌∷◌, ◌++◌, length, map, refl, sym, ap, ◌∙◌, arith, cond}
+use Rattle.std.proofs.Common.{◌≡◌, ℕ, ◌+◌, ◌*◌, ◌≤◌, Bool, true, false, List, [], ◌∷◌, ◌++◌, length, refl, ◌∙◌, arith, cond}
 use Rattle.std.specs.Prelude.{All, None, sum_by}
 use Rattle.std.specs.List.{enumerate_from, flat_map}
 use Rattle.std.proofs.lemmas.List.{length-append, length-map}
@@ -12,10 +12,10 @@ use Rattle.hc_records.specs.declared.records.Area.{Area}
 use Rattle.hc_records.specs.declared.records.Declared.{Declared}
 use Rattle.hc_records.specs.Line.{Member, groups_of, line_from, members_from, present_slaves}
 use Rattle.hc_records.specs.Limits.{IsSlaveInside}
-use Rattle.hc_records.specs.Project.{lowest_fault, slaves_of}
+use Rattle.hc_records.specs.Project.{lowest_fault}
 use Rattle.hc_records.proofs.lemmas.Limits.{project-inside}
 use Rattle.hc_records.proofs.lemmas.Lines.{declared_slaves, each-group}
-use Rattle.hc_registers.specs.Blocks.{LineBlock, area_blocks, line_blocks, member_blocks, numbered, slave_blocks}
+use Rattle.hc_registers.specs.Blocks.{LineBlock, area_blocks, line_blocks, member_blocks, slave_blocks}
 use Rattle.hc_owed.specs.Kept.{block_count, declared_blocks}
 
 abbrev pub HaveFewAreas : List Declared → Type 0

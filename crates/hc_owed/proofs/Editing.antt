@@ -1,5 +1,5 @@
 -- What is kept stays right behind an accepted edit.
-use Rattle.std.proofs.Common.{◌≡◌, ℕ, zero, suc, ◌==◌, Bool, true, false, cond, List, [], ◌∷◌, Contains, map, refl, sym, ap, subst, ◌∙◌}
+use Rattle.std.proofs.Common.{◌≡◌, ℕ, zero, suc, Bool, true, false, cond, List, [], ◌∷◌, Contains, map, refl, sym, ap, subst, ◌∙◌}
 use Rattle.std.specs.Prelude.{◌≢◌, All, AllPairs, Option, Some, None, Ok, find, is_some, option_and_then, slice_get, slice_index_or}
 use Rattle.std.specs.List.{enumerate_from}
 use Rattle.std.proofs.lemmas.Bool.{eqb-false, eqb-true}
@@ -7,7 +7,6 @@ use Rattle.std.proofs.lemmas.List.Elements.{All-contains, All-map, All-weaker, C
 use Rattle.std.proofs.lemmas.Option.{same_Some}
 use Rattle.hc_records.specs.declared.edit.Edit.{Edit}
 use Rattle.hc_records.specs.declared.records.Declared.{Declared}
-use Rattle.hc_records.specs.declared.records.Slave.{Slave}
 use Rattle.hc_records.specs.Edits.{edited, slave_at}
 use Rattle.hc_records.specs.Line.{Member, State, groups_of, is_at, line, line_from}
 use Rattle.hc_records.specs.Project.{lowest_fault}

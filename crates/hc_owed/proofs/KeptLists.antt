@@ -1,8 +1,8 @@
 -- What is kept of blocks, by entries and flags.
-use Rattle.std.proofs.Common.{◌≡◌, ℕ, zero, suc, ◌+◌, ◌-◌, ◌<◌, ◌≤◌, Bool, true, false, cond, List, [], ◌∷◌, ◌++◌, length, take, drop, map, refl, sym, ap, ◌∙◌, arith}
+use Rattle.std.proofs.Common.{◌≡◌, ℕ, zero, suc, ◌+◌, ◌-◌, ◌<◌, ◌≤◌, Bool, true, false, cond, List, [], ◌∷◌, ◌++◌, length, refl, sym, ap, ◌∙◌, arith}
 use Rattle.std.proofs.lemmas.List.{length-append}
 use Rattle.std.proofs.lemmas.Iterator.Adapters.{position_from-zero}
-use Rattle.std.specs.Prelude.{filter, position, slice_get, slice_index_or, slice_set, unwrap_or, ◌^◌, IfSome, option_map, Option, Some, None}
+use Rattle.std.specs.Prelude.{position, slice_get, slice_index_or, slice_set, unwrap_or, ◌^◌, IfSome, option_map, Option, Some, None}
 use Rattle.std.specs.List.{position_from}
 use Rattle.hc_records.specs.Lists.{changed_at}
 use Rattle.hc_registers.specs.Blocks.{RegisterBlock}

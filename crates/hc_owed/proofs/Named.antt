@@ -1,7 +1,6 @@
 -- A walk with the moved blocks beside it compares just the moved ones.
-use Rattle.std.proofs.Common.{◌≡◌, ℕ, ◌==◌, Bool, true, false, cond, List, [], ◌∷◌, drop, map, refl, sym, ap, ◌∙◌, arith}
-use Rattle.std.specs.Prelude.{◌≢◌, ◌&&◌, ◌||◌, All, AllPairs, filter, slice_get, Option, Some, None}
-use Rattle.std.specs.List.{list_any}
+use Rattle.std.proofs.Common.{◌≡◌, ℕ, ◌==◌, Bool, true, false, cond, List, [], ◌∷◌, drop, map, refl, ap, ◌∙◌, arith}
+use Rattle.std.specs.Prelude.{◌≢◌, ◌&&◌, All, AllPairs, filter}
 use Rattle.std.proofs.lemmas.Bool.Decides.{nat_tests}
 use Rattle.hc_records.proofs.lemmas.Lists.{AllPairs-head, AllPairs-tail}
 use Rattle.std.proofs.lemmas.List.Elements.{All-head, All-tail}
@@ -9,7 +8,7 @@ use Rattle.hc_registers.specs.Blocks.{LineBlock}
 use Rattle.hc_plan.specs.Reports.{name_of}
 use Rattle.hc_owed.specs.Kept.{Kept, name_kept}
 use Rattle.hc_owed.specs.Edits.{compared, same_name}
-use Rattle.hc_owed.specs.Walk.{compared_with, is_next, walked}
+use Rattle.hc_owed.specs.Walk.{is_next, walked}
 
 abbrev pub Apart : LineBlock → LineBlock → Type 0
 Apart a b = name_of a ≢ name_of b

@@ -4,11 +4,10 @@ use Rattle.std.specs.Prelude.{Ok}
 use Rattle.std.proofs.lemmas.List.{length-map}
 use Rattle.hc_records.specs.declared.edit.Edit.{Edit}
 use Rattle.hc_records.specs.Edits.{edited}
-use Rattle.hc_records.specs.Line.{State, line}
+use Rattle.hc_records.specs.Line.{State}
 use Rattle.hc_records.specs.Lists.{changed_at}
-use Rattle.hc_registers.specs.Blocks.{LineBlock, line_blocks}
-use Rattle.hc_plan.specs.declared.report.Report.{Report}
-use Rattle.hc_plan.specs.Reports.{Tells, name_of}
+use Rattle.hc_registers.specs.Blocks.{LineBlock}
+use Rattle.hc_plan.specs.Reports.{name_of}
 use Rattle.hc_owed.specs.Kept.{Kept, declared_blocks, name_kept, unknown}
 use Rattle.hc_owed.specs.Edits.{carried, changed, compared, is_moved, kept_after}
 use Rattle.hc_owed.specs.Writes.{confirmed, sent}

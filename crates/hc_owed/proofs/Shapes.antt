@@ -1,7 +1,7 @@
 -- The walk over declared groups, and the names of a line's blocks, as steps: an edit keeps the station address and the sync managers of every slave.
-use Rattle.std.proofs.Common.{◌≡◌, ℕ, zero, suc, ◌+◌, ◌*◌, ◌==◌, Bool, true, false, cond, List, [], ◌∷◌, ◌++◌, length, map, refl, sym, ap, subst, ◌∙◌, arith}
+use Rattle.std.proofs.Common.{◌≡◌, ℕ, zero, suc, ◌+◌, ◌*◌, ◌==◌, Bool, true, false, cond, List, [], ◌∷◌, ◌++◌, length, map, refl, sym, ap, subst, ◌∙◌}
 use Rattle.std.specs.Prelude.{◌≢◌, AllPairs, None, Some, Ok, Option, sum_by}
-use Rattle.std.specs.List.{enumerate_from, flat_map, range_with_len}
+use Rattle.std.specs.List.{flat_map, range_with_len}
 use Rattle.std.proofs.lemmas.List.{length-map, map-append}
 use Rattle.std.proofs.lemmas.List.Sums.{sum_by-cons}
 use Rattle.std.proofs.lemmas.Grind.{flat_map-append}
@@ -16,13 +16,13 @@ use Rattle.hc_records.specs.declared.faults.EditFault.{EditFault}
 use Rattle.hc_records.specs.Edits.{edit_faults, edited, changed as edited_to, groups_after, refused_by, with_area, with_presence, with_slaves}
 use Rattle.hc_records.specs.Lists.{changed_at, lowest}
 use Rattle.hc_records.specs.Line.{Member, State, line_from, members_from, present_slaves}
-use Rattle.hc_registers.specs.Blocks.{LineBlock, RegisterBlock, member_blocks, numbered, slave_blocks}
+use Rattle.hc_registers.specs.Blocks.{RegisterBlock, member_blocks, numbered, slave_blocks}
 use Rattle.hc_plan.specs.Reports.{name_of}
 use Rattle.hc_owed.specs.Kept.{Kept, block_count, declared_blocks}
 use Rattle.hc_owed.specs.Walk.{groups_kept, slave_kept, slave_left, slaves_kept, slaves_left}
 use Rattle.hc_owed.proofs.Named.{pair}
 use Rattle.hc_owed.proofs.Declaring.{length-areas}
-use Rattle.hc_owed.proofs.Steps.{Step, OtherStation, goes, left, names_if, new_names, old_names, own_kept, steps_kept}
+use Rattle.hc_owed.proofs.Steps.{Step, OtherStation, left, names_if, new_names, old_names, own_kept, steps_kept}
 
 -- a slave as its station address and its number of blocks
 abbrev pub shape : Slave → ℕ × ℕ

@@ -1,6 +1,6 @@
 -- What is kept is taken over slave by slave: a step is a slave with its presence before and behind an edit.
 use Rattle.std.proofs.Common.{◌≡◌, ℕ, zero, suc, ◌+◌, ◌<◌, ◌≤◌, ◌==◌, Bool, true, false, cond, List, [], ◌∷◌, ◌++◌, length, take, drop, map, refl, sym, ap, subst, ◌∙◌, arith}
-use Rattle.std.specs.Prelude.{◌≢◌, ◌&&◌, All, AllPairs, nat_le, find, slice_get, unwrap_or, Option, Some, None}
+use Rattle.std.specs.Prelude.{◌≢◌, ◌&&◌, All, AllPairs, nat_le, find, slice_get, unwrap_or, Some}
 use Rattle.std.specs.List.{flat_map, range_with_len}
 use Rattle.std.proofs.lemmas.Bool.Decides.{nat_tests}
 use Rattle.std.proofs.lemmas.List.{length-append, length-map, map-append}

@@ -1,6 +1,6 @@
 -- What is kept stays right behind the sending of a write, and behind a good answer to it.
 use Rattle.std.proofs.Common.{◌≡◌, ℕ, zero, suc, Bool, true, false, cond, List, [], ◌∷◌, map, refl, sym, ap, subst, ◌∙◌}
-use Rattle.std.specs.Prelude.{All, AllPairs, Option, Some, None, not, slice_get, unwrap_or}
+use Rattle.std.specs.Prelude.{AllPairs, Option, Some, None, not, slice_get}
 use Rattle.std.specs.Str.{bytes_eq}
 use Rattle.std.proofs.lemmas.List.Elements.{All-contains, All-weaker}
 use Rattle.std.proofs.lemmas.Option.{same_Some}

@@ -1,5 +1,5 @@
 -- What is kept of the register blocks of a line, in line and block order.
-use Rattle.std.specs.Prelude.{ℕ, ◌*◌, ◌==◌, ◌&&◌, not, Bool, true, false, List, filter, length, map, position, slice_get, sum_by, Option, None, option_map}
+use Rattle.std.specs.Prelude.{ℕ, ◌*◌, not, Bool, true, false, List, filter, length, position, slice_get, sum_by, Option, None, option_map}
 use Rattle.std.specs.Option.{option_map_or}
 use Rattle.std.specs.Str.{bytes_eq}
 use Rattle.hc_records.specs.declared.records.Slave.{Slave}

@@ -1,5 +1,5 @@
 -- What is kept is right for what the slaves are known to have. Each law is the contract of a function of `laws`.
-use Rattle.std.specs.Prelude.{◌≡◌, ℕ, ◌==◌, ◌&&◌, Bool, true, if◌then◌else◌, is_some, List, find, length, map, slice_get, Option, Some, None, Ok}
+use Rattle.std.specs.Prelude.{◌≡◌, ℕ, true, if◌then◌else◌, is_some, List, map, slice_get, Option, Some, None, Ok}
 use Rattle.hc_records.specs.declared.edit.Edit.{Edit}
 use Rattle.hc_records.specs.Edits.{edited, slave_at}
 use Rattle.hc_records.specs.Line.{State, groups_of, line}
@@ -7,7 +7,7 @@ use Rattle.hc_records.specs.Project.{lowest_fault}
 use Rattle.hc_registers.specs.Blocks.{LineBlock, line_blocks}
 use Rattle.hc_plan.specs.declared.report.Report.{Report}
 use Rattle.hc_plan.specs.Reports.{Tells, name_of}
-use Rattle.hc_owed.specs.Kept.{Kept, differs, name_kept, owed_count, first_owed, unknown}
+use Rattle.hc_owed.specs.Kept.{Kept, differs, unknown}
 use Rattle.hc_owed.specs.Writes.{confirmed, sent}
 use Rattle.hc_owed.specs.Edits.{changed, same_name}
 

@@ -1,12 +1,11 @@
 -- How what is kept is taken over an edit: in one walk over the declared slaves, with what was kept beside it, and one over the new line, with the moved blocks beside it.
-use Rattle.std.specs.Prelude.{ℕ, ◌==◌, ◌&&◌, ◌*◌, nat_le, slice_get, Bool, true, false, if◌then◌else◌, List, [], ◌∷◌, ◌++◌, drop, length, map, take, Option, Some, None}
+use Rattle.std.specs.Prelude.{ℕ, ◌==◌, ◌&&◌, nat_le, slice_get, Bool, true, false, if◌then◌else◌, List, [], ◌∷◌, ◌++◌, drop, length, map, take, Option, Some, None}
 use Rattle.std.specs.List.{range_with_len}
 use Rattle.hc_records.specs.declared.records.Slave.{Slave}
 use Rattle.hc_records.specs.declared.records.Declared.{Declared}
 use Rattle.hc_registers.specs.Blocks.{LineBlock}
 use Rattle.hc_owed.specs.Kept.{Kept, block_count, name_kept}
 use Rattle.hc_owed.specs.Edits.{compared, same_name}
-use Rattle.hc_plan.specs.Reports.{name_of}
 
 -- what is kept goes on with the blocks of a slave
 abbrev pub begins_with : ℕ → List Kept → Bool

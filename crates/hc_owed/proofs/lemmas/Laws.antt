@@ -1,8 +1,7 @@
 -- What is kept is right for what is known, and an accepted edit declares no block.
-use Rattle.std.proofs.Common.{◌≡◌, List, [], ◌∷◌, ap, refl, subst, sym, map, ◌∙◌}
+use Rattle.std.proofs.Common.{◌≡◌, List, [], ◌∷◌, ap, refl, map, ◌∙◌}
 use Rattle.std.specs.Prelude.{None, Ok}
 use Rattle.hc_records.specs.declared.edit.Edit.{Edit}
-use Rattle.hc_records.specs.declared.records.Declared.{Declared}
 use Rattle.hc_records.specs.Edits.{edited}
 use Rattle.hc_records.specs.Line.{State, line}
 use Rattle.hc_registers.specs.Blocks.{LineBlock, line_blocks}

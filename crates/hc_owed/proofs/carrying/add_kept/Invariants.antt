@@ -1,4 +1,4 @@
-use Rattle.std.proofs.Common.{◌≡◌, ℕ, ◌++◌, ◌+◌, ◌-◌, drop, take, length}
+use Rattle.std.proofs.Common.{◌≡◌, ◌++◌, ◌-◌, drop, take, length}
 use Rattle.hc_owed.proofs.KeptLists.{owed_of}
 use Rattle.hc_owed.proofs.carrying.add_kept.Given as goal
 

@@ -1,6 +1,6 @@
-use Rattle.std.proofs.Common.{◌≡◌, ◌+◌, ◌-◌, ◌≤◌, Bool, ℕ, true, sym, ap, ◌∙◌, arith, length, drop}
-use Rattle.std.specs.Prelude.{nat_le, Some, Option}
-use Rattle.hc_owed.specs.Kept.{block_count, name_at}
+use Rattle.std.proofs.Common.{◌-◌, ℕ, sym, ap, ◌∙◌, arith}
+use Rattle.std.specs.Prelude.{nat_le}
+use Rattle.hc_owed.specs.Kept.{block_count}
 use Rattle.hc_owed.proofs.Walks.{goes-inside, goes-none, goes-other, goes-same, name-inside}
 use Rattle.hc_owed.proofs.carrying.goes_on.Goals as goal
 

@@ -1,10 +1,10 @@
-use Rattle.std.proofs.Common.{◌≡◌, ◌+◌, ◌<◌, ◌≤◌, ℕ, List, length, suc, sym, ap, ◌∙◌, arith, add-one}
+use Rattle.std.proofs.Common.{◌<◌, ℕ, length, suc, sym, ap, ◌∙◌, arith, add-one}
 use Rattle.std.specs.Prelude.{slice_get}
 use Rattle.hc_records.specs.Line.{line}
 use Rattle.hc_registers.specs.Blocks.{line_blocks}
-use Rattle.hc_owed.specs.Kept.{Kept, Owed}
-use Rattle.hc_owed.specs.Walk.{compared_with, walked}
-use Rattle.hc_owed.proofs.Walks.{at-walk, walk-compared, walk-done, walk-passed}
+use Rattle.hc_owed.specs.Kept.{Owed}
+use Rattle.hc_owed.specs.Walk.{compared_with}
+use Rattle.hc_owed.proofs.Walks.{at-walk, walk-compared, walk-passed}
 use Rattle.hc_owed.proofs.KeptLists.{length-changed}
 use Rattle.hc_owed.proofs.comparing.compare.Goals.{else-is_next, then-is_next}
 use Rattle.hc_owed.proofs.comparing.compare.Goals as goal

@@ -1,4 +1,4 @@
-use Rattle.std.proofs.Common.{◌≡◌, ◌≤◌, ℕ, length}
+use Rattle.std.proofs.Common.{◌≡◌, ◌≤◌, length}
 use Rattle.hc_records.specs.Line.{line}
 use Rattle.hc_registers.specs.Blocks.{line_blocks}
 use Rattle.hc_owed.specs.Walk.{walked}

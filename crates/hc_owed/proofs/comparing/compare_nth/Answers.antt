@@ -1,4 +1,4 @@
-use Rattle.std.proofs.Common.{◌≡◌, List, refl, sym, ap, ◌∙◌}
+use Rattle.std.proofs.Common.{List, refl, sym, ap, ◌∙◌}
 use Rattle.std.specs.Prelude.{slice_get, Option, None}
 use Rattle.hc_records.specs.Line.{line}
 use Rattle.hc_registers.specs.Blocks.{LineBlock, line_blocks}

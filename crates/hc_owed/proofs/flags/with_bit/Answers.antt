@@ -1,4 +1,4 @@
-use Rattle.std.proofs.Common.{◌≡◌, ℕ, ◌==◌, sym, ap, ◌∙◌, w64}
+use Rattle.std.proofs.Common.{ℕ, ◌==◌, sym, ap, ◌∙◌, w64}
 use Rattle.std.proofs.lemmas.Nat.Bits.{bit_at_clear_other, bit_at_clear_same, bit_at_set_other, bit_at_set_same}
 use Rattle.hc_owed.proofs.flags.with_bit.Goals as goal
 

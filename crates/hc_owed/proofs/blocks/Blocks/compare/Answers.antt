@@ -1,13 +1,9 @@
-use Rattle.std.proofs.Common.{◌≡◌, ℕ, ◌+◌, ◌<◌, ◌≤◌, List, Bool, [], ◌∷◌, ◌++◌, length, refl, sym, ap, ◌∙◌, arith}
-use Rattle.std.specs.Prelude.{slice_get, option_map, position, Option, Some, None}
-use Rattle.hc_records.specs.Lists.{changed_at}
-use Rattle.hc_owed.specs.Kept.{Kept, differs, Owed, name_kept, owed_count}
+use Rattle.std.proofs.Common.{List, Bool, sym, ap, ◌∙◌, arith}
+use Rattle.std.specs.Prelude.{slice_get}
+use Rattle.hc_owed.specs.Kept.{Kept, differs}
 use Rattle.hc_owed.specs.Edits.{compared}
-use Rattle.hc_owed.specs.Flags.{Flags}
-use Rattle.hc_owed.specs.Writes.{forgotten, written}
-use Rattle.hc_owed.specs.declared.entries.Entry.{Entry}
-use Rattle.hc_owed.specs.Entries.{kept, kept_list, judged, learnt, set_count, one}
-use Rattle.hc_owed.proofs.KeptLists.{are-blocks, changed-alike, changed-twice, count-kept, get-none, name-kept, one-le, pushed-counted, set-counted, count-le, count-pushed, count-set, first-kept, known-kept, get-only, kept-entry, kept-flag, kept-get, kept-pushed, length-changed, length-kept, owed_of, read-some}
+use Rattle.hc_owed.specs.Entries.{judged}
+use Rattle.hc_owed.proofs.KeptLists.{are-blocks, changed-alike, known-kept, owed_of, read-some}
 use Rattle.hc_owed.proofs.blocks.Blocks.compare.Goals as goal
 
 pub index-requires : goal.index-requires

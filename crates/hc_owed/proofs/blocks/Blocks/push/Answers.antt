@@ -1,12 +1,6 @@
-use Rattle.std.proofs.Common.{◌≡◌, ℕ, ◌+◌, ◌<◌, ◌≤◌, List, Bool, [], ◌∷◌, ◌++◌, length, refl, sym, ap, ◌∙◌, arith}
-use Rattle.std.specs.Prelude.{slice_get, option_map, position, Option, Some, None}
-use Rattle.hc_records.specs.Lists.{changed_at}
-use Rattle.hc_owed.specs.Kept.{Kept, Owed, name_kept, owed_count}
-use Rattle.hc_owed.specs.Flags.{Flags}
-use Rattle.hc_owed.specs.Writes.{forgotten, written}
-use Rattle.hc_owed.specs.declared.entries.Entry.{Entry}
-use Rattle.hc_owed.specs.Entries.{kept, kept_list, judged, learnt, set_count, one}
-use Rattle.hc_owed.proofs.KeptLists.{are-blocks, changed-alike, changed-twice, count-kept, get-none, name-kept, one-le, pushed-counted, set-counted, count-le, count-pushed, count-set, first-kept, get-only, kept-entry, kept-flag, kept-get, kept-pushed, length-changed, length-kept, owed_of, read-some}
+use Rattle.std.proofs.Common.{List, ap, arith}
+use Rattle.hc_owed.specs.Kept.{Kept}
+use Rattle.hc_owed.proofs.KeptLists.{are-blocks, one-le, pushed-counted, count-le, kept-pushed, owed_of}
 use Rattle.hc_owed.proofs.blocks.Blocks.push.Goals as goal
 
 pub push_reserved-requires : goal.push_reserved-requires

@@ -1,12 +1,8 @@
-use Rattle.std.proofs.Common.{◌≡◌, ℕ, ◌+◌, ◌<◌, ◌≤◌, List, Bool, [], ◌∷◌, ◌++◌, length, refl, sym, ap, ◌∙◌, arith, false}
-use Rattle.std.specs.Prelude.{slice_get, option_map, position, Option, Some, None}
-use Rattle.hc_records.specs.Lists.{changed_at}
-use Rattle.hc_owed.specs.Kept.{Kept, Owed, name_kept, owed_count}
+use Rattle.std.proofs.Common.{List, ap, ◌∙◌, arith, false}
+use Rattle.hc_owed.specs.Kept.{Kept}
 use Rattle.hc_owed.specs.Flags.{Flags}
-use Rattle.hc_owed.specs.Writes.{forgotten, written}
-use Rattle.hc_owed.specs.declared.entries.Entry.{Entry}
-use Rattle.hc_owed.specs.Entries.{kept, kept_list, judged, learnt, set_count, one}
-use Rattle.hc_owed.proofs.KeptLists.{are-blocks, changed-alike, changed-twice, count-kept, get-none, name-kept, one-le, pushed-counted, set-counted, count-le, count-pushed, count-set, first-kept, get-only, kept-entry, kept-flag, kept-get, kept-pushed, length-changed, length-kept, owed_of, read-some}
+use Rattle.hc_owed.specs.Entries.{kept_list}
+use Rattle.hc_owed.proofs.KeptLists.{are-blocks, one-le, set-counted, count-le, count-set, kept-flag, owed_of}
 use Rattle.hc_owed.proofs.blocks.Blocks.set.Goals as goal
 
 pub get-was-requires : goal.get-was-requires

@@ -1,7 +1,6 @@
-use Rattle.std.proofs.Common.{◌≡◌, ℕ, ◌+◌, ◌*◌, ◌==◌, ◌<◌, List, Bool, length, sym, ap, ◌∙◌, arith}
-use Rattle.std.specs.Prelude.{position, slice_index, Some, None}
+use Rattle.std.proofs.Common.{◌<◌, List, Bool, sym, ap, ◌∙◌, arith}
+use Rattle.std.specs.Prelude.{position}
 use Rattle.std.proofs.lemmas.List.{get_or_read}
-use Rattle.hc_owed.specs.Flags.{Flags}
 use Rattle.hc_owed.proofs.FlagLists.{are-flags, first-inside, first-none, first-outside, lowest-in, one-more}
 use Rattle.hc_owed.proofs.flags.Flags.first.Goals as goal
 

@@ -1,4 +1,4 @@
-use Rattle.std.proofs.Common.{◌≡◌, ℕ, ◌+◌, ◌*◌, ◌<◌, List, Bool, length, sym, ap, subst, ◌∙◌, arith}
+use Rattle.std.proofs.Common.{ℕ, ◌*◌, ◌<◌, List, Bool, ap, subst, ◌∙◌, arith}
 use Rattle.hc_owed.specs.Flags.{SetsFlag, flags_from}
 use Rattle.hc_owed.proofs.FlagLists.{are-flags, flags-set, flags_of, whole}
 use Rattle.hc_owed.proofs.flags.Flags.set.Goals as goal

@@ -1,7 +1,6 @@
-use Rattle.std.proofs.Common.{◌≡◌, ◌+◌, ◌++◌, ◌≤◌, List, ap, arith, length, map, subst, sym, ◌∙◌}
+use Rattle.std.proofs.Common.{◌++◌, List, ap, arith, length, map, subst, sym, ◌∙◌}
 use Rattle.hc_registers.specs.Blocks.{LineBlock}
 use Rattle.hc_owed.specs.Kept.{Owed, declared_blocks, unknown}
-use Rattle.hc_records.specs.declared.records.Declared.{Declared}
 use Rattle.hc_records.specs.Line.{IsCounted}
 use Rattle.hc_records.proofs.lemmas.Slaves.{project-counted}
 use Rattle.hc_owed.proofs.Declaring.{HaveFewAreas, few-areas, line-fits}
