@@ -23,3 +23,4 @@ pub mod Posts
 pub mod Values
 pub mod Fills
 pub mod PostFaults
+pub mod PartsSent
