@@ -26,3 +26,4 @@ pub mod PostFaults
 pub mod LastData
 pub mod Lines
 pub mod ReadsAmong
+pub mod PartsSent

@@ -1,9 +1,13 @@
--- What holds of the pieces of a sending. Each law is the contract of a function of `laws`.
-use Rattle.std.specs.Prelude.{◌≡◌, List, map}
+-- What holds of the pieces and the parts of a sending. Each law is the contract of a function of `laws`.
+use Rattle.std.specs.Prelude.{◌≡◌, ℕ, List, map}
+use Rattle.std.specs.List.{flat_map}
 use Rattle.hc_events.specs.declared.answer.Answer.TheVariants as answer
+use Rattle.hc_events.specs.Calls.{AreSentTogether}
 use Rattle.hc_events.specs.Entries.{Record}
+use Rattle.hc_events.specs.Outputs.{sent_data}
 use Rattle.hc_events.specs.Sendings.{Frame}
-use Rattle.hc_events.specs.Steps.{SendsTasks, answer_to, entries_after, sent_text, with_sent}
+use Rattle.hc_events.specs.Steps.{SendsTasks, answer_to, entries_after, proposal, sent_text, with_sent}
+use Rattle.hc_sendings.specs.PartTexts.{part_text}
 use Rattle.hc_core.specs.Proposed.{IsProposal}
 
 -- proposed, filled and committed with no event between
@@ -13,3 +17,9 @@ pub record IsSending (past : Record) (frames : List Frame) (is : IsProposal past
 
 abbrev pub PiecesAreTheEvent : Type 0
 PiecesAreTheEvent = (past : Record) (frames : List Frame) (is : IsProposal past frames) → IsSending past frames is
+
+-- the parts of tasks that are sent together, joined in their order, are the frames that are proposed for them, one after another
+abbrev pub PartsAreTheProposal : Type 0
+PartsAreTheProposal =
+    (past : Record) (tasks : List ℕ) → AreSentTogether tasks
+    → flat_map (λ task. part_text (sent_data past) task (proposal past tasks)) tasks ≡ flat_map (sent_text past) (proposal past tasks)

@@ -18,8 +18,8 @@ use std::alloc::{AllocError, Global};
 
 /// The output values, as they are sent.
 #[derive(Drop)]
-struct Values<'a> {
-    outputs: &'a Outputs,
+pub(crate) struct Values<'a> {
+    pub(crate) outputs: &'a Outputs,
 }
 
 impl<'a> SentData for Values<'a> {

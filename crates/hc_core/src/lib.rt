@@ -9,9 +9,12 @@ pub mod keeping;
 pub mod laws;
 mod opening;
 mod owing;
+mod parting;
 mod posting;
 mod reading;
 mod sending;
 mod serving;
 mod taking;
+#[cfg(test)]
+mod tests;
 mod writing;
