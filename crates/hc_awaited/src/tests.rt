@@ -130,30 +130,43 @@ fn arrive(alloc: Global, plan: &Plan, awaited: &mut Awaited, frame: &[u8]) -> Re
     Ok(answer)
 }
 
-/// Whether an arrival is stale.
-fn is_stale(alloc: Global, plan: &Plan, awaited: &mut Awaited, frame: &[u8]) -> Result<bool, Fail>
-    requires { AllStand (line plan.now) awaited.old }
-    ensures { OnOk result (AllStand (line plan.now) awaited.new) }
-{
-    let answer = arrive(alloc, plan, awaited, frame)?;
-    Ok(matches!(answer, Answer::Stale))
+/// What an arrival is to be.
+enum Wanted {
+    Stale,
+    Told(&'static [Outcome]),
+    WriteDone,
+    WriteMissed,
 }
 
-/// Whether an arrival is this for the datagrams that it answers.
-fn is_told(
+/// Whether an arrival is that.
+fn is_wanted(answer: &Answer, wanted: &Wanted) -> bool {
+    match (answer, wanted) {
+        (Answer::Stale, Wanted::Stale) => true,
+        (Answer::Answered(found), Wanted::Told(outcomes)) => found.as_slice() == *outcomes,
+        (Answer::WriteDone, Wanted::WriteDone) => true,
+        (Answer::WriteMissed, Wanted::WriteMissed) => true,
+        _ => false,
+    }
+}
+
+/// How many of the arrivals, from the first on, are what stands beside them.
+fn answered(
     alloc: Global,
     plan: &Plan,
     awaited: &mut Awaited,
-    frame: &[u8],
-    outcomes: &[Outcome],
-) -> Result<bool, Fail>
+    rows: &[(&[u8], Wanted)],
+) -> Result<usize, Fail>
     requires { AllStand (line plan.now) awaited.old }
-    ensures { OnOk result (AllStand (line plan.now) awaited.new) }
 {
-    match arrive(alloc, plan, awaited, frame)? {
-        Answer::Answered(found) => Ok(found.as_slice() == outcomes),
-        _ => Ok(false),
+    let mut count = 0;
+    for (frame, wanted) in rows {
+        let answer = arrive(alloc, plan, awaited, frame)?;
+        if !is_wanted(&answer, wanted) {
+            return Ok(count);
+        }
+        count = count.saturating_add(1);
     }
+    Ok(count)
 }
 
 /// The frame of both datagrams, as it comes back from every slave.
@@ -232,6 +245,13 @@ const SECOND: Outcome = Outcome::Inputs {
 
 /// The second datagram is sent again in frame 5: a late answer of frame 4 is news for the first one alone. Each
 /// frame answers once.
+const LATE: [(&[u8], Wanted); 4] = [
+    (&BOTH, Wanted::Told(&[FIRST, Outcome::Stale])),
+    (&BOTH, Wanted::Stale),
+    (&AGAIN, Wanted::Told(&[SECOND])),
+    (&AGAIN, Wanted::Stale),
+];
+
 #[test]
 fn a_late_answer(rt: HostRuntime) -> Result<(), Fail> {
     let alloc = rt.alloc();
@@ -239,66 +259,67 @@ fn a_late_answer(rt: HostRuntime) -> Result<(), Fail> {
     let mut awaited = opened(alloc, &plan)?;
     send_both(&plan, &mut awaited)?;
     send(&plan, &mut awaited, 5, (1, 0))?;
-    assert!(rt; is_told(alloc, &plan, &mut awaited, &BOTH, &[FIRST, Outcome::Stale])?);
-    assert!(rt; is_stale(alloc, &plan, &mut awaited, &BOTH)?);
-    assert!(rt; is_told(alloc, &plan, &mut awaited, &AGAIN, &[SECOND])?);
-    assert!(rt; is_stale(alloc, &plan, &mut awaited, &AGAIN)?);
+    assert_eq!(rt; answered(alloc, &plan, &mut awaited, &LATE)?, 4);
     Ok(())
 }
 
 /// A frame with datagrams exchanged, left out or repeated, and one with the same index and another serial, answer
 /// nothing; the true one still does, also with a wrong working counter.
+const UNFIT: [(&[u8], Wanted); 6] = [
+    (&EXCHANGED, Wanted::Stale),
+    (&LEFT_OUT, Wanted::Stale),
+    (&REPEATED, Wanted::Stale),
+    (&OTHER, Wanted::Stale),
+    (&WRONG, Wanted::Told(&[MISSED, SECOND])),
+    (&BOTH, Wanted::Stale),
+];
+
 #[test]
 fn frames_that_do_not_fit(rt: HostRuntime) -> Result<(), Fail> {
     let alloc = rt.alloc();
     let plan = plan_of(alloc)?;
     let mut awaited = opened(alloc, &plan)?;
     send_both(&plan, &mut awaited)?;
-    assert!(rt; is_stale(alloc, &plan, &mut awaited, &EXCHANGED)?);
-    assert!(rt; is_stale(alloc, &plan, &mut awaited, &LEFT_OUT)?);
-    assert!(rt; is_stale(alloc, &plan, &mut awaited, &REPEATED)?);
-    assert!(rt; is_stale(alloc, &plan, &mut awaited, &OTHER)?);
-    assert!(rt; is_told(alloc, &plan, &mut awaited, &WRONG, &[MISSED, SECOND])?);
-    assert!(rt; is_stale(alloc, &plan, &mut awaited, &BOTH)?);
+    assert_eq!(rt; answered(alloc, &plan, &mut awaited, &UNFIT)?, 6);
     Ok(())
 }
 
-/// A write is done by an answer with the working counter 1, and answered once.
-#[test]
-fn a_write_is_done(rt: HostRuntime) -> Result<(), Fail> {
-    let alloc = rt.alloc();
+/// The arrivals behind a write of the first block.
+fn answered_write(alloc: Global, rows: &[(&[u8], Wanted)]) -> Result<usize, Fail> {
     let plan = plan_of(alloc)?;
     let mut awaited = opened(alloc, &plan)?;
     write(&plan, &mut awaited)?;
-    assert!(rt; is_stale(alloc, &plan, &mut awaited, &LEFT_OUT)?);
-    assert!(rt;
-        matches!(
-            arrive(alloc, &plan, &mut awaited, &WRITTEN)?,
-            Answer::WriteDone
-        )
-    );
-    assert!(rt; is_stale(alloc, &plan, &mut awaited, &WRITTEN)?);
+    answered(alloc, &plan, &mut awaited, rows)
+}
+
+/// A write is done by an answer with the working counter 1, and answered once.
+const DONE: [(&[u8], Wanted); 3] = [
+    (&LEFT_OUT, Wanted::Stale),
+    (&WRITTEN, Wanted::WriteDone),
+    (&WRITTEN, Wanted::Stale),
+];
+
+#[test]
+fn a_write_is_done(rt: HostRuntime) -> Result<(), Fail> {
+    assert_eq!(rt; answered_write(rt.alloc(), &DONE)?, 3);
     Ok(())
 }
 
 /// A write is missed by an answer with another working counter, which answers it too.
+const WRITE_MISSED: [(&[u8], Wanted); 2] = [
+    (&UNWRITTEN, Wanted::WriteMissed),
+    (&WRITTEN, Wanted::Stale),
+];
+
 #[test]
 fn a_write_is_missed(rt: HostRuntime) -> Result<(), Fail> {
-    let alloc = rt.alloc();
-    let plan = plan_of(alloc)?;
-    let mut awaited = opened(alloc, &plan)?;
-    write(&plan, &mut awaited)?;
-    assert!(rt;
-        matches!(
-            arrive(alloc, &plan, &mut awaited, &UNWRITTEN)?,
-            Answer::WriteMissed
-        )
-    );
-    assert!(rt; is_stale(alloc, &plan, &mut awaited, &WRITTEN)?);
+    assert_eq!(rt; answered_write(rt.alloc(), &WRITE_MISSED)?, 2);
     Ok(())
 }
 
 /// An accepted edit ends all that is awaited.
+const ENDED: [(&[u8], Wanted); 2] = [(&BOTH, Wanted::Stale), (&WRITTEN, Wanted::Stale)];
+
 #[test]
 fn an_edit_leaves_nothing_awaited(rt: HostRuntime) -> Result<(), Fail> {
     let alloc = rt.alloc();
@@ -306,9 +327,8 @@ fn an_edit_leaves_nothing_awaited(rt: HostRuntime) -> Result<(), Fail> {
     let mut awaited = opened(alloc, &plan)?;
     send_both(&plan, &mut awaited)?;
     awaited.clear();
-    assert!(rt; is_stale(alloc, &plan, &mut awaited, &BOTH)?);
     write(&plan, &mut awaited)?;
     awaited.clear();
-    assert!(rt; is_stale(alloc, &plan, &mut awaited, &WRITTEN)?);
+    assert_eq!(rt; answered(alloc, &plan, &mut awaited, &ENDED)?, 2);
     Ok(())
 }
