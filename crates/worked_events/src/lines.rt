@@ -1,0 +1,156 @@
+//! The lines of the rows.
+use crate::driven::Driven;
+use crate::lookback::LookBack;
+use hc_events::answer::Answer;
+use hc_events::event::Event;
+use hc_project::read_project;
+use hc_records::faults::{EditFault, ProjectFault};
+use hc_records::items::Items;
+use hc_records::project::Project;
+use hc_records::records::{Area, Dir, Entry, Group, Pdo, Slave};
+use std::alloc::{AllocError, Global};
+use std::test::Fail;
+use thiserror::Error;
+
+/// An axis with 2 output bits and 12 input bits in task 0, always in the line.
+pub const AXIS: &str = r#"
+slave = [
+  { station = 1001, area = [
+    { sm = 2, dir = "out", phys = 0x1100, task = 0, assigned = [0x1600], pdo = [{ index = 0x1600, entries = [[1, 2]] }] },
+    { sm = 3, dir = "in", phys = 0x1180, task = 0, assigned = [0x1a00], pdo = [{ index = 0x1a00, entries = [[2, 12]] }] },
+  ] },
+]
+"#;
+
+/// Why there is nothing to put events to.
+#[derive(Debug, Drop, Error)]
+pub enum Refused {
+    /// The project was refused.
+    #[error("{0}")]
+    Project(ProjectFault),
+    /// The opening was refused.
+    #[error("{0}")]
+    Opening(EditFault),
+}
+
+/// What the rows are put to.
+pub type Opened = LookBack;
+
+/// A project at its opening.
+pub fn opened_project(
+    alloc: Global,
+    project: Result<Project, ProjectFault>,
+) -> Result<Opened, Refused> {
+    let project = match project {
+        Ok(project) => project,
+        Err(fault) => return Err(Refused::Project(fault)),
+    };
+    match LookBack::opened(alloc, project) {
+        Ok(driven) => Ok(driven),
+        Err(fault) => Err(Refused::Opening(fault)),
+    }
+}
+
+/// The project of a text at its opening.
+pub fn opened(alloc: Global, text: &str) -> Result<Opened, Refused> {
+    opened_project(alloc, read_project(alloc, text.as_bytes()))
+}
+
+/// The bytes that a PDO of 64 entries holds.
+const PDO_BYTES: u16 = 512;
+
+/// Gaps that have so many bytes together.
+fn gaps(alloc: Global, bytes: u16) -> Result<Items<Entry>, AllocError> {
+    let mut entries = Items::new(alloc);
+    let mut left = bytes;
+    for _ in 0..bytes.div_ceil(8) {
+        let own = left.min(8);
+        left -= own;
+        entries.push((None, 8 * own as u8))?;
+    }
+    Ok(entries)
+}
+
+/// An output area of a task with so many bytes.
+fn wide_area(alloc: Global, task: u8, bytes: u16) -> Result<Area, AllocError> {
+    let mut offered = Items::new(alloc);
+    let mut assigned = Items::new(alloc);
+    let mut left = bytes;
+    for index in 0..bytes.div_ceil(PDO_BYTES) {
+        let own = left.min(PDO_BYTES);
+        left -= own;
+        let entries = gaps(alloc, own)?;
+        offered.push(Pdo { index, entries })?;
+        assigned.push(index)?;
+    }
+    Ok(Area {
+        sm: 0,
+        dir: Dir::Out,
+        phys: 0x1000,
+        offered,
+        assigned,
+        task,
+    })
+}
+
+/// The mandatory group of slaves with the stations from 1 on, each with an output area of a task with so
+/// many bytes.
+fn wide(alloc: Global, areas: &[(u8, u16)]) -> Result<Items<Group>, AllocError> {
+    let mut slaves = Items::new(alloc);
+    let mut station = 0_u16;
+    for (task, bytes) in areas {
+        station = station.saturating_add(1);
+        let mut own = Items::new(alloc);
+        own.push(wide_area(alloc, *task, *bytes)?)?;
+        slaves.push(Slave {
+            station,
+            areas: own,
+        })?;
+    }
+    let mut groups = Items::new(alloc);
+    groups.push(Group { alias: 0, slaves })?;
+    Ok(groups)
+}
+
+/// The line of these slaves at its opening.
+pub fn opened_wide(alloc: Global, areas: &[(u8, u16)]) -> Result<Opened, Fail> {
+    let groups = wide(alloc, areas)?;
+    Ok(opened_project(alloc, Project::checked(alloc, groups))?)
+}
+
+/// Sets the working counter of a register write's frame to 1: it stands behind the 16 bytes of the frame's
+/// head, the datagram's 10 and its data, whose number is the byte 22.
+fn answer_write(frame: &mut [u8]) {
+    if frame.len() > 26 {
+        let at = usize::from(frame[22]) + 26;
+        if at < frame.len() {
+            frame[at] = 1;
+        }
+    }
+}
+
+/// Writes the next owed block, and answers it; false where nothing is owed, or its answer isn't taken as the
+/// confirmation.
+fn write_one<D: Driven>(driven: &mut D, alloc: Global) -> Result<bool, AllocError> {
+    let sent = driven.step(alloc, Event::SendWrite)?;
+    let Answer::WriteSent(text) = sent else {
+        return Ok(false);
+    };
+    let mut frame = text.into_vec();
+    answer_write(frame.as_mut_slice());
+    let told = driven.step(alloc, Event::Arrive(frame.as_slice()))?;
+    Ok(matches!(told, Answer::WriteDone))
+}
+
+/// Writes the owed blocks one after another, each answered, and tells how many there were. Twice as many blocks
+/// as any row has are enough.
+pub fn write_all<D: Driven>(driven: &mut D, alloc: Global) -> Result<u32, AllocError> {
+    let mut written = 0_u32;
+    for _ in 0..200 {
+        if !write_one(driven, alloc)? {
+            return Ok(written);
+        }
+        written = written.saturating_add(1);
+    }
+    Ok(written)
+}
