@@ -2,7 +2,7 @@
 use crate::answers::{ANSWERED, ARRIVAL, POSTED, THREE_EPOCHS, is_answered, send_times};
 use crate::asked::{Row, Wanted, first_wrong, holds, is_wanted};
 use crate::driven::Driven;
-use crate::lines::{AXIS, Opened, opened, write_all};
+use crate::lines::{Opened, opened_axis, write_all};
 use hc_events::answer::{Answer, Outcome};
 use hc_events::event::Event;
 use hc_events::faults::CoreFault;
@@ -14,7 +14,7 @@ const SIZE: usize = 31;
 
 /// What a changed answer is.
 #[derive(Clone, Copy, PartialEq, Eq)]
-enum Told {
+enum Meaning {
     /// It can't be read.
     Refused(CoreFault),
     /// It answers no sending.
@@ -30,28 +30,28 @@ enum Told {
 /// the same; a header of another length doesn't fit the bytes that came, unless its type is another one first; a
 /// command that there is, and an address, are another sending's; the length has a bit for a frame that circulates and
 /// one that promises more.
-fn told(at: usize, value: u8) -> Told {
+fn told(at: usize, value: u8) -> Meaning {
     match at {
-        0..=6 | 24 | 25 => Told::Inputs,
-        7..=10 | 18..=21 => Told::Stale,
-        11 | 17 => Told::Refused(CoreFault::IndexMismatch),
-        12 | 13 => Told::Refused(CoreFault::NotEtherCat),
-        15 if (0x11..=0x17).contains(&value) => Told::Refused(CoreFault::BadLength),
-        15 => Told::Refused(CoreFault::BadType),
-        16 if value == 1 || value == 2 || value == 5 => Told::Stale,
-        16 => Told::Refused(CoreFault::UnknownCommand),
-        23 if value == 0x40 || value == 0xc0 => Told::Refused(CoreFault::Circulating),
-        23 if value == 0x80 => Told::Refused(CoreFault::MoreFollows),
-        26..=28 => Told::Inputs,
-        29 => Told::WrongCount(u16::from(value)),
-        30 => Told::WrongCount(3 + 256 * u16::from(value)),
-        _ => Told::Refused(CoreFault::BadLength),
+        0..=6 | 24 | 25 => Meaning::Inputs,
+        7..=10 | 18..=21 => Meaning::Stale,
+        11 | 17 => Meaning::Refused(CoreFault::IndexMismatch),
+        12 | 13 => Meaning::Refused(CoreFault::NotEtherCat),
+        15 if (0x11..=0x17).contains(&value) => Meaning::Refused(CoreFault::BadLength),
+        15 => Meaning::Refused(CoreFault::BadType),
+        16 if value == 1 || value == 2 || value == 5 => Meaning::Stale,
+        16 => Meaning::Refused(CoreFault::UnknownCommand),
+        23 if value == 0x40 || value == 0xc0 => Meaning::Refused(CoreFault::Circulating),
+        23 if value == 0x80 => Meaning::Refused(CoreFault::MoreFollows),
+        26..=28 => Meaning::Inputs,
+        29 => Meaning::WrongCount(u16::from(value)),
+        30 => Meaning::WrongCount(3 + 256 * u16::from(value)),
+        _ => Meaning::Refused(CoreFault::BadLength),
     }
 }
 
 /// The axis with every block written, its task posted as 2 and sent with the serial 4.
 fn awaiting(alloc: Global) -> Result<Opened, Fail> {
-    let mut driven = opened(alloc, AXIS)?;
+    let mut driven = opened_axis(alloc)?;
     if write_all(&mut driven, alloc)? != 4 {
         return Err("not every block was written".into());
     }
@@ -70,12 +70,12 @@ fn is_one(answer: &Answer, outcome: Outcome) -> bool {
 }
 
 /// Whether the answer to a frame is that which is told.
-fn is_told(answer: &Answer, told: Told) -> bool {
+fn is_told(answer: &Answer, told: Meaning) -> bool {
     match told {
-        Told::Refused(fault) => matches!(answer, Answer::Refused(found) if *found == fault),
-        Told::Stale => matches!(answer, Answer::Stale),
-        Told::Inputs => is_wanted(answer, &ANSWERED),
-        Told::WrongCount(got) => is_one(answer, Outcome::WrongCount { expected: 3, got }),
+        Meaning::Refused(fault) => matches!(answer, Answer::Refused(found) if *found == fault),
+        Meaning::Stale => matches!(answer, Answer::Stale),
+        Meaning::Inputs => is_wanted(answer, &ANSWERED),
+        Meaning::WrongCount(got) => is_one(answer, Outcome::WrongCount { expected: 3, got }),
     }
 }
 
@@ -106,17 +106,17 @@ fn leaves(
     driven: &mut Opened,
     alloc: Global,
     frame: &[u8],
-    told: Told,
+    told: Meaning,
 ) -> Result<bool, AllocError> {
     match told {
-        Told::Inputs => reads(driven, alloc, frame.get(26..29)),
-        Told::WrongCount(_) => reads(driven, alloc, None),
+        Meaning::Inputs => reads(driven, alloc, frame.get(26..29)),
+        Meaning::WrongCount(_) => reads(driven, alloc, None),
         _ => awaits_still(driven, alloc),
     }
 }
 
 /// Whether a frame is answered as told, and leaves what it should.
-fn is_taken(alloc: Global, frame: &[u8], told: Told) -> Result<bool, Fail> {
+fn is_taken(alloc: Global, frame: &[u8], told: Meaning) -> Result<bool, Fail> {
     let mut driven = awaiting(alloc)?;
     let answer = driven.step(alloc, Event::Arrive(frame))?;
     Ok(is_told(&answer, told) && leaves(&mut driven, alloc, frame, told)?)
@@ -176,7 +176,7 @@ fn cut(size: usize) -> &'static [u8] {
 #[test]
 fn every_cut_answer(rt: HostRuntime) -> Result<(), Fail> {
     for size in 0..SIZE {
-        assert!(rt; is_taken(rt.alloc(), cut(size), Told::Refused(cut_fault(size)))?);
+        assert!(rt; is_taken(rt.alloc(), cut(size), Meaning::Refused(cut_fault(size)))?);
     }
     Ok(())
 }
@@ -185,7 +185,7 @@ fn every_cut_answer(rt: HostRuntime) -> Result<(), Fail> {
 fn refuses_cuts<D: Driven>(driven: &mut D, alloc: Global) -> Result<bool, AllocError> {
     for size in 0..SIZE {
         let answer = driven.step(alloc, Event::Arrive(cut(size)))?;
-        if !is_told(&answer, Told::Refused(cut_fault(size))) {
+        if !is_told(&answer, Meaning::Refused(cut_fault(size))) {
             return Ok(false);
         }
     }
@@ -197,7 +197,7 @@ fn refuses_at<D: Driven>(driven: &mut D, alloc: Global, at: usize) -> Result<boo
     for value in 0..=255_u8 {
         let told = told(at, value);
         let frame = changed(at, value);
-        if matches!(told, Told::Refused(_)) && frame.as_slice() != ARRIVAL {
+        if matches!(told, Meaning::Refused(_)) && frame.as_slice() != ARRIVAL {
             if !is_told(&driven.step(alloc, Event::Arrive(&frame))?, told) {
                 return Ok(false);
             }
@@ -235,7 +235,7 @@ fn first_disturbed<D: Driven>(
 
 #[test]
 fn refused_frames_stand_between_answers(rt: HostRuntime) -> Result<(), Fail> {
-    let mut driven = opened(rt.alloc(), AXIS)?;
+    let mut driven = opened_axis(rt.alloc())?;
     assert_eq!(rt; write_all(&mut driven, rt.alloc())?, 4);
     assert_eq!(rt; first_disturbed(&mut driven, rt.alloc(), POSTED)?, None);
     Ok(())
@@ -243,7 +243,7 @@ fn refused_frames_stand_between_answers(rt: HostRuntime) -> Result<(), Fail> {
 
 #[test]
 fn refused_frames_stand_between_edits(rt: HostRuntime) -> Result<(), Fail> {
-    let mut driven = opened(rt.alloc(), AXIS)?;
+    let mut driven = opened_axis(rt.alloc())?;
     assert_eq!(rt; write_all(&mut driven, rt.alloc())?, 4);
     assert_eq!(rt;
         first_disturbed(&mut driven, rt.alloc(), THREE_EPOCHS)?,
@@ -254,7 +254,7 @@ fn refused_frames_stand_between_edits(rt: HostRuntime) -> Result<(), Fail> {
 
 #[test]
 fn refused_frames_stand_between_sendings(rt: HostRuntime) -> Result<(), Fail> {
-    let mut driven = opened(rt.alloc(), AXIS)?;
+    let mut driven = opened_axis(rt.alloc())?;
     assert_eq!(rt; write_all(&mut driven, rt.alloc())?, 4);
     for _ in 0..257 {
         assert!(rt; refuses_all(&mut driven, rt.alloc())?);

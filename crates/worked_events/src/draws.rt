@@ -290,7 +290,7 @@ impl Draws {
         if kind == 0 {
             return Vec::from_slice(alloc, self.arrived.as_slice());
         }
-        let frame = self.recent(alloc, if kind < 3 { 32 } else { 4 })?;
+        let frame = self.recent(alloc, if kind < 2 { 32 } else { 2 })?;
         match kind {
             3 => self.renumbered(alloc, back, frame.as_slice()),
             4 => self.reordered(alloc, back, frame.as_slice()),
@@ -319,12 +319,12 @@ impl Draws {
 
     /// The next event of any kind.
     fn any(&mut self, alloc: Global, back: &LookBack) -> Result<Drawn, AllocError> {
-        match self.below(24) {
-            0 | 1 => Ok(Drawn::Edit(self.edit().edit(alloc)?)),
-            2 | 3 | 4 | 5 => self.post(alloc, back),
-            6..=11 => Ok(Drawn::Send(tasks(self.below(12)))),
-            12 => Ok(Drawn::Write),
-            13 | 14 | 15 => Ok(Drawn::Read(self.task())),
+        match self.below(64) {
+            0 | 1 | 2 => Ok(Drawn::Edit(self.edit().edit(alloc)?)),
+            3..=11 => self.post(alloc, back),
+            12..=28 => Ok(Drawn::Send(tasks(self.below(12)))),
+            29 => Ok(Drawn::Write),
+            30..=38 => Ok(Drawn::Read(self.task())),
             _ => Ok(Drawn::Arrive(self.arrival(alloc, back)?)),
         }
     }

@@ -8,18 +8,14 @@ use hc_records::items::Items;
 use std::alloc::{AllocError, Global};
 
 impl LookBack {
-    /// The index of the entry that was sent with a serial: so many sendings stand before it.
+    /// The index of the entry that was sent with a serial.
     fn sending(&self, serial: u64) -> Option<usize> {
-        let mut count = 0_u64;
-        let mut index = 0_usize;
-        for entry in self.entries.iter() {
-            if entry.is_sending() {
-                if count == serial {
-                    return Some(index);
-                }
-                count = count.saturating_add(1);
+        let mut index = self.entries.len();
+        for entry in self.entries.iter().rev() {
+            index = index.saturating_sub(1);
+            if entry.serial() == Some(serial) {
+                return Some(index);
             }
-            index = index.saturating_add(1);
         }
         None
     }
@@ -44,7 +40,7 @@ impl LookBack {
     /// What a sending since which the line is the same says of its datagrams.
     fn heads(&self, alloc: Global, entry: &Entry) -> Result<Vec<Head>, AllocError> {
         match entry {
-            Entry::Sent(frame) => self.data_heads(alloc, frame.as_slice()),
+            Entry::Sent(frame) => self.data_heads(alloc, frame.datagrams.as_slice()),
             Entry::Wrote(write) => {
                 let mut heads = Vec::new(alloc);
                 heads.push(write.head())?;

@@ -7,7 +7,7 @@ use hc_project::read_project;
 use hc_records::faults::{EditFault, ProjectFault};
 use hc_records::items::Items;
 use hc_records::project::Project;
-use hc_records::records::{Area, Dir, Entry, Group, Pdo, Slave};
+use hc_records::records::{Area, Dir, Entry, Group, Pdo, Slave, VarId};
 use std::alloc::{AllocError, Global};
 use std::test::Fail;
 use thiserror::Error;
@@ -54,6 +54,56 @@ pub fn opened_project(
 /// The project of a text at its opening.
 pub fn opened(alloc: Global, text: &str) -> Result<Opened, Refused> {
     opened_project(alloc, read_project(alloc, text.as_bytes()))
+}
+
+/// An area of task 0 with one variable.
+fn area(
+    alloc: Global,
+    sm: u8,
+    dir: Dir,
+    index: u16,
+    variable: u32,
+    bits: u8,
+) -> Result<Area, AllocError> {
+    let mut entries = Items::new(alloc);
+    entries.push((VarId::new(variable), bits))?;
+    let mut offered = Items::new(alloc);
+    offered.push(Pdo { index, entries })?;
+    let mut assigned = Items::new(alloc);
+    assigned.push(index)?;
+    let phys = match dir {
+        Dir::Out => 0x1100,
+        Dir::In => 0x1180,
+    };
+    Ok(Area {
+        sm,
+        dir,
+        phys,
+        offered,
+        assigned,
+        task: 0,
+    })
+}
+
+/// The axis as it stands in the text above.
+fn axis(alloc: Global) -> Result<Items<Group>, AllocError> {
+    let mut areas = Items::new(alloc);
+    areas.push(area(alloc, 2, Dir::Out, 0x1600, 1, 2)?)?;
+    areas.push(area(alloc, 3, Dir::In, 0x1a00, 2, 12)?)?;
+    let mut slaves = Items::new(alloc);
+    slaves.push(Slave {
+        station: 1001,
+        areas,
+    })?;
+    let mut groups = Items::new(alloc);
+    groups.push(Group { alias: 0, slaves })?;
+    Ok(groups)
+}
+
+/// The axis at its opening, with no text to be read: for rows that need it often.
+pub fn opened_axis(alloc: Global) -> Result<Opened, Fail> {
+    let groups = axis(alloc)?;
+    Ok(opened_project(alloc, Project::checked(alloc, groups))?)
 }
 
 /// The bytes that a PDO of 64 entries holds.

@@ -2,7 +2,7 @@
 //! from the meaning of events. It may be slow.
 use crate::driven::Driven;
 use crate::line::Line;
-use crate::record::{Arrival, Entry, sendings_in};
+use crate::record::{Arrival, Entry, Frame, serial_behind};
 use hc_events::answer::Answer;
 use hc_events::event::Event;
 use hc_events::faults::CoreFault;
@@ -24,16 +24,22 @@ pub struct LookBack {
     pub(crate) line: Line,
     /// What was accepted since the opening.
     pub(crate) entries: Vec<Entry>,
+    /// The owed blocks, in line and block order, by station address and number, as looking back told them when the
+    /// last entry came that can change them: an edit, a register write or an arrival.
+    owed: Vec<(u16, u8)>,
 }
 
 impl LookBack {
     /// Nothing but the project's opening.
     pub fn opened(alloc: Global, project: Project) -> Result<LookBack, EditFault> {
-        Ok(LookBack {
+        let mut opened = LookBack {
             older: Vec::new(alloc),
             line: Line::opened(alloc, project)?,
             entries: Vec::new(alloc),
-        })
+            owed: Vec::new(alloc),
+        };
+        opened.owed = opened.owed_blocks(alloc)?;
+        Ok(opened)
     }
 
     /// The present epoch: the number of accepted edits.
@@ -65,9 +71,16 @@ impl LookBack {
         }
     }
 
-    /// The serial of the next sending: the number of sendings before it.
-    fn serial(&self) -> u64 {
-        sendings_in(self.entries.as_slice())
+    /// The serial of the next sending.
+    pub(crate) fn serial(&self) -> u64 {
+        serial_behind(self.entries.as_slice())
+    }
+
+    /// What was accepted is written down, and what it leaves owed.
+    fn accept(&mut self, alloc: Global, entry: Entry) -> Result<(), AllocError> {
+        self.entries.push(entry)?;
+        self.owed = self.owed_blocks(alloc)?;
+        Ok(())
     }
 
     /// An edit: refused by its fault, else a new epoch with its line.
@@ -79,7 +92,7 @@ impl LookBack {
         let recut = line.recut_from(alloc, &self.line)?;
         let moved = line.moved_from(&self.line);
         self.older.push(mem::replace(&mut self.line, line))?;
-        self.entries.push(Entry::Edited(edit.copied(alloc)?))?;
+        self.accept(alloc, Entry::Edited(edit.copied(alloc)?))?;
         Ok(Answer::Edited {
             epoch: self.epoch(),
             recut,
@@ -132,9 +145,10 @@ impl LookBack {
         }
         let mut serial = self.serial();
         let mut texts = Items::new(alloc);
-        for frame in self.frames(alloc, tasks)? {
-            texts.push(Items::of(self.frame_text(alloc, serial, frame.as_slice())?))?;
-            self.entries.push(Entry::Sent(frame))?;
+        for datagrams in self.frames(alloc, tasks)? {
+            let text = self.frame_text(alloc, serial, datagrams.as_slice())?;
+            texts.push(Items::of(text))?;
+            self.entries.push(Entry::Sent(Frame { serial, datagrams }))?;
             serial = serial.saturating_add(1);
         }
         Ok(Answer::Sent(texts))
@@ -145,12 +159,11 @@ impl LookBack {
         let Some(write) = self.first_owed(alloc)? else {
             return Ok(Answer::Refused(CoreFault::NothingOwed));
         };
-        let serial = self.serial();
-        if serial >= SETUP_SERIAL {
+        if write.serial >= SETUP_SERIAL {
             return Ok(Answer::Refused(CoreFault::SerialsSpent));
         }
-        let text = Items::of(write.text(alloc, serial)?);
-        self.entries.push(Entry::Wrote(write))?;
+        let text = Items::of(write.text(alloc)?);
+        self.accept(alloc, Entry::Wrote(write))?;
         Ok(Answer::WriteSent(text))
     }
 
@@ -162,11 +175,12 @@ impl LookBack {
         };
         let judged = self.judged(alloc, serial, parts.as_slice())?;
         let told = crate::judging::told(alloc, judged.as_slice())?;
-        self.entries.push(Entry::Came(Arrival {
+        let arrival = Arrival {
             serial,
             parts,
             judged,
-        }))?;
+        };
+        self.accept(alloc, Entry::Came(arrival))?;
         Ok(told)
     }
 
@@ -201,7 +215,7 @@ impl Driven for LookBack {
     }
 
     fn owed(&self) -> u32 {
-        self.owed_count()
+        self.owed.len().min(u32::MAX as usize) as u32
     }
 
     fn next_serial(&self) -> u64 {

@@ -1,6 +1,6 @@
 //! What looking back tells of slots, values and owed blocks.
 use crate::lookback::LookBack;
-use crate::record::{Entry, Item, Part, Write, sendings_in, since};
+use crate::record::{Entry, Item, Part, Write, since};
 use crate::texts::{BESIDE, has_room, text_of, zeros};
 use hc_events::sending::Named;
 use hc_frames::Command;
@@ -166,13 +166,9 @@ impl LookBack {
         None
     }
 
-    /// Whether the sending at an index has had a good answer.
-    fn is_confirmed(&self, index: usize) -> bool {
-        let entries = self.entries.as_slice();
-        let behind = since(entries, index);
-        let before = entries.len().saturating_sub(behind.len()).saturating_sub(1);
-        let serial = sendings_in(entries.split_at(before.min(entries.len())).0);
-        for entry in behind {
+    /// Whether the write at an index, which has a serial, has had a good answer.
+    fn is_confirmed(&self, index: usize, serial: u64) -> bool {
+        for entry in since(self.entries.as_slice(), index) {
             if let Entry::Came(arrival) = entry {
                 if arrival.serial == serial && arrival.has_good() {
                     return true;
@@ -189,7 +185,8 @@ impl LookBack {
         };
         match self.entries.get(index) {
             Some(Entry::Wrote(write)) => {
-                write.bytes.as_slice() != found.block.bytes() || !self.is_confirmed(index)
+                write.bytes.as_slice() != found.block.bytes()
+                    || !self.is_confirmed(index, write.serial)
             }
             _ => true,
         }
@@ -206,22 +203,12 @@ impl LookBack {
         Ok(owed)
     }
 
-    /// How many blocks are owed.
-    pub(crate) fn owed_count(&self) -> u32 {
-        let mut count = 0_u32;
-        for found in self.line.plan().line_blocks() {
-            if self.is_owed(&found) {
-                count = count.saturating_add(1);
-            }
-        }
-        count
-    }
-
     /// The first owed block, as it is written.
     pub(crate) fn first_owed(&self, alloc: Global) -> Result<Option<Write>, AllocError> {
         for found in self.line.plan().line_blocks() {
             if self.is_owed(&found) {
                 return Ok(Some(Write {
+                    serial: self.serial(),
                     station: found.station,
                     number: found.number,
                     register: found.block.register(),
@@ -235,7 +222,7 @@ impl LookBack {
 
 impl Write {
     /// The bytes of its frame.
-    pub(crate) fn text(&self, alloc: Global, serial: u64) -> Result<Vec<u8>, AllocError> {
+    pub(crate) fn text(&self, alloc: Global) -> Result<Vec<u8>, AllocError> {
         let mut parts = Vec::new(alloc);
         parts.push(Part {
             command: Command::Fpwr,
@@ -243,6 +230,6 @@ impl Write {
             bytes: Vec::from_slice(alloc, self.bytes.as_slice())?,
             counter: 0,
         })?;
-        text_of(alloc, serial, parts.as_slice())
+        text_of(alloc, self.serial, parts.as_slice())
     }
 }

@@ -60,9 +60,17 @@ pub struct Arrival {
     pub judged: Vec<Judged>,
 }
 
+/// A frame of tasks that was sent, by its datagrams.
+#[derive(Drop)]
+pub struct Frame {
+    pub serial: u64,
+    pub datagrams: Vec<Named>,
+}
+
 /// A register block that was sent.
 #[derive(Drop)]
 pub struct Write {
+    pub serial: u64,
     pub station: u16,
     pub number: u8,
     pub register: u16,
@@ -76,8 +84,8 @@ pub enum Entry {
     Edited(Edit),
     /// A task's post.
     Posted { task: u8, bytes: Vec<u8> },
-    /// A frame of tasks, by its datagrams.
-    Sent(Vec<Named>),
+    /// A frame of tasks.
+    Sent(Frame),
     /// A register write.
     Wrote(Write),
     /// An arrival.
@@ -85,15 +93,20 @@ pub enum Entry {
 }
 
 impl Entry {
-    /// Whether it used a serial.
-    pub fn is_sending(&self) -> bool {
-        matches!(self, Entry::Sent(_) | Entry::Wrote(_))
+    /// The serial that it used, which is the number of sendings before it; none where it is no sending.
+    pub fn serial(&self) -> Option<u64> {
+        match self {
+            Entry::Sent(frame) => Some(frame.serial),
+            Entry::Wrote(write) => Some(write.serial),
+            _ => None,
+        }
     }
 
     /// Whether it is a sending of a datagram or a block.
     pub fn sends(&self, item: Item) -> bool {
         match self {
             Entry::Sent(frame) => frame
+                .datagrams
                 .iter()
                 .any(|named| Item::Data(named.0, named.1) == item),
             Entry::Wrote(write) => Item::Block(write.station, write.number) == item,
@@ -109,26 +122,18 @@ impl Judged {
     }
 }
 
-/// How many sendings are among entries.
-pub fn sendings_in(entries: &[Entry]) -> u64 {
-    let mut count = 0_u64;
-    for entry in entries {
-        if entry.is_sending() {
-            count = count.saturating_add(1);
+/// The serial behind entries: one more than the last sending's.
+pub fn serial_behind(entries: &[Entry]) -> u64 {
+    for entry in entries.iter().rev() {
+        if let Some(serial) = entry.serial() {
+            return serial.saturating_add(1);
         }
     }
-    count
+    0
 }
 
 /// The entries behind the one at an index.
 pub fn since(entries: &[Entry], index: usize) -> &[Entry] {
-    if index < entries.len() {
-        entries
-            .split_at(index)
-            .1
-            .split_first()
-            .map_or(&[], |split| split.1)
-    } else {
-        &[]
-    }
+    let next = index.saturating_add(1).min(entries.len());
+    entries.split_at(next).1
 }
