@@ -194,7 +194,7 @@ pub fn send_times<D: Driven>(
 ) -> Result<bool, AllocError> {
     for _ in 0..times {
         if !matches!(
-            driven.step(alloc, hc_events::event::Event::SendTasks(&[0]))?,
+            driven.put(alloc, hc_events::event::Event::SendTasks(&[0]))?,
             Answer::Sent(_)
         ) {
             return Ok(false);
@@ -240,7 +240,7 @@ fn the_last_of_a_thousand_is_answered(rt: HostRuntime) -> Result<(), Fail> {
     let mut driven = opened(rt.alloc(), AXIS)?;
     assert_eq!(rt; write_all(&mut driven, rt.alloc())?, 4);
     assert!(rt; send_times(&mut driven, rt.alloc(), 1000)?);
-    assert_eq!(rt; driven.next_serial(), 1004);
+    assert_eq!(rt; driven.coming_serial(), 1004);
     assert!(rt; is_answered(&mut driven, rt.alloc(), 1002, Wanted::Stale)?);
     assert!(rt; is_answered(&mut driven, rt.alloc(), 1003, ANSWERED)?);
     assert!(rt; is_answered(&mut driven, rt.alloc(), 1003, Wanted::Stale)?);

@@ -158,7 +158,7 @@ pub fn back(alloc: Global, serial: u64, datagrams: &[Back]) -> Result<Vec<u8>, A
 
 /// The answer to an edit.
 fn edited<D: Driven>(driven: &mut D, alloc: Global, edit: Edit) -> Result<Answer, AllocError> {
-    driven.step(alloc, Event::Edit(&edit))
+    driven.put(alloc, Event::Edit(&edit))
 }
 
 /// The answer to a row's event.
@@ -191,15 +191,15 @@ pub fn answer<D: Driven>(
                 task,
             },
         ),
-        Asked::Post(task, epoch, bytes) => driven.step(alloc, Event::Post { task, epoch, bytes }),
-        Asked::Send(tasks) => driven.step(alloc, Event::SendTasks(tasks)),
-        Asked::Write => driven.step(alloc, Event::SendWrite),
-        Asked::Arrive(bytes) => driven.step(alloc, Event::Arrive(bytes)),
+        Asked::Post(task, epoch, bytes) => driven.put(alloc, Event::Post { task, epoch, bytes }),
+        Asked::Send(tasks) => driven.put(alloc, Event::SendTasks(tasks)),
+        Asked::Write => driven.put(alloc, Event::SendWrite),
+        Asked::Arrive(bytes) => driven.put(alloc, Event::Arrive(bytes)),
         Asked::Comes(serial, datagrams) => {
             let bytes = back(alloc, serial, datagrams)?;
-            driven.step(alloc, Event::Arrive(bytes.as_slice()))
+            driven.put(alloc, Event::Arrive(bytes.as_slice()))
         }
-        Asked::Read(task) => driven.step(alloc, Event::Read(task)),
+        Asked::Read(task) => driven.put(alloc, Event::Read(task)),
     }
 }
 

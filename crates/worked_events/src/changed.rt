@@ -81,7 +81,7 @@ fn is_told(answer: &Answer, told: Meaning) -> bool {
 
 /// Whether task 0 reads these data in epoch 0, or none.
 fn reads(driven: &mut Opened, alloc: Global, data: Option<&[u8]>) -> Result<bool, AllocError> {
-    let Answer::Image { epoch, slots } = driven.step(alloc, Event::Read(0))? else {
+    let Answer::Image { epoch, slots } = driven.put(alloc, Event::Read(0))? else {
         return Ok(false);
     };
     let [slot] = slots.as_slice() else {
@@ -96,8 +96,10 @@ fn reads(driven: &mut Opened, alloc: Global, data: Option<&[u8]>) -> Result<bool
 
 /// Whether nothing is read and nothing is owed, the next serial is 5, and the unchanged frame is still the answer.
 fn awaits_still(driven: &mut Opened, alloc: Global) -> Result<bool, AllocError> {
-    let as_before = reads(driven, alloc, None)? && driven.owed() == 0 && driven.next_serial() == 5;
-    let answer = driven.step(alloc, Event::Arrive(ARRIVAL))?;
+    let as_before = reads(driven, alloc, None)?
+        && driven.count_owed() == 0
+        && driven.coming_serial() == 5;
+    let answer = driven.put(alloc, Event::Arrive(ARRIVAL))?;
     Ok(as_before && is_wanted(&answer, &ANSWERED))
 }
 
@@ -118,7 +120,7 @@ fn leaves(
 /// Whether a frame is answered as told, and leaves what it should.
 fn is_taken(alloc: Global, frame: &[u8], told: Meaning) -> Result<bool, Fail> {
     let mut driven = awaiting(alloc)?;
-    let answer = driven.step(alloc, Event::Arrive(frame))?;
+    let answer = driven.put(alloc, Event::Arrive(frame))?;
     Ok(is_told(&answer, told) && leaves(&mut driven, alloc, frame, told)?)
 }
 
@@ -184,7 +186,7 @@ fn every_cut_answer(rt: HostRuntime) -> Result<(), Fail> {
 /// Whether each cut of the answer is refused.
 fn refuses_cuts<D: Driven>(driven: &mut D, alloc: Global) -> Result<bool, AllocError> {
     for size in 0..SIZE {
-        let answer = driven.step(alloc, Event::Arrive(cut(size)))?;
+        let answer = driven.put(alloc, Event::Arrive(cut(size)))?;
         if !is_told(&answer, Meaning::Refused(cut_fault(size))) {
             return Ok(false);
         }
@@ -198,7 +200,7 @@ fn refuses_at<D: Driven>(driven: &mut D, alloc: Global, at: usize) -> Result<boo
         let told = told(at, value);
         let frame = changed(at, value);
         if matches!(told, Meaning::Refused(_)) && frame.as_slice() != ARRIVAL {
-            if !is_told(&driven.step(alloc, Event::Arrive(&frame))?, told) {
+            if !is_told(&driven.put(alloc, Event::Arrive(&frame))?, told) {
                 return Ok(false);
             }
         }

@@ -2,9 +2,7 @@
 //! looks back.
 use crate::draws::Draws;
 use crate::driven::Driven;
-use crate::lines::opened_project;
-use crate::lookback::LookBack;
-use crate::same::is_same;
+use crate::lines::{Opened, opened_project};
 use crate::twelve::twelve;
 use hc_events::answer::{Answer, Outcome};
 use std::alloc::{AllocError, Global};
@@ -67,41 +65,47 @@ fn kind(answer: &Answer) -> usize {
     }
 }
 
-/// Draws an event, puts it to both, and tells the answer's kind where both answer it alike, owe the same number of
-/// blocks and have the same next serial; 0 elsewhere.
-fn next<D: Driven>(
-    driven: &mut D,
-    back: &mut LookBack,
-    draws: &mut Draws,
-    alloc: Global,
-) -> Result<usize, AllocError> {
-    let drawn = draws.event(alloc, back)?;
-    let answer = back.step(alloc, drawn.event())?;
-    let other = driven.step(alloc, drawn.event())?;
+/// Draws an event, puts it to what answers, and tells the kind of its answer.
+fn next(driven: &mut Opened, draws: &mut Draws, alloc: Global) -> Result<usize, AllocError> {
+    let drawn = draws.event(alloc, driven.back())?;
+    let answer = driven.put(alloc, drawn.event())?;
     draws.note(alloc, &answer)?;
-    let alike = is_same(&answer, &other)
-        && back.owed() == driven.owed()
-        && back.next_serial() == driven.next_serial();
-    Ok(if alike { kind(&answer) } else { 0 })
+    Ok(kind(&answer))
 }
 
 /// The line of 12 slaves at its opening.
-fn opened_twelve(alloc: Global) -> Result<LookBack, Fail> {
+fn opened_twelve(alloc: Global) -> Result<Opened, Fail> {
     Ok(opened_project(alloc, twelve(alloc)?)?)
 }
 
+/// The kinds that so many events are to meet: the refusals of edits but a crowded task and the last epoch, those of
+/// posts and sendings but the last serial, five of frames that can't be read, and every other answer.
+const WANTED: &[usize] = &[
+    1, 2, 3, 4, 5, 6, 7, 8, 9, 10, 15, 16, 17, 18, 20, 21, 22, 23, 27, 30, 31, 32, 33, 34, 35, 36,
+    37, 38, 39, 40, 41,
+];
+
+/// The first of these kinds of which there was no answer; none where there was one of each.
+fn first_missing(met: &Met) -> Option<usize> {
+    for wanted in WANTED {
+        if met.get(*wanted) == Some(&0) {
+            return Some(*wanted);
+        }
+    }
+    None
+}
+
+/// Want of memory is no answer to any of them: it would tell that the answers differ.
 #[test]
-fn drawn_events_are_answered_alike(rt: HostRuntime) -> Result<(), Fail> {
-    let mut back = opened_twelve(rt.alloc())?;
+fn drawn_events_are_answered(rt: HostRuntime) -> Result<(), Fail> {
     let mut driven = opened_twelve(rt.alloc())?;
     let mut draws = Draws::new(rt.alloc(), 20_261_123);
     let mut met = [0; KINDS];
     for _ in 0..5000 {
-        count(
-            &mut met,
-            next(&mut driven, &mut back, &mut draws, rt.alloc())?,
-        );
+        let kind = next(&mut driven, &mut draws, rt.alloc())?;
+        assert!(rt; kind != 28);
+        count(&mut met, kind);
     }
-    assert_eq!(rt; met, [0; KINDS]);
+    assert_eq!(rt; first_missing(&met), None);
     Ok(())
 }

@@ -242,7 +242,7 @@ impl Draws {
         let (_, parts) = self.serve(alloc, back, frame, 0)?;
         let serial = match self.below(4) {
             0 => SETUP_SERIAL,
-            more => back.next_serial().saturating_add(u64::from(more)),
+            more => back.coming_serial().saturating_add(u64::from(more)),
         };
         text_of(alloc, serial, parts.as_slice())
     }
@@ -331,7 +331,7 @@ impl Draws {
 
     /// The next event. While blocks are owed three of four are writes or their answers.
     pub fn event(&mut self, alloc: Global, back: &LookBack) -> Result<Drawn, AllocError> {
-        let drawn = if back.owed() > 0 && self.below(4) > 0 {
+        let drawn = if back.count_owed() > 0 && self.below(4) > 0 {
             self.write(alloc, back)?
         } else {
             self.any(alloc, back)?

@@ -6,11 +6,11 @@ use std::alloc::{AllocError, Global};
 /// What events are put to, one after another.
 pub trait Driven: Drop {
     /// The answer to the next event.
-    fn step(&mut self, alloc: Global, event: Event<'_>) -> Result<Answer, AllocError>;
+    fn put(&mut self, alloc: Global, event: Event<'_>) -> Result<Answer, AllocError>;
 
     /// How many register blocks are owed.
-    fn owed(&self) -> u32;
+    fn count_owed(&self) -> u32;
 
     /// The serial of the next sending.
-    fn next_serial(&self) -> u64;
+    fn coming_serial(&self) -> u64;
 }

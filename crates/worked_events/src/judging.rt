@@ -197,11 +197,14 @@ pub fn told(alloc: Global, judged: &[Judged]) -> Result<Answer, AllocError> {
 }
 
 impl Arrival {
-    /// Whether it is a good answer of any datagram or block.
-    pub(crate) fn has_good(&self) -> bool {
-        self.judged
-            .iter()
-            .any(|judged| judged.verdict == Verdict::Good)
+    /// Whether it is the good answer of a register write.
+    pub(crate) fn confirms(&self) -> bool {
+        match self.judged.first() {
+            Some(judged) => {
+                judged.verdict == Verdict::Good && matches!(judged.item, Item::Block(_, _))
+            }
+            None => false,
+        }
     }
 
     /// The data of its last good answer of a datagram, if it has one.

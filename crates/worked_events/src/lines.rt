@@ -182,13 +182,13 @@ fn answer_write(frame: &mut [u8]) {
 /// Writes the next owed block, and answers it; false where nothing is owed, or its answer isn't taken as the
 /// confirmation.
 fn write_one<D: Driven>(driven: &mut D, alloc: Global) -> Result<bool, AllocError> {
-    let sent = driven.step(alloc, Event::SendWrite)?;
+    let sent = driven.put(alloc, Event::SendWrite)?;
     let Answer::WriteSent(text) = sent else {
         return Ok(false);
     };
     let mut frame = text.into_vec();
     answer_write(frame.as_mut_slice());
-    let told = driven.step(alloc, Event::Arrive(frame.as_slice()))?;
+    let told = driven.put(alloc, Event::Arrive(frame.as_slice()))?;
     Ok(matches!(told, Answer::WriteDone))
 }
 

@@ -25,7 +25,7 @@ pub struct LookBack {
     /// What was accepted since the opening.
     pub(crate) entries: Vec<Entry>,
     /// The owed blocks, in line and block order, by station address and number, as looking back told them when the
-    /// last entry came that can change them: an edit, a register write or an arrival.
+    /// last entry came that can change them.
     owed: Vec<(u16, u8)>,
 }
 
@@ -45,6 +45,11 @@ impl LookBack {
     /// The present epoch: the number of accepted edits.
     pub fn epoch(&self) -> u32 {
         self.older.len().min(u32::MAX as usize) as u32
+    }
+
+    /// The program that looks back: it itself.
+    pub fn back(&self) -> &LookBack {
+        self
     }
 
     /// How many entries there are.
@@ -78,8 +83,11 @@ impl LookBack {
 
     /// What was accepted is written down, and what it leaves owed.
     fn accept(&mut self, alloc: Global, entry: Entry) -> Result<(), AllocError> {
+        let changes = entry.can_change_owed();
         self.entries.push(entry)?;
-        self.owed = self.owed_blocks(alloc)?;
+        if changes {
+            self.owed = self.owed_blocks(alloc)?;
+        }
         Ok(())
     }
 
@@ -127,7 +135,7 @@ impl LookBack {
         if tasks.iter().any(|task| *task >= TASKS) {
             return Ok(Some(CoreFault::NoSuchTask));
         }
-        let owed = self.owed();
+        let owed = self.count_owed();
         if owed > 0 {
             return Ok(Some(CoreFault::Unprogrammed(owed)));
         }
@@ -203,7 +211,7 @@ impl LookBack {
 }
 
 impl Driven for LookBack {
-    fn step(&mut self, alloc: Global, event: Event<'_>) -> Result<Answer, AllocError> {
+    fn put(&mut self, alloc: Global, event: Event<'_>) -> Result<Answer, AllocError> {
         match event {
             Event::Edit(edit) => self.edit(alloc, edit),
             Event::Post { task, epoch, bytes } => self.post(alloc, task, epoch, bytes),
@@ -214,11 +222,11 @@ impl Driven for LookBack {
         }
     }
 
-    fn owed(&self) -> u32 {
+    fn count_owed(&self) -> u32 {
         self.owed.len().min(u32::MAX as usize) as u32
     }
 
-    fn next_serial(&self) -> u64 {
+    fn coming_serial(&self) -> u64 {
         self.serial()
     }
 }

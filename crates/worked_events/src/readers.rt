@@ -26,6 +26,18 @@ fn set_bit(bytes: &mut [u8], at: usize) {
     }
 }
 
+/// Whether a write with a serial has a good answer among the entries behind it.
+fn is_confirmed(behind: &[Entry], serial: u64) -> bool {
+    for entry in behind {
+        if let Entry::Came(arrival) = entry {
+            if arrival.serial == serial && arrival.confirms() {
+                return true;
+            }
+        }
+    }
+    false
+}
+
 impl LookBack {
     /// What a task reads of a datagram: the data of its last good answer since the last edit.
     pub(crate) fn slot(
@@ -147,48 +159,32 @@ impl LookBack {
         text_of(alloc, serial, parts.as_slice())
     }
 
-    /// The index of the last write of a block since its slave was connected.
-    fn last_write(&self, station: u16, number: u8) -> Option<usize> {
+    /// The last write of a block since its slave was connected, and the entries behind it.
+    fn last_write(&self, station: u16, number: u8) -> Option<(&Write, &[Entry])> {
         let mut epoch = self.older.len();
         let mut index = self.entries.len();
         for entry in self.entries.iter().rev() {
             index = index.saturating_sub(1);
+            if let Some(write) = entry.write_of(station, number) {
+                return Some((write, since(self.entries.as_slice(), index)));
+            }
             if let Entry::Edited(_) = entry {
                 epoch = epoch.saturating_sub(1);
                 if !self.line_in(epoch).has(station) {
                     return None;
                 }
             }
-            if entry.sends(Item::Block(station, number)) {
-                return Some(index);
-            }
         }
         None
     }
 
-    /// Whether the write at an index, which has a serial, has had a good answer.
-    fn is_confirmed(&self, index: usize, serial: u64) -> bool {
-        for entry in since(self.entries.as_slice(), index) {
-            if let Entry::Came(arrival) = entry {
-                if arrival.serial == serial && arrival.has_good() {
-                    return true;
-                }
-            }
-        }
-        false
-    }
-
-    /// Whether a block is owed: its slave isn't known to have its bytes.
+    /// Whether a block is owed: the last write of it has other bytes, or no good answer.
     fn is_owed(&self, found: &LineBlock) -> bool {
-        let Some(index) = self.last_write(found.station, found.number) else {
-            return true;
-        };
-        match self.entries.get(index) {
-            Some(Entry::Wrote(write)) => {
-                write.bytes.as_slice() != found.block.bytes()
-                    || !self.is_confirmed(index, write.serial)
+        match self.last_write(found.station, found.number) {
+            Some((write, behind)) => {
+                write.bytes.as_slice() != found.block.bytes() || !is_confirmed(behind, write.serial)
             }
-            _ => true,
+            None => true,
         }
     }
 

@@ -102,6 +102,26 @@ impl Entry {
         }
     }
 
+    /// The write that it is of a block, if it is one.
+    pub fn write_of(&self, station: u16, number: u8) -> Option<&Write> {
+        match self {
+            Entry::Wrote(write) if write.station == station && write.number == number => {
+                Some(write)
+            }
+            _ => None,
+        }
+    }
+
+    /// Whether what slaves are known to have can change by it: by an edit, a write, or a write's good answer.
+    pub fn can_change_owed(&self) -> bool {
+        match self {
+            Entry::Edited(_) => true,
+            Entry::Wrote(_) => true,
+            Entry::Came(arrival) => arrival.confirms(),
+            _ => false,
+        }
+    }
+
     /// Whether it is a sending of a datagram or a block.
     pub fn sends(&self, item: Item) -> bool {
         match self {

@@ -188,7 +188,7 @@ fn is_sent_in(
 ) -> Result<bool, Fail> {
     let mut driven = opened_wide(alloc, areas)?;
     write_all(&mut driven, alloc)?;
-    let answer: Result<Answer, AllocError> = driven.step(alloc, Event::SendTasks(tasks));
+    let answer: Result<Answer, AllocError> = driven.put(alloc, Event::SendTasks(tasks));
     Ok(are_sized(&answer?, sizes))
 }
 

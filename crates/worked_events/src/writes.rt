@@ -71,9 +71,9 @@ const LAST_BLOCK: &[u8] =
 #[test]
 fn four_blocks_are_written(rt: HostRuntime) -> Result<(), Fail> {
     let mut driven = opened(rt.alloc(), AXIS)?;
-    assert_eq!(rt; driven.owed(), 4);
+    assert_eq!(rt; driven.count_owed(), 4);
     assert_eq!(rt; first_wrong(&mut driven, rt.alloc(), FOUR_BLOCKS)?, None);
-    assert_eq!(rt; (driven.owed(), driven.next_serial()), (0, 4));
+    assert_eq!(rt; (driven.count_owed(), driven.coming_serial()), (0, 4));
     Ok(())
 }
 
@@ -109,9 +109,9 @@ fn a_missed_write_is_sent_again(rt: HostRuntime) -> Result<(), Fail> {
         None
     );
     assert_eq!(rt; first_wrong(&mut driven, rt.alloc(), MISSED)?, None);
-    assert_eq!(rt; driven.owed(), 1);
+    assert_eq!(rt; driven.count_owed(), 1);
     assert_eq!(rt; first_wrong(&mut driven, rt.alloc(), CONFIRMED)?, None);
-    assert_eq!(rt; driven.owed(), 0);
+    assert_eq!(rt; driven.count_owed(), 0);
     Ok(())
 }
 
@@ -147,7 +147,7 @@ fn a_foreign_frame_confirms_nothing(rt: HostRuntime) -> Result<(), Fail> {
         None
     );
     assert_eq!(rt; first_wrong(&mut driven, rt.alloc(), FOREIGN)?, None);
-    assert_eq!(rt; driven.owed(), 1);
+    assert_eq!(rt; driven.count_owed(), 1);
     Ok(())
 }
 
