@@ -36,6 +36,8 @@ mod texts;
 #[cfg(test)]
 mod twelve;
 #[cfg(test)]
+mod twins;
+#[cfg(test)]
 mod values;
 #[cfg(test)]
 mod writes;

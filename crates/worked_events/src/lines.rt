@@ -1,11 +1,13 @@
 //! The lines of the rows.
 use crate::driven::Driven;
 use crate::lookback::LookBack;
+use crate::twins::Twins;
+use hc_core::keeping::Core;
 use hc_events::answer::Answer;
 use hc_events::event::Event;
 use hc_project::read_project;
 use hc_records::faults::{EditFault, ProjectFault};
-use hc_records::items::Items;
+use hc_records::items::{Copied, Items};
 use hc_records::project::Project;
 use hc_records::records::{Area, Dir, Entry, Group, Pdo, Slave, VarId};
 use std::alloc::{AllocError, Global};
@@ -34,7 +36,24 @@ pub enum Refused {
 }
 
 /// What the rows are put to.
-pub type Opened = LookBack;
+pub type Opened = Twins;
+
+/// Copies of a project's groups.
+fn groups_copied(alloc: Global, project: &Project) -> Result<Items<Group>, AllocError> {
+    let mut groups = Items::new(alloc);
+    for group in project.groups() {
+        groups.push(group.copied(alloc)?)?;
+    }
+    Ok(groups)
+}
+
+/// A copy of a project.
+fn project_copied(alloc: Global, project: &Project) -> Result<Project, ProjectFault> {
+    match groups_copied(alloc, project) {
+        Ok(groups) => Project::checked(alloc, groups),
+        Err(_) => Err(ProjectFault::Memory),
+    }
+}
 
 /// A project at its opening.
 pub fn opened_project(
@@ -45,8 +64,16 @@ pub fn opened_project(
         Ok(project) => project,
         Err(fault) => return Err(Refused::Project(fault)),
     };
-    match LookBack::opened(alloc, project) {
-        Ok(driven) => Ok(driven),
+    let copy = match project_copied(alloc, &project) {
+        Ok(copy) => copy,
+        Err(fault) => return Err(Refused::Project(fault)),
+    };
+    let back = match LookBack::opened(alloc, copy) {
+        Ok(back) => back,
+        Err(fault) => return Err(Refused::Opening(fault)),
+    };
+    match Core::new(alloc, project) {
+        Ok(core) => Ok(Twins::of(core, back)),
         Err(fault) => Err(Refused::Opening(fault)),
     }
 }
