@@ -65,10 +65,10 @@ fn put_part(text: &mut Vec<u8>, serial: u64, part: &Part, more: bool) -> Result<
 pub fn text_of(alloc: Global, serial: u64, parts: &[Part]) -> Result<Vec<u8>, AllocError> {
     let mut text = Vec::new(alloc);
     put_head(&mut text, serial, size_of(parts))?;
-    let mut left = parts;
-    while let Some((part, others)) = left.split_first() {
-        put_part(&mut text, serial, part, !others.is_empty())?;
-        left = others;
+    let mut left = parts.len();
+    for part in parts {
+        left = left.saturating_sub(1);
+        put_part(&mut text, serial, part, left > 0)?;
     }
     pad(&mut text, 60)?;
     Ok(text)
