@@ -1,6 +1,7 @@
 #!/bin/sh
 # Proves `hc_cuts` and what the benchmark needs of it under C names, in a scratch folder; links the benchmark to
-# that static library and runs it. KIT is the toolchain's folder, if it is not /opt/rattle.
+# that static library and runs it. KIT is the toolchain's folder, if it is not /opt/rattle; with KEPT=1
+# the work that earlier checks kept in out/ is taken over.
 set -eu
 kit=${KIT:-/opt/rattle}
 here=$(cd "$(dirname "$0")" && pwd)
@@ -8,7 +9,7 @@ scratch=$(mktemp -d)
 trap 'rm -rf "$scratch"' EXIT
 for crate in hc_records hc_bitsum hc_cuts; do
     mkdir -p "$scratch/crates/$crate"
-    for part in src specs proofs; do
+    for part in src specs proofs ${KEPT:+out}; do
         cp -r "$here/../../crates/$crate/$part" "$scratch/crates/$crate/"
     done
 done

@@ -1,3 +1,4 @@
+pub mod lemmas
 pub mod Noted
 pub mod Alive
 pub mod Sent

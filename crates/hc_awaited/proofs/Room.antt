@@ -1,5 +1,5 @@
 -- There are at most as many awaited frames as datagrams: each is the newest of one.
-use Rattle.std.proofs.Common.{◌≡◌, ◌≢◌, ℕ, ◌<◌, ◌≤◌, ◌==◌, Bool, true, false, ◌||◌, nat_eq, List, [], ◌∷◌, length, map, filter, get_or, refl, ap, ◌∙◌, arith, Option, Some, None, zero, suc}
+use Rattle.std.proofs.Common.{◌≡◌, ◌≢◌, ℕ, ◌*◌, ◌<◌, ◌≤◌, ◌==◌, Bool, true, false, ◌||◌, nat_eq, List, [], ◌∷◌, length, map, filter, get_or, refl, ap, ◌∙◌, arith, Option, Some, None, zero, suc}
 use Rattle.std.specs.Prelude.{All, AllPairs, unwrap_or}
 use Rattle.std.specs.List.{list_any, IsDistinct}
 use Rattle.std.specs.Set.{is_member}
@@ -12,9 +12,10 @@ use Rattle.std.proofs.lemmas.Map.Made.{IsDistinct-from_AllPairs, length-le_from_
 use Rattle.hc_records.proofs.lemmas.Lists.{AllPairs-map, AllPairs-weaker}
 use Rattle.hc_events.specs.Sendings.{Named}
 use Rattle.hc_events.proofs.lemmas.Awaited.{by_bool}
-use Rattle.hc_awaited.specs.Waiting.{Carried}
-use Rattle.hc_awaited.specs.Kept.{Kept, Newest, is_serial, newest_of, place_of}
-use Rattle.hc_awaited.proofs.Alive.{stays_at}
+use Rattle.hc_records.specs.declared.limits.TheConstants.{MOST_DATAGRAMS, TASKS}
+use Rattle.hc_awaited.specs.Waiting.{Carried, is_alive}
+use Rattle.hc_awaited.specs.Kept.{AreKept, Kept, Newest, is_serial, newest_of, place_of}
+use Rattle.hc_awaited.proofs.Alive.{alive_at, filter-map_is, stays_at, told_at}
 
 below-apart : (a b : ℕ) → a < b → a ≢ b
 below-apart a b below same = omega (arith, below, same)
@@ -86,3 +87,12 @@ pub few-stay : (newest : Newest) (frames : List Kept) → AllPairs (λ a b. a.se
 few-stay newest frames ascend =
     few newest (filter (stays_at (newest_of newest)) frames) (AllPairs-filter (λ (a b : Kept). a.serial < b.serial) (stays_at (newest_of newest)) frames ascend)
     (λ k d within. filter_passes (stays_at (newest_of newest)) frames k d within)
+
+-- and what is told of them
+pub few-told : (newest : Newest) (frames : List Kept) → AreKept newest frames → length (alive_at (newest_of newest) frames) ≤ TASKS * MOST_DATAGRAMS
+few-told newest frames are =
+    let few = few-stay newest frames are.ascend in
+    let told = ap length (filter-map_is is_alive (told_at (newest_of newest)) frames) in
+    let count = length-map (filter (stays_at (newest_of newest)) frames) (told_at (newest_of newest)) in
+    let places = are.places in
+    omega (arith, few, told, count, places)

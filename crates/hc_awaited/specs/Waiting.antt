@@ -95,7 +95,7 @@ pub record IsNamed (named : Named) : Type 0 where
   pub task : named.0 < TASKS
   pub number : named.1 < MOST_DATAGRAMS
 
--- frames are sent with serials above all earlier ones
+-- frames are sent with serials that ascend, above those of the frames that are awaited
 pub record ComeBehind (waiting : Waiting) (frames : List Frame) : Type 0 where
   pub ascend : AllPairs (λ a b. a.serial < b.serial) frames
   pub behind : All (λ frame. All (λ next. frame.serial < next.serial) frames) waiting.frames

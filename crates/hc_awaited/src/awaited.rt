@@ -138,7 +138,8 @@ pub(crate) fn find_frame<'a>(newest: &Newest, frames: &'a [Kept], serial: u64) -
 }
 
 impl Awaited {
-    ghost use Rattle.std.specs.Prelude.{◌≡◌, ◌<◌, All, IfOk};
+    ghost use Rattle.std.specs.Prelude.{◌≡◌, ◌<◌, ◌≤◌, ◌*◌, All, IfOk, length};
+    ghost use Rattle.hc_records.specs.declared.limits.TheConstants.{MOST_DATAGRAMS, TASKS};
     ghost use Rattle.hc_awaited.specs.Waiting.{ComeBehind, IsNamed, all_sent, ended, nothing, wrote};
 
     /// Nothing is awaited. It takes all the memory that it will need: `AllocError` where that was refused.
@@ -161,12 +162,14 @@ impl Awaited {
     }
 
     /// Frames of tasks are sent, in this order: each is the newest of its datagrams, and frames before it
-    /// that are left without one are awaited no longer. The serials are above those awaited. It takes
+    /// that are left without one are awaited no longer, so that at most 128 are awaited: 16 datagrams of
+    /// each of the eight tasks. The serials ascend, above those of the frames that are awaited. It takes
     /// no memory.
     pub fn send(&mut self, frames: &[Sending])
         requires named { All (λ frame. All IsNamed frame.datagrams) frames.now }
         requires behind { ComeBehind self.old frames.now }
-        ensures { self.new ≡ all_sent self.old frames.now }
+        ensures sent { self.new ≡ all_sent self.old frames.now }
+        ensures few { length self.new.frames ≤ TASKS * MOST_DATAGRAMS }
     {
         // those that were answered go before their serials could come again
         keep_alive(&mut self.frames, &self.newest);

@@ -3,7 +3,8 @@ use arrayvec::ArrayVec;
 use hc_events::sending::{Named, Sending};
 use std::marker::Model;
 
-/// The serial of a frame, and its datagrams in order. It owns no memory.
+/// The serial of a frame, and its datagrams in order: 115 at most, since the 1,498 bytes behind the EtherCAT
+/// header hold so many of one data byte, 13 bytes each (ETG.1000.4, 5.3 and 5.4). It owns no memory.
 #[derive(Debug, Drop)]
 pub(crate) struct Kept {
     serial: u64,

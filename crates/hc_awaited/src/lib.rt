@@ -5,4 +5,7 @@
 pub mod awaited;
 mod judging;
 mod kept;
+pub mod laws;
 mod newest;
+#[cfg(test)]
+mod tests;

@@ -76,7 +76,7 @@ ended-joined (Run f l e) (Run g m d) filled =
     ap (λ y. let r : Filled = record { bit = y; last = m } in r) (end_from-both e d (is_turn l g) (start_at (is_turn filled.last f) filled.bit))
 
 -- the end of one area, by whether it turns and whether it begins a byte
-area-bit : (turns wide : Bool) (bits bit : ℕ)
+pub area-bit : (turns wide : Bool) (bits bit : ℕ)
     → end_from (ends_by (λ p. (if wide then next_byte p else p) + bits)) (start_at turns bit) ≡ (if wide || turns then next_byte bit else bit) + bits
 area-bit true true bits bit = let e = ends_by-at (λ p. next_byte p + bits) (next_byte bit % 8) (omega arith) in omega arith
 area-bit true false bits bit = let e = ends_by-at (λ p. p + bits) (next_byte bit % 8) (omega arith) in omega arith

@@ -12,7 +12,7 @@ use Rattle.hc_records.specs.Keys.{is_before, is_within}
 use Rattle.hc_records.specs.SpanLaws.{areas_from}
 use Rattle.hc_records.specs.TaskList.{Keyed}
 use Rattle.hc_bitsum.specs.declared.filled.Filled.{Filled}
-use Rattle.hc_bitsum.specs.declared.branch.Fit.TheVariants.{Found}
+use Rattle.hc_bitsum.specs.declared.row.Fit.TheVariants.{Found}
 use Rattle.hc_bitsum.specs.Filling.{with_area}
 use Rattle.hc_bitsum.specs.Search.{first_beyond, key_or_end, scan}
 use Rattle.hc_bitsum.specs.Slots.{key_at}

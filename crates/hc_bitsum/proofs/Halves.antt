@@ -1,30 +1,17 @@
 -- What the outputs and the inputs of a tree are together.
 use Rattle.std.specs.Prelude.{All, filter}
-use Rattle.std.proofs.Common.{◌≡◌, ℕ, zero, suc, ◌+◌, ◌*◌, ◌^◌, ◌<◌, ◌≤◌, List, [], ◌∷◌, ◌++◌, length, refl, sym, ap, subst, ◌∙◌, arith, append_assoc, append-nil}
-use Rattle.std.proofs.lemmas.List.Elements.{All-nil, All-cons, All-head, All-tail, All-append, filter-append}
+use Rattle.std.proofs.Common.{◌≡◌, ℕ, zero, suc, ◌+◌, ◌<◌, ◌≤◌, List, [], ◌∷◌, ◌++◌, length, refl, sym, ap, subst, ◌∙◌, arith, append_assoc, append-nil}
+use Rattle.std.proofs.lemmas.List.Elements.{All-cons, All-head, All-tail, filter-append}
 use Rattle.hc_records.specs.declared.records.Dir.{Dir}
 use Rattle.hc_records.specs.declared.records.Dir.TheVariants.{Out, In}
 use Rattle.hc_records.specs.declared.keys.Key.{Key}
 use Rattle.hc_records.specs.Keys.{is_before}
 use Rattle.hc_records.specs.TaskList.{Keyed}
-use Rattle.hc_bitsum.specs.Slots.{IsNarrow, Slots, blank_slots, key_at, set_at, with_bits}
+use Rattle.hc_bitsum.specs.Slots.{Slots, key_at, set_at, with_bits}
 use Rattle.hc_bitsum.specs.Tree.{HasPlace, has_width, with_width}
 use Rattle.hc_bitsum.specs.Places.{IsPlaced, KeepsSlaves, StandFrom}
-use Rattle.hc_bitsum.proofs.Shape.{blank-height, blank-length, length-set_at, with_bits-shaped}
-use Rattle.hc_bitsum.proofs.Listed.{StandFrom-blank, StandFrom-set_at, drops-by, keeps-by, wide-set_at}
-
-blank-narrow : (dir : Dir) (place height : ℕ) → All IsNarrow (blank_slots dir place height).areas
-blank-narrow dir place zero = All-cons IsNarrow (key_at dir place, 0) [] (omega arith) (All-nil IsNarrow)
-blank-narrow dir place (suc height) =
-    All-append IsNarrow (blank_slots dir place height).areas (blank_slots dir (place + 2 ^ height) height).areas
-    (blank-narrow dir place height) (blank-narrow dir (place + 2 ^ height) height)
-
--- areas of no bits need no slave
-blank-placed : (slaves : ℕ) (dir : Dir) (place height : ℕ) → All (IsPlaced slaves) (blank_slots dir place height).areas
-blank-placed slaves dir place zero = All-cons (IsPlaced slaves) (key_at dir place, 0) [] (λ wide. cc) (All-nil (IsPlaced slaves))
-blank-placed slaves dir place (suc height) =
-    All-append (IsPlaced slaves) (blank_slots dir place height).areas (blank_slots dir (place + 2 ^ height) height).areas
-    (blank-placed slaves dir place height) (blank-placed slaves dir (place + 2 ^ height) height)
+use Rattle.hc_bitsum.proofs.Shape.{length-set_at, with_bits-shaped}
+use Rattle.hc_bitsum.proofs.Listed.{StandFrom-set_at, drops-by, keeps-by, wide-set_at}
 
 -- a width is set of an area of a slave
 set_at-placed : (slaves : ℕ) (dir : Dir) (place at bits : ℕ) (areas : List Keyed) → StandFrom dir place areas → HasPlace slaves (key_at dir (place + at))
@@ -39,17 +26,6 @@ set_at-placed slaves dir place (suc at) bits (area ∷ areas) stand own all =
     let there : place + suc at ≡ place + 1 + at = omega arith in
     All-cons (IsPlaced slaves) area (set_at at bits areas) (All-head (IsPlaced slaves) area areas all)
     (set_at-placed slaves dir (place + 1) at bits areas stand.1 (subst (λ n. HasPlace slaves (key_at dir n)) there own) (All-tail (IsPlaced slaves) area areas all))
-
-pub blank-keeps : (dir : Dir) (slaves height : ℕ) → 8 * slaves ≤ 2 ^ height → height ≤ 15 → KeepsSlaves dir slaves (blank_slots dir 0 height)
-blank-keeps dir slaves height room low =
-    let many = blank-length dir 0 height in
-    let high = blank-height dir 0 height in
-    record {
-      keys = StandFrom-blank dir 0 height;
-      room = omega arith;
-      shape = record { many = many ∙ ap (λ n. 2 ^ n) (sym high); low = omega arith; narrow = blank-narrow dir 0 height };
-      places = blank-placed slaves dir 0 height;
-    }
 
 pub with_bits-keeps : (dir : Dir) (slaves : ℕ) (part : Slots) (at bits : ℕ) → bits ≤ 11888 → HasPlace slaves (key_at dir at) → KeepsSlaves dir slaves part
     → KeepsSlaves dir slaves (with_bits part at bits)

@@ -7,4 +7,10 @@ pub mod Halves
 pub mod From
 pub mod Kept
 pub mod Read
+pub mod Run
+pub mod Parts
+pub mod Sums
+pub mod Nodes
+pub mod Anew
+pub mod Blank
 pub mod lemmas

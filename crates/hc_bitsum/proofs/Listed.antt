@@ -1,18 +1,16 @@
 -- The areas with a width among those of one direction.
-use Rattle.std.proofs.Common.{◌≡◌, ℕ, zero, suc, ◌+◌, ◌/◌, ◌%◌, ◌^◌, ◌<◌, ◌≤◌, ◌==◌, Bool, true, false, ◌&&◌, ◌||◌, nat_lt, List, [], ◌∷◌, ◌++◌, length, refl, ap, subst, ◌∙◌, arith, if◌then◌else◌}
+use Rattle.std.proofs.Common.{◌≡◌, ℕ, zero, suc, ◌+◌, ◌/◌, ◌%◌, ◌<◌, ◌≤◌, ◌==◌, Bool, true, false, ◌&&◌, ◌||◌, nat_lt, List, [], ◌∷◌, ◌++◌, length, refl, ap, subst, arith, if◌then◌else◌}
 use Rattle.std.specs.Prelude.{filter}
 use Rattle.std.proofs.lemmas.Bool.Decides.{nat_tests}
-use Rattle.std.proofs.lemmas.List.Elements.{filter-append}
 use Rattle.hc_records.specs.declared.records.Dir.{Dir}
 use Rattle.hc_records.specs.declared.records.Dir.TheVariants.{Out, In}
 use Rattle.hc_records.specs.declared.keys.Key.{Key}
 use Rattle.hc_records.specs.Keys.{is_before}
 use Rattle.hc_records.specs.TaskList.{Keyed}
-use Rattle.hc_bitsum.specs.Slots.{blank_slots, key_at, set_at}
+use Rattle.hc_bitsum.specs.Slots.{key_at, set_at}
 use Rattle.hc_bitsum.specs.Tree.{has_width, with_width}
 use Rattle.hc_bitsum.specs.Places.{StandFrom}
 use Rattle.hc_bitsum.specs.Sums.{joined, sum_of, sum_of_area}
-use Rattle.hc_bitsum.proofs.Shape.{blank-length}
 
 first-by : (a b : ℕ) → a < b → (nat_lt (a / 8 + 1) (b / 8 + 1) || ((a / 8 + 1 == b / 8 + 1) && nat_lt (a % 8) (b % 8))) ≡ true
 first-by a b h = grind (arith, nat_tests)
@@ -38,21 +36,6 @@ pub StandFrom-set_at : (dir : Dir) (place at bits : ℕ) (areas : List Keyed) �
 StandFrom-set_at dir place at bits [] stand = stand
 StandFrom-set_at dir place zero bits (area ∷ areas) stand = stand
 StandFrom-set_at dir place (suc at) bits (area ∷ areas) stand = (stand.0, StandFrom-set_at dir (place + 1) at bits areas stand.1)
-
-pub StandFrom-blank : (dir : Dir) (place height : ℕ) → StandFrom dir place (blank_slots dir place height).areas
-StandFrom-blank dir place zero = (refl, tt)
-StandFrom-blank dir place (suc height) =
-    let many = blank-length dir place height in
-    let back : StandFrom dir (place + length (blank_slots dir place height).areas) (blank_slots dir (place + 2 ^ height) height).areas =
-    rw many (StandFrom-blank dir (place + 2 ^ height) height) in
-    StandFrom-append dir place (blank_slots dir place height).areas (blank_slots dir (place + 2 ^ height) height).areas (StandFrom-blank dir place height) back
-
--- areas of no bits have no width
-pub blank-empty : (dir : Dir) (place height : ℕ) → filter has_width (blank_slots dir place height).areas ≡ []
-blank-empty dir place zero = refl
-blank-empty dir place (suc height) =
-    filter-append has_width (blank_slots dir place height).areas (blank_slots dir (place + 2 ^ height) height).areas
-    ∙ rw (blank-empty dir place height, blank-empty dir (place + 2 ^ height) height) refl
 
 total-by : (wide : Bool) (x : Keyed) (xs : List Keyed) → has_width x ≡ wide → sum_of (filter has_width xs) ≡ sum_of xs
     → sum_of (if wide then x ∷ filter has_width xs else filter has_width xs) ≡ joined (sum_of_area x.0.dir x.1) (sum_of xs)

@@ -1,23 +1,22 @@
 -- What a scan finds in a list, and in two lists in a row.
-use Rattle.std.proofs.Common.{◌≡◌, ℕ, ◌+◌, ◌-◌, ◌<◌, ◌≤◌, Bool, true, false, List, [], ◌∷◌, ◌++◌, length, drop, refl, sym, ap, subst, ◌∙◌, arith, nat_le, if◌then◌else◌}
+use Rattle.std.proofs.Common.{◌≡◌, ℕ, ◌<◌, ◌≤◌, Bool, true, false, List, [], ◌∷◌, ◌++◌, length, drop, refl, sym, ap, subst, ◌∙◌, arith, nat_le, if◌then◌else◌}
 use Rattle.std.proofs.lemmas.Bool.Decides.{nat_tests}
-use Rattle.std.proofs.Math.Seq.{drop-append-add}
 use Rattle.std.proofs.lemmas.List.{drop-append-le}
 use Rattle.hc_records.specs.declared.keys.Key.{Key}
 use Rattle.hc_records.specs.TaskList.{Keyed}
 use Rattle.hc_bitsum.specs.declared.filled.Filled.{Filled}
 use Rattle.hc_bitsum.specs.declared.sum.Sum.{Sum}
-use Rattle.hc_bitsum.specs.declared.branch.Fit.{Fit}
-use Rattle.hc_bitsum.specs.declared.branch.Fit.TheVariants.{Found, Through}
+use Rattle.hc_bitsum.specs.declared.row.Fit.{Fit}
+use Rattle.hc_bitsum.specs.declared.row.Fit.TheVariants.{Found, Through}
 use Rattle.hc_bitsum.specs.Filling.{with_area, with_areas}
 use Rattle.hc_bitsum.specs.Sums.{ended, sum_of}
-use Rattle.hc_bitsum.specs.Search.{scan, most_steps}
+use Rattle.hc_bitsum.specs.Search.{IsInRoom, scan}
 use Rattle.hc_bitsum.proofs.Ends.{ended-sum_of, with_area-le}
 
 pub le-yes : (a b : ℕ) → a ≤ b → nat_le a b ≡ true
 le-yes a b h = grind (arith, nat_tests)
 
-le-no : (a b : ℕ) → b < a → nat_le a b ≡ false
+pub le-no : (a b : ℕ) → b < a → nat_le a b ≡ false
 le-no a b h = grind (arith, nat_tests)
 
 pub yes-le : (a b : ℕ) → nat_le a b ≡ true → a ≤ b
@@ -67,7 +66,7 @@ scan-append-found room filled (x ∷ xs) ys key h =
     (scan-append-found room (with_area filled x) xs ys key) h
 
 -- where the first list goes through, the second is scanned from there
-scan-append-through : (room : ℕ) (filled : Filled) (xs ys : List Keyed) (end : Filled) → scan room filled xs ≡ Through end → scan room filled (xs ++ ys) ≡ scan room end ys
+pub scan-append-through : (room : ℕ) (filled : Filled) (xs ys : List Keyed) (end : Filled) → scan room filled xs ≡ Through end → scan room filled (xs ++ ys) ≡ scan room end ys
 scan-append-through room filled [] ys end h = let same : filled ≡ end = cc in rw same refl
 scan-append-through room filled (x ∷ xs) ys end h =
     let step = step-by (nat_le (with_area filled x).bit room) room filled x xs end refl h in
@@ -77,9 +76,6 @@ scan-append-through room filled (x ∷ xs) ys end h =
 drop-left : (xs ys : List Keyed) (n : ℕ) → n < length xs → drop n (xs ++ ys) ≡ drop n xs ++ ys
 drop-left xs ys n h = drop-append-le n xs ys (omega arith)
 
-drop-right : (xs ys : List Keyed) (n : ℕ) → length xs ≤ n → drop n (xs ++ ys) ≡ drop (n - length xs) ys
-drop-right xs ys n h = let e : n ≡ length xs + (n - length xs) = omega arith in ap (λ m. drop m (xs ++ ys)) e ∙ drop-append-add xs ys (n - length xs)
-
 pub found-left : (xs ys : List Keyed) (skip room : ℕ) (filled : Filled) (key : Key) → skip < length xs
     → Found key ≡ scan room filled (drop skip xs) → Found key ≡ scan room filled (drop skip (xs ++ ys))
 found-left xs ys skip room filled key h f = rw (drop-left xs ys skip h) (sym (scan-append-found room filled (drop skip xs) ys key (sym f)))
@@ -88,10 +84,6 @@ pub through-left : (xs ys : List Keyed) (skip room : ℕ) (filled end : Filled) 
     → Through end ≡ scan room filled (drop skip xs) → answer ≡ scan room end ys → answer ≡ scan room filled (drop skip (xs ++ ys))
 through-left xs ys skip room filled end answer h f g =
     rw (drop-left xs ys skip h) (g ∙ sym (scan-append-through room filled (drop skip xs) ys end (sym f)))
-
-pub right-alone : (xs ys : List Keyed) (skip room : ℕ) (filled : Filled) (answer : Fit) → length xs ≤ skip
-    → answer ≡ scan room filled (drop (skip - length xs) ys) → answer ≡ scan room filled (drop skip (xs ++ ys))
-right-alone xs ys skip room filled answer h f = rw (drop-right xs ys skip h) f
 
 -- an area was found for which there is no room
 abbrev pub IsFound : Fit → Type 0
@@ -107,17 +99,16 @@ not-through room filled areas (Through end) h more e =
     let low = through.1 in
     absurd (omega arith)
 
--- one step at a node, the left part through, then the right part
-pub most-both : (front : Bool) (answer : Fit) (end : Filled) (height old middle new : ℕ) → middle ≤ old + 1 + most_steps front (Through end) height
-    → new ≤ middle + most_steps true answer height → (front ≡ true → IsFound answer) → new ≤ old + most_steps front answer (height + 1)
-most-both true (Found key) end height old middle new a b f = omega arith
-most-both true (Through x) end height old middle new a b f = absurd (f refl)
-most-both false (Found key) end height old middle new a b f = omega arith
-most-both false (Through x) end height old middle new a b f = omega arith
-
 -- what the kept sum says of the end
 pub kept-end : (sum : Sum) (areas : List Keyed) (filled : Filled) → sum ≡ sum_of areas → ended sum filled ≡ with_areas filled areas
 kept-end sum areas filled h = ap (λ (x : Sum). ended x filled) h ∙ ended-sum_of areas filled
 
-pub found-leaf : (area : Keyed) (room : ℕ) (filled : Filled) → room < (with_areas filled (area ∷ [])).bit → Found area.0 ≡ scan room filled (area ∷ [])
-found-leaf area room filled h = rw (le-no _ _ h) refl
+-- an area that is found leaves no question of room
+pub found-in : (room : ℕ) (answer : Fit) → IsFound answer → IsInRoom room answer
+found-in room (Found key) found = tt
+found-in room (Through end) found = absurd found
+
+-- what is found in the first part of two is found in both
+pub found-both : (room : ℕ) (filled : Filled) (xs ys : List Keyed) (answer : Fit) → IsFound answer → answer ≡ scan room filled xs → answer ≡ scan room filled (xs ++ ys)
+found-both room filled xs ys (Found key) found is = sym (scan-append-found room filled xs ys key (sym is))
+found-both room filled xs ys (Through end) found is = absurd found

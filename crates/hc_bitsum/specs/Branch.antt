@@ -1,22 +1,50 @@
 -- What a branch keeps of its areas.
-use Rattle.std.specs.Prelude.{◌≡◌, length}
-use Rattle.hc_bitsum.specs.Sums.{sum_of}
-use Rattle.hc_bitsum.specs.Slots.{Slots, IsShaped, leaf_slots, fork_slots}
-use Rattle.hc_bitsum.specs.declared.branch.Node.{Node}
-use Rattle.hc_bitsum.specs.declared.branch.Node.TheVariants.{Leaf, Fork}
-use Rattle.hc_bitsum.specs.declared.branch.Branch.TheInside.{Inside}
+use Rattle.std.specs.Prelude.{◌≡◌, ℕ, ◌+◌, ◌-◌, ◌*◌, ◌^◌, ◌<◌, ◌≤◌, All, List, length, get_or}
+use Rattle.hc_records.specs.declared.records.Dir.{Dir}
+use Rattle.hc_records.specs.TaskList.{Keyed}
+use Rattle.hc_bitsum.specs.declared.branch.Branch.{Branch}
+use Rattle.hc_bitsum.specs.declared.sum.Sum.{Sum}
+use Rattle.hc_bitsum.specs.declared.sum.Sum.TheVariants.{Empty}
+use Rattle.hc_bitsum.specs.Rows.{IsRow, part}
+use Rattle.hc_bitsum.specs.Slots.{Slots}
+use Rattle.hc_bitsum.specs.Sums.{joined, sum_of}
 
-abbrev pub slots_of : Node → Slots
-slots_of (Leaf key bits) = leaf_slots key bits
-slots_of (Fork left right) = fork_slots left.value right.value
+abbrev pub slots_of : Branch → Slots
+slots_of branch = record { height = branch.levels + 3; areas = part branch.dir branch.rows.items 0 (length branch.rows.items) }
 
--- both sides are whole and of one height
-abbrev pub HasEvenSides : Node → Type 0
-HasEvenSides (Leaf key bits) = Unit {0}
-HasEvenSides (Fork left right) = IsShaped left.value × IsShaped right.value × (left.value.height ≡ right.value.height)
+-- the sums of some rows stand in the last level
+abbrev pub AreRowSums : (ℕ → Type 0) → Dir → List (List ℕ) → List Sum → Type 0
+AreRowSums Some dir rows sums = (i : ℕ) → i < length rows → Some i → get_or sums (length rows + i) Empty ≡ sum_of (part dir rows i 1)
 
-pub record IsBranch (branch : Inside) : Type 0 where
-  pub shape : IsShaped (slots_of branch.node)
-  pub sides : HasEvenSides branch.node
-  pub sum : branch.sum ≡ sum_of (slots_of branch.node).areas
-  pub count : branch.areas ≡ length (slots_of branch.node).areas
+-- some nodes above the last level have the sum of the two below them
+abbrev pub AreForks : (ℕ → Type 0) → ℕ → List Sum → Type 0
+AreForks Some last sums = (k : ℕ) → 1 ≤ k → k < last → Some k → get_or sums k Empty ≡ joined (get_or sums (2 * k) Empty) (get_or sums (2 * k + 1) Empty)
+
+pub record AreSums (dir : Dir) (rows : List (List ℕ)) (sums : List Sum) : Type 0 where
+  pub leaves : AreRowSums (λ i. Unit {0}) dir rows sums
+  pub forks : AreForks (λ k. Unit {0}) (length rows) sums
+
+pub record IsBranch (branch : Branch) : Type 0 where
+  pub low : branch.levels ≤ 11
+  pub many : length branch.rows.items ≡ 2 ^ branch.levels
+  pub nodes : length branch.sums.items ≡ 2 * 2 ^ branch.levels
+  pub each : All IsRow branch.rows.items
+  pub are : AreSums branch.dir branch.rows.items branch.sums.items
+
+-- a node that stands so high above the last level
+pub record IsNode (levels height node : ℕ) : Type 0 where
+  pub high : height ≤ levels
+  pub from : 2 ^ (levels - height) ≤ node
+  pub below : node < 2 * 2 ^ (levels - height)
+
+-- the first row below a node, of those that it stands for
+abbrev pub first_of : ℕ → ℕ → ℕ → ℕ
+first_of levels height node = (node - 2 ^ (levels - height)) * 2 ^ height
+
+-- the areas that a node stands for
+abbrev pub node_areas : Branch → ℕ → ℕ → List Keyed
+node_areas branch height node = part branch.dir branch.rows.items (first_of branch.levels height node) (2 ^ height)
+
+-- the areas from a row on
+abbrev pub areas_behind : Branch → ℕ → List Keyed
+areas_behind branch row = part branch.dir branch.rows.items row (length branch.rows.items - row)

@@ -3,7 +3,7 @@ pub mod Sums
 pub mod Laws
 pub mod Search
 pub mod Slots
+pub mod Rows
 pub mod Branch
-pub mod BranchFalls
 pub mod Tree
 pub mod Places

@@ -2,6 +2,9 @@
 use Rattle.std.specs.Prelude.{◌≡◌, ℕ, ◌+◌, ◌*◌, ◌≤◌, true, All, List, [], ◌∷◌, length}
 use Rattle.hc_records.specs.declared.records.Dir.{Dir}
 use Rattle.hc_records.specs.TaskList.{Keyed}
+use Rattle.hc_records.specs.declared.records.Dir.TheVariants.{Out, In}
+use Rattle.hc_bitsum.specs.declared.branch.Branch.{Branch}
+use Rattle.hc_bitsum.specs.Branch.{IsBranch, slots_of}
 use Rattle.hc_bitsum.specs.Slots.{IsShaped, Slots, key_at}
 use Rattle.hc_bitsum.specs.Tree.{HasPlace, has_width}
 
@@ -20,3 +23,10 @@ pub record KeepsSlaves (dir : Dir) (slaves : ℕ) (part : Slots) : Type 0 where
   pub room : 8 * slaves ≤ length part.areas
   pub shape : IsShaped part
   pub places : All (IsPlaced slaves) part.areas
+
+-- the outputs and the inputs of a tree
+pub record KeepsAreas (slaves : ℕ) (outputs inputs : Branch) : Type 0 where
+  pub outs : KeepsSlaves Out slaves (slots_of outputs)
+  pub ins : KeepsSlaves In slaves (slots_of inputs)
+  pub out_sums : IsBranch outputs
+  pub in_sums : IsBranch inputs

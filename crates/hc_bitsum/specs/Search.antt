@@ -1,12 +1,12 @@
 -- The first area of a list for which a datagram has no room.
-use Rattle.std.specs.Prelude.{ℕ, ◌+◌, ◌*◌, ◌≤◌, nat_le, Bool, true, false, if◌then◌else◌, List, [], ◌∷◌}
+use Rattle.std.specs.Prelude.{ℕ, ◌≤◌, nat_le, if◌then◌else◌, List, [], ◌∷◌}
 use Rattle.hc_records.specs.declared.records.Dir.TheVariants.{In}
 use Rattle.hc_records.specs.declared.keys.Key.{Key}
 use Rattle.hc_records.specs.declared.keys.TheConstants.Key.{END}
 use Rattle.hc_records.specs.TaskList.{Keyed}
 use Rattle.hc_bitsum.specs.declared.filled.Filled.{Filled}
-use Rattle.hc_bitsum.specs.declared.branch.Fit.{Fit}
-use Rattle.hc_bitsum.specs.declared.branch.Fit.TheVariants.{Found, Through}
+use Rattle.hc_bitsum.specs.declared.row.Fit.{Fit}
+use Rattle.hc_bitsum.specs.declared.row.Fit.TheVariants.{Found, Through}
 use Rattle.hc_bitsum.specs.Filling.{with_area}
 
 -- the key of the first area that would end past the room, or END
@@ -28,13 +28,6 @@ key_or_end (Through filled) = END
 -- a datagram that a run begins at a bit: nothing before it makes a first input begin a byte
 abbrev pub begun : ℕ → Filled
 begun bit = record { bit = bit; last = In }
-
--- the nodes and areas that a search of a part of this height reads at most, by whether it begins at the part's front
-abbrev pub most_steps : Bool → Fit → ℕ → ℕ
-most_steps true (Through filled) height = 1
-most_steps true (Found key) height = 2 * height + 1
-most_steps false (Through filled) height = 2 * height + 1
-most_steps false (Found key) height = 4 * height + 1
 
 -- a search that goes through all areas leaves the datagram within the room
 abbrev pub IsInRoom : ℕ → Fit → Type 0

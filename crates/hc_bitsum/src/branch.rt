@@ -1,167 +1,187 @@
-//! A part of a tree: the areas of one direction, halved until each stands alone, and the sum of each half.
-ghost use Rattle.std.specs.Prelude.{◌≡◌, ◌+◌, ◌*◌, ◌^◌, ◌<◌, ◌≤◌, ℕ, length, drop, ◌==◌, IfOk};
+//! A part of a tree: the areas of one direction, a row for each slave, and above the rows a tree of sums in an array.
+//! Node 1 is the root, below node `k` stand `2 * k` and `2 * k + 1`, and the last level has a node for each row.
+ghost use Rattle.std.specs.Prelude.{◌≡◌, ◌+◌, ◌*◌, ◌^◌, ◌<◌, ◌≤◌, ℕ, All, IfOk, length, drop, get_or};
 ghost use Rattle.hc_records.specs.declared.limits.TheConstants.{MOST_AREA_BITS};
-ghost use Rattle.hc_bitsum.specs.Search.{IsInRoom, most_steps, scan};
-ghost use Rattle.hc_bitsum.specs.Slots.{IsShaped, bits_at, blank_slots, fork_slots, key_at, leaf_slots, with_bits};
-ghost use Rattle.hc_bitsum.specs.Sums.{sum_of};
+ghost use Rattle.hc_bitsum.specs.Branch.{AreForks, AreRowSums, AreSums, IsBranch, IsNode, areas_behind, node_areas, slots_of};
+ghost use Rattle.hc_bitsum.specs.Filling.{with_areas};
+ghost use Rattle.hc_bitsum.specs.Rows.{IsRow, blank_slots};
+ghost use Rattle.hc_bitsum.specs.Search.{IsInRoom, scan};
+ghost use Rattle.hc_bitsum.specs.Slots.{IsShaped, bits_at, with_bits};
+ghost use Rattle.hc_bitsum.specs.Sums.{ended, sum_of};
+ghost use Rattle.hc_bitsum.specs.declared.sum.Sum.TheVariants.{Empty};
 
 use crate::filled::Filled;
+use crate::row::{Fit, Row, fit_row, row_sum};
 use crate::steps::Steps;
 use crate::sum::Sum;
-use hc_records::keys::Key;
 use hc_records::records::Dir;
 use std::alloc::{AllocError, Global};
-use std::marker::Model;
 use std::sync::ledger::Ledger;
 
-/// What a search comes to: the key of the first area that would end past the room, or how far the
-/// datagram is filled behind all of them.
-#[derive(Clone, Copy, Debug)]
-pub(crate) enum Fit {
-    Found(Key),
-    Through(Filled),
-}
-
-impl Fit {
-    ghost use Rattle.std.specs.Prelude.{◌≡◌};
-    ghost use Rattle.hc_bitsum.specs.Search.{key_or_end};
-
-    /// The key that was found, or `Key::END`.
-    pub(crate) fn key_or_end(self) -> Key
-        ensures { result ≡ key_or_end self }
-    {
-        match self {
-            Fit::Found(key) => key,
-            Fit::Through(_) => Key::END,
-        }
-    }
-}
-
-/// Areas in key order, as many as a power of two, with the sum of all of them.
-#[cycle(branch)]
+/// The areas of one direction, with the sum of each node's areas.
 #[derive(Debug, Drop)]
 pub(crate) struct Branch {
-    sum: Sum,
-    areas: u32,
-    node: Node,
+    dir: Dir,
+    /// How many levels of nodes stand above the last one: 2 to the power of it rows.
+    levels: u32,
+    rows: Vec<Row>,
+    sums: Vec<Sum>,
 }
 
-/// An area with its width in bits, or two parts of one height.
-#[cycle(branch)]
-#[derive(Debug, Drop)]
-enum Node {
-    Leaf(Key, u16),
-    Fork(Box<Branch>, Box<Branch>),
-}
-
-impl Model for Branch {
-    ghost use Rattle.std.specs.Prelude.{ℕ};
-    ghost use Rattle.hc_bitsum.specs.Slots.{Slots};
-
-    ghost Value = { Slots };
-
-    ghost use Rattle.hc_bitsum.specs.Branch.{slots_of, IsBranch};
-
-    ghost view = { λ branch. slots_of branch.node };
-
-    ghost invariant = { IsBranch };
-
-    ghost size = { λ slots. slots.height };
-
-    ghost use Rattle.hc_bitsum.specs.BranchFalls.{falls};
-
-    ghost size_decreases = { falls };
-}
-
-/// The sum of two parts in a row, and how many areas they have.
-fn both(left: &Branch, right: &Branch) -> (Sum, u32)
-    requires height { left.now.height ≡ right.now.height }
-    requires low { left.now.height < 15 }
-    ensures sum { result.0 ≡ sum_of (fork_slots left.now right.now).areas }
-    ensures count { result.1 ≡ length (fork_slots left.now right.now).areas }
-    ensures shaped { IsShaped (fork_slots left.now right.now) }
-    ensures left { IsShaped left.now }
-    ensures right { IsShaped right.now }
+/// Sums a row, and what stands above it, anew.
+fn sum_anew(dir: Dir, levels: u32, rows: &[Row], sums: &mut [Sum], row: usize)
+    requires low { levels ≤ 11 }
+    requires many { length rows.now ≡ 2 ^ levels }
+    requires nodes { length sums.old ≡ 2 * 2 ^ levels }
+    requires each { All IsRow rows.now }
+    requires row { row < length rows.now }
+    requires rows { AreRowSums (λ i. i ≡ row → ⊥) dir rows.now sums.old }
+    requires forks { AreForks (λ k. Unit {0}) (length rows.now) sums.old }
+    ensures nodes { length sums.new ≡ 2 * 2 ^ levels }
+    ensures sums { AreSums dir rows.now sums.new }
 {
-    let sum = left.total();
-    let more = right.total();
-    (sum.join(more), left.areas() + right.areas())
-}
-
-/// The key at a place of a direction, from 0: 8 areas for each slave.
-pub(crate) fn key_at(dir: Dir, place: u32) -> Key
-    requires { place < 2 ^ 15 }
-    ensures { result ≡ key_at dir place }
-{
-    Key {
-        dir,
-        rank: (place / 8 + 1) as u16,
-        area: (place % 8) as u8,
+    let mut node = rows.len() + row;
+    sums[node] = row_sum(dir, &rows[row]);
+    for level in 0..levels {
+        node /= 2;
+        sums[node] = sums[2 * node].join(sums[2 * node + 1]);
     }
 }
 
 impl Branch {
-    /// How many areas it has.
-    pub(crate) fn areas(&self) -> u32
-        ensures count { result ≡ length self.now.areas }
-        ensures shaped { IsShaped self.now }
+    /// Areas of no bits: 2 to the power of the levels rows of them. `AllocError` where a growth was
+    /// refused.
+    pub(crate) fn blank(alloc: Global, dir: Dir, levels: u32) -> Result<Branch, AllocError>
+        requires low { levels ≤ 11 }
+        ensures slots { IfOk result (λ branch. slots_of branch ≡ blank_slots dir levels) }
+        ensures branch { IfOk result IsBranch }
     {
-        self.areas
+        let rows = 1 << levels;
+        Ok(Branch {
+            dir,
+            levels,
+            rows: Vec::from_elem(alloc, [0; 8], rows)?,
+            sums: Vec::from_elem(alloc, Sum::Empty, 2 * rows)?,
+        })
     }
 
     /// The sum of all its areas.
     pub(crate) fn total(&self) -> Sum
-        ensures sum { result ≡ sum_of self.now.areas }
-        ensures shaped { IsShaped self.now }
+        requires { IsBranch self.now }
+        ensures sum { result ≡ sum_of (slots_of self.now).areas }
+        ensures shaped { IsShaped (slots_of self.now) }
     {
-        self.sum
+        self.sums[1]
     }
 
-    /// One area.
-    fn leaf(key: Key, bits: u16) -> Branch
-        requires { bits ≤ MOST_AREA_BITS }
-        ensures { result ≡ leaf_slots key bits }
+    /// How far a datagram is filled once all areas of a node stand in it. The node is read, a step.
+    fn behind_node<L: Ledger>(&self, node: usize, filled: Filled, steps: &mut Steps<L>) -> Filled
+        requires node { node < length self.now.sums.items }
+        requires here { filled.bit < 2 ^ 31 }
+        requires there { (ended (get_or self.now.sums.items node Empty) filled).bit < 2 ^ 32 }
+        ensures end { result ≡ ended (get_or self.now.sums.items node Empty) filled }
+        ensures step { steps.new ≡ steps.old + 1 }
     {
-        Branch {
-            sum: Sum::of(key.dir, bits),
-            areas: 1,
-            node: Node::Leaf(key, bits),
-        }
+        steps.tick();
+        filled.after(&self.sums[node])
     }
 
-    /// Two parts of one height, one after the other.
-    fn fork(left: Box<Branch>, right: Box<Branch>) -> Branch
-        requires height { left.value.height ≡ right.value.height }
-        requires low { left.value.height < 15 }
-        ensures { result ≡ fork_slots left.value right.value }
+    /// Fills a datagram with the areas of a node that it has no room for all of, as long as each ends
+    /// within the room, in bits. Each node and area that is read is a step.
+    fn fit_below<L: Ledger>(
+        &self,
+        top: u32,
+        from: usize,
+        filled: Filled,
+        room: u32,
+        steps: &mut Steps<L>,
+    ) -> Fit
+        requires branch { IsBranch self.now }
+        requires node { IsNode self.now.levels top from }
+        requires here { filled.bit ≤ room }
+        requires room { room < 2 ^ 30 }
+        requires beyond { room < (with_areas filled (node_areas self.now top from)).bit }
+        ensures fit { result ≡ scan room filled (node_areas self.now top from) }
+        ensures least { steps.old ≤ steps.new }
+        ensures most { steps.new ≤ steps.old + top + 8 }
     {
-        let (sum, areas) = both(&left, &right);
-        Branch {
-            sum,
-            areas,
-            node: Node::Fork(left, right),
+        let mut node = from;
+        let mut height = top;
+        let mut so_far = filled;
+        while height > 0 {
+            height -= 1;
+            let left = 2 * node;
+            let end = self.behind_node(left, so_far, steps);
+            if end.bit <= room {
+                so_far = end;
+                node = left + 1;
+            } else {
+                node = left;
+            }
         }
+        let row = node - self.rows.len();
+        fit_row(
+            self.dir,
+            &self.rows[row],
+            8 * row as u32,
+            0,
+            so_far,
+            room,
+            steps,
+        )
     }
 
-    /// Areas of no bits, the first of them at a place of the direction: 2 to the power of the height.
-    /// `AllocError` where a growth was refused.
-    pub(crate) fn blank(
-        alloc: Global,
-        dir: Dir,
-        place: u32,
-        height: u32,
-    ) -> Result<Branch, AllocError>
-        requires low { height ≤ 15 }
-        requires places { place + 2 ^ height ≤ 2 ^ 15 }
-        ensures { IfOk result (λ branch. branch ≡ blank_slots dir place height) }
+    /// Fills a datagram with the areas behind a row, as long as each ends within the room, in bits. Each
+    /// node and area that is read is a step.
+    fn fit_behind<L: Ledger>(
+        &self,
+        row: usize,
+        filled: Filled,
+        room: u32,
+        steps: &mut Steps<L>,
+    ) -> Fit
+        requires branch { IsBranch self.now }
+        requires row { row < length self.now.rows.items }
+        requires here { filled.bit ≤ room }
+        requires room { room < 2 ^ 30 }
+        ensures fit { result ≡ scan room filled (areas_behind self.now (row + 1)) }
+        ensures end { IsInRoom room result }
+        ensures least { steps.old ≤ steps.new }
+        ensures most { steps.new ≤ steps.old + 30 }
     {
-        if height == 0 {
-            return Ok(Branch::leaf(key_at(dir, place), 0));
+        let mut node = self.rows.len() + row;
+        let mut height = 0;
+        let mut so_far = filled;
+        while height < self.levels {
+            if node % 2 == 0 {
+                let end = self.behind_node(node + 1, so_far, steps);
+                if end.bit > room {
+                    return self.fit_below(height, node + 1, so_far, room, steps);
+                }
+                so_far = end;
+            }
+            node /= 2;
+            height += 1;
         }
-        let left = Box::new(alloc, Branch::blank(alloc, dir, place, height - 1)?)?;
-        let middle = place + left.areas();
-        let right = Box::new(alloc, Branch::blank(alloc, dir, middle, height - 1)?)?;
-        Ok(Branch::fork(left, right))
+        Fit::Through(so_far)
+    }
+
+    /// Fills a datagram with all its areas, as long as each ends within the room, in bits. Each node and
+    /// area that is read is a step.
+    pub(crate) fn fit_all<L: Ledger>(&self, filled: Filled, room: u32, steps: &mut Steps<L>) -> Fit
+        requires branch { IsBranch self.now }
+        requires here { filled.bit ≤ room }
+        requires room { room < 2 ^ 30 }
+        ensures fit { result ≡ scan room filled (slots_of self.now).areas }
+        ensures end { IsInRoom room result }
+        ensures least { steps.old + 1 ≤ steps.new }
+        ensures most { steps.new ≤ steps.old + 20 }
+    {
+        let end = self.behind_node(1, filled, steps);
+        if end.bit <= room {
+            return Fit::Through(end);
+        }
+        self.fit_below(self.levels, 1, filled, room, steps)
     }
 
     /// Fills a datagram with its areas from the one behind `skip` others, as long as each ends within
@@ -173,77 +193,52 @@ impl Branch {
         room: u32,
         steps: &mut Steps<L>,
     ) -> Fit
-        requires within { skip < length self.now.areas }
+        requires branch { IsBranch self.now }
+        requires within { skip < length (slots_of self.now).areas }
         requires here { filled.bit ≤ room }
         requires room { room < 2 ^ 30 }
-        ensures fit { result ≡ scan room filled (drop skip self.now.areas) }
+        ensures fit { result ≡ scan room filled (drop skip (slots_of self.now).areas) }
         ensures end { IsInRoom room result }
         ensures least { steps.old + 1 ≤ steps.new }
-        ensures most { steps.new ≤ steps.old + most_steps (skip == 0) result self.now.height }
+        ensures most { steps.new ≤ steps.old + 38 }
     {
-        steps.tick();
-        if skip == 0 {
-            let end = filled.after(&self.sum);
-            if end.bit <= room {
-                return Fit::Through(end);
-            }
-        }
-        match &self.node {
-            Node::Leaf(key, _) => Fit::Found(*key),
-            Node::Fork(left, right) => {
-                let half = left.areas();
-                if skip >= half {
-                    return right.fit(skip - half, filled, room, steps);
-                }
-                match left.fit(skip, filled, room, steps) {
-                    Fit::Found(key) => Fit::Found(key),
-                    Fit::Through(end) => right.fit(0, end, room, steps),
-                }
-            }
+        let row = (skip / 8) as usize;
+        let area = (skip % 8) as usize;
+        match fit_row(
+            self.dir,
+            &self.rows[row],
+            skip / 8 * 8,
+            area,
+            filled,
+            room,
+            steps,
+        ) {
+            Fit::Found(key) => Fit::Found(key),
+            Fit::Through(end) => self.fit_behind(row, end, room, steps),
         }
     }
 
-    /// The width of the area behind `at` others, in bits. Each node and area that is read is a step.
+    /// The width of the area behind `at` others, in bits: a step.
     pub(crate) fn width<L: Ledger>(&self, at: u32, reads: &mut Steps<L>) -> u16
-        requires { at < length self.now.areas }
-        ensures width { result ≡ bits_at at self.now.areas }
-        ensures steps { reads.new ≡ reads.old + 1 + self.now.height }
+        requires branch { IsBranch self.now }
+        requires within { at < length (slots_of self.now).areas }
+        ensures width { result ≡ bits_at at (slots_of self.now).areas }
+        ensures steps { reads.new ≡ reads.old + 1 }
     {
         reads.tick();
-        match &self.node {
-            Node::Leaf(_, bits) => *bits,
-            Node::Fork(left, right) => {
-                let half = left.areas();
-                if at < half {
-                    left.width(at, reads)
-                } else {
-                    right.width(at - half, reads)
-                }
-            }
-        }
+        self.rows[(at / 8) as usize][(at % 8) as usize]
     }
 
     /// Sets the width of the area behind `at` others, in bits.
     pub(crate) fn set(&mut self, at: u32, bits: u16)
-        requires within { at < length self.old.areas }
+        requires branch { IsBranch self.old }
+        requires within { at < length (slots_of self.old).areas }
         requires bits { bits ≤ MOST_AREA_BITS }
-        ensures { self.new ≡ with_bits self.old at bits }
+        ensures slots { slots_of self.new ≡ with_bits (slots_of self.old) at bits }
+        ensures branch { IsBranch self.new }
     {
-        match &mut self.node {
-            Node::Leaf(key, own_bits) => {
-                *own_bits = bits;
-                self.sum = Sum::of(key.dir, bits);
-            }
-            Node::Fork(left, right) => {
-                let half = left.areas();
-                if at < half {
-                    left.set(at, bits);
-                } else {
-                    right.set(at - half, bits);
-                }
-                let (sum, _areas) = both(left, right);
-                self.sum = sum;
-            }
-        }
+        let row = (at / 8) as usize;
+        self.rows[row][(at % 8) as usize] = bits;
+        sum_anew(self.dir, self.levels, &self.rows, &mut self.sums, row);
     }
 }

@@ -1,9 +1,12 @@
 //! How far a datagram is filled.
-ghost use Rattle.std.specs.Prelude.{◌≡◌, ◌+◌, ◌^◌, ◌<◌};
+ghost use Rattle.std.specs.Prelude.{◌≡◌, ◌+◌, ◌^◌, ◌<◌, ℕ};
+ghost use Rattle.hc_bitsum.specs.Filling.{with_area};
 ghost use Rattle.hc_bitsum.specs.Search.{begun};
+ghost use Rattle.hc_bitsum.specs.Slots.{key_at};
 ghost use Rattle.hc_bitsum.specs.Sums.{ended};
 
-use crate::sum::Sum;
+use crate::borders::is_turning;
+use crate::sum::{Sum, start_at};
 use hc_records::records::Dir;
 
 /// How far a datagram is filled: its first free bit, and the direction of the area before that bit.
@@ -30,5 +33,20 @@ impl Filled {
         ensures { result ≡ ended run.now self }
     {
         run.ended(self)
+    }
+
+    /// How far it is filled once one more area, of a width in bits, stands behind what fills it.
+    pub(crate) fn behind_area(self, dir: Dir, bits: u16) -> Filled
+        requires { self.bit < 2 ^ 31 }
+        ensures { (place : ℕ) → result ≡ with_area self (key_at dir place, bits) }
+    {
+        if bits == 0 {
+            return self;
+        }
+        let begins_byte = bits >= 8 || is_turning(self.last, dir);
+        Filled {
+            bit: start_at(begins_byte, self.bit) + u32::from(bits),
+            last: dir,
+        }
     }
 }

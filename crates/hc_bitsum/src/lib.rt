@@ -6,6 +6,7 @@ pub mod borders;
 mod branch;
 pub mod filled;
 pub mod laws;
+mod row;
 pub mod steps;
 pub mod sum;
 #[cfg(test)]

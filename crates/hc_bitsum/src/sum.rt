@@ -21,8 +21,8 @@ pub enum Sum {
     },
 }
 
-/// The bit from which a run starts behind another.
-fn start_at(turns: bool, bit: u32) -> u32
+/// The bit from which a run starts: the next byte's first one where it begins a byte.
+pub(crate) fn start_at(turns: bool, bit: u32) -> u32
     requires { bit < 2 ^ 31 }
     ensures { result ≡ start_at turns bit }
 {

@@ -2,11 +2,13 @@
 ghost use Rattle.std.specs.Prelude.{◌≡◌, ◌+◌, ◌*◌, ◌^◌, ◌<◌, ◌≤◌, ◌++◌, drop, length};
 ghost use Rattle.hc_records.specs.declared.limits.TheConstants.{MOST_SLAVES};
 ghost use Rattle.hc_bitsum.specs.Tree.{CanBegin, HasPlace, HoldsTaskList};
+ghost use Rattle.hc_bitsum.specs.Branch.{IsBranch, slots_of};
 ghost use Rattle.hc_bitsum.specs.Search.{scan};
-ghost use Rattle.hc_bitsum.specs.Slots.{IsShaped, key_at};
+ghost use Rattle.hc_bitsum.specs.Slots.{key_at};
 
-use crate::branch::{Branch, Fit};
+use crate::branch::Branch;
 use crate::filled::Filled;
+use crate::row::Fit;
 use crate::steps::Steps;
 use crate::sum::Sum;
 use hc_records::keys::Key;
@@ -25,29 +27,29 @@ pub struct SumTree {
 
 impl Model for SumTree {
     ghost use Rattle.std.specs.Prelude.{◌++◌, filter};
-    ghost use Rattle.hc_records.specs.declared.records.Dir.TheVariants.{Out, In};
+    ghost use Rattle.hc_bitsum.specs.Branch.{slots_of};
     ghost use Rattle.hc_bitsum.specs.Tree.{Tree, has_width};
-    ghost use Rattle.hc_bitsum.specs.Places.{KeepsSlaves};
+    ghost use Rattle.hc_bitsum.specs.Places.{KeepsAreas};
 
     ghost Value = { Tree };
 
-    ghost view = { λ tree. record { slaves = tree.slaves; list = filter has_width (tree.outputs.areas ++ tree.inputs.areas) } };
+    ghost view = { λ tree. record { slaves = tree.slaves; list = filter has_width ((slots_of tree.outputs).areas ++ (slots_of tree.inputs).areas) } };
 
-    ghost invariant = { λ tree. KeepsSlaves Out tree.slaves tree.outputs × KeepsSlaves In tree.slaves tree.inputs };
+    ghost invariant = { λ tree. KeepsAreas tree.slaves tree.outputs tree.inputs };
 }
 
-/// The least height whose areas are 8 for each slave.
-fn height_of(slaves: u16) -> u32
+/// The least power of two that is at least the number of slaves, or 1: its exponent.
+fn levels_of(slaves: u16) -> u32
     requires { slaves ≤ MOST_SLAVES }
-    ensures room { 8 * slaves ≤ 2 ^ result }
-    ensures low { result ≤ 14 }
+    ensures room { slaves ≤ 2 ^ result }
+    ensures low { result ≤ 11 }
 {
-    for height in 0..14 {
-        if 8 * u32::from(slaves) <= 1 << height {
-            return height;
+    for levels in 0..11 {
+        if u32::from(slaves) <= 1 << levels {
+            return levels;
         }
     }
-    14
+    11
 }
 
 /// The place of a key in its direction.
@@ -70,18 +72,18 @@ fn fit_both<L: Ledger>(
     room: u32,
     steps: &mut Steps<L>,
 ) -> Fit
-    requires within { skip < length first.now.areas }
-    requires first { IsShaped first.now }
-    requires second { IsShaped second.now }
+    requires first { IsBranch first.now }
+    requires second { IsBranch second.now }
+    requires within { skip < length (slots_of first.now).areas }
     requires here { filled.bit ≤ room }
     requires room { room < 2 ^ 30 }
-    ensures fit { result ≡ scan room filled (drop skip (first.now.areas ++ second.now.areas)) }
+    ensures fit { result ≡ scan room filled (drop skip ((slots_of first.now).areas ++ (slots_of second.now).areas)) }
     ensures least { steps.old + 1 ≤ steps.new }
     ensures most { steps.new ≤ steps.old + 62 }
 {
     match first.fit(skip, filled, room, steps) {
         Fit::Found(key) => Fit::Found(key),
-        Fit::Through(end) => second.fit(0, end, room, steps),
+        Fit::Through(end) => second.fit_all(end, room, steps),
     }
 }
 
@@ -101,11 +103,11 @@ impl SumTree {
         requires { slaves ≤ MOST_SLAVES }
         ensures { IfOk result (λ tree. tree ≡ record { slaves = slaves; list = [] }) }
     {
-        let height = height_of(slaves);
+        let levels = levels_of(slaves);
         Ok(SumTree {
             slaves,
-            outputs: Branch::blank(alloc, Dir::Out, 0, height)?,
-            inputs: Branch::blank(alloc, Dir::In, 0, height)?,
+            outputs: Branch::blank(alloc, Dir::Out, levels)?,
+            inputs: Branch::blank(alloc, Dir::In, levels)?,
         })
     }
 

@@ -1,4 +1,4 @@
--- The input image: for each datagram the data of its last good answer in the present epoch, or none.
+-- The input image: for each datagram the data of its last good answer in the present epoch, or none (this project's profile; a datagram has at most 1,486 bytes of data by ETG.1000.4, 5.3 and 5.4).
 use Rattle.std.specs.Prelude.{◌≡◌, ℕ, ◌+◌, ◌*◌, ◌<◌, ◌==◌, ◌&&◌, if◌then◌else◌, List, length, map, slice_index_or, Option, Some, None}
 use Rattle.std.specs.List.{range_with_len}
 use Rattle.hc_records.specs.declared.limits.TheConstants.{MOST_DATAGRAMS, TASKS}

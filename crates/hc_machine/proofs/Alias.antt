@@ -6,9 +6,9 @@ use Rattle.hc_frames.specs.declared.commands.Command.{Command}
 use Rattle.hc_frames.specs.declared.commands.Command.TheVariants.{Aprd, Apwr, Fpwr, Lrw}
 use Rattle.hc_frames.specs.Arrived.{fault_in, reading_of}
 use Rattle.hc_frames.specs.FrameText.{Carried}
-use Rattle.hc_machine.specs.Commands.{count_of, is_at_position, is_at_station, kept, memory_after, register_of, served, written}
+use Rattle.hc_machine.specs.Commands.{count_of, is_at_position, is_at_station, memory_behind_datagram, memory_behind_command, register_of, served, written}
 use Rattle.hc_machine.specs.Fmmus.{fmmus_of}
-use Rattle.hc_machine.specs.Frames.{all_kept, memory_behind}
+use Rattle.hc_machine.specs.Frames.{memory_behind_datagrams, memory_behind}
 use Rattle.hc_machine.specs.Laws.{AliasStays, CountersRise}
 use Rattle.hc_machine.specs.Logical.{logical_count, logical_memory, reads_any, writes_any}
 use Rattle.hc_machine.specs.Memory.{with_alias_of, with_part}
@@ -44,34 +44,34 @@ same-logical : (memory bytes : List ℕ) (from : ℕ) → length memory ≡ 1228
 unfolding logical_memory
 same-logical memory bytes from long = put-back memory _ (length-bytes_with (length memory) _ ∙ long)
 
-same-after : (command : Command) (memory bytes : List ℕ) (address : ℕ) → length memory ≡ 12288 → SameAlias memory (memory_after command memory address bytes)
+same-after : (command : Command) (memory bytes : List ℕ) (address : ℕ) → length memory ≡ 12288 → SameAlias memory (memory_behind_command command memory address bytes)
 same-after Aprd memory bytes address long = record { long = long; low = refl; high = refl }
 same-after Apwr memory bytes address long = same-if (is_at_position address (length bytes)) memory bytes (register_of address) long (λ e. grind (arith, nat_tests))
 same-after Fpwr memory bytes address long = same-if (is_at_station memory address (length bytes)) memory bytes (register_of address) long (λ e. grind (arith, nat_tests))
 same-after Lrw memory bytes address long = same-logical memory bytes (8 * address) long
 
-same-kept : (memory : List ℕ) (d : Carried) → length memory ≡ 12288 → SameAlias memory (kept memory d)
-unfolding kept
+same-kept : (memory : List ℕ) (d : Carried) → length memory ≡ 12288 → SameAlias memory (memory_behind_datagram memory d)
+unfolding memory_behind_datagram
 same-kept memory d long = same-after d.command memory d.bytes d.address long
 
-pub length-kept : (memory : List ℕ) (d : Carried) → length memory ≡ 12288 → length (kept memory d) ≡ 12288
+pub length-kept : (memory : List ℕ) (d : Carried) → length memory ≡ 12288 → length (memory_behind_datagram memory d) ≡ 12288
 length-kept memory d long = (same-kept memory d long).long
 
-same-all : (memory : List ℕ) (ds : List Carried) → length memory ≡ 12288 → SameAlias memory (all_kept memory ds)
+same-all : (memory : List ℕ) (ds : List Carried) → length memory ≡ 12288 → SameAlias memory (memory_behind_datagrams memory ds)
 same-all memory [] long = record { long = long; low = refl; high = refl }
 same-all memory (d ∷ ds) long =
-    let first : SameAlias memory (kept memory d) = same-kept memory d long in
-    let others : SameAlias (kept memory d) (all_kept (kept memory d) ds) = same-all (kept memory d) ds first.long in
+    let first : SameAlias memory (memory_behind_datagram memory d) = same-kept memory d long in
+    let others : SameAlias (memory_behind_datagram memory d) (memory_behind_datagrams (memory_behind_datagram memory d) ds) = same-all (memory_behind_datagram memory d) ds first.long in
     record { long = others.long; low = others.low ∙ first.low; high = others.high ∙ first.high }
 
-same-read : (b : Bool) (memory : List ℕ) (ds : List Carried) → length memory ≡ 12288 → SameAlias memory (if b then all_kept memory ds else memory)
+same-read : (b : Bool) (memory : List ℕ) (ds : List Carried) → length memory ≡ 12288 → SameAlias memory (if b then memory_behind_datagrams memory ds else memory)
 same-read true memory ds long = same-all memory ds long
 same-read false memory ds long = record { long = long; low = refl; high = refl }
 
 pub alias-stays : AliasStays
 unfolding memory_behind
 alias-stays memory frame long =
-    let same : SameAlias memory (if is_none (fault_in frame) then all_kept memory (reading_of frame).parts else memory) = same-read (is_none (fault_in frame)) memory (reading_of frame).parts long in
+    let same : SameAlias memory (if is_none (fault_in frame) then memory_behind_datagrams memory (reading_of frame).parts else memory) = same-read (is_none (fault_in frame)) memory (reading_of frame).parts long in
     (same.long, same.low, same.high)
 
 one-most : (b : Bool) → (if b then 1 else 0) ≤ 3

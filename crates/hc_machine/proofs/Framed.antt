@@ -12,7 +12,7 @@ use Rattle.hc_frames.specs.Arrived.{Answers, Reading, datagram_bytes, datagrams_
 use Rattle.hc_frames.specs.FrameText.{Carried, carried_frame, carried_texts, head_to}
 use Rattle.hc_frames.proofs.lemmas.Opening.{drop_front, drop_twice}
 use Rattle.hc_frames.proofs.lemmas.Spelling.{frame-carried}
-use Rattle.hc_machine.specs.Frames.{all_kept, all_served, frame_after, memory_behind}
+use Rattle.hc_machine.specs.Frames.{memory_behind_datagrams, all_served, frame_after, memory_behind}
 use Rattle.hc_machine.specs.Rewriting.{ServesTexts}
 
 -- what the reader answers
@@ -111,7 +111,7 @@ module _ (bytes : List ℕ) (all : All (λ b. b < 256) bytes) (none : is_none (f
   head-text = ap (take 16) whole-frame ∙ take_at (head (length text)) (text ++ behind) 16 (head-size (length text))
 
   module _ (memory memory' region' : List ℕ) (same : length region' ≡ length (region bytes)) (serves : ServesTexts memory memory' (region bytes) region') where
-    done : (region' ≡ carried_texts serial (all_served memory parts)) × (memory' ≡ all_kept memory parts)
+    done : (region' ≡ carried_texts serial (all_served memory parts)) × (memory' ≡ memory_behind_datagrams memory parts)
     done = serves serial parts (frame-carried bytes all (no-fault _ none)).0.fits region-text
 
     pub frame-served : (n : ℕ) → n ≡ datagram_bytes bytes → take 16 bytes ++ (region' ++ drop n (drop 16 bytes)) ≡ frame_after memory bytes
@@ -126,4 +126,4 @@ module _ (bytes : List ℕ) (all : All (λ b. b < 256) bytes) (none : is_none (f
 
     pub memory-served : memory' ≡ memory_behind memory bytes
     unfolding memory_behind
-    memory-served = done.1 ∙ sym (ap (λ (b : Bool). if b then all_kept memory parts else memory) none)
+    memory-served = done.1 ∙ sym (ap (λ (b : Bool). if b then memory_behind_datagrams memory parts else memory) none)

@@ -15,8 +15,8 @@ use Rattle.hc_frames.proofs.lemmas.Opening.{drop_twice}
 use Rattle.hc_frames.proofs.lemmas.Readings.{behind-read, carried-read, size-read}
 use Rattle.hc_frames.proofs.lemmas.Replaced.{first_text}
 use Rattle.hc_frames.proofs.lemmas.Texts.{length-carried_text}
-use Rattle.hc_machine.specs.Commands.{address_after, count_of, data_after, memory_after, is_at_position, kept, register_of, served}
-use Rattle.hc_machine.specs.Frames.{all_kept, all_served}
+use Rattle.hc_machine.specs.Commands.{address_after, count_of, data_after, memory_behind_command, is_at_position, memory_behind_datagram, register_of, served}
+use Rattle.hc_machine.specs.Frames.{memory_behind_datagrams, all_served}
 use Rattle.hc_machine.specs.Logical.{logical_data}
 use Rattle.hc_machine.specs.Memory.{bytes_with, with_part}
 use Rattle.hc_machine.specs.Rewriting.{ServesTexts, rewritten}
@@ -64,11 +64,11 @@ module _ (memory old : List ℕ) (command : Command) (address : ℕ) (exact : le
   taken-data : taken ≡ (carried old).bytes
   taken-data = let count : length old - 2 - 10 ≡ 10 + data_size old - 10 = omega arith in ap (λ (n : ℕ). take n (drop 10 old)) count
 
-  pub kept-in-place : (memory' : List ℕ) → memory' ≡ memory_after command memory address taken → memory' ≡ kept memory (carried old)
-  unfolding kept
+  pub kept-in-place : (memory' : List ℕ) → memory' ≡ memory_behind_command command memory address taken → memory' ≡ memory_behind_datagram memory (carried old)
+  unfolding memory_behind_datagram
   kept-in-place memory' is =
-      is ∙ ap (λ (c : Command). memory_after c memory address taken) is_command ∙ ap (λ (a : ℕ). memory_after (carried old).command memory a taken) is_address
-      ∙ ap (memory_after (carried old).command memory (carried old).address) taken-data
+      is ∙ ap (λ (c : Command). memory_behind_command c memory address taken) is_command ∙ ap (λ (a : ℕ). memory_behind_command (carried old).command memory a taken) is_address
+      ∙ ap (memory_behind_command (carried old).command memory (carried old).address) taken-data
 
   pub served-in-place : (counter count address' : ℕ) (data' mid last : List ℕ) → counter ≡ word_at old (length old - 2)
       → data' ≡ data_after command memory address taken → length data' ≡ length old - 2 - 10
@@ -103,7 +103,7 @@ module _ (memory old : List ℕ) (command : Command) (address : ℕ) (exact : le
 -- the first datagram is served, then the others
 pub texts-served : (memory kept_first kept_last region first rest first' rest' : List ℕ) → length memory ≡ 12288 → 0 < length region
     → first ≡ take (12 + data_size region) region → rest ≡ drop (12 + data_size region) region
-    → first' ≡ rewritten first (served memory (carried first)) → kept_first ≡ kept memory (carried first)
+    → first' ≡ rewritten first (served memory (carried first)) → kept_first ≡ memory_behind_datagram memory (carried first)
     → ServesTexts kept_first kept_last rest rest' → ServesTexts memory kept_last region (first' ++ rest')
 texts-served memory kept_first kept_last region first rest first' rest' long some is_first is_rest is_served is_kept others serial [] fits text = absurd (omega (arith, ap length text))
 texts-served memory kept_first kept_last region first rest first' rest' long some is_first is_rest is_served is_kept others serial (d ∷ ds) fits text =
@@ -116,15 +116,15 @@ texts-served memory kept_first kept_last region first rest first' rest' long som
     let here_first : first ≡ here = is_first ∙ ap (λ (n : ℕ). take n region) size ∙ ap (take (length here)) region_is ∙ take_at here behind (length here) refl in
     let here_rest : rest ≡ behind = is_rest ∙ ap (λ (xs : List ℕ). drop (12 + data_size xs) xs) region_is ∙ behind-read serial more d behind good in
     let read : carried first ≡ d = ap carried (here_first ∙ sym (append-nil here)) ∙ carried-read serial more d [] good in
-    let kept_is : kept_first ≡ kept memory d = is_kept ∙ ap (kept memory) read in
+    let kept_is : kept_first ≡ memory_behind_datagram memory d = is_kept ∙ ap (memory_behind_datagram memory) read in
     let done : first' ≡ carried_text serial more (served memory d) =
     is_served ∙ ap (λ (xs : List ℕ). rewritten xs (served memory (carried first))) here_first ∙ ap (λ (c : Carried). rewritten here (served memory c)) read ∙ served-text serial more memory d long in
     let left = others serial ds (All-tail FitsLine d ds fits) here_rest in
-    let left_text : rest' ≡ carried_texts serial (all_served (kept memory d) ds) = left.0 ∙ ap (λ (m : List ℕ). carried_texts serial (all_served m ds)) kept_is in (
+    let left_text : rest' ≡ carried_texts serial (all_served (memory_behind_datagram memory d) ds) = left.0 ∙ ap (λ (m : List ℕ). carried_texts serial (all_served m ds)) kept_is in (
       ap₂ (λ (xs ys : List ℕ). xs ++ ys) done left_text
-          ∙ ap (λ (b : Bool). carried_text serial b (served memory d) ++ carried_texts serial (all_served (kept memory d) ds)) (sym (more-served (kept memory d) ds))
-          ∙ sym (first_text serial (served memory d) (all_served (kept memory d) ds)),
-      left.1 ∙ ap (λ (m : List ℕ). all_kept m ds) kept_is,
+          ∙ ap (λ (b : Bool). carried_text serial b (served memory d) ++ carried_texts serial (all_served (memory_behind_datagram memory d) ds)) (sym (more-served (memory_behind_datagram memory d) ds))
+          ∙ sym (first_text serial (served memory d) (all_served (memory_behind_datagram memory d) ds)),
+      left.1 ∙ ap (λ (m : List ℕ). memory_behind_datagrams m ds) kept_is,
     )
 
 pub none-served : (memory region : List ℕ) → length region ≡ 0 → ServesTexts memory memory region region

@@ -34,11 +34,11 @@ unfoldable pub written : List ℕ → ℕ → List ℕ → List ℕ
 written memory register bytes = with_alias_of memory (with_part register bytes memory)
 
 -- the memory behind a datagram
-abbrev pub memory_after : Command → List ℕ → ℕ → List ℕ → List ℕ
-memory_after Aprd memory address bytes = memory
-memory_after Apwr memory address bytes = if is_at_position address (length bytes) then written memory (register_of address) bytes else memory
-memory_after Fpwr memory address bytes = if is_at_station memory address (length bytes) then written memory (register_of address) bytes else memory
-memory_after Lrw memory address bytes = logical_memory memory (8 * address) bytes
+abbrev pub memory_behind_command : Command → List ℕ → ℕ → List ℕ → List ℕ
+memory_behind_command Aprd memory address bytes = memory
+memory_behind_command Apwr memory address bytes = if is_at_position address (length bytes) then written memory (register_of address) bytes else memory
+memory_behind_command Fpwr memory address bytes = if is_at_station memory address (length bytes) then written memory (register_of address) bytes else memory
+memory_behind_command Lrw memory address bytes = logical_memory memory (8 * address) bytes
 
 -- its data
 abbrev pub data_after : Command → List ℕ → ℕ → List ℕ → List ℕ
@@ -73,5 +73,5 @@ served memory d = record {
 }
 
 -- the slave's memory behind the datagram
-unfoldable pub kept : List ℕ → Carried → List ℕ
-kept memory d = memory_after d.command memory d.address d.bytes
+unfoldable pub memory_behind_datagram : List ℕ → Carried → List ℕ
+memory_behind_datagram memory d = memory_behind_command d.command memory d.address d.bytes

@@ -4,15 +4,15 @@ use Rattle.std.specs.List.{range_with_len}
 use Rattle.hc_registers.specs.declared.registers.TheConstants.{FMMU_BLOCKS, FMMU_BLOCK_BYTES}
 use Rattle.hc_registers.specs.Fields.{long_at, word_at}
 use Rattle.hc_machine.specs.declared.fmmu.Fmmu.{Fmmu}
-use Rattle.hc_machine.specs.declared.limits.TheConstants.{FMMUS, MEMORY_BITS}
+use Rattle.hc_machine.specs.declared.limits.TheConstants.{ACTIVATE_BYTE, FMMUS, MEMORY_BITS}
 
 -- the block of an FMMU, counted from 0
 abbrev pub block_at : List ℕ → ℕ → List ℕ
 block_at memory i = slice_range memory (FMMU_BLOCKS + FMMU_BLOCK_BYTES * i) (FMMU_BLOCKS + FMMU_BLOCK_BYTES * i + FMMU_BLOCK_BYTES)
 
--- bit 0 of the activation
+-- a block has the logical start address in its bytes 0 to 3, the length in bytes in 4 and 5, the logical start and stop bit in 6 and 7, the physical start address in 8 and 9 and its start bit in 10, the type in 11 and the activation in 12: bit 0 of it
 abbrev pub is_active : List ℕ → Bool
-is_active block = slice_index block 12 % 2 == 1
+is_active block = slice_index block ACTIVATE_BYTE % 2 == 1
 
 -- bit 0 of the type: the master reads; bit 1: it writes
 abbrev pub is_read : List ℕ → Bool

@@ -2,17 +2,17 @@
 use Rattle.std.specs.Prelude.{ℕ, ◌+◌, List, [], ◌∷◌, take, drop, is_none, if◌then◌else◌, slice_index}
 use Rattle.hc_frames.specs.Arrived.{datagram_bytes, fault_in, reading_of}
 use Rattle.hc_frames.specs.FrameText.{Carried, carried_frame}
-use Rattle.hc_machine.specs.Commands.{kept, served}
+use Rattle.hc_machine.specs.Commands.{memory_behind_datagram, served}
 
 -- datagrams as they go on
 abbrev pub all_served : List ℕ → List Carried → List Carried
 all_served memory [] = []
-all_served memory (d ∷ ds) = served memory d ∷ all_served (kept memory d) ds
+all_served memory (d ∷ ds) = served memory d ∷ all_served (memory_behind_datagram memory d) ds
 
 -- the memory behind them
-abbrev pub all_kept : List ℕ → List Carried → List ℕ
-all_kept memory [] = memory
-all_kept memory (d ∷ ds) = all_kept (kept memory d) ds
+abbrev pub memory_behind_datagrams : List ℕ → List Carried → List ℕ
+memory_behind_datagrams memory [] = memory
+memory_behind_datagrams memory (d ∷ ds) = memory_behind_datagrams (memory_behind_datagram memory d) ds
 
 -- a frame as it goes on: one that is read has the served datagrams in the place of its own, another one stays as it is
 unfoldable pub frame_after : List ℕ → List ℕ → List ℕ
@@ -23,4 +23,4 @@ frame_after memory frame =
 
 -- the memory behind the frame
 unfoldable pub memory_behind : List ℕ → List ℕ → List ℕ
-memory_behind memory frame = if is_none (fault_in frame) then all_kept memory (reading_of frame).parts else memory
+memory_behind memory frame = if is_none (fault_in frame) then memory_behind_datagrams memory (reading_of frame).parts else memory

@@ -1,14 +1,17 @@
 -- What follows from the definitions: what an FMMU block pairs, what a logical datagram reads and writes, and what no frame changes.
 use Rattle.std.specs.Prelude.{◌≡◌, All, ℕ, ◌+◌, ◌*◌, ◌%◌, ◌<◌, ◌≤◌, ◌↔◌, ◌⊎◌, true, List, is_none, length, slice_index}
 use Rattle.hc_bits.specs.Bits.{AreBytes, bit_of}
+use Rattle.hc_frames.specs.declared.limits.TheConstants.{ALIAS_REGISTER}
 use Rattle.hc_frames.specs.Arrived.{fault_in}
-use Rattle.hc_frames.specs.FrameText.{Carried}
+use Rattle.hc_frames.specs.FrameText.{Carried, Datagram}
+use Rattle.hc_frames.specs.Laws.{CanBeCarried}
+use Rattle.hc_frames.specs.Returned.{IsReturned}
 use Rattle.hc_registers.specs.Fields.{long_at, word_at}
 use Rattle.hc_machine.specs.declared.fmmu.Fmmu.{Fmmu}
 use Rattle.hc_machine.specs.declared.limits.TheConstants.{FMMUS, MEMORY_BITS, MEMORY_BYTES}
 use Rattle.hc_machine.specs.Commands.{served}
 use Rattle.hc_machine.specs.Fmmus.{block_at, fmmu_of, is_active, is_read, is_write}
-use Rattle.hc_machine.specs.Frames.{frame_after, memory_behind}
+use Rattle.hc_machine.specs.Frames.{all_served, frame_after, memory_behind}
 use Rattle.hc_machine.specs.Logical.{logical_count, logical_data, logical_memory, memory_bit}
 
 -- logical bit x and memory bit m are a pair of an FMMU block: it is active; x lies from bit `8 * start + start bit` to bit `8 * (start + length - 1) + stop bit`, both included; m is as far from bit `8 * physical start + start bit` as x is from the first; and m lies in memory
@@ -49,7 +52,7 @@ UnreadBitsStay =
 -- a memory bit, but for the alias's, becomes the data's bit that the lowest FMMU that writes it pairs with it
 abbrev pub WrittenBitsComeFromData : Type 0
 WrittenBitsComeFromData =
-    (memory bytes : List ℕ) (from k i m : ℕ) → length memory ≡ MEMORY_BYTES → (m < 144) ⊎ (160 ≤ m) → k < 8 * length bytes → i < FMMUS → Writes memory i (from + k) m
+    (memory bytes : List ℕ) (from k i m : ℕ) → length memory ≡ MEMORY_BYTES → (m < 8 * ALIAS_REGISTER) ⊎ (8 * (ALIAS_REGISTER + 2) ≤ m) → k < 8 * length bytes → i < FMMUS → Writes memory i (from + k) m
     → ((j n : ℕ) → j < i → n < 8 * length bytes → ¬ Writes memory j (from + n) m)
     → bit_of (logical_memory memory from bytes) m ≡ bit_of bytes k
 
@@ -94,8 +97,14 @@ SizesStay =
     (memory : List ℕ) → length memory ≡ MEMORY_BYTES
     → ((d : Carried) → length (served memory d).bytes ≡ length d.bytes) × ((frame : List ℕ) → All (λ b. b < 256) frame → length (frame_after memory frame) ≡ length frame)
 
+-- a returned text of a sending is a returned text of it behind a slave too, with the datagrams as the slave serves them
+abbrev pub ReturnedTextsComeBack : Type 0
+ReturnedTextsComeBack =
+    (memory : List ℕ) → length memory ≡ MEMORY_BYTES → (serial : ℕ) (ds : List Datagram) (parts : List Carried) (bytes : List ℕ) → IsReturned serial ds parts bytes → CanBeCarried serial parts
+    → IsReturned serial ds (all_served memory parts) (frame_after memory bytes) × CanBeCarried serial (all_served memory parts)
+
 -- no frame changes the configured station alias, nor how many bytes memory has
 abbrev pub AliasStays : Type 0
 AliasStays =
     (memory frame : List ℕ) → length memory ≡ MEMORY_BYTES
-    → (length (memory_behind memory frame) ≡ MEMORY_BYTES) × (slice_index (memory_behind memory frame) 18 ≡ slice_index memory 18) × (slice_index (memory_behind memory frame) 19 ≡ slice_index memory 19)
+    → (length (memory_behind memory frame) ≡ MEMORY_BYTES) × (slice_index (memory_behind memory frame) ALIAS_REGISTER ≡ slice_index memory ALIAS_REGISTER) × (slice_index (memory_behind memory frame) (ALIAS_REGISTER + 1) ≡ slice_index memory (ALIAS_REGISTER + 1))

@@ -3,7 +3,7 @@ use Rattle.std.specs.Prelude.{ℕ, ◌≡◌, ◌+◌, List, length, All}
 use Rattle.std.specs.Int.{w16, w32, to_le_bytes}
 use Rattle.hc_frames.specs.FrameText.{Carried, carried_texts}
 use Rattle.hc_frames.specs.Returned.{FitsLine}
-use Rattle.hc_machine.specs.Frames.{all_kept, all_served}
+use Rattle.hc_machine.specs.Frames.{memory_behind_datagrams, all_served}
 use Rattle.hc_machine.specs.Memory.{with_part}
 
 -- its bytes with the address, the data and the working counter of another one of the same size
@@ -14,4 +14,4 @@ rewritten bytes d = with_part (10 + length d.bytes) (to_le_bytes w16 d.counter) 
 abbrev pub ServesTexts : List ℕ → List ℕ → List ℕ → List ℕ → Type 0
 ServesTexts memory memory' region region' =
     (serial : ℕ) (ds : List Carried) → All FitsLine ds → region ≡ carried_texts serial ds
-    → (region' ≡ carried_texts serial (all_served memory ds)) × (memory' ≡ all_kept memory ds)
+    → (region' ≡ carried_texts serial (all_served memory ds)) × (memory' ≡ memory_behind_datagrams memory ds)

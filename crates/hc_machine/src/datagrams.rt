@@ -3,7 +3,7 @@
 ghost use Rattle.std.specs.Prelude.{◌≡◌, ◌+◌, ◌<◌, ◌≤◌, drop, length, take, true};
 ghost use Rattle.std.specs.List.{list_all};
 ghost use Rattle.hc_frames.specs.Arrived.{carried, data_size, datagrams_in, is_whole, long_at, word_at};
-ghost use Rattle.hc_machine.specs.Commands.{kept, served};
+ghost use Rattle.hc_machine.specs.Commands.{memory_behind_datagram, served};
 ghost use Rattle.hc_machine.specs.Rewriting.{ServesTexts, rewritten};
 
 use crate::commands::{address_after, serve};
@@ -11,6 +11,15 @@ use crate::limits::MEMORY_BYTES;
 use crate::memory::put_part;
 use hc_frames::Command;
 use hc_frames::limits::{BESIDE_DATA_BYTES, DATAGRAM_HEAD_BYTES, MAX_DATA};
+
+/// The first byte of a datagram's address (ETG.1000.4, datagram structure).
+const ADDRESS_AT: usize = 2;
+
+/// The first byte of the field with a datagram's length.
+const LENGTH_AT: usize = 6;
+
+/// A length has eleven bits, a datagram's and that of the EtherCAT header.
+pub(crate) const LENGTHS: u16 = 2_048;
 
 /// The number in two bytes, low byte first.
 pub(crate) fn word_at(bytes: &[u8], at: usize) -> u16
@@ -35,15 +44,19 @@ fn serve_datagram(memory: &mut [u8], spare: &mut [u8], datagram: &mut [u8])
     requires exact { length datagram.old ≡ 12 + data_size datagram.old }
     requires short { data_size datagram.old ≤ MAX_DATA }
     ensures datagram { datagram.new ≡ rewritten datagram.old (served memory.old (carried datagram.old)) }
-    ensures memory { memory.new ≡ kept memory.old (carried datagram.old) }
+    ensures memory { memory.new ≡ memory_behind_datagram memory.old (carried datagram.old) }
 {
     let end = datagram.len() - 2;
     let command = Command::of(datagram[0]).unwrap_or(Command::Lrw);
-    let address = long_at(datagram, 2);
+    let address = long_at(datagram, ADDRESS_AT);
     let counter = word_at(datagram, end);
     let data = &mut datagram[DATAGRAM_HEAD_BYTES..end];
     let count = serve(memory, spare, command, address, data);
-    put_part(datagram, 2, &address_after(command, address).to_le_bytes());
+    put_part(
+        datagram,
+        ADDRESS_AT,
+        &address_after(command, address).to_le_bytes(),
+    );
     put_part(datagram, end, &counter.wrapping_add(count).to_le_bytes());
 }
 
@@ -57,7 +70,7 @@ fn first_size(region: &[u8]) -> usize
     ensures first { data_size (take result region.now) ≡ data_size region.now }
     ensures rest { list_all is_whole (datagrams_in (drop result region.now)) ≡ true }
 {
-    BESIDE_DATA_BYTES + usize::from(word_at(region, 6) % 2048)
+    BESIDE_DATA_BYTES + usize::from(word_at(region, LENGTH_AT) % LENGTHS)
 }
 
 /// Serves the datagrams that fill the bytes, one after another.

@@ -4,7 +4,7 @@ ghost use Rattle.std.specs.Prelude.{◌≡◌, ◌+◌, ◌^◌, ◌<◌, ◌≤
 ghost use Rattle.hc_machine.specs.Fmmus.{block_at, fmmu_of, fmmus_of, is_active, IsInMemory};
 ghost use Rattle.hc_machine.specs.Logical.{meets};
 
-use crate::limits::{FMMUS, MEMORY_BITS, MEMORY_BYTES};
+use crate::limits::{ACTIVATE_BYTE, FMMUS, MEMORY_BITS, MEMORY_BYTES};
 use arrayvec::ArrayVec;
 use hc_registers::fmmu::{
     fmmu_type, length, logical_start_address, logical_start_bit, logical_stop_bit,
@@ -82,7 +82,9 @@ fn add_mapped(mapped: &mut ArrayVec<Fmmu, 16>, memory: &[u8], i: usize, from: us
     ensures in_memory { All IsInMemory mapped.new.items }
 {
     // most aren't active: no more of their block is looked at than this
-    if memory[usize::from(FMMU_BLOCKS) + usize::from(FMMU_BLOCK_BYTES) * i + 12] % 2 != 1 {
+    if memory[usize::from(FMMU_BLOCKS) + usize::from(FMMU_BLOCK_BYTES) * i + ACTIVATE_BYTE] % 2
+        != 1
+    {
         return;
     }
     let fmmu = fmmu_of(&block_at(memory, i));

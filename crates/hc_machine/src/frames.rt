@@ -5,10 +5,13 @@ ghost use Rattle.std.specs.List.{list_all};
 ghost use Rattle.hc_frames.specs.Arrived.{datagram_bytes, datagrams_in, fault_in, is_whole, region};
 ghost use Rattle.hc_machine.specs.Frames.{frame_after, memory_behind};
 
-use crate::datagrams::{serve_datagrams, word_at};
+use crate::datagrams::{LENGTHS, serve_datagrams, word_at};
 use crate::limits::MEMORY_BYTES;
 use hc_frames::limits::{HEAD_BYTES, MAX_DATA};
 use hc_frames::reading::read_frame;
+
+/// The first byte of the EtherCAT header, behind the Ethernet header.
+const HEADER_AT: usize = 14;
 
 /// Whether the reader reads a frame, so that slaves act on it.
 pub fn is_readable(frame: &[u8]) -> bool
@@ -25,7 +28,7 @@ fn end_of_datagrams(frame: &[u8]) -> usize
     ensures bytes { All (λ b. b < 256) frame.now }
     ensures whole { list_all is_whole (datagrams_in (region frame.now)) ≡ true }
 {
-    HEAD_BYTES + usize::from(word_at(frame, 14) % 2048)
+    HEAD_BYTES + usize::from(word_at(frame, HEADER_AT) % LENGTHS)
 }
 
 /// Serves a frame that is read.

@@ -1,6 +1,6 @@
 //! What follows from the definitions of `specs/`, so that a reader can trust them and a caller can use it: each function
 //! here does nothing, and its contract is a law. Nobody calls it.
-ghost use Rattle.hc_machine.specs.Laws.{AliasStays, CountersRise, FmmusAreTheirPairs, LogicalCountsTellPairs, ReadBitsComeFromMemory, ServedFramesAreRead, SizesStay, UnmappedDatagramsPass, UnreadBitsStay, UnwrittenBitsStay, WrittenBitsComeFromData};
+ghost use Rattle.hc_machine.specs.Laws.{AliasStays, CountersRise, FmmusAreTheirPairs, LogicalCountsTellPairs, ReadBitsComeFromMemory, ReturnedTextsComeBack, ServedFramesAreRead, SizesStay, UnmappedDatagramsPass, UnreadBitsStay, UnwrittenBitsStay, WrittenBitsComeFromData};
 
 /// An FMMU has exactly the pairs that its block says: the k-th logical bit with the k-th memory bit, from the start bit of
 /// the first byte to the stop bit of the last, as far as memory goes; none where it isn't active, where its length is 0, or
@@ -55,6 +55,12 @@ pub fn sizes_stay()
 /// No frame changes the configured station alias, nor how many bytes memory has.
 pub fn alias_stays()
     ensures { AliasStays }
+{}
+
+/// What may come back of a sending may come back of it behind one more slave: its commands, sizes and addresses stay, but for
+/// a position, which is counted up.
+pub fn returned_texts_come_back()
+    ensures { ReturnedTextsComeBack }
 {}
 
 /// A frame that the reader reads is read behind a slave too.

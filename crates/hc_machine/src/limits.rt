@@ -8,3 +8,6 @@ pub const MEMORY_BITS: usize = 98_304;
 
 /// The FMMUs of a slave (ETG.1000.4, 6.6: 16 at most).
 pub const FMMUS: usize = 16;
+
+/// The byte of an FMMU's block that activates it (ETG.1000.4, 6.6).
+pub const ACTIVATE_BYTE: usize = 12;

@@ -23,12 +23,14 @@ pub struct SlaveMachine {
 
 impl Model for SlaveMachine {
     ghost use Rattle.std.specs.Prelude.{◌≡◌, ℕ, List, vec_len};
+    ghost use Rattle.hc_frames.specs.declared.limits.TheConstants.{MAX_DATA};
+    ghost use Rattle.hc_machine.specs.declared.limits.TheConstants.{MEMORY_BYTES};
 
     ghost Value = { List ℕ };
 
     ghost view = { λ machine. machine.memory.items };
 
-    ghost invariant = { λ machine. (vec_len machine.memory ≡ 12288) × (vec_len machine.spare ≡ 1486) };
+    ghost invariant = { λ machine. (vec_len machine.memory ≡ MEMORY_BYTES) × (vec_len machine.spare ≡ MAX_DATA) };
 }
 
 /// So many zeros.

@@ -1,10 +1,10 @@
 -- Output variables are laid one after another into bytes that are all 0.
-use Rattle.std.proofs.Common.{◌≡◌, ◌⊎◌, inl, inr, ℕ, zero, suc, ◌+◌, ◌*◌, ◌<◌, ◌≤◌, ◌==◌, Bool, true, false, cond, get_or, List, [], ◌∷◌, length, refl, sym, ap, ◌∙◌, subst, arith, Option, Some, None}
+use Rattle.std.proofs.Common.{◌≡◌, ◌⊎◌, inl, inr, ℕ, zero, suc, ◌+◌, ◌*◌, ◌<◌, ◌≤◌, ◌==◌, Bool, true, false, cond, get_or, List, [], ◌∷◌, length, replicate, refl, sym, ap, ◌∙◌, subst, arith, Option, Some, None}
 use Rattle.std.specs.Prelude.{All, find, option_map}
 use Rattle.std.proofs.lemmas.Bool.{cases_eq, cases_lt, eqb-true}
 use Rattle.std.proofs.lemmas.Bool.Decides.{nat_tests}
-use Rattle.std.proofs.lemmas.List.{get_or_default, length-replicate}
-use Rattle.hc_bits.specs.Bits.{ReplacesRun, bit_of}
+use Rattle.std.proofs.lemmas.List.{get_or_default, get_or-replicate, length-replicate}
+use Rattle.hc_bits.specs.Bits.{AreBytes, ReplacesRun, bit_of}
 use Rattle.hc_bits.proofs.lemmas.Places.{bit_of-zeros}
 use Rattle.hc_records.specs.declared.limits.TheConstants.{MOST_DATAGRAMS, TASKS}
 use Rattle.hc_records.specs.declared.records.Dir.TheVariants.{Out}
@@ -13,7 +13,7 @@ use Rattle.hc_records.proofs.lemmas.Finds.{mapped-some}
 use Rattle.hc_records.proofs.lemmas.Lists.{AllPairs-head, AllPairs-tail}
 use Rattle.hc_places.specs.Table.{Row, RowsAscend, Table, place_in}
 use Rattle.hc_places.proofs.lemmas.Found.{find-holds}
-use Rattle.hc_outputs.specs.Packed.{Bytes, Carries, HasSizes, IsLaidOut, IsOutput, LiesIn, LiesInTable, bytes_of, length_in}
+use Rattle.hc_outputs.specs.Packed.{Bytes, Carries, HasBytes, HasSizes, IsLaidOut, IsOutput, LiesIn, LiesInTable, bytes_of, length_in}
 use Rattle.hc_outputs.specs.Moves.{AreBlank, Writes, moved}
 use Rattle.hc_outputs.specs.Values.{KeepEntries}
 use Rattle.std.specs.Option.{option_map_or}
@@ -49,6 +49,10 @@ own_row (suc i) (row ∷ rows) ascend low =
 row_placed : (table : Table) (i : ℕ) → RowsAscend table.variables → i < length table.variables → place_in table (row_at table i).0 ≡ Some (row_at table i).1
 row_placed table i ascend low = own_row i table.variables ascend low
 
+pub rows-placed : (table : Table) → RowsAscend table.variables → All (λ (row : Row). place_in table row.0 ≡ Some row.1) table.variables
+rows-placed table ascend = λ i e inside.
+    subst (λ (row : Row). place_in table row.0 ≡ Some row.1) (get_or_default table.variables i none e inside) (row_placed table i ascend inside)
+
 row_inside : (table : Table) (i : ℕ) → IsLaidOut table → RowsAscend table.variables → i < length table.variables → LiesInTable table (row_at table i).1
 row_inside table i out ascend low = out.inside (row_at table i).0 (row_at table i).1 (row_placed table i ascend low)
 
@@ -65,15 +69,25 @@ Misses task d k row = row.1.dir ≡ Out → ¬ (LiesIn row.1 task d k)
 pub record LaidUpTo (table : Table) (n : ℕ) (value : ℕ → ℕ → ℕ) (bytes : Bytes) : Type 0 where
   pub all : length bytes ≡ MOST_DATAGRAMS * TASKS
   pub sizes : HasSizes table bytes
+  pub all_bytes : HasBytes bytes
   pub values : (i : ℕ) → i < n → IsHeld value bytes (row_at table i)
   pub others :
       (task d k : ℕ) → task < TASKS → d < MOST_DATAGRAMS → ((i : ℕ) → i < n → Misses task d k (row_at table i))
       → bit_of (bytes_of bytes task d) k ≡ 0
 
+zero_small : 0 < 256
+zero_small = omega arith
+
+pub zero-bytes : (n : ℕ) → AreBytes (replicate n 0)
+zero-bytes n i low =
+    let there : get_or (replicate n 0) i 0 ≡ 0 = get_or-replicate n i 0 0 (omega (arith, length-replicate {A = ℕ} n 0)) in
+    subst (λ (b : ℕ). b < 256) (sym there) zero_small
+
 pub nothing-laid : (table : Table) (value : ℕ → ℕ → ℕ) (bytes : Bytes) → AreBlank table bytes → LaidUpTo table 0 value bytes
 nothing-laid table value bytes blank = record {
   all = blank.all;
   sizes = λ task d low few. ap length (blank.zeros task d low few) ∙ length-replicate (length_in table task d) 0;
+  all_bytes = λ task d low few. subst AreBytes (sym (blank.zeros task d low few)) (zero-bytes (length_in table task d));
   values = λ i low. absurd (omega arith);
   others = λ task d k low few misses. ap (λ own. bit_of own k) (blank.zeros task d low few) ∙ bit_of-zeros (length_in table task d) k;
 }
@@ -95,6 +109,7 @@ held_variable table value bytes variable k place all is low =
 pub all-laid : (table : Table) (value : ℕ → ℕ → ℕ) (bytes : Bytes) → RowsAscend table.variables → LaidUpTo table (length table.variables) value bytes → Carries table value bytes
 all-laid table value bytes ascend laid = record {
   sizes = laid.sizes;
+  all_bytes = laid.all_bytes;
   values = λ variable k place is low.
       held_variable table value bytes variable k place
       (λ i e inside. subst (IsHeld value bytes) (get_or_default table.variables i none e inside) (laid.values i inside)) is low;
@@ -131,6 +146,7 @@ one_more : (table : Table) (n : ℕ) (value : ℕ → ℕ → ℕ) (bytes : Byte
 one_more table n value bytes laid own = record {
   all = laid.all;
   sizes = laid.sizes;
+  all_bytes = laid.all_bytes;
   values = up_to (λ i. IsHeld value bytes (row_at table i)) n laid.values own;
   others = λ task d k low few misses. laid.others task d k low few (λ i less. misses i (omega arith));
 }
@@ -184,6 +200,18 @@ kept_size old new b run task d few writes = elim (cases_eq task b.task) [
   ]
 ]
 
+kept_bytes : (old new : Bytes) (b : VariablePlace) (run : ℕ → ℕ) (task d : ℕ) → d < MOST_DATAGRAMS → Writes old new b run
+    → AreBytes (bytes_of old task d) → AreBytes (bytes_of new task d)
+kept_bytes old new b run task d few writes before = elim (cases_eq task b.task) [
+  | inr other ↦ subst AreBytes (sym (writes.rest task d few (inl other))) before
+  | inl same ↦ elim (cases_eq d b.datagram) [
+    | inr other ↦ subst AreBytes (sym (writes.rest task d few (inr other))) before
+    | inl here ↦
+        subst (λ e. AreBytes (bytes_of new task e)) (sym here)
+        (subst (λ t. AreBytes (bytes_of new t b.datagram)) (sym same) writes.bytes)
+  ]
+]
+
 held_still : (table : Table) (i n : ℕ) (value : ℕ → ℕ → ℕ) (old new : Bytes) (run : ℕ → ℕ) → IsLaidOut table → RowsAscend table.variables → i < n → n < length table.variables
     → Writes old new (row_at table n).1 run → IsHeld value old (row_at table i) → IsHeld value new (row_at table i)
 held_still table i n value old new run laid ascend less low writes held = λ out k below.
@@ -201,6 +229,7 @@ one_written table n value old new run out ascend low dir laid writes same =
     record {
       all = writes.all ∙ laid.all;
       sizes = λ task d t e. kept_size old new b run task d e writes ∙ laid.sizes task d t e;
+      all_bytes = λ task d t e. kept_bytes old new b run task d e writes (laid.all_bytes task d t e);
       values = up_to (λ i. IsHeld value new (row_at table i)) n
           (λ i less. held_still table i n value old new run out ascend less low writes (laid.values i less))
           (λ same_dir k below. writes.own.inside k below ∙ same k below);

@@ -7,7 +7,7 @@ use Rattle.std.proofs.lemmas.Bool.Decides.{nat_tests}
 use Rattle.std.proofs.lemmas.List.{get_or_past, length-replicate}
 use Rattle.std.proofs.lemmas.Nat.Bits.{bit_at-lt}
 use Rattle.std.proofs.lemmas.Option.{slice_get_past}
-use Rattle.hc_bits.specs.Bits.{bit_of}
+use Rattle.hc_bits.specs.Bits.{AreBytes, bit_of}
 use Rattle.hc_bits.proofs.lemmas.Places.{bit_of-drop, bit_of-zeros}
 use Rattle.hc_records.specs.declared.limits.TheConstants.{MOST_DATAGRAMS, TASKS}
 use Rattle.hc_records.specs.Image.{VariablePlace}
@@ -16,7 +16,7 @@ use Rattle.hc_places.specs.Table.{Table, TaskTable, datagrams_in, place_in}
 use Rattle.hc_outputs.specs.Packed.{Bytes, Carries, HasSizes, IsLaidOut, IsOutput, IsWhole, bytes_of, length_in, offset_in}
 use Rattle.hc_outputs.specs.Moves.{AreBlank, Posts, moved}
 use Rattle.hc_outputs.specs.Values.{KeepEntries, image_bit, kept, posted}
-use Rattle.hc_outputs.proofs.Laying.{moved-nowhere, moved-there}
+use Rattle.hc_outputs.proofs.Laying.{moved-nowhere, moved-there, zero-bytes}
 
 -- each place below 128 is that of a datagram
 
@@ -62,6 +62,7 @@ blank-sizes table bytes blank = λ task d t e. ap (λ own. length own) (blank.ze
 pub blank-carries : (table : Table) (bytes : Bytes) → AreBlank table bytes → Carries table (λ variable k. 0) bytes
 blank-carries table bytes blank = record {
   sizes = blank-sizes table bytes blank;
+  all_bytes = λ task d t e. subst AreBytes (sym (blank.zeros task d t e)) (zero-bytes (length_in table task d));
   values = λ variable k place is low. blank_bit table bytes (place.bit + k) (MOST_DATAGRAMS * place.task + place.datagram) blank;
   others = λ task d k t e misses. blank_bit table bytes k (MOST_DATAGRAMS * task + d) blank;
 }
@@ -81,6 +82,7 @@ kept_from old new value sent variable k place (Some before) there entries carrie
 pub kept-carries : (old new : Table) (value : ℕ → ℕ → ℕ) (sent next : Bytes) → KeepEntries old new → Carries old value sent → Carries new (moved old sent) next → Carries new (kept old value) next
 kept-carries old new value sent next entries carries made = record {
   sizes = made.sizes;
+  all_bytes = made.all_bytes;
   values = λ variable k place is low. made.values variable k place is low ∙ kept_from old new value sent variable k place (place_in old variable) refl entries carries is low;
   others = made.others;
 }
@@ -141,6 +143,13 @@ pub posted-carries : (table : Table) (task : ℕ) (bytes : List ℕ) (value : �
     → Posts table sent new masks task bytes → Carries table (posted table task bytes value) new
 posted-carries table task bytes value sent new masks out carries ones posts = record {
   sizes = λ t d low few. posts.sizes (MOST_DATAGRAMS * t + d) ∙ carries.sizes t d low few;
+  all_bytes = λ t d low few. elim (cases_eq t task) [
+    | inr other ↦ subst AreBytes (sym (posts.rest t d few (inl other))) (carries.all_bytes t d low few)
+    | inl same ↦ elim (cases_lt d (length (datagrams_in table task))) [
+      | inr past ↦ subst AreBytes (sym (posts.rest t d few (inr past))) (carries.all_bytes t d low few)
+      | inl inside ↦ subst (λ u. AreBytes (bytes_of new u d)) (sym same) (posts.own_bytes d inside)
+    ]
+  ];
   values = λ variable k place is low. elim (cases_eq place.task task) [
     | inl same ↦
         post_taken table new masks bytes variable k place out (subst (TakesPost table new masks bytes) (sym same) posts.own) ones is low

@@ -1,7 +1,7 @@
 -- What the code does to the bytes of datagrams, piece by piece; no public contract names it.
 use Rattle.std.specs.Prelude.{◌≡◌, ◌≢◌, ℕ, ◌+◌, ◌*◌, ◌<◌, ◌≤◌, ◌⊎◌, List, [], drop, length, min, replicate, slice_index_or}
 use Rattle.std.specs.Option.{option_map_or}
-use Rattle.hc_bits.specs.Bits.{ReplacesRun, bit_of}
+use Rattle.hc_bits.specs.Bits.{AreBytes, ReplacesRun, bit_of}
 use Rattle.hc_records.specs.declared.limits.TheConstants.{MOST_DATAGRAMS, TASKS}
 use Rattle.hc_records.specs.Image.{VariablePlace}
 use Rattle.hc_places.specs.Table.{Table, datagrams_in, place_in}
@@ -21,6 +21,7 @@ pub record Writes (old new : Bytes) (place : VariablePlace) (run : ℕ → ℕ) 
       (task d : ℕ) → d < MOST_DATAGRAMS → (task ≢ place.task) ⊎ (d ≢ place.datagram)
       → bytes_of new task d ≡ bytes_of old task d
   pub size : length (bytes_of new place.task place.datagram) ≡ length (bytes_of old place.task place.datagram)
+  pub bytes : AreBytes (bytes_of new place.task place.datagram)
   pub all : length new ≡ length old
 
 -- the bits of a variable at its place in a table, zeros where it has none
@@ -37,4 +38,5 @@ pub record Posts (table : Table) (old new masks : Bytes) (task : ℕ) (bytes : L
       (t d : ℕ) → d < MOST_DATAGRAMS → (t ≢ task) ⊎ (length (datagrams_in table task) ≤ d)
       → bytes_of new t d ≡ bytes_of old t d
   pub sizes : (n : ℕ) → length (slice_index_or new n []) ≡ length (slice_index_or old n [])
+  pub own_bytes : (d : ℕ) → d < length (datagrams_in table task) → AreBytes (bytes_of new task d)
   pub all : length new ≡ length old

@@ -1,7 +1,8 @@
 -- The bytes of datagrams as they are sent: at each output variable's place stand the bits of its value, and every other bit is 0.
-use Rattle.std.specs.Prelude.{◌≡◌, ◌≢◌, ℕ, ◌+◌, ◌*◌, ◌<◌, ◌≤◌, List, [], length, slice_index_or, Some}
+-- Bits are counted from the least significant bit of the first byte, and images are task by task: this project's profile.
+use Rattle.std.specs.Prelude.{◌≡◌, ◌≢◌, ℕ, ◌+◌, ◌*◌, ◌<◌, ◌≤◌, nat_lt, ◌&&◌, if◌then◌else◌, List, [], length, slice_index_or, Some}
 use Rattle.std.specs.Option.{option_map_or}
-use Rattle.hc_bits.specs.Bits.{bit_of}
+use Rattle.hc_bits.specs.Bits.{AreBytes, bit_of}
 use Rattle.hc_records.specs.declared.limits.TheConstants.{MOST_DATAGRAMS, TASKS}
 use Rattle.hc_records.specs.declared.records.Dir.TheVariants.{Out}
 use Rattle.hc_records.specs.Image.{VariablePlace}
@@ -56,9 +57,14 @@ abbrev pub HasSizes : Table → Bytes → Type 0
 HasSizes table bytes =
     (task d : ℕ) → task < TASKS → d < MOST_DATAGRAMS → length (bytes_of bytes task d) ≡ length_in table task d
 
+-- and each of their numbers is a byte
+abbrev pub HasBytes : Bytes → Type 0
+HasBytes bytes = (task d : ℕ) → task < TASKS → d < MOST_DATAGRAMS → AreBytes (bytes_of bytes task d)
+
 -- so many, in which each output variable has the bits of its value, and each bit that lies in no output variable's place is 0
 pub record Carries (table : Table) (value : ℕ → ℕ → ℕ) (bytes : Bytes) : Type 0 where
   pub sizes : HasSizes table bytes
+  pub all_bytes : HasBytes bytes
   pub values :
       (variable k : ℕ) (place : VariablePlace) → IsOutput table variable place → k < place.bits
       → bit_of (bytes_of bytes place.task place.datagram) (place.bit + k) ≡ value variable k
@@ -71,6 +77,11 @@ pub record Carries (table : Table) (value : ℕ → ℕ → ℕ) (bytes : Bytes)
 pub record Packed : Type 0 where
   pub sent : Bytes
   pub masks : Bytes
+
+-- the data with which a datagram is sent; none for a task or a number that no line has
+abbrev pub sent_bytes : Packed → ℕ → ℕ → List ℕ
+sent_bytes packed task d =
+    if nat_lt task TASKS && nat_lt d MOST_DATAGRAMS then bytes_of packed.sent task d else []
 
 -- the outputs of a table with these values: bit k of a variable's value is `value variable k`
 pub record Holds (table : Table) (value : ℕ → ℕ → ℕ) (packed : Packed) : Type 0 where

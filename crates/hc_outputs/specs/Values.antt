@@ -1,4 +1,4 @@
--- What becomes of the values of output variables: bit k of a variable's value is `value variable k`.
+-- What becomes of the values of output variables: bit k of a variable's value is `value variable k`. It is this project's profile.
 use Rattle.std.specs.Prelude.{◌≡◌, ℕ, ◌+◌, ◌*◌, ◌==◌, is_some, if◌then◌else◌, List, Some}
 use Rattle.std.specs.Option.{option_map_or}
 use Rattle.hc_bits.specs.Bits.{bit_of}

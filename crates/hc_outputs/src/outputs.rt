@@ -7,6 +7,7 @@ ghost use Rattle.hc_outputs.specs.Packed.{IsWhole};
 use crate::row::Row;
 use crate::rows::{blank_rows, make_masks, move_values, slot_number};
 use hc_places::table::Places;
+use hc_records::limits::{MOST_DATAGRAMS, TASKS};
 use std::alloc::{AllocError, Global};
 use std::marker::Model;
 
@@ -68,7 +69,7 @@ fn post_all(sent: &mut Vec<Row>, masks: &Vec<Row>, places: &Places, task: u8, by
 impl Outputs {
     ghost use Rattle.std.specs.Prelude.{◌≡◌, ◌<◌, ℕ, IfOk};
     ghost use Rattle.hc_records.specs.declared.limits.TheConstants.{TASKS};
-    ghost use Rattle.hc_outputs.specs.Packed.{HasSizes, Holds, IsLaidOut, bytes_of};
+    ghost use Rattle.hc_outputs.specs.Packed.{HasSizes, Holds, IsLaidOut, sent_bytes};
     ghost use Rattle.hc_outputs.specs.Values.{KeepEntries, kept, posted};
 
     /// The outputs of a table whose values are all 0. `AllocError` where a growth was refused; no other call
@@ -95,14 +96,15 @@ impl Outputs {
         post_all(&mut self.sent, &self.masks, places, task, bytes);
     }
 
-    /// The data with which a datagram is sent, by its task, 0 to 7, and its number in the task, 0 to 15; none
-    /// where the table has no such datagram.
+    /// The data with which a datagram is sent, by its task, 0 to 7, and its number in the task, 0 to 15; no
+    /// bytes where the table has no such datagram, and for any other task or number.
     pub fn bytes(&self, task: u8, number: u8) -> &[u8]
-        ensures { result.now ≡ bytes_of self.now.sent task number }
+        ensures { result.now ≡ sent_bytes self.now task number }
     {
-        match self.sent.get(slot_number(task, number)) {
-            Some(row) => row.as_slice(),
-            None => &[],
+        if task < TASKS && usize::from(number) < MOST_DATAGRAMS {
+            self.sent[slot_number(task, number)].as_slice()
+        } else {
+            &[]
         }
     }
 

@@ -1,7 +1,7 @@
 //! The bytes of one datagram.
 ghost use Rattle.std.specs.Prelude.{◌≡◌, ◌+◌, ◌*◌, ◌^◌, ◌<◌, ◌≤◌, ℕ, length, min};
 ghost use Rattle.std.specs.Int.{bit_at};
-ghost use Rattle.hc_bits.specs.Bits.{bit_of, ReplacesRun};
+ghost use Rattle.hc_bits.specs.Bits.{AreBytes, bit_of, ReplacesRun};
 
 use arrayvec::ArrayVec;
 use hc_bits::{copy_bits, put_bits};
@@ -24,7 +24,8 @@ impl Model for Row {
 /// Each byte becomes that of `bytes` at its index with the bits of the mask alone, or 0 behind their end.
 fn copy_masked(own: &mut [u8], mask: &[u8], bytes: &[u8])
     requires { length mask.now ≡ length own.old }
-    ensures { (k : ℕ) → bit_of own.new k ≡ min (bit_of bytes.now k) (bit_of mask.now k) }
+    ensures bits { (k : ℕ) → bit_of own.new k ≡ min (bit_of bytes.now k) (bit_of mask.now k) }
+    ensures bytes { AreBytes own.new }
 {
     let count = own.len().min(bytes.len());
     let (front, rest) = own.split_at_mut(count);
@@ -49,14 +50,26 @@ fn put_run(bytes: &mut [u8], at: usize, bits: u8)
     requires some { 1 ≤ bits }
     requires most { bits ≤ 64 }
     requires within { at + bits ≤ 8 * length bytes.old }
-    ensures { ReplacesRun bytes.old bytes.new at bits (λ k. 1) }
+    ensures ones { ReplacesRun bytes.old bytes.new at bits (λ k. 1) }
+    ensures bytes { AreBytes bytes.new }
 {
     put_bits(bytes, at, usize::from(bits), ones(bits));
 }
 
+/// Copies bits, from one on, to those of other bytes from another one on.
+fn take_run(own: &mut [u8], at: usize, from: &[u8], from_at: usize, bits: usize)
+    requires from_within { from_at + bits ≤ 8 * length from.now }
+    requires within { at + bits ≤ 8 * length own.old }
+    ensures copied { ReplacesRun own.old own.new at bits (λ k. bit_of from.now (from_at + k)) }
+    ensures size { length own.new ≡ length own.old }
+    ensures bytes { AreBytes own.new }
+{
+    copy_bits(from, from_at, own, at, bits);
+}
+
 impl Row {
     ghost use Rattle.std.specs.Prelude.{◌≡◌, ◌+◌, ◌*◌, ◌≤◌, [], ℕ, length, min, replicate};
-    ghost use Rattle.hc_bits.specs.Bits.{bit_of, ReplacesRun};
+    ghost use Rattle.hc_bits.specs.Bits.{AreBytes, bit_of, ReplacesRun};
     ghost use Rattle.hc_records.specs.declared.limits.TheConstants.{MOST_DATAGRAM_BYTES, MOST_ENTRY_BITS};
 
     /// No bytes.
@@ -93,6 +106,7 @@ impl Row {
         requires within { at + bits ≤ 8 * length self.old }
         ensures ones { ReplacesRun self.old self.new at bits (λ k. 1) }
         ensures size { length self.new ≡ length self.old }
+        ensures bytes { AreBytes self.new }
     {
         put_run(self.bytes.as_mut_slice(), usize::from(at), bits);
     }
@@ -103,13 +117,14 @@ impl Row {
         requires within { at + bits ≤ 8 * length self.old }
         ensures copied { ReplacesRun self.old self.new at bits (λ k. bit_of from.now (from_at + k)) }
         ensures size { length self.new ≡ length self.old }
+        ensures bytes { AreBytes self.new }
     {
         let own = self.bytes.as_mut_slice();
-        copy_bits(
-            from.as_slice(),
-            usize::from(from_at),
+        take_run(
             own,
             usize::from(at),
+            from.as_slice(),
+            usize::from(from_at),
             usize::from(bits),
         );
     }
@@ -119,6 +134,7 @@ impl Row {
         requires { length mask.now ≡ length self.old }
         ensures bits { (k : ℕ) → bit_of self.new k ≡ min (bit_of bytes.now k) (bit_of mask.now k) }
         ensures size { length self.new ≡ length self.old }
+        ensures bytes { AreBytes self.new }
     {
         copy_masked(self.bytes.as_mut_slice(), mask.as_slice(), bytes);
     }

@@ -102,6 +102,19 @@ fn edit(alloc: Global, plan: &mut Plan, outputs: &mut Outputs, edit: &Edit) -> R
     Ok(())
 }
 
+/// Moves the axis's outputs to a task.
+fn move_axis(alloc: Global, plan: &mut Plan, outputs: &mut Outputs, task: u8) -> Result<(), Fail>
+    requires { (value : ℕ → ℕ → ℕ) × Holds (table_of (line plan.old)) value outputs.old }
+    ensures { OnOk result ((value : ℕ → ℕ → ℕ) × Holds (table_of (line plan.new)) value outputs.new) }
+{
+    let moved = Edit::Move {
+        station: 1001,
+        area: 0,
+        task,
+    };
+    edit(alloc, plan, outputs, &moved)
+}
+
 /// Gaps and inputs are never sent as posted. When the tool comes its value is 0; it keeps a posted value while
 /// the axis moves to another task and the tool's bits move to the front; after it was away its value is 0.
 #[test]
@@ -125,5 +138,26 @@ fn values_follow_their_variables(rt: HostRuntime) -> Result<(), Fail> {
     edit(alloc, &mut plan, &mut outputs, &Edit::Disconnect(5))?;
     edit(alloc, &mut plan, &mut outputs, &Edit::Connect(5))?;
     assert!(rt; outputs.bytes(0, 0) == [0, 0].as_slice());
+    Ok(())
+}
+
+/// A post of one byte where the task has outputs of three: the bits behind its end are 0. The axis then goes
+/// to task 1 and back: it has the value of the last post of the task that it had, and a post of task 0 while
+/// it was away is the tool's alone.
+#[test]
+fn short_posts_and_a_way_back(rt: HostRuntime) -> Result<(), Fail> {
+    let alloc = rt.alloc();
+    let mut plan = tool_changer(alloc)?;
+    let mut outputs = outputs_of(alloc, &plan)?;
+    edit(alloc, &mut plan, &mut outputs, &Edit::Connect(5))?;
+    post(&plan, &mut outputs, 0, &[0x3c, 0xff, 0xff]);
+    post(&plan, &mut outputs, 0, &[0xff]);
+    assert!(rt; outputs.bytes(0, 0) == [0xe7, 0, 0, 0].as_slice());
+    move_axis(alloc, &mut plan, &mut outputs, 1)?;
+    post(&plan, &mut outputs, 1, &[0x1a, 0x80]);
+    post(&plan, &mut outputs, 0, &[0x3c, 0xff]);
+    move_axis(alloc, &mut plan, &mut outputs, 0)?;
+    assert!(rt; outputs.bytes(0, 0) == [0x02, 0x80, 0x3c, 0].as_slice());
+    assert!(rt; outputs.bytes(1, 0).is_empty() && outputs.bytes(0, 16).is_empty());
     Ok(())
 }

@@ -2,6 +2,7 @@ pub mod Changed
 pub mod Configurable
 pub mod Crowded
 pub mod Entries
+pub mod Founds
 pub mod Merged
 pub mod Once
 pub mod Order

@@ -11,10 +11,10 @@ use Rattle.hc_records.proofs.lemmas.Packed.{area_of}
 use Rattle.hc_places.specs.Parts.{AreSendable}
 use Rattle.hc_places.specs.Ranges.{OffersBits}
 
-head-same : {X : Type 0} (x y : X) (xs ys : List X) → x ∷ xs ≡ y ∷ ys → x ≡ y
+pub head-same : {X : Type 0} (x y : X) (xs ys : List X) → x ∷ xs ≡ y ∷ ys → x ≡ y
 head-same x y xs ys same = cc
 
-tail-same : {X : Type 0} (x y : X) (xs ys : List X) → x ∷ xs ≡ y ∷ ys → xs ≡ ys
+pub tail-same : {X : Type 0} (x y : X) (xs ys : List X) → x ∷ xs ≡ y ∷ ys → xs ≡ ys
 tail-same x y xs ys same = cc
 
 -- an area has the bits of its place

@@ -1,3 +1,4 @@
+pub mod Found
 pub mod Layout
 pub mod Parts
 pub mod Ranges

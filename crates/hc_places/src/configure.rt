@@ -12,12 +12,15 @@ ghost use Rattle.hc_records.specs.declared.limits.TheConstants.{MOST_DATAGRAMS};
 ghost use Rattle.hc_places.specs.Layout.{NamesCrowded, layout_of};
 ghost use Rattle.hc_places.specs.Parts.{IsConfigurable, IsRefusal};
 ghost use Rattle.hc_places.specs.Table.{table_of, task_table};
+ghost use Rattle.hc_tasks.specs.Areas.{areas_by_rank};
+ghost use Rattle.hc_tasks.specs.Kept.{line_kept};
 
 use crate::areas::{Listed, keyed_areas, task_areas};
 use crate::datagrams::task_table;
 use crate::layout::Layout;
 use crate::table::{Place, Places, TaskTable};
-use crate::variables::add_variables;
+use crate::variables::{add_found, add_variables};
+use hc_bitsum::steps::Steps;
 use hc_cuts::fold::fold_cuts;
 use hc_cuts::packing::{Placed, pack};
 use hc_records::faults::EditFault;
@@ -25,7 +28,10 @@ use hc_records::items::Items;
 use hc_records::limits::TASKS;
 use hc_records::line::{Member, line_of};
 use hc_records::records::{Declared, VarId};
+use hc_tasks::areas::{SlaveAreas, areas_by_rank};
+use hc_tasks::tasks::LineCuts;
 use std::alloc::{AllocError, Global};
+use std::sync::ledger::Ledger;
 
 /// What a line is configured to: where its areas, datagrams and variables stand.
 #[derive(Debug, Drop)]
@@ -66,6 +72,7 @@ impl Draft {
     ghost use Rattle.hc_records.specs.Image.{area_variables, datagram_count, task_places, task_variables};
     ghost use Rattle.hc_records.specs.TaskList.{keyed};
     ghost use Rattle.hc_records.specs.declared.limits.TheConstants.{MOST_DATAGRAMS, TASKS};
+    ghost use Rattle.hc_places.specs.Found.{IsFoundSuiting, found_variables};
     ghost use Rattle.hc_places.specs.Parts.{AreSendable, IsConfigurable, IsRefusal, table_at};
     ghost use Rattle.hc_places.specs.Ranges.{OffersBits};
     ghost use Rattle.hc_places.specs.Table.{task_table};
@@ -87,6 +94,26 @@ impl Draft {
     {
         self.tables.push(task_table(task, places.as_slice()))?;
         add_variables(&mut self.rows, task, areas, places.as_slice())?;
+        self.layout.push(Items::of(places))?;
+        Ok(())
+    }
+
+    /// Adds a task whose areas have these places, and are found under their keys.
+    fn add_kept(
+        &mut self,
+        task: u8,
+        slaves: &[SlaveAreas],
+        places: Vec<Placed>,
+    ) -> Result<(), AllocError>
+        requires task { task < TASKS }
+        requires sendable { AreSendable places.items }
+        requires suit { All (IsFoundSuiting slaves.now) places.items }
+        ensures layout { OnOk result (self.new.layout.items ≡ self.old.layout.items ++ places.items ∷ []) }
+        ensures tables { OnOk result (self.new.tables.items ≡ self.old.tables.items ++ table_at task places.items ∷ []) }
+        ensures rows { OnOk result (self.new.rows.items ≡ self.old.rows.items ++ flat_map (found_variables task slaves.now) places.items) }
+    {
+        self.tables.push(task_table(task, places.as_slice()))?;
+        add_found(&mut self.rows, task, slaves, places.as_slice())?;
         self.layout.push(Items::of(places))?;
         Ok(())
     }
@@ -144,6 +171,60 @@ pub fn configure(alloc: Global, groups: &[Declared]) -> Result<Configured, EditF
         tables,
         rows,
     } = draft_line(alloc, line.as_slice())?;
+    Ok(Configured {
+        layout: Layout::of(layout),
+        places: Places::of(tables, rows)?,
+    })
+}
+
+/// Adds the eight tasks of a line, whose areas are kept in trees, to no task.
+fn draft_kept<L: Ledger>(
+    alloc: Global,
+    groups: &[Declared],
+    cuts: &LineCuts,
+    steps: &mut Steps<L>,
+) -> Result<Draft, AllocError>
+    requires project { lowest_fault (groups_of groups.now) ≡ None }
+    requires kept { cuts.now ≡ line_kept (areas_by_rank groups.now) }
+    requires fits { crowded_task (line_from 1 groups.now) ≡ None }
+    ensures layout { IfOk result (λ draft. draft.layout.items ≡ layout_of (line_from 1 groups.now)) }
+    ensures tables { IfOk result (λ draft. draft.tables.items ≡ map (task_table (line_from 1 groups.now)) tasks) }
+    ensures rows { IfOk result (λ draft. draft.rows.items ≡ flat_map (task_variables (line_from 1 groups.now)) tasks) }
+{
+    let slaves = areas_by_rank(alloc, groups)?;
+    let mut draft = Draft {
+        layout: Vec::with_capacity(alloc, usize::from(TASKS))?,
+        tables: Vec::with_capacity(alloc, usize::from(TASKS))?,
+        rows: Vec::new(alloc),
+    };
+    for task in 0..TASKS {
+        let places = cuts.places(alloc, task, steps)?;
+        draft.add_kept(task, slaves.as_slice(), places)?;
+    }
+    Ok(draft)
+}
+
+/// Configures the line of declared groups from the trees of its tasks: the areas of each datagram are
+/// walked from a boundary to the next, and no task's list is built. The groups are those of a project,
+/// the trees those of their line, none of whose tasks needs more than 16 datagrams. `AllocError` where
+/// a growth was refused.
+pub fn configure_kept<L: Ledger>(
+    alloc: Global,
+    groups: &[Declared],
+    cuts: &LineCuts,
+    steps: &mut Steps<L>,
+) -> Result<Configured, AllocError>
+    requires project { lowest_fault (groups_of groups.now) ≡ None }
+    requires kept { cuts.now ≡ line_kept (areas_by_rank groups.now) }
+    requires fits { crowded_task (line_from 1 groups.now) ≡ None }
+    ensures layout { IfOk result (λ configured. configured.layout ≡ layout_of (line_from 1 groups.now)) }
+    ensures places { IfOk result (λ configured. configured.places ≡ table_of (line_from 1 groups.now)) }
+{
+    let Draft {
+        layout,
+        tables,
+        rows,
+    } = draft_kept(alloc, groups, cuts, steps)?;
     Ok(Configured {
         layout: Layout::of(layout),
         places: Places::of(tables, rows)?,

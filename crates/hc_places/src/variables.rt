@@ -5,6 +5,7 @@ ghost use Rattle.hc_records.specs.Area.{bits_of, width};
 ghost use Rattle.hc_records.specs.Image.{area_variables, variables_from};
 ghost use Rattle.hc_records.specs.TaskList.{keyed};
 ghost use Rattle.hc_records.specs.declared.limits.TheConstants.{MOST_AREA_BITS, MOST_DATAGRAMS, TASKS};
+ghost use Rattle.hc_places.specs.Found.{IsFoundSuiting, found_variables};
 ghost use Rattle.hc_places.specs.Parts.{AreSendable, row_at};
 ghost use Rattle.hc_records.specs.Limits.{IsEntryInside};
 ghost use Rattle.hc_places.specs.Ranges.{OffersBits};
@@ -14,6 +15,7 @@ use crate::table::Place;
 use hc_cuts::packing::Placed;
 use hc_records::assignment::offered_entries;
 use hc_records::records::{Dir, Entry, VarId};
+use hc_tasks::areas::{SlaveAreas, find_area};
 use std::alloc::AllocError;
 
 /// The task, the datagram and the direction that an area's variables have in common.
@@ -99,6 +101,28 @@ pub(crate) fn add_variables(
 {
     for i in 0..areas.len() {
         add_area(rows, task, &areas[i], places[i])?;
+    }
+    Ok(())
+}
+
+/// Adds the variables of a task whose areas have these places; the records of the areas are found under
+/// their keys. `AllocError` where a growth was refused.
+pub(crate) fn add_found(
+    rows: &mut Vec<(VarId, Place)>,
+    task: u8,
+    slaves: &[SlaveAreas],
+    places: &[Placed],
+) -> Result<(), AllocError>
+    requires task { task < TASKS }
+    requires sendable { AreSendable places.now }
+    requires suit { All (IsFoundSuiting slaves.now) places.now }
+    ensures { OnOk result (rows.new.items ≡ rows.old.items ++ flat_map (found_variables task slaves.now) places.now) }
+{
+    for placed in places {
+        if let Some(area) = find_area(slaves, placed.key()) {
+            let listed = Listed::of(placed.key(), area);
+            add_area(rows, task, &listed, *placed)?;
+        }
     }
     Ok(())
 }

@@ -6,5 +6,5 @@ pub mod Mapped
 pub mod Numbered
 pub mod Opening
 pub mod Registers
-pub mod Unmoved
+pub mod Turned
 pub mod lemmas

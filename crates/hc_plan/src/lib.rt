@@ -7,3 +7,4 @@ pub mod laws;
 mod moved;
 pub mod plan;
 pub mod report;
+mod turning;

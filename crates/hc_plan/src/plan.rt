@@ -3,14 +3,11 @@ ghost use Rattle.std.specs.Prelude.{◌≡◌, IfOk, map};
 ghost use Rattle.hc_records.specs.Line.{opened_group};
 
 use crate::blocks::{LineBlocks, block_at, count_blocks, line_blocks, nth_block};
-use crate::moved::moved_blocks;
-use crate::report::{Report, names_of};
+use crate::report::{Report, Standing};
+use crate::turning::{open_line, turn_line};
 use hc_edits::faults::own_fault;
 use hc_edits::groups::groups_after;
-use hc_places::configure::configure;
 use hc_places::layout::Layout;
-use hc_places::recut::recut;
-use hc_places::swap::Swap;
 use hc_places::table::Places;
 use hc_records::edit::Edit;
 use hc_records::faults::EditFault;
@@ -20,8 +17,10 @@ use hc_records::line::{is_declared_station, member_index, nth_member, slave_coun
 use hc_records::project::Project;
 use hc_records::records::{Declared, Group};
 use hc_registers::blocks::Block;
+use hc_tasks::tasks::LineCuts;
 use std::alloc::{AllocError, Global};
-use std::marker::Model;
+use std::marker::{Brand, Model};
+use std::sync::ledger::Blank;
 
 /// The declared groups at the opening: the mandatory one, which has alias 0, is present alone.
 fn opened_groups(alloc: Global, groups: Vec<Group>) -> Result<Items<Declared>, AllocError>
@@ -42,19 +41,23 @@ pub struct Plan {
     epoch: u32,
     layout: Layout,
     places: Places,
+    // the tasks of the line, from which an edit cuts the new ones
+    cuts: LineCuts,
 }
 
 impl Model for Plan {
     ghost use Rattle.std.specs.Prelude.{◌≡◌};
     ghost use Rattle.hc_records.specs.Line.{State, line_from};
     ghost use Rattle.hc_places.specs.Table.{table_of};
+    ghost use Rattle.hc_tasks.specs.Areas.{areas_by_rank};
+    ghost use Rattle.hc_tasks.specs.Kept.{line_kept};
     ghost use Rattle.hc_plan.specs.Blocks.{IsLaidOut};
 
     ghost Value = { State };
 
     ghost view = { λ plan. record { groups = plan.groups; epoch = plan.epoch } };
 
-    ghost invariant = { λ plan. IsLaidOut plan.groups plan.layout × (plan.places ≡ table_of (line_from 1 plan.groups)) };
+    ghost invariant = { λ plan. IsLaidOut plan.groups plan.layout × (plan.places ≡ table_of (line_from 1 plan.groups)) × (plan.cuts ≡ line_kept (areas_by_rank plan.groups)) };
 }
 
 impl Plan {
@@ -78,12 +81,13 @@ impl Plan {
         ensures refused { IfErr result (NamesCrowded (line (opened project))) }
     {
         let groups = opened_groups(alloc, project.into_groups().into_vec())?;
-        let configured = configure(alloc, groups.as_slice())?;
+        let opened = open_line::<Brand>(alloc, groups.as_slice(), Blank::new(1))?;
         Ok(Plan {
             groups,
             epoch: 0,
-            layout: configured.layout,
-            places: configured.places,
+            layout: opened.configured.layout,
+            places: opened.configured.places,
+            cuts: opened.cuts,
         })
     }
 
@@ -91,7 +95,7 @@ impl Plan {
     pub fn epoch(&self) -> u32
         ensures { result ≡ self.now.epoch }
     {
-        self.epoch
+        self.standing().epoch()
     }
 
     /// The declared groups with their assigned PDOs and tasks, and which of them are present. No fault's
@@ -101,7 +105,7 @@ impl Plan {
         ensures kept { lowest_fault (groups_of self.now.groups) ≡ None }
         ensures uncrowded { crowded_task (line self.now) ≡ None }
     {
-        self.groups.as_slice()
+        self.standing().groups()
     }
 
     /// The table of the present line: its datagrams, parts and variable places. No fault's condition
@@ -175,6 +179,18 @@ impl Plan {
         }
     }
 
+    /// The state, with what the line is configured to.
+    fn standing(&self) -> Standing<'_>
+        ensures { result ≡ self.now }
+    {
+        Standing::of(
+            self.groups.as_slice(),
+            self.epoch,
+            &self.layout,
+            &self.places,
+        )
+    }
+
     /// The plan that an edit makes of this one, configured from nothing; this one stays as it is.
     /// Otherwise the lowest fault whose condition holds, or `Memory` where a growth was refused; a fault
     /// that the edit has by itself, of the faults 1 to 11, is judged before the first growth.
@@ -183,19 +199,20 @@ impl Plan {
         ensures refused { IfErr result (λ fault. fault ≢ Memory → edited self.now edit.now ≡ Err fault) }
         ensures own { IfSome (own_fault self.now.groups edit.now) (λ fault. result ≡ Err fault) }
     {
-        if let Some(fault) = own_fault(self.groups.as_slice(), edit) {
-            return Err(fault);
+        if let Some(own) = own_fault(self.groups.as_slice(), edit) {
+            return Err(own);
         }
         let groups = groups_after(alloc, self.groups.as_slice(), edit)?;
-        let configured = configure(alloc, groups.as_slice())?;
+        let opened = open_line::<Brand>(alloc, groups.as_slice(), Blank::new(1))?;
         if self.epoch == LAST_EPOCH {
             return Err(EditFault::EpochsSpent);
         }
         Ok(Plan {
             groups,
             epoch: self.epoch + 1,
-            layout: configured.layout,
-            places: configured.places,
+            layout: opened.configured.layout,
+            places: opened.configured.places,
+            cuts: opened.cuts,
         })
     }
 
@@ -205,23 +222,13 @@ impl Plan {
         requires { edited self.now edit.now ≡ Ok next.now }
         ensures { IfOk result (Tells self.now edit.now next.now) }
     {
-        let old = self.groups.as_slice();
-        let new = next.groups.as_slice();
-        let moved = moved_blocks(alloc, old, &self.layout, new, &next.layout)?;
-        let blocks = names_of(alloc, moved.as_slice())?;
-        Ok(Report {
-            epoch: next.epoch,
-            recut: recut(alloc, old, new)?,
-            moved: blocks.len() as u32,
-            swap: Swap::between(alloc, edit, &self.places, &next.places)?,
-            blocks,
-        })
+        Report::between(alloc, edit, &self.standing(), &next.standing())
     }
 
-    /// Carries an edit out: the plan is then that of the new line, configured from nothing, and the
-    /// report tells what became different. Otherwise the lowest fault whose condition holds, or
-    /// `Memory` where a growth was refused; the plan is then as it was. A fault that the edit has by
-    /// itself, of the faults 1 to 11, is judged before the first growth.
+    /// Carries an edit out: the plan is then that of the new line, and the report tells what became
+    /// different. Otherwise the lowest fault whose condition holds, or `Memory` where a growth was
+    /// refused; the plan is then as it was. A fault that the edit has by itself, of the faults 1 to 11,
+    /// is judged before the first growth.
     pub fn apply(&mut self, alloc: Global, edit: &Edit) -> Result<Report, EditFault>
         ensures accepted { OnOk result (edited self.old edit.now ≡ Ok self.new) }
         ensures report { IfOk result (Tells self.old edit.now self.new) }
@@ -229,10 +236,29 @@ impl Plan {
         ensures own { IfSome (own_fault self.old.groups edit.now) (λ fault. result ≡ Err fault) }
         ensures unchanged { OnErr result (self.new ≡ self.old) }
     {
-        let next = self.edited(alloc, edit)?;
-        let report = self.report(alloc, edit, &next)?;
-        *self = next;
-        Ok(report)
+        if let Some(fault) = own_fault(self.groups.as_slice(), edit) {
+            return Err(fault);
+        }
+        let groups = groups_after(alloc, self.groups.as_slice(), edit)?;
+        let old = Standing::of(
+            self.groups.as_slice(),
+            self.epoch,
+            &self.layout,
+            &self.places,
+        );
+        let applied = turn_line::<Brand>(
+            alloc,
+            edit,
+            &old,
+            groups.as_slice(),
+            &mut self.cuts,
+            Blank::new(1),
+        )?;
+        self.groups = groups;
+        self.epoch += 1;
+        self.layout = applied.configured.layout;
+        self.places = applied.configured.places;
+        Ok(applied.report)
     }
 
     /// Carries edits out in their order, as `apply` does each, and gives their answers. The room for the

@@ -1,3 +1,4 @@
 pub mod Line
 pub mod Flow
 pub mod Lending
+pub mod Laws

@@ -6,6 +6,7 @@
 mod chains;
 mod faults;
 mod flow;
+pub mod laws;
 mod rings;
 mod segment;
 

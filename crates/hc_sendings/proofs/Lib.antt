@@ -1,4 +1,6 @@
+pub mod Filled
 pub mod Framed
+pub mod Pieces
 pub mod Previewed
 pub mod Shares
 pub mod Sums

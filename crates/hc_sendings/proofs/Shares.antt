@@ -17,7 +17,7 @@ abbrev IsOwn : List ℕ → Named → Type 0
 IsOwn tasks named = is_one_of tasks named.0 ≡ true
 
 -- the datagrams of the tasks are theirs
-own-datagrams : (line : List Member) (tasks : List ℕ) → All (λ named. is_one_of tasks named.0 ≡ true) (flat_map (task_datagrams line) tasks)
+pub own-datagrams : (line : List Member) (tasks : List ℕ) → All (λ named. is_one_of tasks named.0 ≡ true) (flat_map (task_datagrams line) tasks)
 own-datagrams line tasks =
     All-flat_map (λ (named : Named). is_one_of tasks named.0 ≡ true) (task_datagrams line) tasks
     (All-weaker (λ task. is_one_of tasks task ≡ true) (λ task. All (λ (named : Named). is_one_of tasks named.0 ≡ true) (task_datagrams line task))

@@ -13,7 +13,7 @@ use Rattle.hc_sendings.specs.Texts.{Data, carried_by, carried_bytes}
 abbrev pub others : List Named → List Named
 others datagrams = take (length datagrams - 1) (drop 1 datagrams)
 
-others-is : (datagram : Named) (datagrams : List Named) → others (datagram ∷ datagrams) ≡ datagrams
+pub others-is : (datagram : Named) (datagrams : List Named) → others (datagram ∷ datagrams) ≡ datagrams
 others-is datagram datagrams =
     let less : length (datagram ∷ datagrams) - 1 ≡ length datagrams = omega arith in
     ap (λ (n : ℕ). take n datagrams) less ∙ take-length datagrams
@@ -30,7 +30,7 @@ first-bytes bytes (datagram ∷ datagrams) some =
     sum_by-cons (λ (named : Named). 12 + length (bytes named.0 named.1)) datagram datagrams
     ∙ ap (λ (names : List Named). 12 + length (bytes datagram.0 datagram.1) + carried_bytes bytes names) (sym (others-is datagram datagrams))
 
-spelled : (bytes : Data) (serial : ℕ) (datagram : Named) (datagrams : List Named)
+pub spelled : (bytes : Data) (serial : ℕ) (datagram : Named) (datagrams : List Named)
     → datagram_text serial (not (length datagrams == 0)) (carried_by bytes datagram) ++ datagrams_text serial (map (carried_by bytes) datagrams)
     ≡ datagrams_text serial (map (carried_by bytes) (datagram ∷ datagrams))
 spelled bytes serial datagram [] = append-nil (datagram_text serial false (carried_by bytes datagram))

@@ -1,6 +1,7 @@
 pub mod Framing
 pub mod Refusals
 pub mod Previews
+pub mod PartTexts
 pub mod Parts
 pub mod Texts
 pub mod Laws

@@ -2,6 +2,7 @@
 //! next serial, or why they aren't. The core proposes, fills and commits them.
 #![tactic(auto)]
 
+pub mod filling;
 mod framing;
 pub mod laws;
 pub mod parts;

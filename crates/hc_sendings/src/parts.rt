@@ -52,7 +52,7 @@ fn own_share(plan: &Plan, datagrams: &[Named], task: u8) -> usize
 }
 
 /// So many bytes where there is the datagram and it is of the task, else none.
-fn share(task: u8, bytes: usize, datagram: Option<Named>) -> usize
+pub(crate) fn share(task: u8, bytes: usize, datagram: Option<Named>) -> usize
     ensures bytes { result ≡ share task bytes datagram }
     ensures most { result ≤ bytes }
 {

@@ -1,9 +1,13 @@
 //! Frames of lines whose sizes were worked out by hand: a datagram of n bytes has 12 beside its data,
 //! a frame 16 before its datagrams, and 1,500 may follow the Ethernet header of 14.
+ghost use Rattle.std.specs.Prelude.{◌≡◌, length};
 ghost use Rattle.hc_events.specs.Calls.{AreSentTogether};
+ghost use Rattle.hc_events.specs.Sendings.{alone, joined};
 
+use crate::filling::fill_part;
 use crate::parts::part_size;
 use crate::proposing::{preview, propose};
+use crate::writing::{SentData, write_frame};
 use hc_events::faults::CoreFault;
 use hc_events::sending::{Named, Sending};
 use hc_frames::limits::SETUP_SERIAL;
@@ -211,5 +215,71 @@ fn parts_of_a_shared_frame(rt: HostRuntime) -> Result<(), Fail> {
     assert_eq!(rt; parts_of(alloc, &plan, &[0, 1])?, (30, 30, 0));
     assert_eq!(rt; parts_of(alloc, &plan, &[1, 0])?, (31, 29, 0));
     assert_eq!(rt; parts_of(alloc, &plan, &[2])?, (0, 0, 728));
+    Ok(())
+}
+
+/// Data of two bytes for task 0, and of one byte for any other.
+struct Samples;
+
+impl SentData for Samples {
+    ghost use Rattle.std.specs.Prelude.{◌==◌, if◌then◌else◌, [], ◌∷◌};
+
+    ghost bytes = { λ samples task number. if task == 0 then 1 ∷ 128 ∷ [] else 2 ∷ [] };
+
+    fn bytes_of(&self, task: u8, number: u8) -> &[u8] {
+        let _ = number;
+        if task == 0 { &[1, 128] } else { &[2] }
+    }
+}
+
+/// A frame of a datagram of task 0 and one of task 1, with the serial 6.
+fn both() -> Sending
+    ensures { result ≡ joined (alone 6 (0, 0) 2) (1, 0) 1 }
+{
+    let mut frame = Sending::of(6, (0, 0), 2);
+    frame.join((1, 0), 1);
+    frame
+}
+
+/// Writes it.
+fn write_both(out: &mut [u8])
+    requires { length out.old ≡ 60 }
+{
+    write_frame(out, &both(), &Samples);
+}
+
+/// Writes task 0's part of it: its head and the first datagram.
+fn write_first(out: &mut [u8])
+    requires { length out.old ≡ 30 }
+{
+    fill_part(out, &[both()], 0, &Samples);
+}
+
+/// Writes task 1's part of it: the second datagram and the padding.
+fn write_second(out: &mut [u8])
+    requires { length out.old ≡ 30 }
+{
+    fill_part(out, &[both()], 1, &Samples);
+}
+
+/// The frame: its head, whose last two bytes say 27 bytes of datagrams; a datagram of two bytes of data,
+/// which says that another one follows; one of one byte; and 17 zeros.
+const BOTH: [u8; 60] = [
+    0xff, 0xff, 0xff, 0xff, 0xff, 0xff, 0x02, 0, 0, 0, 0, 6, 0x88, 0xa4, 0x1b, 0x10, 0x0c, 6, 0, 0,
+    0, 1, 0x02, 0x80, 0, 0, 1, 128, 0, 0, 0x0c, 6, 0, 0, 0, 2, 0x01, 0, 0, 0, 2, 0, 0, 0, 0, 0, 0,
+    0, 0, 0, 0, 0, 0, 0, 0, 0, 0, 0, 0, 0,
+];
+
+/// Each byte of the frame is there, and the parts of its two tasks are its halves.
+#[test]
+fn parts_are_halves_of_a_frame(rt: HostRuntime) -> Result<(), Fail> {
+    let mut whole = [9; 60];
+    write_both(&mut whole);
+    assert!(rt; whole == BOTH);
+    let mut parts = [9; 60];
+    let (first, second) = parts.split_at_mut(30);
+    write_first(first);
+    write_second(second);
+    assert!(rt; parts == BOTH);
     Ok(())
 }

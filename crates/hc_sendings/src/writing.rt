@@ -22,7 +22,7 @@ pub trait SentData {
 }
 
 /// The bytes of datagrams, with their headers and their counters.
-fn carried_bytes<D: SentData>(datagrams: &[Named], sent: &D) -> usize
+pub(crate) fn carried_bytes<D: SentData>(datagrams: &[Named], sent: &D) -> usize
     requires { 2 + carried_bytes (D.bytes sent.now) datagrams.now ≤ MAX_ETHERCAT }
     ensures { result ≡ carried_bytes (D.bytes sent.now) datagrams.now }
 {

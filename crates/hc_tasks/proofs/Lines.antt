@@ -12,7 +12,7 @@ use Rattle.hc_records.specs.SpanLaws.{IsTaskList}
 use Rattle.hc_records.proofs.lemmas.Lists.{AllPairs-nil}
 use Rattle.hc_cuts.specs.Starts.{Kept, kept_empty}
 use Rattle.hc_tasks.specs.Areas.{list_by, rank_list}
-use Rattle.hc_tasks.specs.Kept.{IsCut, IsLine, crowded_from, kept_by, kept_from, line_kept}
+use Rattle.hc_tasks.specs.Kept.{IsCut, IsLine, crowded_from, kept_by, kept_from, line_kept, starts_by}
 use Rattle.hc_tasks.specs.Widths.{AreKept}
 
 pub length-kept : (count task : ℕ) (slaves : List (List Area)) → length (kept_from count task slaves) ≡ count
@@ -39,6 +39,14 @@ task-places task line kept other low is =
     ap (λ (all : List Kept). packed opening (slice_index_or all task other).tree.list) is
     ∙ ap (λ (k : Kept). packed opening k.tree.list) (kept-at 8 0 task line other low)
     ∙ ap (λ (n : ℕ). packed opening (list_by n line)) number
+
+pub task-starts : (task : ℕ) (line : List (List Area)) (kept : List Kept) (other : Kept) → task < 8 → kept ≡ line_kept line
+    → (slice_index_or kept task other).starts ≡ starts_by task line
+task-starts task line kept other low is =
+    let number : 0 + task ≡ task = omega arith in
+    ap (λ (all : List Kept). (slice_index_or all task other).starts) is
+    ∙ ap (λ (k : Kept). k.starts) (kept-at 8 0 task line other low)
+    ∙ ap (λ (n : ℕ). starts_by n line) number
 
 -- a line none of whose slaves is present
 

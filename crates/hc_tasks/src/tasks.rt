@@ -7,6 +7,7 @@ use hc_bitsum::steps::Steps;
 use hc_cuts::cuts::Cuts;
 use hc_cuts::packing::Placed;
 use hc_records::faults::EditFault;
+use hc_records::keys::Key;
 use hc_records::limits::TASKS;
 use std::alloc::{AllocError, Global};
 use std::marker::Model;
@@ -49,7 +50,7 @@ impl LineCuts {
     ghost use Rattle.hc_records.specs.declared.faults.EditFault.TheVariants.{Memory, TooManyDatagrams};
     ghost use Rattle.hc_records.specs.declared.limits.TheConstants.{MOST_SLAVES, TASKS};
     ghost use Rattle.hc_tasks.specs.Areas.{list_by};
-    ghost use Rattle.hc_tasks.specs.Kept.{IsLine, crowded_from, line_kept};
+    ghost use Rattle.hc_tasks.specs.Kept.{IsLine, crowded_from, line_kept, starts_by};
 
     /// The tasks of a line of so many declared slaves, at most 2,048, none of which is present.
     fn new(alloc: Global, slaves: u16) -> Result<LineCuts, AllocError>
@@ -63,9 +64,9 @@ impl LineCuts {
         Ok(LineCuts { tasks })
     }
 
-    /// Turns the tasks of a line into those of another line of the same declared slaves: the widths that
-    /// differ are set, and each task in which one does is cut anew. Otherwise the lowest task that needs
-    /// more than 16 datagrams; widths and boundaries are then put back. It takes no memory.
+    /// Turns the tasks of a line into those of another line of the same declared slaves: their areas and
+    /// their boundaries are then those of the new line. Otherwise the lowest task that needs more than 16
+    /// datagrams, and all is as it was. None of the old line's tasks needs more. It takes no memory.
     pub fn turn<L: Ledger>(
         &mut self,
         old: &[SlaveAreas],
@@ -109,6 +110,15 @@ impl LineCuts {
             Ok(()) => Ok(cuts),
             Err(task) => Err(EditFault::TooManyDatagrams(task)),
         }
+    }
+
+    /// The boundaries of a task, 0 to 7, but the last one, `Key::END`: `Key::START`, at which the first
+    /// datagram begins if there is one, and the keys at which the later ones do. It takes no memory.
+    pub fn starts(&self, task: u8) -> &[Key]
+        requires { task < TASKS }
+        ensures { (line : List (List Area)) → self.now ≡ line_kept line → result.now ≡ starts_by task line }
+    {
+        self.tasks[usize::from(task)].starts()
     }
 
     /// The areas of a task with their places, in key order. `AllocError` where a growth was refused.

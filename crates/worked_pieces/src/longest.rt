@@ -14,8 +14,14 @@ use std::marker::Brand;
 use std::sync::ledger::{Blank, Ledger};
 use std::test::Fail;
 
-/// The places for areas of one direction: 8 for each of 2,048 slaves.
-const PLACES: u32 = 16_384;
+/// The slaves, each with places for 8 areas of a direction.
+const SLAVES: u32 = 2_048;
+
+/// The places for areas of one direction.
+const PLACES: u32 = 8 * SLAVES;
+
+/// The levels of runs above those of the slaves.
+const LEVELS: u32 = 11;
 
 /// What an area or a run of areas of one direction takes of a datagram: the bit behind it where it starts
 /// at each of the 8 bits of byte 0. None where no area has a width.
@@ -101,17 +107,27 @@ fn joined(one: Run, other: Run) -> Run {
     }
 }
 
+/// The run of a slave's 8 areas.
+fn slave_run(spread: Spread, dir: Dir, slave: u32) -> Run {
+    let mut run = None;
+    for area in 0..8_u32 {
+        let place = slave.wrapping_mul(8).wrapping_add(area);
+        run = joined(run, area_run(width(spread, dir, place)));
+    }
+    run
+}
+
 /// The run at a number of a tree: 1 for all areas, and `2 * n` and `2 * n + 1` for the halves of run `n`.
 fn run_at(runs: &[Run], number: u32) -> Run {
     runs.get(number as usize).copied().flatten()
 }
 
-/// The runs of a direction.
+/// The runs of a direction: the last half of them are those of the slaves.
 fn runs_of(alloc: Global, spread: Spread, dir: Dir) -> Result<Vec<Run>, AllocError> {
-    let mut runs = Vec::from_elem(alloc, None, 32_768)?;
-    for number in (1..32_768_u32).rev() {
-        let run = if number >= PLACES {
-            area_run(width(spread, dir, number - PLACES))
+    let mut runs = Vec::from_elem(alloc, None, 4_096)?;
+    for number in (1..4_096_u32).rev() {
+        let run = if number >= SLAVES {
+            slave_run(spread, dir, number - SLAVES)
         } else {
             joined(run_at(&runs, 2 * number), run_at(&runs, 2 * number + 1))
         };
@@ -137,58 +153,108 @@ enum Walked {
     Through(Filled),
 }
 
-/// The runs of one direction, and how many of them a walk has read.
+/// The areas and runs of one direction, and how many of them a walk has read.
 #[derive(Drop)]
 struct Walk<'a> {
+    spread: Spread,
     runs: &'a [Run],
-    is_input: bool,
+    dir: Dir,
     reads: u32,
 }
 
 impl<'a> Walk<'a> {
     ghost use Rattle.std.specs.Prelude.{◌≡◌};
 
-    /// How far a datagram is filled behind a run.
-    fn filled(&self, number: u32, filled: Filled) -> Filled {
-        match run_at(self.runs, number) {
+    /// How far a datagram is filled behind a run, which is read.
+    fn filled(&mut self, run: Run, filled: Filled) -> Filled {
+        self.reads = self.reads.saturating_add(1);
+        let is_input = self.dir == Dir::In;
+        match run {
             Some(ends) => {
-                let turns = self.is_input && filled.is_behind_output;
+                let turns = is_input && filled.is_behind_output;
                 Filled {
                     bit: behind(&ends, start(turns, filled.bit)),
-                    is_behind_output: !self.is_input,
+                    is_behind_output: !is_input,
                 }
             }
             None => filled,
         }
     }
 
-    /// Walks a run whose halves have so many areas, 0 for one area, from the area behind `skip` others.
-    fn walk(&mut self, number: u32, half: u32, skip: u32, filled: Filled) -> Walked {
-        self.reads = self.reads.saturating_add(1);
-        if skip == 0 {
-            let end = self.filled(number, filled);
-            if end.bit <= 11_888 {
-                return Walked::Through(end);
+    /// Walks the areas of a slave from one on.
+    fn slave(&mut self, slave: u32, from: u32, filled: Filled) -> Walked {
+        let mut so_far = filled;
+        for area in from..8 {
+            let place = slave.wrapping_mul(8).wrapping_add(area);
+            let run = area_run(width(self.spread, self.dir, place));
+            let end = self.filled(run, so_far);
+            if end.bit > 11_888 {
+                return Walked::Found(place);
+            }
+            so_far = end;
+        }
+        Walked::Through(so_far)
+    }
+
+    /// Walks a run, which doesn't end within the datagram, down to the slave whose areas don't.
+    fn below(&mut self, number: u32, filled: Filled) -> Walked {
+        let mut number = number;
+        let mut so_far = filled;
+        for _level in 0..LEVELS {
+            if number < SLAVES {
+                let left = number.wrapping_mul(2);
+                let end = self.filled(run_at(self.runs, left), so_far);
+                if end.bit <= 11_888 {
+                    so_far = end;
+                    number = left.wrapping_add(1);
+                } else {
+                    number = left;
+                }
             }
         }
-        if half == 0 {
-            return Walked::Found(number.wrapping_sub(PLACES));
+        self.slave(number.wrapping_sub(SLAVES), 0, so_far)
+    }
+
+    /// Walks all areas.
+    fn all(&mut self, filled: Filled) -> Walked {
+        let end = self.filled(run_at(self.runs, 1), filled);
+        if end.bit <= 11_888 {
+            return Walked::Through(end);
         }
-        let left = number.wrapping_mul(2);
-        let right = left.wrapping_add(1);
-        if skip >= half {
-            return self.walk(right, half / 2, skip - half, filled);
+        self.below(1, filled)
+    }
+
+    /// Walks the areas behind those of a slave: on each level the run beside its own, if that is a left one.
+    fn behind(&mut self, slave: u32, filled: Filled) -> Walked {
+        let mut number = slave.wrapping_add(SLAVES);
+        let mut so_far = filled;
+        for _level in 0..LEVELS {
+            if number % 2 == 0 {
+                let next = number.wrapping_add(1);
+                let end = self.filled(run_at(self.runs, next), so_far);
+                if end.bit > 11_888 {
+                    return self.below(next, so_far);
+                }
+                so_far = end;
+            }
+            number /= 2;
         }
-        match self.walk(left, half / 2, skip, filled) {
-            Walked::Found(place) => Walked::Found(place),
-            Walked::Through(end) => self.walk(right, half / 2, 0, end),
+        Walked::Through(so_far)
+    }
+
+    /// Walks the areas from a place on.
+    fn from(&mut self, place: u32, filled: Filled) -> Walked {
+        match self.slave(place / 8, place % 8, filled) {
+            Walked::Found(found) => Walked::Found(found),
+            Walked::Through(end) => self.behind(place / 8, end),
         }
     }
 }
 
-/// The runs of a task's outputs and inputs.
+/// The areas of a task, and the runs of its outputs and inputs.
 #[derive(Drop)]
 struct Task {
+    spread: Spread,
     outputs: Vec<Run>,
     inputs: Vec<Run>,
 }
@@ -197,11 +263,12 @@ impl Task {
     ghost use Rattle.std.specs.Prelude.{◌≡◌, ◌<◌};
 
     /// The key at which the next datagram begins where one begins with the areas from a place of a
-    /// direction on, and how many runs the walk reads.
+    /// direction on, and how many areas and runs the walk reads.
     fn next(&self, dir: Dir, place: u32) -> (Key, u32) {
         let mut inputs = Walk {
+            spread: self.spread,
             runs: &self.inputs,
-            is_input: true,
+            dir: Dir::In,
             reads: 0,
         };
         let blank = Filled {
@@ -209,18 +276,19 @@ impl Task {
             is_behind_output: false,
         };
         if dir == Dir::In {
-            let walked = inputs.walk(1, PLACES / 2, place, blank);
+            let walked = inputs.from(place, blank);
             return (key_of(Dir::In, walked), inputs.reads);
         }
         let mut outputs = Walk {
+            spread: self.spread,
             runs: &self.outputs,
-            is_input: false,
+            dir: Dir::Out,
             reads: 0,
         };
-        match outputs.walk(1, PLACES / 2, place, blank) {
+        match outputs.from(place, blank) {
             Walked::Found(found) => (key_of(Dir::Out, Walked::Found(found)), outputs.reads),
             Walked::Through(end) => {
-                let walked = inputs.walk(1, PLACES / 2, 0, end);
+                let walked = inputs.all(end);
                 (
                     key_of(Dir::In, walked),
                     outputs.reads.saturating_add(inputs.reads),
@@ -250,7 +318,7 @@ fn tree_of(alloc: Global, spread: Spread) -> Result<SumTree, AllocError>
     Ok(tree)
 }
 
-/// The most runs that a walk reads from an area of a direction; none where one finds another boundary
+/// The most areas and runs that a walk reads from an area of a direction; none where one finds another boundary
 /// than `next_cut`.
 fn longest<L: Ledger>(task: &Task, tree: &SumTree, dir: Dir, blank: Blank) -> Option<u32>
     requires name { blank.name ≡ L.name }
@@ -270,17 +338,18 @@ fn longest<L: Ledger>(task: &Task, tree: &SumTree, dir: Dir, blank: Blank) -> Op
     Some(most)
 }
 
-/// The most runs that a walk reads from an area of a direction, whose steps nobody reads.
+/// The most areas and runs that a walk reads from an area of a direction, whose steps nobody reads.
 fn longest_from(task: &Task, tree: &SumTree, dir: Dir) -> Option<u32>
     requires { tree.now.slaves ≡ 2048 }
 {
     longest::<Brand>(task, tree, dir, Blank::new(1))
 }
 
-/// The most runs that a walk reads from an output and from an input.
+/// The most areas and runs that a walk reads from an output and from an input.
 fn longest_of(alloc: Global, spread: Spread) -> Result<[Option<u32>; 2], AllocError> {
     let tree = tree_of(alloc, spread)?;
     let task = Task {
+        spread,
         outputs: runs_of(alloc, spread, Dir::Out)?,
         inputs: runs_of(alloc, spread, Dir::In)?,
     };
@@ -290,7 +359,7 @@ fn longest_of(alloc: Global, spread: Spread) -> Result<[Option<u32>; 2], AllocEr
     ])
 }
 
-/// Whether walks find the boundaries, and read at most 104 runs.
+/// Whether walks find the boundaries, and read at most 104 areas and runs.
 fn are_short(longest: [Option<u32>; 2]) -> bool {
     longest.iter().all(|reads| matches!(reads, Some(1..=104)))
 }
@@ -299,9 +368,9 @@ fn are_short(longest: [Option<u32>; 2]) -> bool {
 fn the_longest_searches_read_few_runs(rt: HostRuntime) -> Result<(), Fail> {
     assert!(rt; are_short(longest_of(rt.alloc(), Spread::Narrow)?));
     assert!(rt; are_short(longest_of(rt.alloc(), Spread::Inputs)?));
-    // from the second output, 15 runs down to it and 13 behind it; then all inputs, and 2 runs on each of
-    // 14 levels down to the last input
+    // from the first output: its slave's 8 areas, and a run on each of 11 levels; then all inputs, a run on each of 11
+    // levels down to the last slave, and its 8 areas
     let ends = longest_of(rt.alloc(), Spread::Ends)?;
-    assert_eq!(rt; ends[0], Some(15 + 13 + 1 + 2 * 14));
+    assert_eq!(rt; ends[0], Some(8 + 11 + 1 + 11 + 8));
     Ok(())
 }

@@ -13,7 +13,7 @@ use Rattle.hc_frames.specs.Sizes.{text_size}
 use Rattle.hc_frames.proofs.lemmas.Readings.{frame-read}
 use Rattle.hc_frames.proofs.lemmas.Spelling.{frame-carried}
 use Rattle.hc_frames.proofs.lemmas.Texts.{length-carried_texts}
-use Rattle.hc_machine.specs.Commands.{address_after, kept, served}
+use Rattle.hc_machine.specs.Commands.{address_after, memory_behind_datagram, served}
 use Rattle.hc_machine.specs.Frames.{all_served, frame_after, memory_behind}
 use Rattle.hc_machine.specs.Laws.{ServedFramesAreRead, SizesStay}
 use Rattle.hc_machine.proofs.Alias.{length-kept}
@@ -35,7 +35,7 @@ address-fits Apwr address fits = omega arith
 address-fits Fpwr address fits = fits
 address-fits Lrw address fits = fits
 
-served-size : (memory : List ℕ) (d : Carried) → length memory ≡ 12288 → length (served memory d).bytes ≡ length d.bytes
+pub served-size : (memory : List ℕ) (d : Carried) → length memory ≡ 12288 → length (served memory d).bytes ≡ length d.bytes
 unfolding served
 served-size memory d long = length-data d.command memory d.address d.bytes long
 
@@ -56,21 +56,21 @@ served-fits memory d long fits =
 all-fit : (memory : List ℕ) (ds : List Carried) → length memory ≡ 12288 → All FitsLine ds → All FitsLine (all_served memory ds)
 all-fit memory [] long fits = All-nil FitsLine
 all-fit memory (d ∷ ds) long fits =
-    All-cons FitsLine (served memory d) (all_served (kept memory d) ds) (served-fits memory d long (All-head FitsLine d ds fits))
-    (all-fit (kept memory d) ds (length-kept memory d long) (All-tail FitsLine d ds fits))
+    All-cons FitsLine (served memory d) (all_served (memory_behind_datagram memory d) ds) (served-fits memory d long (All-head FitsLine d ds fits))
+    (all-fit (memory_behind_datagram memory d) ds (length-kept memory d long) (All-tail FitsLine d ds fits))
 
 all-sizes : (memory : List ℕ) (ds : List Carried) → length memory ≡ 12288 → text_size (all_served memory ds) ≡ text_size ds
 all-sizes memory [] long = refl
 all-sizes memory (d ∷ ds) long =
-    sum_by-cons (λ (x : Carried). 12 + length x.bytes) (served memory d) (all_served (kept memory d) ds)
-    ∙ ap₂ (λ (m n : ℕ). 12 + m + n) (served-size memory d long) (all-sizes (kept memory d) ds (length-kept memory d long))
+    sum_by-cons (λ (x : Carried). 12 + length x.bytes) (served memory d) (all_served (memory_behind_datagram memory d) ds)
+    ∙ ap₂ (λ (m n : ℕ). 12 + m + n) (served-size memory d long) (all-sizes (memory_behind_datagram memory d) ds (length-kept memory d long))
     ∙ sym (sum_by-cons (λ (x : Carried). 12 + length x.bytes) d ds)
 
 some-served : (memory : List ℕ) (ds : List Carried) → 0 < length ds → 0 < length (all_served memory ds)
 some-served memory [] some = some
 some-served memory (d ∷ ds) some = omega arith
 
-are-carried : (memory : List ℕ) (serial : ℕ) (ds : List Carried) → length memory ≡ 12288 → CanBeCarried serial ds → CanBeCarried serial (all_served memory ds)
+pub are-carried : (memory : List ℕ) (serial : ℕ) (ds : List Carried) → length memory ≡ 12288 → CanBeCarried serial ds → CanBeCarried serial (all_served memory ds)
 are-carried memory serial ds long can =
     let within : text_size ds ≤ 1498 = can.within in
     let same : text_size (all_served memory ds) ≡ text_size ds = all-sizes memory ds long in

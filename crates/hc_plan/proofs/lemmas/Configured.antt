@@ -13,10 +13,10 @@ use Rattle.hc_records.proofs.lemmas.Stations.{IsAbsent, stations}
 
 -- an element that stands at an index is contained, and a contained one stands at an index
 
-at-contained : {X : Type 0} (xs : List X) (i : ℕ) (x : X) → slice_get xs i ≡ Some x → Contains xs x
+pub at-contained : {X : Type 0} (xs : List X) (i : ℕ) (x : X) → slice_get xs i ≡ Some x → Contains xs x
 at-contained xs i x is = (i, slice_get_within xs i x is, get_or_from_slice_get xs i x x is)
 
-contained-at : {X : Type 0} (xs : List X) (x : X) (at : Contains xs x) → slice_get xs at.0 ≡ Some x
+pub contained-at : {X : Type 0} (xs : List X) (x : X) (at : Contains xs x) → slice_get xs at.0 ≡ Some x
 contained-at xs x at = slice_get-get_or xs at.0 x at.1 ∙ ap (λ (y : _). Some y) at.2
 
 -- the blocks of one slave
@@ -41,7 +41,7 @@ made-parts station n (Some block) found is =
     let same : record { station = station; number = n; block = block } ≡ found = cc in
     (sym (ap (λ (f : LineBlock). f.station) same), sym (ap (λ (f : LineBlock). f.number) same), ap (λ (f : LineBlock). Some f.block) same)
 
-contained-own : (station : ℕ) (blocks : List RegisterBlock) (found : LineBlock) → Contains (numbered station 0 blocks) found
+pub contained-own : (station : ℕ) (blocks : List RegisterBlock) (found : LineBlock) → Contains (numbered station 0 blocks) found
     → (found.station ≡ station) × (slice_get blocks found.number ≡ Some found.block)
 contained-own station blocks found at =
     let parts = made-parts station at.0 (slice_get blocks at.0) found (sym (get-own station at.0 blocks) ∙ contained-at (numbered station 0 blocks) found at) in

@@ -2,7 +2,7 @@ use Rattle.std.proofs.Common.{ℕ, List, subst}
 use Rattle.std.specs.Prelude.{◌≢◌, All}
 use Rattle.hc_records.specs.Line.{line}
 use Rattle.hc_plan.specs.Reports.{name_of}
-use Rattle.hc_plan.proofs.Unmoved.{stays}
+use Rattle.hc_plan.proofs.lemmas.Unmoved.{stays}
 use Rattle.hc_plan.proofs.laws.unmoved_blocks_stay.Goals as goal
 
 pub returns : goal.returns

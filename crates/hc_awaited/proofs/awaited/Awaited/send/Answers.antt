@@ -4,7 +4,7 @@ use Rattle.hc_events.specs.Sendings.{Frame}
 use Rattle.hc_awaited.specs.Kept.{AreKept, Kept, Newest, kept_of, newest_of}
 use Rattle.hc_awaited.specs.Waiting.{AwaitedFrame, Waiting, all_sent}
 use Rattle.hc_awaited.proofs.Alive.{alive_at, stays_at}
-use Rattle.hc_awaited.proofs.Room.{few-stay}
+use Rattle.hc_awaited.proofs.Room.{few-stay, few-told}
 use Rattle.hc_awaited.proofs.Sent.{all-ascend, kept-behind, left, left-is, left-kept, left-told}
 use Rattle.std.proofs.lemmas.List.Kept.{AllPairs-filter}
 use Rattle.hc_awaited.proofs.awaited.Awaited.send.Goals as goal
@@ -53,8 +53,8 @@ invariant_of-self c =
       omega (arith, room, same, still, yet),
     )
 
-pub returns : goal.returns
-returns c =
+pub returns-clause-sent : goal.returns-clause-sent
+returns-clause-sent c =
     let before : Newest = c.self.inside.newest in
     let now : Newest = c.note_all.new.newest in
     let kept : List Kept = c.self.inside.frames.items in
@@ -67,3 +67,17 @@ returns c =
     ap (λ (frames : List Kept). record { frames = alive_at (newest_of now) frames; write = c.self.inside.write }) all
     ∙ left-told before now kept more c.self.inside.write are c.note_all.ensures.noted c.requires.named c.requires.behind.ascend behind
     ∙ ap (λ (w : Waiting). all_sent w more) c.self.view_is
+
+pub returns-clause-few : goal.returns-clause-few
+returns-clause-few c =
+    let before : Newest = c.self.inside.newest in
+    let now : Newest = c.note_all.new.newest in
+    let kept : List Kept = c.self.inside.frames.items in
+    let more : List Frame = c.args.frames.now in
+    let are : AreKept before kept = c.self.invariant.0 in
+    let behind : Behind more (alive_at (newest_of before) kept) = subst (λ (w : Waiting). Behind more w.frames) (sym c.self.view_is) c.requires.behind.behind in
+    let all : c.add_all.new.frames.items ≡ left (newest_of before) now kept more =
+    left-is (newest_of before) now kept c.keep_alive.new.frames.items c.keep_alive-2.new.frames.items c.add_all.new.frames.items more
+    c.keep_alive.ensures.frames c.keep_alive-2.ensures.frames c.add_all.ensures.frames in
+    few-told now c.add_all.new.frames.items
+    (subst (AreKept now) (sym all) (left-kept before now kept more are c.note_all.ensures.places c.requires.named c.requires.behind.ascend behind))

@@ -5,6 +5,7 @@ use Rattle.hc_records.specs.declared.records.Dir.TheVariants.{Out, In}
 use Rattle.hc_records.specs.declared.keys.Key.{Key}
 use Rattle.hc_records.specs.declared.keys.TheConstants.Key.{START}
 use Rattle.hc_records.specs.TaskList.{Keyed}
+use Rattle.hc_bitsum.specs.Branch.{slots_of}
 use Rattle.hc_bitsum.specs.declared.filled.Filled.{Filled}
 use Rattle.hc_records.specs.SpanLaws.{areas_from}
 use Rattle.hc_bitsum.specs.Search.{begun, first_beyond, key_or_end, scan}
@@ -30,45 +31,45 @@ scanned room phase filled areas list from key low begins same here =
 
 pub returns-then-from-eq0-clause-key : goal.returns-then-from-eq0-clause-key
 returns-then-from-eq0-clause-key g c =
-    let outputs = c.self.inside.outputs.areas in
-    let inputs = c.self.inside.inputs.areas in
-    let all = all-from_start outputs inputs c.self.invariant.0.keys c.self.invariant.1.keys in
+    let outputs = (slots_of c.self.inside.outputs).areas in
+    let inputs = (slots_of c.self.inside.inputs).areas in
+    let all = all-from_start outputs inputs c.self.invariant.outs.keys c.self.invariant.ins.keys in
     let from = start-is _ _ c.requires.from c.if-from-eq0.true in
     rw (c.key_or_end.ensures, c.fit_both.ensures.fit, ← c.self.view_is)
     (scanned c.args.room c.args.phase c.begun-filled.result (outputs ++ inputs) (filter has_width (outputs ++ inputs)) c.args.from START c.requires.phase c.begun-filled.ensures all from)
 
 pub returns-in-Out-clause-key : goal.returns-in-Out-clause-key
 returns-in-Out-clause-key g c =
-    let outputs = c.self.inside.outputs.areas in
-    let inputs = c.self.inside.inputs.areas in
+    let outputs = (slots_of c.self.inside.outputs).areas in
+    let inputs = (slots_of c.self.inside.inputs).areas in
     let place = c.place_of-place.result in
     let key : c.args.from ≡ key_at Out place = c.place_of-place.ensures.value ∙ ap (λ (d : Dir). key_at d place) c.in-Out.is in
     let kept = place-is _ _ c.requires.from c.if-from-eq0.false in
     let slaves : c.self.inside.slaves ≡ c.args.self.now.slaves = ap (λ (tree : Tree). tree.slaves) c.self.view_is in
-    let room = c.self.invariant.0.room in
+    let room = c.self.invariant.outs.room in
     let within = c.place_of-place.ensures.within in
     let last = kept.last in
     let area = kept.area in
     let inside : place < length outputs = omega arith in
-    let all = output-from place outputs inputs c.self.invariant.0.keys c.self.invariant.1.keys inside in
+    let all = output-from place outputs inputs c.self.invariant.outs.keys c.self.invariant.ins.keys inside in
     rw (c.key_or_end-in-Out.ensures, c.fit_both-in-Out.ensures.fit, ← c.self.view_is)
     (scanned c.args.room c.args.phase c.begun-filled.result (drop place (outputs ++ inputs)) (filter has_width (outputs ++ inputs)) c.args.from (key_at Out place) c.requires.phase c.begun-filled.ensures all key)
 
 pub returns-in-In-clause-key : goal.returns-in-In-clause-key
 returns-in-In-clause-key g c =
-    let outputs = c.self.inside.outputs.areas in
-    let inputs = c.self.inside.inputs.areas in
+    let outputs = (slots_of c.self.inside.outputs).areas in
+    let inputs = (slots_of c.self.inside.inputs).areas in
     let place = c.place_of-place.result in
     let key : c.args.from ≡ key_at In place = c.place_of-place.ensures.value ∙ ap (λ (d : Dir). key_at d place) c.in-In.is in
-    let all = input-from place outputs inputs c.self.invariant.0.keys c.self.invariant.1.keys in
+    let all = input-from place outputs inputs c.self.invariant.outs.keys c.self.invariant.ins.keys in
     rw (c.key_or_end-in-In.ensures, c.fit.ensures.fit, ← c.self.view_is)
     (scanned c.args.room c.args.phase c.begun-filled.result (drop place inputs) (filter has_width (outputs ++ inputs)) c.args.from (key_at In place) c.requires.phase c.begun-filled.ensures all key)
 
 pub returns-then-from-eq0-clause-holds : goal.returns-then-from-eq0-clause-holds
-returns-then-from-eq0-clause-holds g c = rw (← c.self.view_is) (holds-list c.self.inside.slaves c.self.inside.outputs c.self.inside.inputs c.self.invariant.0 c.self.invariant.1)
+returns-then-from-eq0-clause-holds g c = rw (← c.self.view_is) (holds-list c.self.inside.slaves (slots_of c.self.inside.outputs) (slots_of c.self.inside.inputs) c.self.invariant.outs c.self.invariant.ins)
 
 pub returns-in-Out-clause-holds : goal.returns-in-Out-clause-holds
-returns-in-Out-clause-holds g c = rw (← c.self.view_is) (holds-list c.self.inside.slaves c.self.inside.outputs c.self.inside.inputs c.self.invariant.0 c.self.invariant.1)
+returns-in-Out-clause-holds g c = rw (← c.self.view_is) (holds-list c.self.inside.slaves (slots_of c.self.inside.outputs) (slots_of c.self.inside.inputs) c.self.invariant.outs c.self.invariant.ins)
 
 pub returns-in-In-clause-holds : goal.returns-in-In-clause-holds
-returns-in-In-clause-holds g c = rw (← c.self.view_is) (holds-list c.self.inside.slaves c.self.inside.outputs c.self.inside.inputs c.self.invariant.0 c.self.invariant.1)
+returns-in-In-clause-holds g c = rw (← c.self.view_is) (holds-list c.self.inside.slaves (slots_of c.self.inside.outputs) (slots_of c.self.inside.inputs) c.self.invariant.outs c.self.invariant.ins)

@@ -3,7 +3,8 @@ use Rattle.hc_records.specs.declared.records.Dir.{Dir}
 use Rattle.hc_records.specs.declared.records.Dir.TheVariants.{Out, In}
 use Rattle.hc_records.specs.declared.keys.Key.{Key}
 use Rattle.hc_records.specs.TaskList.{Keyed}
-use Rattle.hc_bitsum.specs.Slots.{key_at, with_bits}
+use Rattle.hc_bitsum.specs.Branch.{slots_of}
+use Rattle.hc_bitsum.specs.Slots.{Slots, key_at, set_at, with_bits}
 use Rattle.hc_bitsum.specs.Tree.{HasPlace, Tree}
 use Rattle.hc_bitsum.proofs.Kept.{holds-list}
 use Rattle.hc_bitsum.proofs.Halves.{wide-inputs, wide-outputs, with_bits-keeps}
@@ -19,7 +20,12 @@ invariant_of-self c =
     let key : c.args.key ≡ key_at Out place = c.place_of-place.ensures.value ∙ ap (λ (d : Dir). key_at d place) c.in-Out.is in
     let slaves : c.self.inside.slaves ≡ c.args.self.now.slaves = ap (λ (tree : Tree). tree.slaves) c.self.view_is in
     let own = placed-at c.args.self.now.slaves c.self.inside.slaves c.args.key (key_at Out place) slaves key c.requires.place in
-    (rw c.set.ensures (with_bits-keeps Out c.self.inside.slaves c.self.inside.outputs place c.args.bits c.requires.narrow own c.self.invariant.0), c.self.invariant.1)
+    record {
+      outs = rw c.set.ensures.slots (with_bits-keeps Out c.self.inside.slaves (slots_of c.self.inside.outputs) place c.args.bits c.requires.narrow own c.self.invariant.outs);
+      ins = c.self.invariant.ins;
+      out_sums = c.set.ensures.branch;
+      in_sums = c.self.invariant.in_sums;
+    }
 
 pub invariant_of-self-in-In : goal.invariant_of-self-in-In
 invariant_of-self-in-In c =
@@ -27,20 +33,26 @@ invariant_of-self-in-In c =
     let key : c.args.key ≡ key_at In place = c.place_of-place.ensures.value ∙ ap (λ (d : Dir). key_at d place) c.in-In.is in
     let slaves : c.self.inside.slaves ≡ c.args.self.now.slaves = ap (λ (tree : Tree). tree.slaves) c.self.view_is in
     let own = placed-at c.args.self.now.slaves c.self.inside.slaves c.args.key (key_at In place) slaves key c.requires.place in
-    (c.self.invariant.0, rw c.set-in-In.ensures (with_bits-keeps In c.self.inside.slaves c.self.inside.inputs place c.args.bits c.requires.narrow own c.self.invariant.1))
+    record {
+      outs = c.self.invariant.outs;
+      ins = rw c.set-in-In.ensures.slots (with_bits-keeps In c.self.inside.slaves (slots_of c.self.inside.inputs) place c.args.bits c.requires.narrow own c.self.invariant.ins);
+      out_sums = c.self.invariant.out_sums;
+      in_sums = c.set-in-In.ensures.branch;
+    }
 
 pub returns-in-Out-clause-set : goal.returns-in-Out-clause-set
 returns-in-Out-clause-set c =
     let place = c.place_of-place.result in
     let key : c.args.key ≡ key_at Out place = c.place_of-place.ensures.value ∙ ap (λ (d : Dir). key_at d place) c.in-Out.is in
     let slaves : c.self.inside.slaves ≡ c.args.self.now.slaves = ap (λ (tree : Tree). tree.slaves) c.self.view_is in
-    let room = c.self.invariant.0.room in
+    let room = c.self.invariant.outs.room in
     let within = c.place_of-place.ensures.within in
     let last = c.requires.place.last in
     let area = c.requires.place.area in
-    let inside : place < length c.self.inside.outputs.areas = omega arith in
-    let set = wide-outputs place c.args.bits c.self.inside.outputs.areas c.self.inside.inputs.areas c.self.invariant.0.keys c.self.invariant.1.keys inside in
-    rw (← c.self.view_is, c.set.ensures, key)
+    let inside : place < length (slots_of c.self.inside.outputs).areas = omega arith in
+    let set = wide-outputs place c.args.bits (slots_of c.self.inside.outputs).areas (slots_of c.self.inside.inputs).areas c.self.invariant.outs.keys c.self.invariant.ins.keys inside in
+    let areas : (slots_of c.set.new.self).areas ≡ set_at place c.args.bits (slots_of c.self.inside.outputs).areas = ap (λ (s : Slots). s.areas) c.set.ensures.slots in
+    rw (← c.self.view_is, areas, key)
     (ap (λ (list : List Keyed). let tree : Tree = record { slaves = c.self.inside.slaves; list = list } in tree) set)
 
 pub returns-in-In-clause-set : goal.returns-in-In-clause-set
@@ -48,13 +60,14 @@ returns-in-In-clause-set c =
     let place = c.place_of-place.result in
     let key : c.args.key ≡ key_at In place = c.place_of-place.ensures.value ∙ ap (λ (d : Dir). key_at d place) c.in-In.is in
     let slaves : c.self.inside.slaves ≡ c.args.self.now.slaves = ap (λ (tree : Tree). tree.slaves) c.self.view_is in
-    let room = c.self.invariant.1.room in
+    let room = c.self.invariant.ins.room in
     let within = c.place_of-place.ensures.within in
     let last = c.requires.place.last in
     let area = c.requires.place.area in
-    let inside : place < length c.self.inside.inputs.areas = omega arith in
-    let set = wide-inputs place c.args.bits c.self.inside.outputs.areas c.self.inside.inputs.areas c.self.invariant.0.keys c.self.invariant.1.keys inside in
-    rw (← c.self.view_is, c.set-in-In.ensures, key)
+    let inside : place < length (slots_of c.self.inside.inputs).areas = omega arith in
+    let set = wide-inputs place c.args.bits (slots_of c.self.inside.outputs).areas (slots_of c.self.inside.inputs).areas c.self.invariant.outs.keys c.self.invariant.ins.keys inside in
+    let areas : (slots_of c.set-in-In.new.self).areas ≡ set_at place c.args.bits (slots_of c.self.inside.inputs).areas = ap (λ (s : Slots). s.areas) c.set-in-In.ensures.slots in
+    rw (← c.self.view_is, areas, key)
     (ap (λ (list : List Keyed). let tree : Tree = record { slaves = c.self.inside.slaves; list = list } in tree) set)
 
 pub returns-in-Out-clause-holds : goal.returns-in-Out-clause-holds
@@ -63,8 +76,9 @@ returns-in-Out-clause-holds c =
     let key : c.args.key ≡ key_at Out place = c.place_of-place.ensures.value ∙ ap (λ (d : Dir). key_at d place) c.in-Out.is in
     let slaves : c.self.inside.slaves ≡ c.args.self.now.slaves = ap (λ (tree : Tree). tree.slaves) c.self.view_is in
     let own = placed-at c.args.self.now.slaves c.self.inside.slaves c.args.key (key_at Out place) slaves key c.requires.place in
-    let keeps = with_bits-keeps Out c.self.inside.slaves c.self.inside.outputs place c.args.bits c.requires.narrow own c.self.invariant.0 in
-    rw c.set.ensures (holds-list c.self.inside.slaves (with_bits c.self.inside.outputs place c.args.bits) c.self.inside.inputs keeps c.self.invariant.1)
+    let keeps = with_bits-keeps Out c.self.inside.slaves (slots_of c.self.inside.outputs) place c.args.bits c.requires.narrow own c.self.invariant.outs in
+    let areas : (slots_of c.set.new.self).areas ≡ set_at place c.args.bits (slots_of c.self.inside.outputs).areas = ap (λ (s : Slots). s.areas) c.set.ensures.slots in
+    rw areas (holds-list c.self.inside.slaves (with_bits (slots_of c.self.inside.outputs) place c.args.bits) (slots_of c.self.inside.inputs) keeps c.self.invariant.ins)
 
 pub returns-in-In-clause-holds : goal.returns-in-In-clause-holds
 returns-in-In-clause-holds c =
@@ -72,5 +86,6 @@ returns-in-In-clause-holds c =
     let key : c.args.key ≡ key_at In place = c.place_of-place.ensures.value ∙ ap (λ (d : Dir). key_at d place) c.in-In.is in
     let slaves : c.self.inside.slaves ≡ c.args.self.now.slaves = ap (λ (tree : Tree). tree.slaves) c.self.view_is in
     let own = placed-at c.args.self.now.slaves c.self.inside.slaves c.args.key (key_at In place) slaves key c.requires.place in
-    let keeps = with_bits-keeps In c.self.inside.slaves c.self.inside.inputs place c.args.bits c.requires.narrow own c.self.invariant.1 in
-    rw c.set-in-In.ensures (holds-list c.self.inside.slaves c.self.inside.outputs (with_bits c.self.inside.inputs place c.args.bits) c.self.invariant.0 keeps)
+    let keeps = with_bits-keeps In c.self.inside.slaves (slots_of c.self.inside.inputs) place c.args.bits c.requires.narrow own c.self.invariant.ins in
+    let areas : (slots_of c.set-in-In.new.self).areas ≡ set_at place c.args.bits (slots_of c.self.inside.inputs).areas = ap (λ (s : Slots). s.areas) c.set-in-In.ensures.slots in
+    rw areas (holds-list c.self.inside.slaves (slots_of c.self.inside.outputs) (with_bits (slots_of c.self.inside.inputs) place c.args.bits) c.self.invariant.outs keeps)

@@ -5,11 +5,13 @@ use Rattle.hc_records.specs.Line.{line_from, opened_group}
 use Rattle.hc_records.specs.Project.{lowest_fault}
 use Rattle.hc_places.specs.Layout.{layout_of}
 use Rattle.hc_places.specs.Table.{table_of}
+use Rattle.hc_tasks.specs.Areas.{areas_by_rank}
+use Rattle.hc_tasks.specs.Kept.{line_kept}
 use Rattle.hc_plan.proofs.Opening.{opened-project}
 use Rattle.hc_plan.proofs.plan.Plan.new.Goals as goal
 
-pub configure-requires : goal.configure-requires
-configure-requires c =
+pub open_line-requires-clause-project : goal.open_line-requires-clause-project
+open_line-requires-clause-project c =
     opened-project c.into_groups.result c.as_slice.result.now
     (c.as_slice.ensures ∙ c.in_ok-groups.ensures ∙ ap (map opened_group) c.into_vec.ensures)
     (ap lowest_fault c.into_groups.ensures.value ∙ c.into_groups.ensures.kept)
@@ -22,8 +24,9 @@ invariant_of-result c =
             opened-project c.into_groups.result c.in_ok-groups.groups
             (c.in_ok-groups.ensures ∙ ap (map opened_group) c.into_vec.ensures)
             (ap lowest_fault c.into_groups.ensures.value ∙ c.into_groups.ensures.kept);
-        uncrowded = subst (λ (g : List Declared). crowded_task (line_from 1 g) ≡ None) groups c.in_ok-configured.ensures.accepted;
-        stands = c.in_ok-configured.ensures.layout ∙ ap (λ (g : List Declared). layout_of (line_from 1 g)) groups;
+        uncrowded = subst (λ (g : List Declared). crowded_task (line_from 1 g) ≡ None) groups c.in_ok-opened.ensures.accepted;
+        stands = c.in_ok-opened.ensures.layout ∙ ap (λ (g : List Declared). layout_of (line_from 1 g)) groups;
       },
-      c.in_ok-configured.ensures.places ∙ ap (λ (g : List Declared). table_of (line_from 1 g)) groups,
+      c.in_ok-opened.ensures.places ∙ ap (λ (g : List Declared). table_of (line_from 1 g)) groups,
+      c.in_ok-opened.ensures.kept ∙ ap (λ (g : List Declared). line_kept (areas_by_rank g)) groups,
     )

@@ -1,0 +1,8 @@
+-- What the crates above cite, a file a subject.
+pub mod Stand
+pub mod Dues
+pub mod Sorts
+pub mod Ended
+pub mod Resent
+pub mod Sent
+pub mod Awaits

@@ -1,0 +1,172 @@
+-- Flags in words.
+use Rattle.std.proofs.Common.{◌≡◌, ℕ, zero, suc, ◌+◌, ◌*◌, ◌<◌, ◌≤◌, ◌==◌, Bool, true, false, cond, List, [], ◌∷◌, ◌++◌, length, take, drop, ◌⊎◌, inl, inr, refl, sym, ap, subst, ◌∙◌, arith}
+use Rattle.std.proofs.lemmas.Bool.{cases_lt}
+use Rattle.std.proofs.lemmas.List.{take-append-le}
+use Rattle.std.proofs.lemmas.Iterator.Adapters.{position_from-zero}
+use Rattle.std.proofs.lemmas.Nat.Bits.{bit_at-zero}
+use Rattle.std.proofs.Math.Seq.{take-length}
+use Rattle.std.specs.Int.{bit_at}
+use Rattle.std.specs.Prelude.{slice_get, slice_index, ◌/◌, ◌%◌, position, Some, None, Option}
+use Rattle.std.specs.List.{position_from}
+use Rattle.hc_records.specs.Lists.{changed_at}
+use Rattle.hc_owed.specs.Flags.{Flags, IsLowestIn, SetsFlag, flag, flags_from}
+
+abbrev pub flags_of : List Bool → ℕ → Flags
+flags_of list room = record { list = list; room = room }
+
+pub length-flags : (words : List ℕ) (first count : ℕ) → length (flags_from words count first) ≡ count
+length-flags words first zero = refl
+length-flags words first (suc count) = ap suc (length-flags words (first + 1) count)
+
+-- a bit in front of these, or behind them, changes none of them
+pub flags-same : (old new : List ℕ) (first count : ℕ) → ((i : ℕ) → first ≤ i → i < first + count → flag new i ≡ flag old i) → flags_from new count first ≡ flags_from old count first
+flags-same old new first zero same = refl
+flags-same old new first (suc count) same =
+    ap (λ (b : Bool). b ∷ flags_from new count (first + 1)) (same first (omega arith) (omega arith))
+    ∙ ap (λ (bs : List Bool). flag old first ∷ bs) (flags-same old new (first + 1) count (λ i low high. same i (omega arith) (omega arith)))
+
+flags-last : (words : List ℕ) (first count : ℕ) → flags_from words (suc count) first ≡ flags_from words count first ++ flag words (first + count) ∷ []
+flags-last words first zero = ap (λ (n : ℕ). flag words n ∷ []) (omega arith)
+flags-last words first (suc count) =
+    ap (λ (bs : List Bool). flag words first ∷ bs) (flags-last words (first + 1) count ∙ ap (λ (n : ℕ). flags_from words count (first + 1) ++ flag words n ∷ []) (omega arith))
+
+-- words that were written over all of them
+pub whole : (n : ℕ) (new old : List ℕ) → length new ≡ n → take n (new ++ drop (length new) old) ≡ new
+whole n new old long = take-append-le n new (drop (length new) old) (omega (arith, long)) ∙ ap (λ (k : ℕ). take k new) (sym long) ∙ take-length new
+
+pub flags-pushed : (old new : List ℕ) (count : ℕ) (set : Bool) → SetsFlag old new count set → flags_from new (count + 1) 0 ≡ flags_from old count 0 ++ set ∷ []
+flags-pushed old new count set sets =
+    let next : count + 1 ≡ suc count = omega arith in
+    let at : 0 + count ≡ count = omega arith in
+    ap (λ (n : ℕ). flags_from new n 0) next ∙ flags-last new 0 count
+    ∙ ap (λ (n : ℕ). flags_from new count 0 ++ flag new n ∷ []) at
+    ∙ ap (λ (b : Bool). flags_from new count 0 ++ b ∷ []) sets.here
+    ∙ ap (λ (bs : List Bool). bs ++ set ∷ []) (flags-same old new 0 count (λ i low high. sets.others i (omega arith)))
+
+flags-set-from : (old new : List ℕ) (first count n : ℕ) (set : Bool) → SetsFlag old new (first + n) set → n < count
+    → flags_from new count first ≡ changed_at n (λ b. set) (flags_from old count first)
+flags-set-from old new first zero n set sets low = absurd (omega arith)
+flags-set-from old new first (suc count) zero set sets low =
+    let here : flag new first ≡ set = ap (flag new) (omega arith) ∙ sets.here in
+    ap (λ (b : Bool). b ∷ flags_from new count (first + 1)) here
+    ∙ ap (λ (bs : List Bool). set ∷ bs) (flags-same old new (first + 1) count (λ i low high. sets.others i (omega arith)))
+flags-set-from old new first (suc count) (suc n) set sets low =
+    let one : flag new first ≡ flag old first = sets.others first (omega arith) in
+    let moved : SetsFlag old new (first + 1 + n) set = record { words = sets.words; here = ap (flag new) (omega arith) ∙ sets.here; others = λ i other. sets.others i (omega arith) } in
+    ap (λ (b : Bool). b ∷ flags_from new count (first + 1)) one ∙ ap (λ (bs : List Bool). flag old first ∷ bs) (flags-set-from old new (first + 1) count n set moved (omega arith))
+
+pub flags-set : (old new : List ℕ) (count n : ℕ) (set : Bool) → SetsFlag old new n set → n < count → flags_from new count 0 ≡ changed_at n (λ b. set) (flags_from old count 0)
+flags-set old new count n set sets low =
+    let at : n ≡ 0 + n = omega arith in
+    flags-set-from old new 0 count n set (subst (λ (k : ℕ). SetsFlag old new k set) at sets) low
+
+flags-get-from : (words : List ℕ) (first count n : ℕ) → n < count → slice_get (flags_from words count first) n ≡ Some (flag words (first + n))
+flags-get-from words first zero n low = absurd (omega arith)
+flags-get-from words first (suc count) zero low = ap (λ (i : ℕ). Some (flag words i)) (omega arith)
+flags-get-from words first (suc count) (suc n) low = flags-get-from words (first + 1) count n (omega arith) ∙ ap (λ (i : ℕ). Some (flag words i)) (omega arith)
+
+pub flags-get : (words : List ℕ) (count n : ℕ) → n < count → slice_get (flags_from words count 0) n ≡ Some (flag words n)
+flags-get words count n low = flags-get-from words 0 count n low ∙ ap (λ (i : ℕ). Some (flag words i)) (omega arith)
+
+-- the first flag that is set, by its number
+abbrev from_list : ℕ → List Bool → Option ℕ
+from_list at flags = position_from (λ (b : Bool). b) at flags
+
+none-here : (b : Bool) (at : ℕ) (rest : Option ℕ) → b ≡ false → cond b (Some at) rest ≡ rest
+none-here true at rest e = cc
+none-here false at rest e = refl
+
+some-here : (b : Bool) (at : ℕ) (rest : Option ℕ) → b ≡ true → cond b (Some at) rest ≡ Some at
+some-here true at rest e = refl
+some-here false at rest e = cc
+
+position-none : (words : List ℕ) (first count at : ℕ) → ((i : ℕ) → first ≤ i → i < first + count → flag words i ≡ false) → from_list at (flags_from words count first) ≡ None
+position-none words first zero at none = refl
+position-none words first (suc count) at none =
+    none-here (flag words first) at (from_list (at + 1) (flags_from words count (first + 1))) (none first (omega arith) (omega arith))
+    ∙ position-none words (first + 1) count (at + 1) (λ i low high. none i (omega arith) (omega arith))
+
+position-first : (words : List ℕ) (first count n at : ℕ) → n < count → flag words (first + n) ≡ true → ((i : ℕ) → first ≤ i → i < first + n → flag words i ≡ false)
+    → from_list at (flags_from words count first) ≡ Some (at + n)
+position-first words first zero n at low here none = absurd (omega arith)
+position-first words first (suc count) zero at low here none =
+    some-here (flag words first) at (from_list (at + 1) (flags_from words count (first + 1))) (ap (flag words) (omega arith) ∙ here) ∙ ap Some (omega arith)
+position-first words first (suc count) (suc n) at low here none =
+    none-here (flag words first) at (from_list (at + 1) (flags_from words count (first + 1))) (none first (omega arith) (omega arith))
+    ∙ position-first words (first + 1) count n (at + 1) (omega arith) (ap (flag words) (omega arith) ∙ here) (λ i low high. none i (omega arith) (omega arith))
+    ∙ ap Some (omega arith)
+
+-- the lowest bit that is set in the first word that isn't 0
+pub record IsLowest (words : List ℕ) (at place : ℕ) : Type 0 where
+  pub before : (k : ℕ) → k < at → slice_index words k ≡ 0
+  pub inside : place < 64
+  pub set : bit_at (slice_index words at) place ≡ 1
+  pub below : (i : ℕ) → i < place → bit_at (slice_index words at) i ≡ 0
+
+pub lowest-in : (words : List ℕ) (at place word : ℕ) → ((k : ℕ) → k < at → slice_index words k ≡ 0) → word ≡ slice_index words at → IsLowestIn word place → IsLowest words at place
+lowest-in words at place word before is lowest = record {
+  before = before;
+  inside = lowest.inside;
+  set = ap (λ (w : ℕ). bit_at w place) (sym is) ∙ lowest.set;
+  below = λ i lower. ap (λ (w : ℕ). bit_at w i) (sym is) ∙ lowest.below i lower;
+}
+
+pub one-more : (words : List ℕ) (at : ℕ) → ((k : ℕ) → k < at → slice_index words k ≡ 0) → slice_index words at ≡ 0 → (k : ℕ) → k < at + 1 → slice_index words k ≡ 0
+one-more words at before here k low = elim (cases_lt k at) [
+  | inl lower ↦ before k lower
+  | inr same ↦ ap (slice_index words) (omega arith) ∙ here
+]
+
+clear-word : (words : List ℕ) (i : ℕ) → slice_index words (i / 64) ≡ 0 → flag words i ≡ false
+clear-word words i none = ap (λ (w : ℕ). bit_at w (i % 64) == 1) none ∙ ap (λ (b : ℕ). b == 1) (bit_at-zero (i % 64))
+
+clear-place : (words : List ℕ) (i at : ℕ) → i / 64 ≡ at → bit_at (slice_index words at) (i % 64) ≡ 0 → flag words i ≡ false
+clear-place words i at same none = ap (λ (k : ℕ). bit_at (slice_index words k) (i % 64) == 1) same ∙ ap (λ (b : ℕ). b == 1) none
+
+where-stands : (i at place : ℕ) → i < 64 * at + place → place < 64 → (i / 64 < at) ⊎ ((i / 64 ≡ at) × (i % 64 < place))
+where-stands i at place low inside = elim (cases_lt (i / 64) at) [
+  | inl less ↦ inl less
+  | inr most ↦ inr (omega arith, omega arith)
+]
+
+below-lowest : (words : List ℕ) (at place i : ℕ) → IsLowest words at place → i < 64 * at + place → flag words i ≡ false
+below-lowest words at place i lowest low = elim (where-stands i at place low lowest.inside) [
+  | inl less ↦ clear-word words i (lowest.before (i / 64) less)
+  | inr here ↦ clear-place words i at here.0 (lowest.below (i % 64) here.1)
+]
+
+lowest-set : (words : List ℕ) (at place : ℕ) → IsLowest words at place → flag words (64 * at + place) ≡ true
+lowest-set words at place lowest =
+    let inside = lowest.inside in
+    ap (λ (k : ℕ). bit_at (slice_index words k) ((64 * at + place) % 64) == 1) (omega arith)
+    ∙ ap (λ (k : ℕ). bit_at (slice_index words at) k == 1) (omega arith)
+    ∙ ap (λ (b : ℕ). b == 1) lowest.set
+
+pub first-inside : (words : List ℕ) (at place count : ℕ) → IsLowest words at place → 64 * at + place < count → position (λ (b : Bool). b) (flags_from words count 0) ≡ Some (64 * at + place)
+first-inside words at place count lowest low =
+    position_from-zero (λ (b : Bool). b) (flags_from words count 0)
+    ∙ position-first words 0 count (64 * at + place) 0 low (ap (flag words) (omega arith) ∙ lowest-set words at place lowest) (λ i above below. below-lowest words at place i lowest (omega (arith, below)))
+    ∙ ap Some (omega arith)
+
+pub first-outside : (words : List ℕ) (at place count : ℕ) → IsLowest words at place → count ≤ 64 * at + place → position (λ (b : Bool). b) (flags_from words count 0) ≡ None
+first-outside words at place count lowest high =
+    position_from-zero (λ (b : Bool). b) (flags_from words count 0)
+    ∙ position-none words 0 count 0 (λ i above below. below-lowest words at place i lowest (omega (arith, high, below)))
+
+pub first-none : (words : List ℕ) (count : ℕ) → ((k : ℕ) → k < length words → slice_index words k ≡ 0) → count ≤ 64 * length words → position (λ (b : Bool). b) (flags_from words count 0) ≡ None
+first-none words count none fits =
+    position_from-zero (λ (b : Bool). b) (flags_from words count 0)
+    ∙ position-none words 0 count 0 (λ i above below. clear-word words i (none (i / 64) (omega (arith, fits, below))))
+
+-- what flags say of their fields
+pub record AreFlags (words : List ℕ) (len capacity : ℕ) (flags : Flags) : Type 0 where
+  pub list : flags.list ≡ flags_from words len 0
+  pub length : length flags.list ≡ len
+  pub room : flags.room ≡ 64 * capacity
+
+pub are-flags : (words : List ℕ) (len capacity : ℕ) (flags : Flags) → flags_of (flags_from words len 0) (64 * capacity) ≡ flags → AreFlags words len capacity flags
+are-flags words len capacity flags same = record {
+  list = ap (λ (f : Flags). f.list) (sym same);
+  length = ap (λ (f : Flags). length f.list) (sym same) ∙ length-flags words 0 len;
+  room = ap (λ (f : Flags). f.room) (sym same);
+}

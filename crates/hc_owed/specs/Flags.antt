@@ -1,0 +1,29 @@
+-- Bits in words of 64, the lowest bit of a word first.
+use Rattle.std.specs.Prelude.{◌≡◌, ℕ, zero, suc, ◌+◌, ◌<◌, ◌/◌, ◌%◌, ◌==◌, ◌≢◌, Bool, List, [], ◌∷◌, length, slice_index}
+use Rattle.std.specs.Int.{bit_at}
+
+-- flags, and for how many there's room
+pub record Flags : Type 0 where
+  pub list : List Bool
+  pub room : ℕ
+
+-- the bit with a number
+abbrev pub flag : List ℕ → ℕ → Bool
+flag words n = bit_at (slice_index words (n / 64)) (n % 64) == 1
+
+-- so many bits, from a number on
+abbrev pub flags_from : List ℕ → ℕ → ℕ → List Bool
+flags_from words zero first = []
+flags_from words (suc count) first = flag words first ∷ flags_from words count (first + 1)
+
+-- the bit with a number was set or cleared
+pub record SetsFlag (old new : List ℕ) (n : ℕ) (set : Bool) : Type 0 where
+  pub words : length new ≡ length old
+  pub here : flag new n ≡ set
+  pub others : (i : ℕ) → i ≢ n → flag new i ≡ flag old i
+
+-- the lowest bit that is set in a word
+pub record IsLowestIn (word place : ℕ) : Type 0 where
+  pub inside : place < 64
+  pub set : bit_at word place ≡ 1
+  pub below : (i : ℕ) → i < place → bit_at word i ≡ 0

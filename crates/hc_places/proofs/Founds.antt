@@ -1,0 +1,120 @@
+-- The variables of a task, where its areas are found under their keys.
+use Rattle.std.proofs.Common.{◌≡◌, ℕ, ◌+◌, ◌<◌, ◌≤◌, false, List, [], ◌∷◌, ◌++◌, length, get_or, refl, sym, ap, subst, ◌∙◌, arith}
+use Rattle.std.specs.Prelude.{All, Option, Some, None, map, nat_lt}
+use Rattle.std.specs.Option.{option_map_or}
+use Rattle.std.specs.List.{flat_map, zip}
+use Rattle.std.proofs.lemmas.Bool.Decides.{nat_tests}
+use Rattle.std.proofs.lemmas.List.Elements.{All-cons, All-head, All-nil, All-tail}
+use Rattle.hc_records.specs.declared.records.Area.{Area}
+use Rattle.hc_records.specs.declared.records.Declared.{Declared}
+use Rattle.hc_records.specs.Area.{width}
+use Rattle.hc_records.specs.declared.limits.TheConstants.{MOST_DATAGRAMS}
+use Rattle.hc_records.specs.Edits.{crowded_task}
+use Rattle.hc_records.specs.Line.{groups_of, line_from}
+use Rattle.hc_records.specs.Project.{lowest_fault}
+use Rattle.hc_records.specs.TaskList.{Keyed, Listed, keyed, task_areas, task_list}
+use Rattle.hc_records.specs.Packing.{Placed, opening, packed}
+use Rattle.hc_records.specs.Image.{area_variables, datagram_count, task_places, task_variables, tasks}
+use Rattle.hc_records.proofs.lemmas.Greatest.{greatest-all}
+use Rattle.hc_records.proofs.lemmas.Finds.{each-task, found-none}
+use Rattle.hc_records.proofs.lemmas.Packed.{area_of, packed-areas}
+use Rattle.hc_places.specs.Found.{IsFoundSuiting, found_variables}
+use Rattle.hc_places.specs.Parts.{AreSendable, table_at}
+use Rattle.hc_places.specs.Ranges.{OffersBits}
+use Rattle.hc_places.specs.Table.{Row, task_table}
+use Rattle.hc_places.proofs.Configurable.{project-configurable}
+use Rattle.hc_places.proofs.Pairs.{MeetsPlace, head-same, tail-same}
+use Rattle.hc_places.proofs.Tables.{places-sendable, table-same}
+use Rattle.hc_places.proofs.Widths.{areas-offer}
+use Rattle.hc_tasks.specs.Areas.{area_in, areas_by_rank, list_by}
+use Rattle.hc_tasks.proofs.lemmas.Named.{keys-name}
+use Rattle.hc_tasks.proofs.lemmas.Told.{task-listed}
+
+abbrev NamesIn : List (List Area) → Listed → Type 0
+NamesIn slaves listed = area_in slaves listed.key ≡ Some listed.area
+
+-- a place of an area whose key names it
+own-found : (slaves : List (List Area)) (listed : Listed) (placed : Placed) → area_of placed ≡ keyed listed → NamesIn slaves listed → area_in slaves placed.key ≡ Some listed.area
+own-found slaves listed placed same names = ap (λ (k : Keyed). area_in slaves k.0) same ∙ names
+
+own-variables : (task : ℕ) (slaves : List (List Area)) (listed : Listed) (placed : Placed) → area_of placed ≡ keyed listed → NamesIn slaves listed
+    → found_variables task slaves placed ≡ area_variables task (listed, placed)
+own-variables task slaves listed placed same names =
+    ap (λ (found : Option Area). option_map_or (λ area. area_variables task (record { key = placed.key; area = area }, placed)) found []) (own-found slaves listed placed same names)
+
+-- so the variables that are found are those of the areas
+pub found-all : (task : ℕ) (slaves : List (List Area)) (areas : List Listed) (places : List Placed) → map area_of places ≡ map keyed areas → All (NamesIn slaves) areas
+    → flat_map (found_variables task slaves) places ≡ flat_map (area_variables task) (zip areas places)
+found-all task slaves [] [] same names = refl
+found-all task slaves [] (placed ∷ places) same names = cc
+found-all task slaves (listed ∷ areas) [] same names = cc
+found-all task slaves (listed ∷ areas) (placed ∷ places) same names =
+    let first = head-same (area_of placed) (keyed listed) (map area_of places) (map keyed areas) same in
+    let rest = tail-same (area_of placed) (keyed listed) (map area_of places) (map keyed areas) same in
+    ap (λ (rows : List Row). rows ++ flat_map (found_variables task slaves) places) (own-variables task slaves listed placed first (All-head (NamesIn slaves) listed areas names))
+    ∙ ap (λ (rows : List Row). area_variables task (listed, placed) ++ rows) (found-all task slaves areas places rest (All-tail (NamesIn slaves) listed areas names))
+
+-- and they suit their places
+
+own-suits : (slaves : List (List Area)) (listed : Listed) (placed : Placed) → area_of placed ≡ keyed listed → NamesIn slaves listed → OffersBits listed.area → IsFoundSuiting slaves placed
+own-suits slaves listed placed same names offers area found =
+    let is : listed.area ≡ area = some-same (sym (own-found slaves listed placed same names) ∙ found) in
+    record { bits = ap (λ (k : Keyed). k.1) same ∙ ap width is; offers = subst (λ (a : Area). OffersBits a) is offers }
+  where
+    some-same : {x y : Area} → Some x ≡ Some y → x ≡ y
+    some-same same' = cc
+
+pub suit-all : (slaves : List (List Area)) (areas : List Listed) (places : List Placed) → map area_of places ≡ map keyed areas → All (NamesIn slaves) areas
+    → All (λ (l : Listed). OffersBits l.area) areas → All (IsFoundSuiting slaves) places
+suit-all slaves [] [] same names offers = All-nil (IsFoundSuiting slaves)
+suit-all slaves [] (placed ∷ places) same names offers = cc
+suit-all slaves (listed ∷ areas) [] same names offers = cc
+suit-all slaves (listed ∷ areas) (placed ∷ places) same names offers =
+    let first = head-same (area_of placed) (keyed listed) (map area_of places) (map keyed areas) same in
+    let rest = tail-same (area_of placed) (keyed listed) (map area_of places) (map keyed areas) same in
+    All-cons (IsFoundSuiting slaves) placed places
+    (own-suits slaves listed placed first (All-head (NamesIn slaves) listed areas names) (All-head (λ (l : Listed). OffersBits l.area) listed areas offers))
+    (suit-all slaves areas places rest (All-tail (NamesIn slaves) listed areas names) (All-tail (λ (l : Listed). OffersBits l.area) listed areas offers))
+
+-- an area that is found under the key of a place lies in one of the datagrams
+pub found-meets : (slaves : List (List Area)) (places : List Placed) (i : ℕ) (placed : Placed) (area : Area) → AreSendable places → All (IsFoundSuiting slaves) places
+    → i < length places → placed ≡ get_or places i placed → area_in slaves placed.key ≡ Some area → MeetsPlace (record { key = placed.key; area = area }) placed
+found-meets slaves places i placed area sendable suit within stands found =
+    let number : (get_or places i placed).datagram + 1 ≤ datagram_count places = greatest-all (λ p. p.datagram + 1) 0 places i placed within in
+    let lies = sendable.inside i placed within in
+    let few = sendable.few in
+    let suits = suit i placed within area (ap (λ (p : Placed). area_in slaves p.key) (sym stands) ∙ found) in
+    let wide = suits.bits in
+    let number' : placed.datagram ≡ (get_or places i placed).datagram = ap (λ (p : Placed). p.datagram) stands in
+    let bit' : placed.bit ≡ (get_or places i placed).bit = ap (λ (p : Placed). p.bit) stands in
+    record { few = omega arith; inside = omega (arith, lies, wide); offers = suits.offers }
+
+-- what is known of a task that is placed from its tree
+pub record IsTask (groups : List Declared) (task : ℕ) (places : List Placed) : Type 0 where
+  pub stands : places ≡ task_places task (line_from 1 groups)
+  pub sendable : AreSendable places
+  pub suit : All (IsFoundSuiting (areas_by_rank groups)) places
+  pub rows : flat_map (found_variables task (areas_by_rank groups)) places ≡ task_variables (line_from 1 groups) task
+  pub table : table_at task places ≡ task_table (line_from 1 groups) task
+
+few-by : (count : ℕ) → nat_lt MOST_DATAGRAMS count ≡ false → count ≤ MOST_DATAGRAMS
+few-by count test = grind (arith, nat_tests)
+
+pub kept-task : (groups : List Declared) (task : ℕ) (places : List Placed) → task < 8 → lowest_fault (groups_of groups) ≡ None → crowded_task (line_from 1 groups) ≡ None
+    → places ≡ packed opening (list_by task (areas_by_rank groups)) → IsTask groups task places
+kept-task groups task places low none fits is =
+    let line = line_from 1 groups in
+    let slaves = areas_by_rank groups in
+    let configurable = project-configurable groups none in
+    let stands : places ≡ task_places task line = is ∙ ap (packed opening) (sym (task-listed task groups)) in
+    let test = λ (t : ℕ). nat_lt MOST_DATAGRAMS (datagram_count (task_places t line)) in
+    let few = few-by (datagram_count (task_places task line)) (each-task (λ t. test t ≡ false) (found-none test tasks fits) task low) in
+    let keys = packed-areas opening (task_list task line) in
+    let names = keys-name groups task in
+    record {
+      stands = stands;
+      sendable = rw stands (places-sendable task line configurable few);
+      suit = rw stands (suit-all slaves (task_areas task line) (task_places task line) keys names (areas-offer task line configurable.listable));
+      rows = rw stands (found-all task slaves (task_areas task line) (task_places task line) keys names);
+      table = rw stands (table-same task line configurable);
+    }

@@ -1,0 +1,28 @@
+use Rattle.std.proofs.Common.{◌∙◌, ap}
+use Rattle.std.specs.Prelude.{option_map}
+use Rattle.std.proofs.lemmas.Result.{err_from_is_err_and}
+use Rattle.hc_records.specs.declared.faults.EditFault.TheVariants.{TooManyDatagrams}
+use Rattle.hc_records.specs.Line.{line_from}
+use Rattle.hc_places.specs.Layout.{NamesCrowded}
+use Rattle.hc_plan.proofs.Turned.{fits-line, is-line, same-crowded}
+use Rattle.hc_plan.proofs.turning.open_line.Goals as goal
+
+pub open-requires : goal.open-requires
+open-requires g c = is-line c.args.groups.now c.as_slice.result.now (c.as_slice.ensures.value ∙ c.in_ok-slaves.ensures) c.requires.project
+
+pub returns-in_err-cuts-clause-refused : goal.returns-in_err-cuts-clause-refused
+returns-in_err-cuts-clause-refused g c =
+    let groups = c.args.groups.now in
+    let slaves = c.as_slice.ensures.value ∙ c.in_ok-slaves.ensures in
+    let names : NamesCrowded (line_from 1 groups) c.in_err-cuts.field-0.0 =
+    λ other. ap (option_map TooManyDatagrams) (same-crowded groups c.as_slice.result.now slaves) ∙ c.in_err-cuts.ensures.refused other in
+    let p = err_from_is_err_and c.from_residual-in_err-cuts.result c.from_residual-in_err-cuts.ensures.1 in
+    rw (p.1, p.2) names
+
+pub configure_kept-requires-clause-fits : goal.configure_kept-requires-clause-fits
+configure_kept-requires-clause-fits g c =
+    fits-line c.args.groups.now c.as_slice.result.now (c.as_slice.ensures.value ∙ c.in_ok-slaves.ensures) c.in_ok-cuts.ensures.accepted
+
+pub returns-clause-accepted : goal.returns-clause-accepted
+returns-clause-accepted g c =
+    fits-line c.args.groups.now c.as_slice.result.now (c.as_slice.ensures.value ∙ c.in_ok-slaves.ensures) c.in_ok-cuts.ensures.accepted

@@ -1,0 +1,3 @@
+-- The part of a task in frames has its size, and the parts of distinct tasks are the frames.
+pub use Rattle.hc_sendings.proofs.Filled.{parts-sized}
+pub use Rattle.hc_sendings.proofs.Pieces.{parts-join}
