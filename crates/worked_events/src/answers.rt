@@ -1,13 +1,12 @@
 //! The answers to an axis' task, once its four blocks are written, with the serials 0 to 3.
 use crate::asked::Asked::{Arrive, Comes, Post, Read, Remap, Send};
-use crate::asked::{Asked, Back, Row, Wanted, answer, first_wrong, is_wanted};
-use crate::driven::Driven;
-use crate::lines::{AXIS, opened, write_all};
-use hc_events::answer::Answer;
+use crate::asked::{Back, Row, Wanted};
+use crate::lines::AXIS;
+use crate::stages::Stage::{Blocks, Rows, Sends};
+use crate::stages::{Stage, first_wrong_of, first_wrong_written};
 use hc_events::answer::Outcome::{Inputs, WrongCount};
 use hc_events::faults::CoreFault;
 use hc_frames::Command::{Fpwr, Lrw};
-use std::alloc::{AllocError, Global};
 use std::test::Fail;
 
 /// The axis' datagram of 3 bytes: a byte of outputs, and two of inputs. The slave writes and reads it, which counts
@@ -51,18 +50,9 @@ const UNPOSTED: &[Row] = &[
     (Read(8), Wanted::Refused(CoreFault::NoSuchTask)),
 ];
 
-/// The number of the first row of the axis with every block written that isn't answered as it wants.
-fn first_wrong_written(alloc: Global, rows: &[Row]) -> Result<Option<usize>, Fail> {
-    let mut driven = opened(alloc, AXIS)?;
-    if write_all(&mut driven, alloc)? != 4 {
-        return Err("not every block was written".into());
-    }
-    Ok(first_wrong(&mut driven, alloc, rows)?)
-}
-
 #[test]
 fn an_answer_is_read_once(rt: HostRuntime) -> Result<(), Fail> {
-    assert_eq!(rt; first_wrong_written(rt.alloc(), UNPOSTED)?, None);
+    assert_eq!(rt; first_wrong_written(rt.alloc(), AXIS, 4, UNPOSTED)?, None);
     Ok(())
 }
 
@@ -107,7 +97,7 @@ pub const POSTED: &[Row] = &[
 
 #[test]
 fn a_post_is_sent_and_answered(rt: HostRuntime) -> Result<(), Fail> {
-    assert_eq!(rt; first_wrong_written(rt.alloc(), POSTED)?, None);
+    assert_eq!(rt; first_wrong_written(rt.alloc(), AXIS, 4, POSTED)?, None);
     Ok(())
 }
 
@@ -142,7 +132,10 @@ pub const THREE_EPOCHS: &[Row] = &[
 
 #[test]
 fn an_epoch_begins_without_answers(rt: HostRuntime) -> Result<(), Fail> {
-    assert_eq!(rt; first_wrong_written(rt.alloc(), THREE_EPOCHS)?, None);
+    assert_eq!(rt;
+        first_wrong_written(rt.alloc(), AXIS, 4, THREE_EPOCHS)?,
+        None
+    );
     Ok(())
 }
 
@@ -182,38 +175,8 @@ const FOREIGN: &[Row] = &[
 
 #[test]
 fn a_foreign_frame_answers_nothing(rt: HostRuntime) -> Result<(), Fail> {
-    assert_eq!(rt; first_wrong_written(rt.alloc(), FOREIGN)?, None);
+    assert_eq!(rt; first_wrong_written(rt.alloc(), AXIS, 4, FOREIGN)?, None);
     Ok(())
-}
-
-/// Sends task 0 so many times, and tells whether each was accepted.
-pub fn send_times<D: Driven>(
-    driven: &mut D,
-    alloc: Global,
-    times: u32,
-) -> Result<bool, AllocError> {
-    for _ in 0..times {
-        if !matches!(
-            driven.put(alloc, hc_events::event::Event::SendTasks(&[0]))?,
-            Answer::Sent(_)
-        ) {
-            return Ok(false);
-        }
-    }
-    Ok(true)
-}
-
-/// Whether the frame with a serial is answered so when it comes back well.
-pub fn is_answered<D: Driven>(
-    driven: &mut D,
-    alloc: Global,
-    serial: u64,
-    wanted: Wanted,
-) -> Result<bool, AllocError> {
-    Ok(is_wanted(
-        &answer(driven, alloc, Asked::Comes(serial, &[GOOD]))?,
-        &wanted,
-    ))
 }
 
 /// The answer to the only datagram of task 0.
@@ -224,25 +187,35 @@ pub const ANSWERED: Wanted = Wanted::Answered(&[Inputs {
 
 /// The index is the serial's low byte: with 257 frames the answer to the serial 4 has the index of the awaited
 /// serial 260, and is stale, since the datagram was sent again since.
+pub const INDEX_ALONE: &[Row] = &[
+    (Comes(4, &[GOOD]), Wanted::Stale),
+    (Comes(260, &[GOOD]), ANSWERED),
+];
+
+const TURNED_ROUND: &[Stage] = &[Blocks(4), Sends(257), Rows(INDEX_ALONE)];
+
 #[test]
 fn the_index_alone_answers_nothing(rt: HostRuntime) -> Result<(), Fail> {
-    let mut driven = opened(rt.alloc(), AXIS)?;
-    assert_eq!(rt; write_all(&mut driven, rt.alloc())?, 4);
-    assert!(rt; send_times(&mut driven, rt.alloc(), 257)?);
-    assert!(rt; is_answered(&mut driven, rt.alloc(), 4, Wanted::Stale)?);
-    assert!(rt; is_answered(&mut driven, rt.alloc(), 260, ANSWERED)?);
+    assert_eq!(rt; first_wrong_of(rt.alloc(), AXIS, TURNED_ROUND)?, None);
     Ok(())
 }
 
 /// A thousand sendings without an answer have the serials 4 to 1003; the last one is answered, and none before it.
+/// The next one has the serial 1004 = 0x3ec.
+const LAST_OF_MANY: &[Row] = &[
+    (Comes(1002, &[GOOD]), Wanted::Stale),
+    (Comes(1003, &[GOOD]), ANSWERED),
+    (Comes(1003, &[GOOD]), Wanted::Stale),
+    (
+        Send(&[0]),
+        Wanted::Sent(&[(1004, 0x0f, b"\x0c\xec\0\0\0\x01\x03\0\0\0", 34)]),
+    ),
+];
+
+const THOUSAND: &[Stage] = &[Blocks(4), Sends(1000), Rows(LAST_OF_MANY)];
+
 #[test]
 fn the_last_of_a_thousand_is_answered(rt: HostRuntime) -> Result<(), Fail> {
-    let mut driven = opened(rt.alloc(), AXIS)?;
-    assert_eq!(rt; write_all(&mut driven, rt.alloc())?, 4);
-    assert!(rt; send_times(&mut driven, rt.alloc(), 1000)?);
-    assert_eq!(rt; driven.coming_serial(), 1004);
-    assert!(rt; is_answered(&mut driven, rt.alloc(), 1002, Wanted::Stale)?);
-    assert!(rt; is_answered(&mut driven, rt.alloc(), 1003, ANSWERED)?);
-    assert!(rt; is_answered(&mut driven, rt.alloc(), 1003, Wanted::Stale)?);
+    assert_eq!(rt; first_wrong_of(rt.alloc(), AXIS, THOUSAND)?, None);
     Ok(())
 }

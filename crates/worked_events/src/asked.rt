@@ -15,7 +15,7 @@ pub type Back = (Command, u32, &'static [u8], u16);
 
 /// A frame: its serial, the number of bytes of its datagrams, the bytes behind its head, and how many zeros
 /// follow them.
-pub type Text = (u8, u8, &'static [u8], usize);
+pub type Text = (u16, u8, &'static [u8], usize);
 
 /// An event of a row.
 #[derive(Clone, Copy)]
@@ -57,9 +57,10 @@ pub type Row = (Asked, Wanted);
 
 /// The 16 bytes before a frame's datagrams: six of 0xff, the source with the serial, the EtherType, and the
 /// number of the datagrams' bytes with the type 1 in its highest four bits.
-fn head_of(serial: u8, size: u8) -> [u8; 16] {
+fn head_of(serial: u16, size: u8) -> [u8; 16] {
+    let [low, high] = serial.to_le_bytes();
     [
-        0xff, 0xff, 0xff, 0xff, 0xff, 0xff, 2, 0, 0, 0, 0, serial, 0x88, 0xa4, size, 0x10,
+        0xff, 0xff, 0xff, 0xff, 0xff, 0xff, 2, 0, 0, 0, high, low, 0x88, 0xa4, size, 0x10,
     ]
 }
 

@@ -1,8 +1,11 @@
 //! Every cut of an answer, and every answer of which one byte has another value.
-use crate::answers::{ANSWERED, ARRIVAL, POSTED, THREE_EPOCHS, is_answered, send_times};
-use crate::asked::{Row, Wanted, first_wrong, holds, is_wanted};
+use crate::answers::{ANSWERED, ARRIVAL, INDEX_ALONE, POSTED, THREE_EPOCHS};
+use crate::asked::Asked::{Post, Remap, Send};
+use crate::asked::{Row, Wanted, answer, first_wrong, holds, is_wanted};
 use crate::driven::Driven;
-use crate::lines::{Opened, opened_axis, write_all};
+use crate::lines::{opened_axis, write_all};
+use crate::stages::Stage::{Blocks, Rows};
+use crate::stages::{Stage, first_wrong_at};
 use hc_events::answer::{Answer, Outcome};
 use hc_events::event::Event;
 use hc_events::faults::CoreFault;
@@ -49,17 +52,22 @@ fn told(at: usize, value: u8) -> Meaning {
     }
 }
 
-/// The axis with every block written, its task posted as 2 and sent with the serial 4.
-fn awaiting(alloc: Global) -> Result<Opened, Fail> {
-    let mut driven = opened_axis(alloc)?;
-    if write_all(&mut driven, alloc)? != 4 {
-        return Err("not every block was written".into());
-    }
-    if first_wrong(&mut driven, alloc, POSTED.split_at(3).0)? != None {
-        return Err("the task wasn't sent".into());
-    }
-    Ok(driven)
+/// Whether a byte is one whose other values leave an answer.
+fn leaves_an_answer(at: usize) -> bool {
+    matches!(at, 0..=6 | 24..=30)
 }
+
+/// The task is posted as 2, and sent with the serial 4.
+const SENT: &[Row] = &[
+    (Post(0, 0, &[2]), Wanted::Posted),
+    (
+        Send(&[0]),
+        Wanted::Sent(&[(4, 0x0f, b"\x0c\x04\0\0\0\x01\x03\0\0\0\x02", 33)]),
+    ),
+];
+
+/// What leads to the awaited answer.
+const AWAITING: &[Stage] = &[Blocks(4), Rows(SENT)];
 
 /// Whether an answer is of one outcome.
 fn is_one(answer: &Answer, outcome: Outcome) -> bool {
@@ -79,9 +87,13 @@ fn is_told(answer: &Answer, told: Meaning) -> bool {
     }
 }
 
-/// Whether task 0 reads these data in epoch 0, or none.
-fn reads(driven: &mut Opened, alloc: Global, data: Option<&[u8]>) -> Result<bool, AllocError> {
-    let Answer::Image { epoch, slots } = driven.put(alloc, Event::Read(0))? else {
+/// Whether task 0 reads these data, or none.
+fn reads<D: Driven>(
+    driven: &mut D,
+    alloc: Global,
+    data: Option<&[u8]>,
+) -> Result<bool, AllocError> {
+    let Answer::Image { epoch: _, slots } = driven.put(alloc, Event::Read(0))? else {
         return Ok(false);
     };
     let [slot] = slots.as_slice() else {
@@ -91,73 +103,157 @@ fn reads(driven: &mut Opened, alloc: Global, data: Option<&[u8]>) -> Result<bool
         Some(bytes) => Some(bytes.as_slice()),
         None => None,
     };
-    Ok(epoch == 0 && found == data)
+    Ok(found == data)
 }
 
-/// Whether nothing is read and nothing is owed, the next serial is 5, and the unchanged frame is still the answer.
-fn awaits_still(driven: &mut Opened, alloc: Global) -> Result<bool, AllocError> {
-    let as_before = reads(driven, alloc, None)?
-        && driven.count_owed() == 0
-        && driven.coming_serial() == 5;
-    let answer = driven.put(alloc, Event::Arrive(ARRIVAL))?;
-    Ok(as_before && is_wanted(&answer, &ANSWERED))
+/// Whether nothing is read, nothing is owed, and the next serial is 5.
+fn awaits_still<D: Driven>(driven: &mut D, alloc: Global) -> Result<bool, AllocError> {
+    Ok(reads(driven, alloc, None)? && driven.count_owed() == 0 && driven.coming_serial() == 5)
 }
 
-/// Whether what was told of a frame has left what it should.
-fn leaves(
-    driven: &mut Opened,
+/// Whether a frame that is no answer is answered as told, and leaves all as it was.
+fn is_left_out<D: Driven>(
+    driven: &mut D,
     alloc: Global,
     frame: &[u8],
     told: Meaning,
 ) -> Result<bool, AllocError> {
-    match told {
-        Meaning::Inputs => reads(driven, alloc, frame.get(26..29)),
-        Meaning::WrongCount(_) => reads(driven, alloc, None),
-        _ => awaits_still(driven, alloc),
-    }
-}
-
-/// Whether a frame is answered as told, and leaves what it should.
-fn is_taken(alloc: Global, frame: &[u8], told: Meaning) -> Result<bool, Fail> {
-    let mut driven = awaiting(alloc)?;
     let answer = driven.put(alloc, Event::Arrive(frame))?;
-    Ok(is_told(&answer, told) && leaves(&mut driven, alloc, frame, told)?)
+    Ok(is_told(&answer, told) && awaits_still(driven, alloc)?)
 }
 
-/// The answer with another value of a byte.
-fn changed(at: usize, value: u8) -> [u8; SIZE] {
+/// The answer to a serial, with another value of a byte. The serial's bytes are 10 and 11, the index is 17.
+fn changed(serial: u64, at: usize, value: u8) -> [u8; SIZE] {
+    let [low, high, _, _, _, _, _, _] = serial.to_le_bytes();
     let mut frame = [0; SIZE];
     let mut own = 0_usize;
     for byte in ARRIVAL {
         if own < SIZE {
-            frame[own] = if own == at { value } else { *byte };
+            frame[own] = *byte;
         }
         own = own.saturating_add(1);
+    }
+    frame[10] = high;
+    frame[11] = low;
+    frame[17] = low;
+    if at < SIZE {
+        frame[at] = value;
     }
     frame
 }
 
-/// How many of the answers with another value of a byte are answered as told; 255 where all are.
-fn taken_at(alloc: Global, at: usize, old: u8) -> Result<u32, Fail> {
-    let mut taken = 0_u32;
+/// Whether an epoch begins, in which nothing was read, and the task is sent in it.
+fn begins_anew<D: Driven>(driven: &mut D, alloc: Global) -> Result<bool, AllocError> {
+    let edited = answer(driven, alloc, Remap(1001, 1, &[0x1a00]))?;
+    let sent = driven.put(alloc, Event::SendTasks(&[0]))?;
+    Ok(
+        matches!(
+            edited,
+            Answer::Edited {
+                epoch: _,
+                recut: 0,
+                moved: 0
+            }
+        ) && matches!(sent, Answer::Sent(_)),
+    )
+}
+
+/// Whether a frame that is the answer is answered as told, and its data are read then where its counter is good.
+fn is_taken<D: Driven>(
+    driven: &mut D,
+    alloc: Global,
+    frame: &[u8],
+    told: Meaning,
+) -> Result<bool, AllocError> {
+    let answer = driven.put(alloc, Event::Arrive(frame))?;
+    let data = match told {
+        Meaning::Inputs => frame.get(26..29),
+        _ => None,
+    };
+    Ok(is_told(&answer, told) && reads(driven, alloc, data)?)
+}
+
+/// Whether the answer with another value of a byte is answered as told, and leaves what it should: one that answers
+/// nothing with the serial 4, one that answers with a serial and an epoch of its own.
+fn holds_of<D: Driven>(
+    driven: &mut D,
+    alloc: Global,
+    at: usize,
+    value: u8,
+) -> Result<bool, AllocError> {
+    if !leaves_an_answer(at) {
+        return is_left_out(driven, alloc, &changed(4, at, value), told(at, value));
+    }
+    let serial = driven.coming_serial();
+    Ok(
+        begins_anew(driven, alloc)?
+            && is_taken(driven, alloc, &changed(serial, at, value), told(at, value))?,
+    )
+}
+
+/// How many of a byte's other values hold.
+fn held<D: Driven>(driven: &mut D, alloc: Global, at: usize, old: u8) -> Result<u32, AllocError> {
+    let mut held = 0_u32;
     for value in 0..=255_u8 {
-        if value != old && is_taken(alloc, &changed(at, value), told(at, value))? {
-            taken = taken.saturating_add(1);
+        if value != old && holds_of(driven, alloc, at, value)? {
+            held = held.saturating_add(1);
         }
     }
-    Ok(taken)
+    Ok(held)
+}
+
+/// Whether the unchanged frame is the answer, or came too late, since an epoch began.
+fn ends_well<D: Driven>(driven: &mut D, alloc: Global, at: usize) -> Result<bool, AllocError> {
+    let answer = driven.put(alloc, Event::Arrive(ARRIVAL))?;
+    Ok(if leaves_an_answer(at) {
+        matches!(answer, Answer::Stale)
+    } else {
+        is_wanted(&answer, &ANSWERED)
+    })
+}
+
+/// How many of a byte's other values hold on a line that awaits the answer; none where it doesn't, or the unchanged
+/// frame behind them all is something else than it should.
+fn held_of<D: Driven>(
+    driven: &mut D,
+    alloc: Global,
+    at: usize,
+    old: u8,
+) -> Result<u32, AllocError> {
+    if first_wrong_at(driven, alloc, AWAITING)?.is_some() {
+        return Ok(0);
+    }
+    let held = held(driven, alloc, at, old)?;
+    Ok(if ends_well(driven, alloc, at)? {
+        held
+    } else {
+        0
+    })
+}
+
+/// The same on an axis at its opening.
+fn held_at(alloc: Global, at: usize, old: u8) -> Result<u32, Fail> {
+    let mut driven = opened_axis(alloc)?;
+    Ok(held_of(&mut driven, alloc, at, old)?)
+}
+
+/// The first byte of which not each of 255 other values holds; none where all do.
+fn first_unheld(alloc: Global) -> Result<Option<usize>, Fail> {
+    let mut at = 0_usize;
+    for byte in ARRIVAL {
+        if held_at(alloc, at, *byte)? != 255 {
+            return Ok(Some(at));
+        }
+        at = at.saturating_add(1);
+    }
+    Ok(None)
 }
 
 /// 31 bytes with 255 other values each are 7,905 frames.
 #[test]
 fn every_changed_answer(rt: HostRuntime) -> Result<(), Fail> {
-    let mut taken = 0_u32;
-    let mut at = 0_usize;
-    for byte in ARRIVAL {
-        taken = taken.saturating_add(taken_at(rt.alloc(), at, *byte)?);
-        at = at.saturating_add(1);
-    }
-    assert_eq!(rt; (at, taken), (SIZE, 7905));
+    assert_eq!(rt; ARRIVAL.len(), SIZE);
+    assert_eq!(rt; first_unheld(rt.alloc())?, None);
     Ok(())
 }
 
@@ -175,11 +271,27 @@ fn cut(size: usize) -> &'static [u8] {
     ARRIVAL.split_at(size.min(ARRIVAL.len())).0
 }
 
+/// Whether each cut of the awaited answer is refused and leaves all as it was, and the whole one is answered.
+fn cuts_hold<D: Driven>(driven: &mut D, alloc: Global) -> Result<bool, AllocError> {
+    for size in 0..SIZE {
+        let told = Meaning::Refused(cut_fault(size));
+        if !is_left_out(driven, alloc, cut(size), told)? {
+            return Ok(false);
+        }
+    }
+    ends_well(driven, alloc, SIZE)
+}
+
+/// Whether they do on an axis from its opening on.
+fn cuts_hold_of_axis(alloc: Global) -> Result<bool, Fail> {
+    let mut driven = opened_axis(alloc)?;
+    let wrong = first_wrong_at(&mut driven, alloc, AWAITING)?;
+    Ok(wrong.is_none() && cuts_hold(&mut driven, alloc)?)
+}
+
 #[test]
 fn every_cut_answer(rt: HostRuntime) -> Result<(), Fail> {
-    for size in 0..SIZE {
-        assert!(rt; is_taken(rt.alloc(), cut(size), Meaning::Refused(cut_fault(size)))?);
-    }
+    assert!(rt; cuts_hold_of_axis(rt.alloc())?);
     Ok(())
 }
 
@@ -198,7 +310,7 @@ fn refuses_cuts<D: Driven>(driven: &mut D, alloc: Global) -> Result<bool, AllocE
 fn refuses_at<D: Driven>(driven: &mut D, alloc: Global, at: usize) -> Result<bool, AllocError> {
     for value in 0..=255_u8 {
         let told = told(at, value);
-        let frame = changed(at, value);
+        let frame = changed(4, at, value);
         if matches!(told, Meaning::Refused(_)) && frame.as_slice() != ARRIVAL {
             if !is_told(&driven.put(alloc, Event::Arrive(&frame))?, told) {
                 return Ok(false);
@@ -235,34 +347,47 @@ fn first_disturbed<D: Driven>(
     Ok(None)
 }
 
+/// The same of an axis with every block written.
+fn first_disturbed_of(alloc: Global, rows: &[Row]) -> Result<Option<usize>, Fail> {
+    let mut driven = opened_axis(alloc)?;
+    write_all(&mut driven, alloc)?;
+    Ok(first_disturbed(&mut driven, alloc, rows)?)
+}
+
 #[test]
 fn refused_frames_stand_between_answers(rt: HostRuntime) -> Result<(), Fail> {
-    let mut driven = opened_axis(rt.alloc())?;
-    assert_eq!(rt; write_all(&mut driven, rt.alloc())?, 4);
-    assert_eq!(rt; first_disturbed(&mut driven, rt.alloc(), POSTED)?, None);
+    assert_eq!(rt; first_disturbed_of(rt.alloc(), POSTED)?, None);
     Ok(())
 }
 
 #[test]
 fn refused_frames_stand_between_edits(rt: HostRuntime) -> Result<(), Fail> {
-    let mut driven = opened_axis(rt.alloc())?;
-    assert_eq!(rt; write_all(&mut driven, rt.alloc())?, 4);
-    assert_eq!(rt;
-        first_disturbed(&mut driven, rt.alloc(), THREE_EPOCHS)?,
-        None
-    );
+    assert_eq!(rt; first_disturbed_of(rt.alloc(), THREE_EPOCHS)?, None);
     Ok(())
+}
+
+/// Whether 257 frames are sent with the frames that can't be read before each of them.
+fn sends_disturbed<D: Driven>(driven: &mut D, alloc: Global) -> Result<bool, AllocError> {
+    for _ in 0..257 {
+        let refused = refuses_all(driven, alloc)?;
+        let answer = driven.put(alloc, Event::SendTasks(&[0]))?;
+        if !refused || !matches!(answer, Answer::Sent(_)) {
+            return Ok(false);
+        }
+    }
+    Ok(true)
+}
+
+/// Whether they are on an axis with every block written, and the last one alone is answered then.
+fn last_disturbed_is_answered(alloc: Global) -> Result<bool, Fail> {
+    let mut driven = opened_axis(alloc)?;
+    write_all(&mut driven, alloc)?;
+    let sent = sends_disturbed(&mut driven, alloc)?;
+    Ok(sent && first_wrong(&mut driven, alloc, INDEX_ALONE)? == None)
 }
 
 #[test]
 fn refused_frames_stand_between_sendings(rt: HostRuntime) -> Result<(), Fail> {
-    let mut driven = opened_axis(rt.alloc())?;
-    assert_eq!(rt; write_all(&mut driven, rt.alloc())?, 4);
-    for _ in 0..257 {
-        assert!(rt; refuses_all(&mut driven, rt.alloc())?);
-        assert!(rt; send_times(&mut driven, rt.alloc(), 1)?);
-    }
-    assert!(rt; is_answered(&mut driven, rt.alloc(), 4, Wanted::Stale)?);
-    assert!(rt; is_answered(&mut driven, rt.alloc(), 260, ANSWERED)?);
+    assert!(rt; last_disturbed_is_answered(rt.alloc())?);
     Ok(())
 }

@@ -32,6 +32,8 @@ mod same;
 #[cfg(test)]
 mod shared;
 #[cfg(test)]
+mod stages;
+#[cfg(test)]
 mod texts;
 #[cfg(test)]
 mod twelve;

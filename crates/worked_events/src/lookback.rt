@@ -47,11 +47,6 @@ impl LookBack {
         self.older.len().min(u32::MAX as usize) as u32
     }
 
-    /// The program that looks back: it itself.
-    pub fn back(&self) -> &LookBack {
-        self
-    }
-
     /// How many entries there are.
     pub fn len(&self) -> usize {
         self.entries.len()
@@ -95,6 +90,7 @@ impl LookBack {
     fn edit(&mut self, alloc: Global, edit: &Edit) -> Result<Answer, AllocError> {
         let line = match self.line.edited(alloc, edit) {
             Ok(line) => line,
+            Err(EditFault::Memory) => return Err(AllocError),
             Err(fault) => return Ok(Answer::Refused(CoreFault::from(fault))),
         };
         let recut = line.recut_from(alloc, &self.line)?;

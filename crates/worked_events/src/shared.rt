@@ -1,8 +1,10 @@
 //! Tasks that share frames: the axis whose outputs were moved to task 1, and wide areas.
 use crate::asked::Asked::{Comes, Move, Post, Read, Send};
-use crate::asked::{Back, Row, Wanted, first_wrong};
+use crate::asked::{Back, Row, Wanted};
 use crate::driven::Driven;
-use crate::lines::{AXIS, opened, opened_wide, write_all};
+use crate::lines::{AXIS, opened_wide, write_all};
+use crate::stages::Stage::{Blocks, Rows};
+use crate::stages::{Stage, first_wrong_of};
 use hc_events::answer::Answer;
 use hc_events::answer::Outcome::{Inputs, Stale, WrongCount};
 use hc_events::event::Event;
@@ -143,16 +145,20 @@ const EXCHANGED: &[Row] = &[
     ),
 ];
 
+/// All of them, one after another.
+const SHARED: &[Stage] = &[
+    Blocks(4),
+    Rows(TO_TASK_1),
+    Blocks(2),
+    Rows(TOGETHER),
+    Rows(SENT_AGAIN),
+    Rows(TURNED),
+    Rows(EXCHANGED),
+];
+
 #[test]
 fn tasks_share_a_frame(rt: HostRuntime) -> Result<(), Fail> {
-    let mut driven = opened(rt.alloc(), AXIS)?;
-    assert_eq!(rt; write_all(&mut driven, rt.alloc())?, 4);
-    assert_eq!(rt; first_wrong(&mut driven, rt.alloc(), TO_TASK_1)?, None);
-    assert_eq!(rt; write_all(&mut driven, rt.alloc())?, 2);
-    assert_eq!(rt; first_wrong(&mut driven, rt.alloc(), TOGETHER)?, None);
-    assert_eq!(rt; first_wrong(&mut driven, rt.alloc(), SENT_AGAIN)?, None);
-    assert_eq!(rt; first_wrong(&mut driven, rt.alloc(), TURNED)?, None);
-    assert_eq!(rt; first_wrong(&mut driven, rt.alloc(), EXCHANGED)?, None);
+    assert_eq!(rt; first_wrong_of(rt.alloc(), AXIS, SHARED)?, None);
     Ok(())
 }
 
@@ -179,57 +185,54 @@ fn are_sized(answer: &Answer, sizes: &[Sized]) -> bool {
     true
 }
 
-/// Whether tasks whose slaves have outputs of so many bytes each, by task and bytes, are sent in such frames.
-fn is_sent_in(
+/// Slaves with outputs of so many bytes each, by task and bytes; tasks; and the frames in which they are sent.
+type Wide = (&'static [(u8, u16)], &'static [u8], &'static [Sized]);
+
+/// Whether tasks are sent in such frames, once every block is written.
+fn sends_in<D: Driven>(
+    driven: &mut D,
     alloc: Global,
-    areas: &[(u8, u16)],
     tasks: &[u8],
     sizes: &[Sized],
-) -> Result<bool, Fail> {
-    let mut driven = opened_wide(alloc, areas)?;
-    write_all(&mut driven, alloc)?;
-    let answer: Result<Answer, AllocError> = driven.put(alloc, Event::SendTasks(tasks));
-    Ok(are_sized(&answer?, sizes))
+) -> Result<bool, AllocError> {
+    write_all(driven, alloc)?;
+    Ok(are_sized(&driven.put(alloc, Event::SendTasks(tasks))?, sizes))
+}
+
+/// Whether a row's tasks are sent in its frames.
+fn is_sent_in(alloc: Global, row: &Wide) -> Result<bool, Fail> {
+    let mut driven = opened_wide(alloc, row.0)?;
+    Ok(sends_in(&mut driven, alloc, row.1, row.2)?)
 }
 
 /// Two tasks of 737 bytes each, with 12 beside them, have the 1,498 bytes that a header can tell, 0x5da, and the type
 /// in the highest four bits. With a byte more each has a frame of its own, of 750 = 0x2ee and 749 = 0x2ed.
-#[test]
-fn the_longest_frame_of_two_tasks(rt: HostRuntime) -> Result<(), Fail> {
-    let alloc = rt.alloc();
-    assert!(rt; is_sent_in(alloc, &[(0, 737), (1, 737)], &[0, 1], &[(1514, 0xda, 0x15)])?);
-    assert!(rt;
-        is_sent_in(
-            alloc,
-            &[(0, 738), (1, 737)],
-            &[0, 1],
-            &[(766, 0xee, 0x12), (765, 0xed, 0x12)]
-        )?
-    );
-    Ok(())
-}
-
+///
 /// A datagram joins no other frame than the one just before it, though an older one has room: 712 bytes are 0x2c8,
 /// 1,012 are 0x3f4, and 1,424 are 0x590.
+const WIDE: &[Wide] = &[
+    (&[(0, 737), (1, 737)], &[0, 1], &[(1514, 0xda, 0x15)]),
+    (
+        &[(0, 738), (1, 737)],
+        &[0, 1],
+        &[(766, 0xee, 0x12), (765, 0xed, 0x12)],
+    ),
+    (
+        &[(0, 700), (1, 1000), (2, 700)],
+        &[0, 1, 2],
+        &[(728, 0xc8, 0x12), (1028, 0xf4, 0x13), (728, 0xc8, 0x12)],
+    ),
+    (
+        &[(0, 700), (1, 1000), (2, 700)],
+        &[0, 2, 1],
+        &[(1440, 0x90, 0x15), (1028, 0xf4, 0x13)],
+    ),
+];
+
 #[test]
-fn neighbours_alone_share_a_frame(rt: HostRuntime) -> Result<(), Fail> {
-    let alloc = rt.alloc();
-    let areas = [(0, 700), (1, 1000), (2, 700)];
-    assert!(rt;
-        is_sent_in(
-            alloc,
-            &areas,
-            &[0, 1, 2],
-            &[(728, 0xc8, 0x12), (1028, 0xf4, 0x13), (728, 0xc8, 0x12)]
-        )?
-    );
-    assert!(rt;
-        is_sent_in(
-            alloc,
-            &areas,
-            &[0, 2, 1],
-            &[(1440, 0x90, 0x15), (1028, 0xf4, 0x13)]
-        )?
-    );
+fn wide_tasks_share_frames_with_their_neighbours(rt: HostRuntime) -> Result<(), Fail> {
+    for row in WIDE {
+        assert!(rt; is_sent_in(rt.alloc(), row)?);
+    }
     Ok(())
 }

@@ -1,4 +1,4 @@
-//! A line of 12 slaves in three tasks, four of them mandatory and two in each of four groups.
+//! Lines of 12 slaves in three tasks, four of them mandatory and two in each of four groups, and of two of them.
 use hc_records::edit::Edit;
 use hc_records::faults::ProjectFault;
 use hc_records::items::Items;
@@ -115,13 +115,28 @@ fn group(alloc: Global, alias: u16, from: u8, to: u8) -> Result<Group, AllocErro
     Ok(Group { alias, slaves })
 }
 
-/// The project of the 12 slaves.
-pub fn twelve(alloc: Global) -> Result<Result<Project, ProjectFault>, AllocError> {
+/// Groups by their aliases, and by the slaves from one number up to another.
+pub type Grouped = &'static [(u16, u8, u8)];
+
+/// The 12 slaves.
+pub const TWELVE: Grouped = &[(0, 0, 4), (10, 4, 6), (20, 6, 8), (30, 8, 10), (40, 10, 12)];
+
+/// Two of them, in all three tasks, one in a group.
+pub const TWO: Grouped = &[(0, 0, 1), (10, 4, 5)];
+
+/// The groups.
+fn groups_of(alloc: Global, grouped: Grouped) -> Result<Items<Group>, AllocError> {
     let mut groups = Items::new(alloc);
-    groups.push(group(alloc, 0, 0, 4)?)?;
-    groups.push(group(alloc, 10, 4, 6)?)?;
-    groups.push(group(alloc, 20, 6, 8)?)?;
-    groups.push(group(alloc, 30, 8, 10)?)?;
-    groups.push(group(alloc, 40, 10, 12)?)?;
-    Ok(Project::checked(alloc, groups))
+    for (alias, from, to) in grouped {
+        groups.push(group(alloc, *alias, *from, *to)?)?;
+    }
+    Ok(groups)
+}
+
+/// The project of these slaves.
+pub fn project_of(alloc: Global, grouped: Grouped) -> Result<Project, ProjectFault> {
+    match groups_of(alloc, grouped) {
+        Ok(groups) => Project::checked(alloc, groups),
+        Err(_) => Err(ProjectFault::Memory),
+    }
 }

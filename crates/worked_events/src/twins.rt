@@ -2,6 +2,8 @@
 ghost use Rattle.std.specs.Prelude.{◌≡◌, IsTrue};
 ghost use Rattle.hc_records.specs.Lists.{has_repeat};
 ghost use Rattle.hc_events.specs.Calls.{AreSentTogether};
+ghost use Rattle.hc_events.specs.Steps.{step_of};
+ghost use Rattle.hc_core.specs.Serving.{IsAsked};
 
 use crate::driven::Driven;
 use crate::lookback::LookBack;
@@ -30,47 +32,105 @@ fn are_sent_together(tasks: &[u8]) -> bool
     !tasks.is_empty() && tasks.len() <= usize::from(TASKS) && !repeats(tasks)
 }
 
+/// Whether an event is one that a caller may ask of a core.
+fn is_asked(event: Event<'_>) -> bool
+    ensures { IsTrue result → IsAsked (step_of event.entry) }
+{
+    match event {
+        Event::Edit(_) => true,
+        Event::Post {
+            task: _,
+            epoch: _,
+            bytes: _,
+        } => true,
+        Event::SendTasks(tasks) => are_sent_together(tasks),
+        Event::SendWrite => true,
+        Event::Arrive(_) => true,
+        Event::Read(_) => true,
+    }
+}
+
 /// A core, and the program that looks back over the same events.
 #[derive(Drop)]
 pub struct Twins {
     core: Core,
     back: LookBack,
+    /// How often the core wanted memory, and was left as it was.
+    wants: u32,
 }
 
 impl Twins {
     /// Both at a project's opening.
     pub fn of(core: Core, back: LookBack) -> Twins {
-        Twins { core, back }
+        Twins {
+            core,
+            back,
+            wants: 0,
+        }
     }
 
     /// The program that looks back.
     pub fn back(&self) -> &LookBack {
         &self.back
     }
+
+    /// How often the core wanted memory for an event, and was left as it was.
+    pub fn wants(&self) -> u32 {
+        self.wants
+    }
+
+    /// Whether the changes since they were taken last tell what was accepted behind so many entries, and both owe as
+    /// many blocks and have the same next serial.
+    fn is_told(&mut self, alloc: Global, entries: usize) -> bool {
+        let changes = self.core.take_changes(alloc);
+        tells(changes.as_slice(), &self.back, entries)
+            && self.core.owed() == self.back.count_owed()
+            && self.core.next_serial() == self.back.coming_serial()
+    }
+
+    /// The core's answer, where the other one's is the same and what it leaves as well; else want of memory, which no
+    /// event is to be answered.
+    fn compared(
+        &mut self,
+        alloc: Global,
+        event: Event<'_>,
+        answer: Answer,
+    ) -> Result<Answer, AllocError> {
+        let entries = self.back.len();
+        let wanted = self.back.put(alloc, event)?;
+        if is_same(&answer, &wanted) && self.is_told(alloc, entries) {
+            Ok(answer)
+        } else {
+            Ok(Answer::Refused(CoreFault::Memory))
+        }
+    }
+
+    /// The answer to an event. Where the core wants memory for it, it is asked once more.
+    pub fn put_or_again(&mut self, alloc: Global, event: Event<'_>) -> Result<Answer, AllocError> {
+        let wants = self.wants;
+        let told = self.put(alloc, event);
+        if told.is_err() && self.wants > wants {
+            return self.put(alloc, event);
+        }
+        told
+    }
 }
 
 impl Driven for Twins {
-    /// The core's answer, where the other one's is the same, the changes since then tell what was accepted, and both
-    /// owe as many blocks and have the same next serial; else want of memory, which no event is to meet.
+    /// The core's answer, compared. Where the core wants memory it is to be as it was, and the program that looks back
+    /// isn't asked.
     fn put(&mut self, alloc: Global, event: Event<'_>) -> Result<Answer, AllocError> {
-        if let Event::SendTasks(tasks) = event {
-            if !are_sent_together(tasks) {
-                return Ok(Answer::Refused(CoreFault::Memory));
-            }
+        if !is_asked(event) {
+            return Ok(Answer::Refused(CoreFault::Memory));
         }
-        let entries = self.back.len();
-        let wanted = self.back.put(alloc, event)?;
         let answer = self.core.step(alloc, event);
-        let changes = self.core.take_changes(alloc);
-        let alike = is_same(&answer, &wanted)
-            && tells(changes.as_slice(), &self.back, entries)
-            && self.core.owed() == self.back.count_owed()
-            && self.core.next_serial() == self.back.coming_serial();
-        Ok(if alike {
-            answer
-        } else {
-            Answer::Refused(CoreFault::Memory)
-        })
+        if matches!(answer, Answer::Refused(CoreFault::Memory))
+            && self.is_told(alloc, self.back.len())
+        {
+            self.wants = self.wants.saturating_add(1);
+            return Err(AllocError);
+        }
+        self.compared(alloc, event, answer)
     }
 
     fn count_owed(&self) -> u32 {

@@ -1,27 +1,13 @@
 //! The values of output variables as they are sent: what was posted, where the variables stand now.
 use crate::asked::Asked::{Comes, Connect, Disconnect, Move, Post, Read, Remap, Send, Write};
-use crate::asked::{Row, Wanted, first_wrong};
-use crate::driven::Driven;
-use crate::lines::{AXIS, opened, write_all};
+use crate::asked::{Row, Wanted};
+use crate::lines::AXIS;
+use crate::stages::Stage::{Blocks, Rows};
+use crate::stages::{Stage, first_wrong_of, first_wrong_written};
 use hc_events::answer::Outcome::Inputs;
 use hc_events::faults::CoreFault;
 use hc_frames::Command::{Fpwr, Lrw};
-use std::alloc::Global;
 use std::test::Fail;
-
-/// The number of the first row of a line that isn't answered as it wants, once its so many owed blocks are written.
-fn first_wrong_of(
-    alloc: Global,
-    text: &str,
-    blocks: u32,
-    rows: &[Row],
-) -> Result<Option<usize>, Fail> {
-    let mut driven = opened(alloc, text)?;
-    if write_all(&mut driven, alloc)? != blocks {
-        return Err("another number of blocks was written".into());
-    }
-    Ok(first_wrong(&mut driven, alloc, rows)?)
-}
 
 /// The axis' outputs, posted as 2, move to task 1, whose first datagram has the logical address 0x0200_0000. Both
 /// tasks have other widths, so the one span of each is recut; both FMMUs' blocks have other bytes, since the
@@ -87,7 +73,7 @@ const MOVED: &[Row] = &[
 
 #[test]
 fn a_value_goes_with_its_variable(rt: HostRuntime) -> Result<(), Fail> {
-    assert_eq!(rt; first_wrong_of(rt.alloc(), AXIS, 4, MOVED)?, None);
+    assert_eq!(rt; first_wrong_written(rt.alloc(), AXIS, 4, MOVED)?, None);
     Ok(())
 }
 
@@ -146,14 +132,18 @@ const ZERO_AGAIN: &[Row] = &[(
     Wanted::Sent(&[(9, 0x0f, b"\x0c\x09\0\0\0\x01\x03\0\0\0", 34)]),
 )];
 
+/// The whole of it: each time it comes four blocks are written.
+const IN_AND_OUT: &[Stage] = &[
+    Rows(COMES),
+    Blocks(4),
+    Rows(COMES_AGAIN),
+    Blocks(4),
+    Rows(ZERO_AGAIN),
+];
+
 #[test]
 fn a_tool_comes_again(rt: HostRuntime) -> Result<(), Fail> {
-    let mut driven = opened(rt.alloc(), TOOL)?;
-    assert_eq!(rt; first_wrong(&mut driven, rt.alloc(), COMES)?, None);
-    assert_eq!(rt; write_all(&mut driven, rt.alloc())?, 4);
-    assert_eq!(rt; first_wrong(&mut driven, rt.alloc(), COMES_AGAIN)?, None);
-    assert_eq!(rt; write_all(&mut driven, rt.alloc())?, 4);
-    assert_eq!(rt; first_wrong(&mut driven, rt.alloc(), ZERO_AGAIN)?, None);
+    assert_eq!(rt; first_wrong_of(rt.alloc(), TOOL, IN_AND_OUT)?, None);
     Ok(())
 }
 
@@ -194,7 +184,7 @@ const THERE_AND_BACK: &[Row] = &[
 #[test]
 fn a_value_is_of_the_task_that_a_variable_then_had(rt: HostRuntime) -> Result<(), Fail> {
     assert_eq!(rt;
-        first_wrong_of(rt.alloc(), TWO_BYTES, 4, THERE_AND_BACK)?,
+        first_wrong_written(rt.alloc(), TWO_BYTES, 4, THERE_AND_BACK)?,
         None
     );
     Ok(())
@@ -266,7 +256,10 @@ const EXCHANGED: &[Row] = &[
 
 #[test]
 fn a_value_stays_where_its_variable_stays_placed(rt: HostRuntime) -> Result<(), Fail> {
-    assert_eq!(rt; first_wrong_of(rt.alloc(), TWO_PDOS, 2, EXCHANGED)?, None);
+    assert_eq!(rt;
+        first_wrong_written(rt.alloc(), TWO_PDOS, 2, EXCHANGED)?,
+        None
+    );
     Ok(())
 }
 
@@ -308,6 +301,6 @@ const GAP: &[Row] = &[
 
 #[test]
 fn gaps_and_inputs_are_sent_as_zeros(rt: HostRuntime) -> Result<(), Fail> {
-    assert_eq!(rt; first_wrong_of(rt.alloc(), GAPS, 4, GAP)?, None);
+    assert_eq!(rt; first_wrong_written(rt.alloc(), GAPS, 4, GAP)?, None);
     Ok(())
 }

@@ -1,8 +1,9 @@
 //! The register blocks of an axis are written.
 use crate::asked::Asked::{Comes, Remap, Send, Write};
-use crate::asked::{Row, Wanted, first_wrong};
-use crate::driven::Driven;
-use crate::lines::{AXIS, opened};
+use crate::asked::{Row, Wanted};
+use crate::lines::AXIS;
+use crate::stages::Stage::Rows;
+use crate::stages::{Stage, first_wrong_of, first_wrong_written};
 use hc_events::faults::CoreFault;
 use hc_frames::Command::{Apwr, Fpwr, Lrw};
 use std::test::Fail;
@@ -15,7 +16,8 @@ use std::test::Fail;
 /// for reading or 2 for writing, activate. The inputs, 12 bits, stand behind the one byte of outputs. Zeros fill
 /// 60 bytes: behind 16 and 10 bytes and the block's 8 there are 26, and 18 behind 16. No task is sent before the
 /// fourth answer, and then nothing is owed.
-const FOUR_BLOCKS: &[Row] = &[
+const WRITES: &[Row] = &[
+    (Send(&[0]), Wanted::Refused(CoreFault::Unprogrammed(4))),
     (
         Write,
         Wanted::WriteSent((
@@ -57,23 +59,30 @@ const FOUR_BLOCKS: &[Row] = &[
     ),
     (Write, Wanted::WriteSent((3, 0x1c, LAST_BLOCK, 18))),
     (Send(&[0]), Wanted::Refused(CoreFault::Unprogrammed(1))),
+];
+
+/// The last one is answered, and the task is sent with the next serial, 4.
+const LAST_ANSWER: &[Row] = &[
     (
         Comes(3, &[(Fpwr, 0x0610_03e9, &[0; 16], 1)]),
         Wanted::WriteDone,
     ),
     (Write, Wanted::Refused(CoreFault::NothingOwed)),
+    (
+        Send(&[0]),
+        Wanted::Sent(&[(4, 0x0f, b"\x0c\x04\0\0\0\x01\x03\0\0\0", 34)]),
+    ),
 ];
 
 /// The datagram that writes the axis' last block, with the serial 3.
 const LAST_BLOCK: &[u8] =
     b"\x05\x03\xe9\x03\x10\x06\x10\0\0\0\x01\0\0\x01\x02\0\0\x03\x80\x11\0\x01\x01\0\0\0";
 
+const FOUR_BLOCKS: &[Stage] = &[Rows(WRITES), Rows(LAST_ANSWER)];
+
 #[test]
 fn four_blocks_are_written(rt: HostRuntime) -> Result<(), Fail> {
-    let mut driven = opened(rt.alloc(), AXIS)?;
-    assert_eq!(rt; driven.count_owed(), 4);
-    assert_eq!(rt; first_wrong(&mut driven, rt.alloc(), FOUR_BLOCKS)?, None);
-    assert_eq!(rt; (driven.count_owed(), driven.coming_serial()), (0, 4));
+    assert_eq!(rt; first_wrong_of(rt.alloc(), AXIS, FOUR_BLOCKS)?, None);
     Ok(())
 }
 
@@ -87,6 +96,7 @@ const MISSED: &[Row] = &[
     (Write, Wanted::WriteSent((4, 0x1c, AGAIN, 18))),
     (Write, Wanted::WriteSent((5, 0x1c, ONCE_MORE, 18))),
     (Comes(4, &[(Fpwr, 0x0610_03e9, &[0; 16], 1)]), Wanted::Stale),
+    (Send(&[0]), Wanted::Refused(CoreFault::Unprogrammed(1))),
 ];
 
 /// The same datagram with the serial 4, and with 5.
@@ -96,25 +106,6 @@ const AGAIN: &[u8] =
 const ONCE_MORE: &[u8] =
     b"\x05\x05\xe9\x03\x10\x06\x10\0\0\0\x01\0\0\x01\x02\0\0\x03\x80\x11\0\x01\x01\0\0\0";
 
-/// The rows up to the last write, and none behind it.
-fn up_to_the_last() -> &'static [Row] {
-    FOUR_BLOCKS.split_at(7).0
-}
-
-#[test]
-fn a_missed_write_is_sent_again(rt: HostRuntime) -> Result<(), Fail> {
-    let mut driven = opened(rt.alloc(), AXIS)?;
-    assert_eq!(rt;
-        first_wrong(&mut driven, rt.alloc(), up_to_the_last())?,
-        None
-    );
-    assert_eq!(rt; first_wrong(&mut driven, rt.alloc(), MISSED)?, None);
-    assert_eq!(rt; driven.count_owed(), 1);
-    assert_eq!(rt; first_wrong(&mut driven, rt.alloc(), CONFIRMED)?, None);
-    assert_eq!(rt; driven.count_owed(), 0);
-    Ok(())
-}
-
 /// The newest write's answer confirms it, once.
 const CONFIRMED: &[Row] = &[
     (
@@ -122,7 +113,16 @@ const CONFIRMED: &[Row] = &[
         Wanted::WriteDone,
     ),
     (Comes(5, &[(Fpwr, 0x0610_03e9, &[0; 16], 1)]), Wanted::Stale),
+    (Write, Wanted::Refused(CoreFault::NothingOwed)),
 ];
+
+const THIRD_TIME: &[Stage] = &[Rows(WRITES), Rows(MISSED), Rows(CONFIRMED)];
+
+#[test]
+fn a_missed_write_is_sent_again(rt: HostRuntime) -> Result<(), Fail> {
+    assert_eq!(rt; first_wrong_of(rt.alloc(), AXIS, THIRD_TIME)?, None);
+    Ok(())
+}
 
 /// A frame with the write's serial and another command, station, register or length answers nothing and uses up
 /// nothing. An answer with the counter 2 is no confirmation, and uses the answer up.
@@ -137,17 +137,14 @@ const FOREIGN: &[Row] = &[
         Wanted::WriteMissed,
     ),
     (Comes(3, &[(Fpwr, 0x0610_03e9, &[0; 16], 1)]), Wanted::Stale),
+    (Send(&[0]), Wanted::Refused(CoreFault::Unprogrammed(1))),
 ];
+
+const FOREIGN_ANSWERS: &[Stage] = &[Rows(WRITES), Rows(FOREIGN)];
 
 #[test]
 fn a_foreign_frame_confirms_nothing(rt: HostRuntime) -> Result<(), Fail> {
-    let mut driven = opened(rt.alloc(), AXIS)?;
-    assert_eq!(rt;
-        first_wrong(&mut driven, rt.alloc(), up_to_the_last())?,
-        None
-    );
-    assert_eq!(rt; first_wrong(&mut driven, rt.alloc(), FOREIGN)?, None);
-    assert_eq!(rt; driven.count_owed(), 1);
+    assert_eq!(rt; first_wrong_of(rt.alloc(), AXIS, FOREIGN_ANSWERS)?, None);
     Ok(())
 }
 
@@ -188,8 +185,6 @@ const UNDER_WAY: &[Row] = &[
 
 #[test]
 fn a_write_under_way_is_unknown(rt: HostRuntime) -> Result<(), Fail> {
-    let mut driven = opened(rt.alloc(), AXIS)?;
-    assert_eq!(rt; first_wrong(&mut driven, rt.alloc(), FOUR_BLOCKS)?, None);
-    assert_eq!(rt; first_wrong(&mut driven, rt.alloc(), UNDER_WAY)?, None);
+    assert_eq!(rt; first_wrong_written(rt.alloc(), AXIS, 4, UNDER_WAY)?, None);
     Ok(())
 }
