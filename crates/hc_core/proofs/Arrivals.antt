@@ -1,0 +1,175 @@
+-- What is kept stays right behind each arrival.
+use Rattle.std.proofs.Common.{◌≡◌, ℕ, ◌<◌, ◌≤◌, arith, true, false, cond, List, [], ◌∷◌, ◌++◌, map, sym, ap, ◌∙◌, subst, Some, None}
+use Rattle.std.specs.Prelude.{All, fold, slice_get}
+use Rattle.std.specs.List.{flat_map, list_any}
+use Rattle.std.proofs.lemmas.Bool.{not-true}
+use Rattle.std.proofs.lemmas.List.Elements.{All-weaker}
+use Rattle.hc_records.specs.declared.limits.TheConstants.{MOST_DATAGRAMS, MOST_DATAGRAM_BYTES}
+use Rattle.hc_records.specs.Edits.{crowded_task}
+use Rattle.hc_records.specs.TaskList.{task_list}
+use Rattle.hc_records.proofs.lemmas.Addresses.{uncrowded-few}
+use Rattle.hc_records.proofs.lemmas.Lengths.{length-sendable}
+use Rattle.hc_records.proofs.lemmas.Packable.{project-packable}
+use Rattle.hc_records.specs.Line.{groups_of, line}
+use Rattle.hc_records.specs.Project.{lowest_fault}
+use Rattle.hc_registers.specs.Blocks.{LineBlock, line_blocks}
+use Rattle.hc_plan.specs.Reports.{name_of}
+use Rattle.hc_events.specs.Arrivals.{Arrival}
+use Rattle.hc_events.specs.Accepted.{AreAccepted, StandsIn}
+use Rattle.hc_events.specs.Entries.{Record, Opened, Edited, Posted, Sent, Wrote, Came}
+use Rattle.hc_events.specs.Points.{line_of, state_of}
+use Rattle.hc_events.specs.Answering.{is_news, is_stale_to, judged_by}
+use Rattle.hc_events.specs.Images.{Fresh, fresh, fresh_by, renewed, slot_of}
+use Rattle.hc_events.specs.Owed.{known_bytes, owed_blocks}
+use Rattle.hc_events.specs.declared.answer.Outcome.{Outcome}
+use Rattle.hc_events.proofs.lemmas.SameBehind.{same-says, same-stale}
+use Rattle.hc_events.proofs.lemmas.Slots.{AllSent, FitsFresh, fresh-fits}
+use Rattle.hc_sendings.proofs.lemmas.Listed.{standing-task}
+use Rattle.hc_events.proofs.lemmas.WithoutStale.{goods-of_news}
+use Rattle.hc_awaited.specs.Waiting.{ended}
+use Rattle.hc_inputs.specs.Image.{Image, data_of}
+use Rattle.hc_owed.specs.Laws.{WritesAreRight, known_with}
+use Rattle.hc_owed.specs.Writes.{confirmed}
+use Rattle.hc_core.proofs.Awaits.{waits-stale}
+use Rattle.hc_core.proofs.Ended.{waits-ended}
+use Rattle.hc_core.proofs.Posts.{values-came}
+use Rattle.hc_core.proofs.Known.{kept-alike, known-done, known-framed, known-missed}
+use Rattle.hc_core.proofs.News.{news-came, news-none}
+use Rattle.hc_core.proofs.Sorts.{write-kept}
+use Rattle.hc_core.proofs.Told.{TellsInputs, TellsWrite}
+use Rattle.hc_core.specs.Agreement.{Agree, Kept}
+use Rattle.hc_core.specs.Goods.{FitsImage, change_of, goods_in}
+
+-- a stale one
+
+none_fresh : (past : Record) (arrival : Arrival) → is_stale_to past arrival ≡ true → fresh_by past arrival ≡ []
+none_fresh past arrival stale =
+    goods-of_news (judged_by past arrival)
+    ∙ ap (λ b. flat_map fresh (cond b (judged_by past arrival) [])) (not-true (list_any is_news (judged_by past arrival)) stale)
+
+pub agree-stale : (kept : Kept) (past taken : Record) (arrival : Arrival) → is_stale_to past arrival ≡ true → Agree kept past taken → Agree kept (Came arrival ∷ past) taken
+agree-stale kept past taken arrival stale agree =
+    let says = same-says (Came arrival ∷ past) past (same-stale past arrival stale) in
+    record {
+      accepted = (tt, agree.accepted);
+      state = agree.state;
+      project = agree.project;
+      uncrowded = agree.uncrowded;
+      serial = agree.serial;
+      left = agree.left;
+      waits = waits-stale past kept.awaited arrival stale agree.waits;
+      slots = λ task d below. agree.slots task d below ∙ sym (says.slots task d);
+      values = values-came past arrival kept.outputs agree.values;
+      known = record {
+        blocks = agree.known.blocks ∙ kept-alike (known_bytes past) (known_bytes (Came arrival ∷ past)) (state_of past) (λ station number. sym (says.known station number));
+        room = agree.known.room;
+      };
+      tells = news-none taken past arrival kept.changes (none_fresh past arrival stale) agree.tells;
+    }
+
+-- one that answers a frame of tasks
+
+pub agree-inputs : (kept : Kept) (past taken : Record) (arrival : Arrival) (outcomes : List Outcome) (inputs : Image) → TellsInputs past arrival outcomes
+    → ((task d : ℕ) → d < MOST_DATAGRAMS → data_of inputs task d ≡ fold (renewed task d) (data_of kept.inputs task d) (goods_in outcomes arrival.parts)) → Agree kept past taken
+    → Agree (record kept { awaited = ended arrival.serial kept.awaited; inputs = inputs; changes = kept.changes ++ map change_of (goods_in outcomes arrival.parts) }) (Came arrival ∷ past) taken
+agree-inputs kept past taken arrival outcomes inputs tells puts agree = record {
+  accepted = (tt, agree.accepted);
+  state = agree.state;
+  project = agree.project;
+  uncrowded = agree.uncrowded;
+  serial = agree.serial;
+  left = agree.left;
+  waits = waits-ended past kept.awaited arrival agree.accepted agree.waits tells.news;
+  slots = λ task d below.
+      puts task d below
+      ∙ ap (λ slot. fold (renewed task d) slot (goods_in outcomes arrival.parts)) (agree.slots task d below)
+      ∙ ap (fold (renewed task d) (slot_of past task d)) (sym tells.goods);
+  values = values-came past arrival kept.outputs agree.values;
+  known = record {
+    blocks = agree.known.blocks
+        ∙ kept-alike (known_bytes past) (known_bytes (Came arrival ∷ past)) (state_of past) (λ station number. sym (known-framed past arrival tells.sending tells.there tells.frame station number));
+    room = agree.known.room;
+  };
+  tells = news-came taken past arrival kept.changes (goods_in outcomes arrival.parts) tells.goods agree.tells;
+}
+
+-- one that answers a register write
+
+none_put : (past : Record) (arrival : Arrival) (task d : ℕ) → fresh_by past arrival ≡ [] → slot_of (Came arrival ∷ past) task d ≡ slot_of past task d
+none_put past arrival task d none = ap (fold (renewed task d) (slot_of past task d)) none
+
+pub agree-missed : (kept : Kept) (past taken : Record) (arrival : Arrival) → TellsWrite past arrival false → Agree kept past taken
+    → Agree (record kept { awaited = ended arrival.serial kept.awaited }) (Came arrival ∷ past) taken
+agree-missed kept past taken arrival tells agree = record {
+  accepted = (tt, agree.accepted);
+  state = agree.state;
+  project = agree.project;
+  uncrowded = agree.uncrowded;
+  serial = agree.serial;
+  left = agree.left;
+  waits = waits-ended past kept.awaited arrival agree.accepted agree.waits tells.news;
+  slots = λ task d below. agree.slots task d below ∙ sym (none_put past arrival task d tells.none);
+  values = values-came past arrival kept.outputs agree.values;
+  known = record {
+    blocks = agree.known.blocks ∙ kept-alike (known_bytes past) (known_bytes (Came arrival ∷ past)) (state_of past) (λ station number. sym (known-missed past arrival tells.good_is station number));
+    room = agree.known.room;
+  };
+  tells = news-none taken past arrival kept.changes tells.none agree.tells;
+}
+
+-- the block of the write under way is the first owed one
+
+heads_same : (a b : LineBlock) (xs ys : List LineBlock) → a ∷ xs ≡ b ∷ ys → a ≡ b
+heads_same a b xs ys e = cc
+
+pub agree-done : WritesAreRight → (kept : Kept) (past taken : Record) (arrival : Arrival) (n : ℕ) (block : LineBlock) (rest : List LineBlock)
+    → TellsWrite past arrival true → owed_blocks past ≡ block ∷ rest → slice_get (line_blocks (line_of past)) n ≡ Some block → Agree kept past taken
+    → Agree (record kept { awaited = ended arrival.serial kept.awaited; owed = record kept.owed { blocks = confirmed n block.block.bytes kept.owed.blocks } }) (Came arrival ∷ past) taken
+agree-done right kept past taken arrival n block rest tells first at agree =
+    let write = write-kept past kept.awaited arrival.serial tells.sending agree.waits tells.there tells.writes in
+    let way = agree.waits.written write.write write.there in
+    let same : way.block ≡ block = heads_same way.block block way.rest rest (sym way.first ∙ first) in
+    let known = known-done past arrival tells.sending way.block tells.there (write.heads ∙ ap (λ head. head ∷ []) way.head) (way.last ∙ ap (λ serial. Some (serial, way.block.block.bytes)) write.serial_is) tells.good_is in
+    record {
+      accepted = (tt, agree.accepted);
+      state = agree.state;
+      project = agree.project;
+      uncrowded = agree.uncrowded;
+      serial = agree.serial;
+      left = agree.left;
+      waits = waits-ended past kept.awaited arrival agree.accepted agree.waits tells.news;
+      slots = λ task d below. agree.slots task d below ∙ sym (none_put past arrival task d tells.none);
+      values = values-came past arrival kept.outputs agree.values;
+      known = record {
+        blocks = ap (confirmed n block.block.bytes) agree.known.blocks
+            ∙ (right (known_bytes past) (state_of past) n block (record { project = agree.project; stands = at })).when_confirmed
+            ∙ kept-alike (known_with (name_of block) (Some block.block.bytes) (known_bytes past)) (known_bytes (Came arrival ∷ past)) (state_of past)
+            (λ station number. sym (known station number ∙ ap (λ (one : LineBlock). known_with (name_of one) (Some one.block.bytes) (known_bytes past) station number) same));
+        room = agree.known.room;
+      };
+      tells = news-none taken past arrival kept.changes tells.none agree.tells;
+    }
+
+-- good answers are of datagrams that tasks can have
+
+all_sent : (past : Record) → AreAccepted past → AllSent StandsIn past
+all_sent [] all = absurd all
+all_sent (Opened groups ∷ past) all = tt
+all_sent (Edited edit ∷ past) all = all_sent past all.1
+all_sent (Posted task bytes ∷ past) all = all_sent past all.1
+all_sent (Sent frame ∷ past) all = (all.0.stands, all_sent past all.1)
+all_sent (Wrote block ∷ past) all = all_sent past all.1
+all_sent (Came arrival ∷ past) all = all_sent past all.1
+
+image_fits : (past : Record) → lowest_fault (groups_of (state_of past).groups) ≡ None → crowded_task (line_of past) ≡ None → (good : Fresh) → FitsFresh StandsIn (line_of past) good → FitsImage good
+image_fits past project uncrowded good fit =
+    let state = state_of past in
+    let task = standing-task state good.task good.datagram project fit.1 in
+    let few = uncrowded-few (line state) good.task uncrowded task in
+    let most = (length-sendable (task_list good.task (line state)) good.datagram (project-packable state good.task project) fit.1).most in
+    record { task = task; datagram = omega (arith, few, fit.1); few = subst (λ n. n ≤ MOST_DATAGRAM_BYTES) (sym fit.0) most }
+
+pub goods-fit : (kept : Kept) (past taken : Record) (arrival : Arrival) (goods : List Fresh) → Agree kept past taken → fresh_by past arrival ≡ goods → All FitsImage goods
+goods-fit kept past taken arrival goods agree same =
+    subst (All FitsImage) same
+    (All-weaker (FitsFresh StandsIn (line_of past)) FitsImage (image_fits past agree.project agree.uncrowded) (fresh_by past arrival) (fresh-fits StandsIn past arrival (all_sent past agree.accepted)))

@@ -1,0 +1,55 @@
+-- A register block has 8 or 16 bytes.
+use Rattle.std.proofs.Common.{◌≡◌, ℕ, List, [], ◌∷◌, length, refl, subst, arith, get_or, Option, Some, None}
+use Rattle.std.specs.Prelude.{All}
+use Rattle.std.specs.List.{enumerate_from}
+use Rattle.std.proofs.lemmas.List.Elements.{All-cons, All-map, All-nil}
+use Rattle.std.proofs.lemmas.Option.{get_or_from_slice_get, slice_get_within}
+use Rattle.hc_records.specs.declared.records.Area.{Area}
+use Rattle.hc_records.specs.Line.{Member}
+use Rattle.hc_records.proofs.lemmas.Lists.{All-enumerate_from, All-flat_map}
+use Rattle.hc_registers.specs.declared.fmmu.Mapping.{Mapping}
+use Rattle.hc_registers.specs.Blocks.{LineBlock, RegisterBlock, area_blocks, fmmu_block, fmmu_bytes, line_blocks, mapping_of, member_blocks, slave_blocks, sync_manager_block, sync_manager_bytes}
+use Rattle.hc_events.specs.Entries.{Record}
+use Rattle.hc_events.specs.Points.{line_of}
+use Rattle.hc_core.specs.Firsts.{HasBytes, IsFirstOwed}
+
+sync_length : (area : Area) → length (sync_manager_bytes area) ≡ 8
+sync_length area = refl
+
+fmmu_length : (area : Area) (mapping : Option Mapping) → length (fmmu_bytes area mapping) ≡ 16
+fmmu_length area None = refl
+fmmu_length area (Some mapping) = refl
+
+sync_has : (area : Area) → HasBytes (sync_manager_block area)
+sync_has area = let long = sync_length area in record { some = omega (arith, long); most = omega (arith, long) }
+
+fmmu_has : (index : ℕ) (area : Area) (mapping : Option Mapping) → HasBytes (fmmu_block index area mapping)
+fmmu_has index area mapping = let long = fmmu_length area mapping in record { some = omega (arith, long); most = omega (arith, long) }
+
+pair_has : (first second : RegisterBlock) → HasBytes first → HasBytes second → All HasBytes (first ∷ second ∷ [])
+pair_has first second a b = All-cons HasBytes first (second ∷ []) a (All-cons HasBytes second [] b (All-nil HasBytes))
+
+area_has : (line : List Member) (rank : ℕ) (e : ℕ × Area) → All HasBytes (area_blocks line rank e)
+area_has line rank e =
+    let mapping = mapping_of line e.1.task (record { dir = e.1.dir; rank = rank; area = e.0 }) in
+    pair_has (sync_manager_block e.1) (fmmu_block e.0 e.1 mapping) (sync_has e.1) (fmmu_has e.0 e.1 mapping)
+
+slave_has : (line : List Member) (member : Member) → All HasBytes (slave_blocks line member)
+slave_has line member =
+    All-flat_map HasBytes (area_blocks line member.rank) (enumerate_from 0 member.slave.areas) (λ i d within. area_has line member.rank (get_or (enumerate_from 0 member.slave.areas) i d))
+
+abbrev Has : LineBlock → Type 0
+Has found = HasBytes found.block
+
+member_has : (line : List Member) (member : Member) → All Has (member_blocks line member)
+member_has line member =
+    let made : ℕ × RegisterBlock → LineBlock = λ e. record { station = member.slave.station; number = e.0; block = e.1 } in
+    All-map Has made (enumerate_from 0 (slave_blocks line member)) (All-enumerate_from HasBytes 0 (slave_blocks line member) (slave_has line member))
+
+line_has : (line : List Member) → All Has (line_blocks line)
+line_has line = All-flat_map Has (member_blocks line) line (λ i d within. member_has line (get_or line i d))
+
+pub first-bytes : (past : Record) (n : ℕ) (block : LineBlock) → IsFirstOwed past n block → HasBytes block.block
+first-bytes past n block first =
+    let blocks = line_blocks (line_of past) in
+    subst Has (get_or_from_slice_get blocks n block block first.at) (line_has (line_of past) n block (slice_get_within blocks n block first.at))

@@ -1,0 +1,134 @@
+-- What a commit asks of the present proposal, and what is kept behind it.
+use Rattle.std.proofs.Common.{◌≡◌, ℕ, ◌+◌, ◌<◌, ◌≤◌, Bool, true, false, not, nat_lt, List, [], ◌∷◌, length, map, refl, sym, ◌∙◌, subst, arith, suc, None}
+use Rattle.std.specs.Prelude.{All, AllPairs}
+use Rattle.std.specs.List.{list_any, range_with_len}
+use Rattle.std.proofs.lemmas.Bool.{ltb-false}
+use Rattle.std.proofs.lemmas.Bool.Decides.{nat_tests}
+use Rattle.std.proofs.lemmas.List.Elements.{All-nil, All-cons, All-weaker}
+use Rattle.std.proofs.lemmas.List.Kept.{AllPairs-cons}
+use Rattle.hc_records.specs.Edits.{crowded_task}
+use Rattle.hc_records.specs.Line.{groups_of}
+use Rattle.hc_records.specs.Lists.{lowest}
+use Rattle.hc_records.specs.Project.{lowest_fault}
+use Rattle.hc_records.proofs.lemmas.Addresses.{uncrowded-few}
+use Rattle.hc_records.proofs.lemmas.Lists.{AllPairs-nil}
+use Rattle.hc_registers.specs.Blocks.{LineBlock}
+use Rattle.hc_frames.specs.declared.limits.TheConstants.{SETUP_SERIAL}
+use Rattle.hc_events.specs.declared.faults.CoreFault.{CoreFault}
+use Rattle.hc_events.specs.declared.faults.CoreFault.TheVariants.{NoSuchTask, SerialsSpent, Unprogrammed}
+use Rattle.hc_events.specs.Accepted.{StandsIn}
+use Rattle.hc_events.specs.Entries.{Record}
+use Rattle.hc_events.specs.Owed.{owed_blocks}
+use Rattle.hc_events.specs.Points.{line_of, next_serial, state_of}
+use Rattle.hc_events.specs.Sendings.{Frame, Named}
+use Rattle.hc_events.specs.Steps.{has_serials, is_no_task, proposal, task_faults, with_sent}
+use Rattle.hc_events.proofs.lemmas.Accepted.{passed, proposal-stands}
+use Rattle.hc_events.proofs.lemmas.Frames.{proposals-numbered}
+use Rattle.hc_sendings.proofs.lemmas.Listed.{standing-task}
+use Rattle.hc_awaited.specs.Waiting.{AwaitedFrame, ComeBehind, IsNamed, all_sent}
+use Rattle.hc_core.proofs.Sendings.{agree-sent}
+use Rattle.hc_core.specs.Agreement.{Agree, Kept}
+use Rattle.hc_core.specs.Proposed.{IsProposal}
+
+-- a datagram of the line has a number that tasks can have
+
+named : (past : Record) → lowest_fault (groups_of (state_of past).groups) ≡ None → crowded_task (line_of past) ≡ None → (one : Named) → StandsIn (line_of past) one → IsNamed one
+named past project uncrowded one stands =
+    let task = standing-task (state_of past) one.0 one.1 project stands in
+    let few = uncrowded-few (line_of past) one.0 uncrowded task in
+    record { task = task; number = omega (arith, few, stands) }
+
+pub proposal-named : (kept : Kept) (past taken : Record) (frames : List Frame) → IsProposal past frames → Agree kept past taken → All (λ frame. All IsNamed frame.datagrams) frames
+proposal-named kept past taken frames is agree =
+    subst (All (λ frame. All IsNamed frame.datagrams)) (sym is.whole)
+    (All-weaker (λ (frame : Frame). All (StandsIn (line_of past)) frame.datagrams) (λ (frame : Frame). All IsNamed frame.datagrams)
+    (λ frame stand. All-weaker (StandsIn (line_of past)) IsNamed (named past agree.project agree.uncrowded) frame.datagrams stand)
+    (proposal past is.tasks) (proposal-stands past is.tasks))
+
+-- serials of frames one after another
+
+pub first-number : (frame : Frame) (rest : List ℕ) (serial : ℕ) (more : List ℕ) → frame.serial ∷ rest ≡ serial ∷ more → (frame.serial ≡ serial) × (rest ≡ more)
+first-number frame rest serial more e = (cc, cc)
+
+abbrev pub numbers_of : List Frame → List ℕ
+numbers_of frames = map (λ frame. frame.serial) frames
+
+from_number : (frames : List Frame) (serial low : ℕ) → numbers_of frames ≡ range_with_len serial (length frames) → low ≤ serial → All (λ frame. low ≤ frame.serial) frames
+from_number [] serial low numbers below = All-nil (λ (frame : Frame). low ≤ frame.serial)
+from_number (frame ∷ frames) serial low numbers below =
+    let first = first-number frame (numbers_of frames) serial (range_with_len (serial + 1) (length frames)) numbers in
+    let is = first.0 in
+    let next : low ≤ serial + 1 = omega (arith, below) in
+    All-cons (λ (one : Frame). low ≤ one.serial) frame frames (omega (arith, is, below)) (from_number frames (serial + 1) low first.1 next)
+
+above_number : (a n b : ℕ) → a ≡ n → n + 1 ≤ b → a < b
+above_number a n b is low = omega (arith, is, low)
+
+not_above : (a n b : ℕ) → a < n → n ≤ b → a < b
+not_above a n b less low = omega (arith, less, low)
+
+next_low : (n : ℕ) → n + 1 ≤ n + 1
+next_low n = omega arith
+
+itself_low : (n : ℕ) → n ≤ n
+itself_low n = omega arith
+
+numbers_ascend : (frames : List Frame) (serial : ℕ) → numbers_of frames ≡ range_with_len serial (length frames) → AllPairs (λ a b. a.serial < b.serial) frames
+numbers_ascend [] serial numbers = AllPairs-nil (λ (a b : Frame). a.serial < b.serial)
+numbers_ascend (frame ∷ frames) serial numbers =
+    let first = first-number frame (numbers_of frames) serial (range_with_len (serial + 1) (length frames)) numbers in
+    AllPairs-cons (λ (a b : Frame). a.serial < b.serial) frame frames
+    (All-weaker (λ (one : Frame). serial + 1 ≤ one.serial) (λ (one : Frame). frame.serial < one.serial) (λ one low. above_number frame.serial serial one.serial first.0 low) frames
+    (from_number frames (serial + 1) (serial + 1) first.1 (next_low serial)))
+    (numbers_ascend frames (serial + 1) first.1)
+
+pub proposal-behind : (kept : Kept) (past taken : Record) (frames : List Frame) → IsProposal past frames → Agree kept past taken → ComeBehind kept.awaited frames
+proposal-behind kept past taken frames is agree =
+    let tasks = is.tasks in
+    subst (ComeBehind kept.awaited) (sym is.whole) (record {
+      ascend = numbers_ascend (proposal past tasks) (next_serial past) (proposals-numbered past tasks);
+      behind = All-weaker (λ (frame : AwaitedFrame). frame.serial < next_serial past) (λ (frame : AwaitedFrame). All (λ (next : Frame). frame.serial < next.serial) (proposal past tasks))
+          (λ frame less. All-weaker (λ (next : Frame). next_serial past ≤ next.serial) (λ (next : Frame). frame.serial < next.serial)
+          (λ next low. not_above frame.serial (next_serial past) next.serial less low) (proposal past tasks)
+          (from_number (proposal past tasks) (next_serial past) (next_serial past) (proposals-numbered past tasks) (itself_low (next_serial past))))
+          kept.awaited.frames agree.waits.below;
+    })
+
+-- nothing is owed, and the serials suffice
+
+none_owed : (blocks : List LineBlock) → nat_lt 0 (length blocks) ≡ false → blocks ≡ []
+none_owed [] e = refl
+none_owed (block ∷ blocks) e = let some : nat_lt 0 (suc (length blocks)) ≡ true = grind (arith, nat_tests) in let never : true ≡ false = sym some ∙ e in cc
+
+not_not : (b : Bool) → not (not b) ≡ false → b ≡ false
+not_not true e = cc
+not_not false e = refl
+
+pub record Allowed (past : Record) (tasks : List ℕ) : Type 0 where
+  pub owed : owed_blocks past ≡ []
+  pub left : next_serial past + length (proposal past tasks) ≤ SETUP_SERIAL
+
+pub allowed : (past : Record) (tasks : List ℕ) → lowest (task_faults past tasks) ≡ None → Allowed past tasks
+allowed past tasks none =
+    let serials = (not (has_serials past (length (proposal past tasks))), SerialsSpent) ∷ [] in
+    let owed : Bool × CoreFault = (nat_lt 0 (length (owed_blocks past)), Unprogrammed (length (owed_blocks past))) in
+    let first = passed (list_any is_no_task tasks) NoSuchTask (owed ∷ serials) none in
+    let second = passed owed.0 owed.1 serials first.1 in
+    let third = passed (not (has_serials past (length (proposal past tasks)))) SerialsSpent [] second.1 in
+    record {
+      owed = none_owed (owed_blocks past) second.0;
+      left = ltb-false SETUP_SERIAL (next_serial past + length (proposal past tasks)) (not_not (nat_lt SETUP_SERIAL (next_serial past + length (proposal past tasks))) third.0);
+    }
+
+pub proposal-left : (kept : Kept) (past taken : Record) (frames : List Frame) → IsProposal past frames → Agree kept past taken → kept.serial + length frames ≤ SETUP_SERIAL
+proposal-left kept past taken frames is agree =
+    subst (λ (n : ℕ). n + length frames ≤ SETUP_SERIAL) (sym agree.serial)
+    (subst (λ (all : List Frame). next_serial past + length all ≤ SETUP_SERIAL) (sym is.whole) (allowed past is.tasks is.accepted).left)
+
+pub agree-committed : (kept : Kept) (past taken : Record) (frames : List Frame) → IsProposal past frames → Agree kept past taken
+    → Agree (record kept { awaited = all_sent kept.awaited frames; serial = kept.serial + length frames }) (with_sent past frames) taken
+agree-committed kept past taken frames is agree =
+    let left : kept.serial + length (proposal past is.tasks) ≤ SETUP_SERIAL =
+    subst (λ (all : List Frame). kept.serial + length all ≤ SETUP_SERIAL) is.whole (proposal-left kept past taken frames is agree) in
+    subst (λ (all : List Frame). Agree (record kept { awaited = all_sent kept.awaited all; serial = kept.serial + length all }) (with_sent past all) taken) (sym is.whole)
+    (agree-sent kept past taken is.tasks is.accepted (allowed past is.tasks is.accepted).owed left agree)

@@ -1,0 +1,67 @@
+-- The changes that nobody took, behind good answers.
+use Rattle.std.proofs.Common.{◌≡◌, List, [], ◌∷◌, ◌++◌, map, refl, sym, ap, ◌∙◌, append_assoc}
+use Rattle.std.proofs.lemmas.List.{append-nil, map-append}
+use Rattle.hc_records.specs.Line.{State}
+use Rattle.hc_records.specs.Edits.{state_after}
+use Rattle.hc_events.specs.declared.change.Change.{Change}
+use Rattle.hc_events.specs.declared.change.Change.TheVariants as change
+use Rattle.hc_events.specs.Arrivals.{Arrival}
+use Rattle.hc_events.specs.Entries.{Record, Came}
+use Rattle.hc_events.specs.Points.{state_of}
+use Rattle.hc_events.specs.Images.{Fresh, fresh_by}
+use Rattle.hc_events.specs.Changes.{Answered, SwapsLeadFrom, news_of, told_by}
+use Rattle.hc_events.specs.NewsLaws.{state_behind}
+use Rattle.hc_core.specs.Agreement.{Agree, Kept, TellNews}
+use Rattle.hc_core.specs.Goods.{change_of}
+
+goods_told : (goods : List Fresh) → map told_by (map change_of goods) ≡ map Answered goods
+goods_told [] = refl
+goods_told (good ∷ goods) = ap (λ rest. Answered good ∷ rest) (goods_told goods)
+
+goods_lead : (state : State) (changes : List Change) (goods : List Fresh) → SwapsLeadFrom state changes → SwapsLeadFrom state (changes ++ map change_of goods)
+goods_lead state [] [] lead = lead
+goods_lead state [] (good ∷ goods) lead = goods_lead state [] goods lead
+goods_lead state (change.Swapped swap ∷ changes) goods lead = (lead.0, goods_lead (state_after state swap.edit) changes goods lead.1)
+goods_lead state (change.Good task d bytes ∷ changes) goods lead = goods_lead state changes goods lead
+
+goods_behind : (state : State) (changes : List Change) (goods : List Fresh) → state_behind state (changes ++ map change_of goods) ≡ state_behind state changes
+goods_behind state [] [] = refl
+goods_behind state [] (good ∷ goods) = goods_behind state [] goods
+goods_behind state (change.Swapped swap ∷ changes) goods = goods_behind (state_after state swap.edit) changes goods
+goods_behind state (change.Good task d bytes ∷ changes) goods = goods_behind state changes goods
+
+pub news-came : (taken past : Record) (arrival : Arrival) (changes : List Change) (goods : List Fresh) → fresh_by past arrival ≡ goods → TellNews taken past changes
+    → TellNews taken (Came arrival ∷ past) (changes ++ map change_of goods)
+news-came taken past arrival changes goods same tells = record {
+  told = ap (λ all. news_of past ++ map Answered all) same
+      ∙ ap (λ news. news ++ map Answered goods) tells.told
+      ∙ append_assoc (news_of taken) (map told_by changes) (map Answered goods)
+      ∙ ap (λ told. news_of taken ++ (map told_by changes ++ told)) (sym (goods_told goods))
+      ∙ ap (λ told. news_of taken ++ told) (sym (map-append told_by changes (map change_of goods)));
+  lead = goods_lead (state_of taken) changes goods tells.lead;
+  behind = goods_behind (state_of taken) changes goods ∙ tells.behind;
+}
+
+pub news-none : (taken past : Record) (arrival : Arrival) (changes : List Change) → fresh_by past arrival ≡ [] → TellNews taken past changes → TellNews taken (Came arrival ∷ past) changes
+news-none taken past arrival changes none tells = record {
+  told = ap (λ all. news_of past ++ map Answered all) none ∙ append-nil (news_of past) ∙ tells.told;
+  lead = tells.lead;
+  behind = tells.behind;
+}
+
+-- behind their taking there are none
+
+pub agree-taken : (kept : Kept) (past taken : Record) → Agree kept past taken → Agree (record kept { changes = [] }) past past
+agree-taken kept past taken agree = record {
+  accepted = agree.accepted;
+  state = agree.state;
+  project = agree.project;
+  uncrowded = agree.uncrowded;
+  serial = agree.serial;
+  left = agree.left;
+  waits = agree.waits;
+  slots = agree.slots;
+  values = agree.values;
+  known = agree.known;
+  tells = record { told = sym (append-nil (news_of past)); lead = tt; behind = refl };
+}

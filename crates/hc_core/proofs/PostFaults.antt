@@ -1,0 +1,66 @@
+-- Which posts are refused.
+use Rattle.std.proofs.Common.{◌≡◌, ◌≢◌, ℕ, zero, suc, ◌<◌, ◌≤◌, ◌==◌, nat_lt, Bool, true, false, not, List, [], ◌∷◌, length, refl, ap, ◌∙◌, arith, Option, Some, None}
+use Rattle.std.proofs.lemmas.Bool.Decides.{nat_tests}
+use Rattle.hc_records.specs.declared.limits.TheConstants.{TASKS}
+use Rattle.hc_records.specs.Image.{output_length, task_places}
+use Rattle.hc_records.specs.Line.{Member}
+use Rattle.hc_records.specs.Lists.{lowest}
+use Rattle.hc_places.specs.Table.{part_in, table_of}
+use Rattle.hc_events.specs.declared.faults.CoreFault.{CoreFault}
+use Rattle.hc_events.specs.declared.faults.CoreFault.TheVariants.{NoSuchTask, PostLength, StalePost}
+use Rattle.hc_events.specs.Entries.{Record}
+use Rattle.hc_events.specs.Points.{epoch_of, line_of}
+use Rattle.hc_events.specs.Steps.{post_faults}
+
+-- a task's outputs, as the table of its line lists them
+
+pub outputs-listed : (line : List Member) (task : ℕ) → task < TASKS → (part_in (table_of line) task).0 ≡ output_length (task_places task line)
+outputs-listed line zero low = refl
+outputs-listed line (suc zero) low = refl
+outputs-listed line (suc (suc zero)) low = refl
+outputs-listed line (suc (suc (suc zero))) low = refl
+outputs-listed line (suc (suc (suc (suc zero)))) low = refl
+outputs-listed line (suc (suc (suc (suc (suc zero))))) low = refl
+outputs-listed line (suc (suc (suc (suc (suc (suc zero)))))) low = refl
+outputs-listed line (suc (suc (suc (suc (suc (suc (suc zero))))))) low = refl
+outputs-listed line (suc (suc (suc (suc (suc (suc (suc (suc task)))))))) low = absurd (omega arith)
+
+-- the three tests
+
+is_task : (task : ℕ) → task < TASKS → not (nat_lt task TASKS) ≡ false
+is_task task low = let there : nat_lt task TASKS ≡ true = grind (arith, nat_tests) in ap not there
+
+no_task : (task : ℕ) → TASKS ≤ task → not (nat_lt task TASKS) ≡ true
+no_task task high = let there : nat_lt task TASKS ≡ false = grind (arith, nat_tests) in ap not there
+
+equal : (a b : ℕ) → a ≡ b → not (a == b) ≡ false
+equal a b same = let there : (a == b) ≡ true = grind (arith, nat_tests) in ap not there
+
+unequal : (a b : ℕ) → a ≢ b → not (a == b) ≡ true
+unequal a b other = let there : (a == b) ≡ false = grind (arith, nat_tests) in ap not there
+
+abbrev judged : Bool → Bool → Bool → Option CoreFault
+judged task epoch size = lowest ((task, NoSuchTask) ∷ (epoch, StalePost) ∷ (size, PostLength) ∷ [])
+
+pub post-no_task : (past : Record) (task epoch : ℕ) (bytes : List ℕ) → TASKS ≤ task → lowest (post_faults past task epoch bytes) ≡ Some NoSuchTask
+post-no_task past task epoch bytes high =
+    ap (λ b. judged b (not (epoch == epoch_of past)) (not (length bytes == output_length (task_places task (line_of past))))) (no_task task high)
+
+pub post-stale : (past : Record) (task epoch : ℕ) (bytes : List ℕ) → task < TASKS → epoch ≢ epoch_of past → lowest (post_faults past task epoch bytes) ≡ Some StalePost
+post-stale past task epoch bytes low other =
+    ap (λ b. judged b (not (epoch == epoch_of past)) (not (length bytes == output_length (task_places task (line_of past))))) (is_task task low)
+    ∙ ap (λ b. judged false b (not (length bytes == output_length (task_places task (line_of past))))) (unequal epoch (epoch_of past) other)
+
+pub post-length : (past : Record) (task epoch : ℕ) (bytes : List ℕ) → task < TASKS → epoch ≡ epoch_of past → length bytes ≢ output_length (task_places task (line_of past))
+    → lowest (post_faults past task epoch bytes) ≡ Some PostLength
+post-length past task epoch bytes low same other =
+    ap (λ b. judged b (not (epoch == epoch_of past)) (not (length bytes == output_length (task_places task (line_of past))))) (is_task task low)
+    ∙ ap (λ b. judged false b (not (length bytes == output_length (task_places task (line_of past))))) (equal epoch (epoch_of past) same)
+    ∙ ap (judged false false) (unequal (length bytes) (output_length (task_places task (line_of past))) other)
+
+pub post-accepted : (past : Record) (task epoch : ℕ) (bytes : List ℕ) → task < TASKS → epoch ≡ epoch_of past → length bytes ≡ output_length (task_places task (line_of past))
+    → lowest (post_faults past task epoch bytes) ≡ None
+post-accepted past task epoch bytes low same fits =
+    ap (λ b. judged b (not (epoch == epoch_of past)) (not (length bytes == output_length (task_places task (line_of past))))) (is_task task low)
+    ∙ ap (λ b. judged false b (not (length bytes == output_length (task_places task (line_of past))))) (equal epoch (epoch_of past) same)
+    ∙ ap (judged false false) (equal (length bytes) (output_length (task_places task (line_of past))) fits)

@@ -1,0 +1,141 @@
+-- Output values behind each entry, and what is kept behind a post.
+use Rattle.std.proofs.Common.{◌≡◌, ℕ, ◌+◌, ◌*◌, ◌==◌, Bool, true, false, cond, ◌||◌, List, [], ◌∷◌, refl, sym, ap, ◌∙◌, subst, Option, Some, None}
+use Rattle.std.specs.Prelude.{filter, is_some, option_and_then, option_map}
+use Rattle.std.specs.Option.{option_map_or}
+use Rattle.hc_bits.specs.Bits.{bit_of}
+use Rattle.hc_records.specs.declared.edit.Edit.{Edit}
+use Rattle.hc_records.specs.declared.records.Group.{Group}
+use Rattle.hc_records.specs.Image.{VariablePlace}
+use Rattle.hc_records.specs.Line.{groups_of}
+use Rattle.hc_records.specs.Lists.{lowest}
+use Rattle.hc_records.specs.Project.{lowest_fault}
+use Rattle.hc_records.proofs.lemmas.VariablePlaces.{variables-lie}
+use Rattle.hc_registers.specs.Blocks.{LineBlock}
+use Rattle.hc_places.specs.Table.{table_of}
+use Rattle.hc_events.specs.Accepted.{AreAccepted, just_opened}
+use Rattle.hc_events.specs.Answering.{Sending, followed_by, sending_of}
+use Rattle.hc_events.specs.Awaited.{alive, all_sent_again, is_ended, is_no_arrival}
+use Rattle.hc_events.specs.Arrivals.{Arrival}
+use Rattle.hc_events.specs.Entries.{Record, Edited, Posted, Sent, Wrote, Came}
+use Rattle.hc_events.specs.Outputs.{posted_bit, value_bit}
+use Rattle.hc_events.specs.Points.{line_of, state_of}
+use Rattle.hc_events.specs.Sendings.{Frame, Named}
+use Rattle.hc_events.specs.Steps.{Posts, kept_if, post_faults, with_sent}
+use Rattle.hc_events.proofs.lemmas.Accepted.{accepted-more, kept-after}
+use Rattle.hc_awaited.specs.Waiting.{AwaitedWrite, Waiting}
+use Rattle.hc_outputs.specs.Packed.{Holds, Packed}
+use Rattle.hc_outputs.specs.Values.{image_bit, kept, posted}
+use Rattle.hc_outputs.proofs.lemmas.Bits.{AreAlike, holds-alike}
+use Rattle.hc_outputs.proofs.lemmas.LaidOut.{offset-of_line, place-of_line}
+use Rattle.hc_core.specs.Agreement.{Agree, Kept}
+use Rattle.hc_core.specs.Values.{HoldsValues}
+use Rattle.hc_core.specs.Waits.{IsUnderWay, Waits, due_by, dues_of}
+
+-- at the opening each value is 0
+
+pub values-opened : (groups : List Group) (packed : Packed) → Holds (table_of (line_of (just_opened groups))) (λ variable k. 0) packed → HoldsValues (just_opened groups) packed
+values-opened groups packed holds = holds
+
+-- arrivals, writes and frames say nothing of values
+
+pub values-came : (past : Record) (arrival : Arrival) (packed : Packed) → HoldsValues past packed → HoldsValues (Came arrival ∷ past) packed
+values-came past arrival packed holds = holds
+
+pub values-wrote : (past : Record) (block : LineBlock) (packed : Packed) → HoldsValues past packed → HoldsValues (Wrote block ∷ past) packed
+values-wrote past block packed holds = holds
+
+one_sent : (past : Record) (frame : List Named) (packed : Packed) → HoldsValues past packed → HoldsValues (Sent frame ∷ past) packed
+one_sent past frame packed holds = holds
+
+pub values-sent : (frames : List Frame) (past : Record) (packed : Packed) → HoldsValues past packed → HoldsValues (with_sent past frames) packed
+values-sent [] past packed holds = holds
+values-sent (frame ∷ frames) past packed holds =
+    values-sent frames (Sent frame.datagrams ∷ past) packed (one_sent past frame.datagrams packed holds)
+
+-- a post
+
+posted_alike : (past : Record) (task : ℕ) (bytes : List ℕ) → lowest_fault (groups_of (state_of past).groups) ≡ None
+    → AreAlike (table_of (line_of past)) (posted (table_of (line_of past)) task bytes (value_bit past)) (value_bit (Posted task bytes ∷ past))
+posted_alike past task bytes project variable k place is low =
+    let line = line_of past in
+    let table = table_of line in
+    let there = sym (place-of_line line variable) ∙ is.there in
+    let lies = variables-lie (state_of past) variable place project there in
+    let before = value_bit past variable k in
+    ap (λ found. option_map_or (λ (p : VariablePlace). cond (p.task == task) (bit_of bytes (image_bit table p k)) before) found before) is.there
+    ∙ ap (λ (offset : ℕ). cond (place.task == task) (bit_of bytes (8 * offset + place.bit + k)) before) (offset-of_line line place.task place.datagram lies.task lies.datagram)
+    ∙ sym (ap (λ found. posted_bit line task bytes k found before) there)
+
+pub values-posted : (past : Record) (task : ℕ) (bytes : List ℕ) (packed : Packed) → lowest_fault (groups_of (state_of past).groups) ≡ None
+    → Holds (table_of (line_of past)) (posted (table_of (line_of past)) task bytes (value_bit past)) packed → HoldsValues (Posted task bytes ∷ past) packed
+values-posted past task bytes packed project holds =
+    holds-alike (table_of (line_of past)) (posted (table_of (line_of past)) task bytes (value_bit past)) (value_bit (Posted task bytes ∷ past)) packed
+    (posted_alike past task bytes project) holds
+
+-- an accepted edit
+
+kept_same : (past : Record) (edit : Edit) (variable k : ℕ) → kept (table_of (line_of past)) (value_bit past) variable k ≡ value_bit (Edited edit ∷ past) variable k
+kept_same past edit variable k =
+    ap (λ (found : Option VariablePlace). cond (is_some found) (value_bit past variable k) 0) (place-of_line (line_of past) variable)
+
+pub values-edited : (past : Record) (edit : Edit) (packed : Packed) → Holds (table_of (line_of (Edited edit ∷ past))) (kept (table_of (line_of past)) (value_bit past)) packed
+    → HoldsValues (Edited edit ∷ past) packed
+values-edited past edit packed holds =
+    holds-alike (table_of (line_of (Edited edit ∷ past))) (kept (table_of (line_of past)) (value_bit past)) (value_bit (Edited edit ∷ past)) packed
+    (λ variable k place is low. kept_same past edit variable k) holds
+
+-- what is awaited is awaited as before behind a post
+
+alive_alike : (over : Bool) (a b : Sending) → dues_of a ≡ dues_of b → option_map dues_of (cond over None (Some a)) ≡ option_map dues_of (cond over None (Some b))
+alive_alike true a b same = refl
+alive_alike false a b same = ap Some same
+
+alive_posted : (task serial : ℕ) (bytes : List ℕ) (sending : Sending)
+    → option_map dues_of (alive serial (followed_by (Posted task bytes) sending)) ≡ option_map dues_of (alive serial sending)
+alive_posted task serial bytes sending =
+    let since = filter is_no_arrival sending.since in
+    alive_alike (is_ended serial sending || all_sent_again sending.since sending.heads)
+    (record { heads = sending.heads; since = Posted task bytes ∷ since }) (record { heads = sending.heads; since = since }) refl
+
+due_found : (task serial : ℕ) (bytes : List ℕ) (past : Record) (found : Option Sending) → sending_of past serial ≡ found → due_by (Posted task bytes ∷ past) serial ≡ due_by past serial
+due_found task serial bytes past None e = ap (λ f. option_map dues_of (option_and_then (alive serial) (option_map (followed_by (Posted task bytes)) f))) e ∙ sym (ap (λ f. option_map dues_of (option_and_then (alive serial) f)) e)
+due_found task serial bytes past (Some sending) e =
+    ap (λ f. option_map dues_of (option_and_then (alive serial) (option_map (followed_by (Posted task bytes)) f))) e
+    ∙ alive_posted task serial bytes sending
+    ∙ sym (ap (λ f. option_map dues_of (option_and_then (alive serial) f)) e)
+
+way_posted : (past : Record) (task : ℕ) (bytes : List ℕ) (write : AwaitedWrite) → IsUnderWay past write → IsUnderWay (Posted task bytes ∷ past) write
+way_posted past task bytes write way = record { block = way.block; head = way.head; last = way.last; rest = way.rest; first = way.first }
+
+pub waits-posted : (past : Record) (waiting : Waiting) (task : ℕ) (bytes : List ℕ) → Waits past waiting → Waits (Posted task bytes ∷ past) waiting
+waits-posted past waiting task bytes waits = record {
+  due = λ serial. waits.due serial ∙ sym (due_found task serial bytes past (sending_of past serial) refl);
+  ascend = waits.ascend;
+  below = waits.below;
+  alive = waits.alive;
+  stands = waits.stands;
+  written = λ write e. way_posted past task bytes write (waits.written write e);
+  apart = waits.apart;
+}
+
+-- all that is kept
+
+accepted_posted : (past : Record) (task epoch : ℕ) (bytes : List ℕ) → lowest (post_faults past task epoch bytes) ≡ None → AreAccepted past → AreAccepted (Posted task bytes ∷ past)
+accepted_posted past task epoch bytes none all =
+    subst AreAccepted (ap (λ refused. kept_if refused past (Posted task bytes ∷ past)) none) (kept-after AreAccepted accepted-more past (Posts task epoch bytes) all)
+
+pub agree-posted : (kept : Kept) (past taken : Record) (task epoch : ℕ) (bytes : List ℕ) (outputs : Packed) → lowest (post_faults past task epoch bytes) ≡ None
+    → Holds (table_of (line_of past)) (posted (table_of (line_of past)) task bytes (value_bit past)) outputs → Agree kept past taken → Agree (record kept { outputs = outputs }) (Posted task bytes ∷ past) taken
+agree-posted kept past taken task epoch bytes outputs none holds agree = record {
+  accepted = accepted_posted past task epoch bytes none agree.accepted;
+  state = agree.state;
+  project = agree.project;
+  uncrowded = agree.uncrowded;
+  serial = agree.serial;
+  left = agree.left;
+  waits = waits-posted past kept.awaited task bytes agree.waits;
+  slots = agree.slots;
+  values = values-posted past task bytes outputs agree.project holds;
+  known = record { blocks = agree.known.blocks; room = agree.known.room };
+  tells = record { told = agree.tells.told; lead = agree.tells.lead; behind = agree.tells.behind };
+}

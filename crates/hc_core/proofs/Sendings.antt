@@ -1,0 +1,111 @@
+-- What is kept stays right behind frames of tasks and register writes.
+use Rattle.std.proofs.Common.{◌≡◌, ℕ, suc, ◌+◌, ◌<◌, ◌≤◌, true, List, [], ◌∷◌, length, refl, sym, ap, ◌∙◌, subst, arith, None}
+use Rattle.std.specs.Prelude.{All}
+use Rattle.std.proofs.lemmas.List.Elements.{All-head, filter_passes}
+use Rattle.hc_records.specs.Edits.{crowded_task}
+use Rattle.hc_records.specs.Line.{groups_of, line}
+use Rattle.hc_records.specs.Project.{lowest_fault}
+use Rattle.hc_records.specs.Lists.{lowest}
+use Rattle.hc_registers.specs.Blocks.{LineBlock, line_blocks}
+use Rattle.hc_plan.specs.Reports.{name_of}
+use Rattle.hc_frames.specs.declared.limits.TheConstants.{SETUP_SERIAL}
+use Rattle.hc_events.specs.Accepted.{AreAccepted}
+use Rattle.hc_events.specs.Changes.{news_of}
+use Rattle.hc_events.specs.Entries.{Record, Sent, Wrote}
+use Rattle.hc_events.specs.Images.{slot_of}
+use Rattle.hc_events.specs.Owed.{is_owed, known_bytes, owed_blocks}
+use Rattle.hc_events.specs.Points.{line_of, next_serial, state_of}
+use Rattle.hc_events.specs.Sendings.{Frame, Named}
+use Rattle.hc_events.specs.Steps.{SendsTasks, kept_if, proposal, task_faults, with_sent}
+use Rattle.hc_events.proofs.lemmas.Accepted.{accepted-more, kept-after}
+use Rattle.hc_awaited.specs.Waiting.{all_sent, wrote}
+use Rattle.hc_owed.specs.Kept.{declared_blocks, differs}
+use Rattle.hc_owed.specs.Laws.{WritesAreRight, kept_of, known_with}
+use Rattle.hc_owed.specs.Writes.{sent}
+use Rattle.hc_core.proofs.Awaits.{waits-wrote}
+use Rattle.hc_core.proofs.Posts.{values-sent, values-wrote}
+use Rattle.hc_core.proofs.Known.{kept-alike, known-wrote}
+use Rattle.hc_core.proofs.SentAll.{waits-all_sent}
+use Rattle.hc_core.specs.Agreement.{Agree, Kept}
+use Rattle.hc_core.specs.Firsts.{IsFirstOwed}
+use Rattle.hc_core.specs.Waits.{Waits}
+
+-- frames say nothing of most that a record says
+
+sent_alike : {X : Type 0} (of : Record → X) → ((past : Record) (frame : List Named) → of (Sent frame ∷ past) ≡ of past) → (frames : List Frame) (past : Record) → of (with_sent past frames) ≡ of past
+sent_alike of same [] past = refl
+sent_alike of same (frame ∷ frames) past = sent_alike of same frames (Sent frame.datagrams ∷ past) ∙ same past frame.datagrams
+
+one_more : (n count : ℕ) → (n + 1) + count ≡ n + suc count
+one_more n count = omega arith
+
+none_more : (n : ℕ) → n ≡ n + 0
+none_more n = omega arith
+
+serial_sent : (frames : List Frame) (past : Record) → next_serial (with_sent past frames) ≡ next_serial past + length frames
+serial_sent [] past = none_more (next_serial past)
+serial_sent (frame ∷ frames) past = serial_sent frames (Sent frame.datagrams ∷ past) ∙ one_more (next_serial past) (length frames)
+
+accepted_sent : (past : Record) (tasks : List ℕ) → lowest (task_faults past tasks) ≡ None → AreAccepted past → AreAccepted (with_sent past (proposal past tasks))
+accepted_sent past tasks none all =
+    subst AreAccepted (ap (λ refused. kept_if refused past (with_sent past (proposal past tasks))) none) (kept-after AreAccepted accepted-more past (SendsTasks tasks) all)
+
+pub agree-sent : (kept : Kept) (past taken : Record) (tasks : List ℕ) → lowest (task_faults past tasks) ≡ None → owed_blocks past ≡ [] → kept.serial + length (proposal past tasks) ≤ SETUP_SERIAL → Agree kept past taken
+    → Agree (record kept { awaited = all_sent kept.awaited (proposal past tasks); serial = kept.serial + length (proposal past tasks) }) (with_sent past (proposal past tasks)) taken
+agree-sent kept past taken tasks none owed left agree =
+    let frames = proposal past tasks in
+    let same : state_of (with_sent past frames) ≡ state_of past = sent_alike state_of (λ before frame. refl) frames past in
+    record {
+      accepted = accepted_sent past tasks none agree.accepted;
+      state = agree.state ∙ sym same;
+      project = ap (λ state. lowest_fault (groups_of state.groups)) same ∙ agree.project;
+      uncrowded = ap (λ state. crowded_task (line state)) same ∙ agree.uncrowded;
+      serial = ap (λ n. n + length frames) agree.serial ∙ sym (serial_sent frames past);
+      left = left;
+      waits = waits-all_sent past kept.awaited tasks owed agree.waits;
+      slots = λ task d below. agree.slots task d below ∙ sym (sent_alike (λ before. slot_of before task d) (λ before frame. refl) frames past);
+      values = values-sent frames past kept.outputs agree.values;
+      known = record {
+        blocks = agree.known.blocks
+            ∙ kept-alike (known_bytes past) (known_bytes (with_sent past frames)) (state_of past) (λ station number. sym (sent_alike (λ before. known_bytes before station number) (λ before frame. refl) frames past))
+            ∙ ap (kept_of (known_bytes (with_sent past frames))) (sym same);
+        room = subst (λ state. declared_blocks state.groups ≤ kept.owed.room) (sym same) agree.known.room;
+      };
+      tells = record {
+        told = sent_alike news_of (λ before frame. refl) frames past ∙ agree.tells.told;
+        lead = agree.tells.lead;
+        behind = agree.tells.behind ∙ sym same;
+      };
+    }
+
+-- a register write of the first owed block
+
+one_left : (n most : ℕ) → n < most → n + 1 ≤ most
+one_left n most less = omega (arith, less)
+
+owed_differs : (past : Record) (block : LineBlock) (rest : List LineBlock) → owed_blocks past ≡ block ∷ rest → differs block.block.bytes (known_bytes past block.station block.number) ≡ true
+owed_differs past block rest first =
+    All-head (λ (one : LineBlock). is_owed past one ≡ true) block rest
+    (subst (All (λ (one : LineBlock). is_owed past one ≡ true)) first (filter_passes (is_owed past) (line_blocks (line_of past))))
+
+pub agree-wrote : WritesAreRight → (kept : Kept) (past taken : Record) (n : ℕ) (block : LineBlock) → IsFirstOwed past n block → kept.serial < SETUP_SERIAL → Agree kept past taken
+    → Agree (record kept { awaited = wrote kept.serial block kept.awaited; owed = record kept.owed { blocks = sent n kept.owed.blocks }; serial = kept.serial + 1 }) (Wrote block ∷ past) taken
+agree-wrote right kept past taken n block first left agree = record {
+  accepted = (record { rest = first.rest; first = first.first }, agree.accepted);
+  state = agree.state;
+  project = agree.project;
+  uncrowded = agree.uncrowded;
+  serial = ap (λ m. m + 1) agree.serial;
+  left = one_left kept.serial SETUP_SERIAL left;
+  waits = subst (λ m. Waits (Wrote block ∷ past) (wrote m block kept.awaited)) (sym agree.serial)
+      (waits-wrote past kept.awaited block first.rest agree.accepted agree.project first.first agree.waits);
+  slots = agree.slots;
+  values = values-wrote past block kept.outputs agree.values;
+  known = record {
+    blocks = ap (sent n) agree.known.blocks
+        ∙ (right (known_bytes past) (state_of past) n block (record { project = agree.project; stands = first.at })).when_sent (owed_differs past block first.rest first.first)
+        ∙ kept-alike (known_with (name_of block) None (known_bytes past)) (known_bytes (Wrote block ∷ past)) (state_of past) (λ station number. sym (known-wrote past block station number));
+    room = agree.known.room;
+  };
+  tells = record { told = agree.tells.told; lead = agree.tells.lead; behind = agree.tells.behind };
+}

@@ -1,0 +1,32 @@
+-- What the input image shows of a task is what the task reads.
+use Rattle.std.proofs.Common.{◌≡◌, ℕ, zero, suc, ◌+◌, ◌<◌, ◌≤◌, true, false, not, nat_lt, ◌∷◌, map, refl, ap, ◌∙◌, arith}
+use Rattle.std.specs.List.{range_with_len}
+use Rattle.std.proofs.lemmas.Bool.Decides.{nat_tests}
+use Rattle.hc_records.specs.declared.limits.TheConstants.{MOST_DATAGRAMS, TASKS}
+use Rattle.hc_events.specs.Entries.{Record}
+use Rattle.hc_events.specs.Images.{slot_of}
+use Rattle.hc_events.specs.Steps.{is_no_task}
+use Rattle.hc_inputs.specs.Image.{Image, data_of}
+use Rattle.hc_core.specs.Agreement.{ShowsSlots}
+
+shown_from : (past : Record) (image : Image) (task first count : ℕ) → ShowsSlots past image → first + count ≤ MOST_DATAGRAMS
+    → map (data_of image task) (range_with_len first count) ≡ map (slot_of past task) (range_with_len first count)
+shown_from past image task first zero shows few = refl
+shown_from past image task first (suc count) shows few =
+    let low : first < MOST_DATAGRAMS = omega (arith, few) in
+    let rest : (first + 1) + count ≤ MOST_DATAGRAMS = omega (arith, few) in
+    ap (λ slot. slot ∷ map (data_of image task) (range_with_len (first + 1) count)) (shows task first low)
+    ∙ ap (λ slots. slot_of past task first ∷ slots) (shown_from past image task (first + 1) count shows rest)
+
+from_zero : (count most : ℕ) → count ≤ most → 0 + count ≤ most
+from_zero count most few = omega (arith, few)
+
+pub slots-shown : (past : Record) (image : Image) (task count : ℕ) → ShowsSlots past image → count ≤ MOST_DATAGRAMS
+    → map (data_of image task) (range_with_len 0 count) ≡ map (slot_of past task) (range_with_len 0 count)
+slots-shown past image task count shows few = shown_from past image task 0 count shows (from_zero count MOST_DATAGRAMS few)
+
+below_is : (m n : ℕ) → m < n → nat_lt m n ≡ true
+below_is m n less = grind (arith, nat_tests)
+
+pub is-task : (task : ℕ) → task < TASKS → is_no_task task ≡ false
+is-task task low = ap not (below_is task TASKS low)

@@ -1,0 +1,279 @@
+-- What the answer to an arrival says of what it answers.
+use Rattle.std.proofs.Common.{◌≡◌, ◌⊎◌, inl, inr, ℕ, Bool, true, false, cond, not, ◌&&◌, ◌||◌, List, [], ◌∷◌, ◌++◌, map, refl, sym, ap, ◌∙◌, Option, Some, None}
+use Rattle.std.specs.Prelude.{option_and_then}
+use Rattle.std.proofs.lemmas.Bool.{or_parts}
+use Rattle.std.specs.List.{flat_map, list_any, zip}
+use Rattle.hc_records.specs.Line.{Member}
+use Rattle.hc_registers.specs.Blocks.{LineBlock}
+use Rattle.hc_events.specs.declared.answer.Answer.{Answer}
+use Rattle.hc_events.specs.declared.answer.Answer.TheVariants as answer
+use Rattle.hc_events.specs.declared.answer.Outcome.{Outcome}
+use Rattle.hc_events.specs.Arrivals.{Arrival, Part}
+use Rattle.hc_events.specs.Accepted.{AreAccepted}
+use Rattle.hc_events.specs.AnswerLaws.{IsAwaited}
+use Rattle.hc_events.specs.Entries.{Entry, Record, Opened, Edited, Posted, Sent, Wrote, Came}
+use Rattle.hc_events.specs.Points.{line_of}
+use Rattle.hc_events.specs.Sendings.{Named}
+use Rattle.hc_events.specs.Heads.{Head, Item, Datagram, Block, data_heads, is_block, write_head}
+use Rattle.hc_events.specs.Answering.{Judged, Sending, Verdict, Good, Wrong, Stale, has_good, has_head, has_heads, is_good, is_news, is_stale, is_stale_to, judge, judged, judged_by, sending_of, verdict}
+use Rattle.hc_events.specs.Awaited.{alive, awaited, is_write}
+use Rattle.hc_events.specs.Images.{fresh, fresh_by, fresh_item}
+use Rattle.hc_events.specs.Owed.{owed_blocks}
+use Rattle.hc_events.specs.Steps.{inputs_of, outcome_for, told_of, told_of_block}
+use Rattle.hc_events.specs.SendingLaws.{heads_of, is_sending}
+use Rattle.hc_events.proofs.lemmas.Answers.{awaited-answered}
+use Rattle.hc_events.proofs.lemmas.Awaited.{by_bool}
+use Rattle.hc_events.proofs.lemmas.OneWrite.{all-alone, awaited-heads}
+use Rattle.hc_events.proofs.lemmas.SameBehind.{told-of_news}
+use Rattle.hc_events.proofs.lemmas.Standing.{stands-at}
+use Rattle.hc_core.specs.Goods.{good_of, goods_in}
+
+-- an awaited sending is a frame of tasks or one register write
+
+abbrev IsSort : Sending → Type 0
+IsSort sending = (is_write sending ≡ false) ⊎ ((block : LineBlock) × (sending.heads ≡ write_head block ∷ []))
+
+no_blocks : (line : List Member) (frame : List Named) → list_any (λ head. is_block head.item) (data_heads line frame) ≡ false
+no_blocks line [] = refl
+no_blocks line (named ∷ frame) = no_blocks line frame
+
+sort_by : (sending : Sending) (before : Record) (entry : Entry) → is_sending entry ≡ true → sending.heads ≡ heads_of before entry → IsSort sending
+sort_by sending before (Opened groups) sends heads = cc
+sort_by sending before (Edited edit) sends heads = cc
+sort_by sending before (Posted task bytes) sends heads = cc
+sort_by sending before (Came arrival) sends heads = cc
+sort_by sending before (Wrote block) sends heads = inr (block, heads)
+sort_by sending before (Sent frame) sends heads = inl (ap (list_any (λ head. is_block head.item)) heads ∙ no_blocks (line_of before) frame)
+
+made_or_none : (past : Record) (serial : ℕ) (sending : Sending) (found : Option Sending) → sending_of past serial ≡ found → option_and_then (alive serial) found ≡ Some sending → IsSort sending
+made_or_none past serial sending None made e = cc
+made_or_none past serial sending (Some older) made e =
+    let at = stands-at past serial older made in
+    sort_by sending at.before at.entry at.sends (awaited-heads serial older sending e ∙ at.heads)
+
+sort_of : (past : Record) (serial : ℕ) (sending : Sending) → awaited past serial ≡ Some sending → IsSort sending
+sort_of past serial sending there = made_or_none past serial sending (sending_of past serial) refl there
+
+-- a write that comes back
+
+record IsOne (arrival : Arrival) (sending : Sending) (block : LineBlock) : Type 0 where
+  part : Part
+  one : judged arrival sending ≡ judge sending.since (write_head block, part) ∷ []
+
+and_false : (b : Bool) → (b && false) ≡ false
+and_false true = refl
+and_false false = refl
+
+one_back : (arrival : Arrival) (sending : Sending) (block : LineBlock) (parts : List Part) → arrival.parts ≡ parts → has_heads (write_head block ∷ []) parts ≡ true → sending.heads ≡ write_head block ∷ [] → IsOne arrival sending block
+one_back arrival sending block [] is fit heads = cc
+one_back arrival sending block (part ∷ []) is fit heads = record {
+  part = part;
+  one = ap (λ all. map (judge sending.since) (zip all arrival.parts)) heads ∙ ap (λ all. map (judge sending.since) (zip (write_head block ∷ []) all)) is;
+}
+one_back arrival sending block (part ∷ other ∷ parts) is fit heads =
+    let never : false ≡ true = sym (and_false (has_head (write_head block) part)) ∙ fit in cc
+
+or_false : (b : Bool) → (b || false) ≡ b
+or_false true = refl
+or_false false = refl
+
+no_good : (block : LineBlock) (part : Part) (verdict : Verdict) → good_of (outcome_for (record { head = write_head block; part = part; verdict = verdict })) part ++ [] ≡ []
+no_good block part Good = refl
+no_good block part Wrong = refl
+no_good block part Stale = refl
+
+-- frames of tasks
+
+frame_told : (since : List Entry) (heads : List Head) (parts : List Part) → list_any (λ head. is_block head.item) heads ≡ false → list_any is_news (map (judge since) (zip heads parts)) ≡ true
+    → told_of (map (judge since) (zip heads parts)) ≡ answer.Answered (map outcome_for (map (judge since) (zip heads parts)))
+frame_told since [] parts plain news = cc
+frame_told since (head ∷ heads) [] plain news = cc
+frame_told since (head ∷ heads) (part ∷ parts) plain news =
+    let data' = map (judge since) (zip (head ∷ heads) (part ∷ parts)) in
+    let first = (or_parts (is_block head.item) (list_any (λ h. is_block h.item) heads) plain).0 in
+    ap (λ b. cond b (told_of_block (verdict since head part)) (cond (list_any is_news data') (answer.Answered (map outcome_for data')) answer.Stale)) first
+    ∙ ap (λ b. cond b (answer.Answered (map outcome_for data')) answer.Stale) news
+
+good_alike : (item : Item) (part : Part) → fresh_item item part.bytes ≡ good_of (inputs_of item) part
+good_alike (Datagram task d) part = refl
+good_alike (Block station number) part = refl
+
+fresh_alike : (head : Head) (part : Part) (verdict : Verdict) → fresh (record { head = head; part = part; verdict = verdict }) ≡ good_of (outcome_for (record { head = head; part = part; verdict = verdict })) part
+fresh_alike head part Good = good_alike head.item part
+fresh_alike head part Wrong = refl
+fresh_alike head part Stale = refl
+
+goods_alike : (since : List Entry) (heads : List Head) (parts : List Part) → flat_map fresh (map (judge since) (zip heads parts)) ≡ goods_in (map outcome_for (map (judge since) (zip heads parts))) parts
+goods_alike since [] parts = refl
+goods_alike since (head ∷ heads) [] = refl
+goods_alike since (head ∷ heads) (part ∷ parts) =
+    ap (λ goods. goods ++ flat_map fresh (map (judge since) (zip heads parts))) (fresh_alike head part (verdict since head part))
+    ∙ ap (λ goods. good_of (outcome_for (judge since (head, part))) part ++ goods) (goods_alike since heads parts)
+
+-- an arrival without news is told as stale, one with news is that of an awaited sending
+
+stale_told : (past : Record) (arrival : Arrival) → list_any is_news (judged_by past arrival) ≡ false → told_of (judged_by past arrival) ≡ answer.Stale
+stale_told past arrival none = told-of_news (judged_by past arrival) ∙ ap (λ b. told_of (cond b (judged_by past arrival) [])) none
+
+record IsNews (past : Record) (arrival : Arrival) : Type 0 where
+  fresh : is_stale_to past arrival ≡ false
+  awaits : IsAwaited past arrival
+  judged_as : judged_by past arrival ≡ judged arrival awaits.sending
+
+news_of : (past : Record) (arrival : Arrival) → list_any is_news (judged_by past arrival) ≡ true → IsNews past arrival
+news_of past arrival news =
+    let stale : is_stale_to past arrival ≡ false = ap not news in
+    let for = (awaited-answered past arrival).news.0 stale in
+    record { fresh = stale; awaits = for; judged_as = ((awaited-answered past arrival).answers for).judged }
+
+same_sending : (a b : Sending) → Some a ≡ Some b → a ≡ b
+same_sending a b e = cc
+
+-- inputs
+
+pub record TellsInputs (past : Record) (arrival : Arrival) (outcomes : List Outcome) : Type 0 where
+  pub news : is_stale_to past arrival ≡ false
+  pub sending : Sending
+  pub there : awaited past arrival.serial ≡ Some sending
+  pub frame : is_write sending ≡ false
+  pub goods : fresh_by past arrival ≡ goods_in outcomes arrival.parts
+
+same_outcomes : (a b : List Outcome) → answer.Answered a ≡ answer.Answered b → a ≡ b
+same_outcomes a b e = cc
+
+not_answered : (verdict : Verdict) (outcomes : List Outcome) → told_of_block verdict ≡ answer.Answered outcomes → ⊥
+not_answered Good outcomes e = cc
+not_answered Wrong outcomes e = cc
+not_answered Stale outcomes e = cc
+
+inputs_by : (past : Record) (arrival : Arrival) (outcomes : List Outcome) → (is : IsNews past arrival) → list_any is_news (judged_by past arrival) ≡ true → told_of (judged_by past arrival) ≡ answer.Answered outcomes
+    → IsSort is.awaits.sending → TellsInputs past arrival outcomes
+inputs_by past arrival outcomes is news e (inr (block, heads)) =
+    let one = one_back arrival is.awaits.sending block arrival.parts refl (sym (ap (λ all. has_heads all arrival.parts) heads) ∙ is.awaits.fits) heads in
+    absurd (not_answered (verdict is.awaits.sending.since (write_head block) one.part) outcomes (sym (ap told_of (is.judged_as ∙ one.one)) ∙ e))
+inputs_by past arrival outcomes is news e (inl frame) =
+    let since = is.awaits.sending.since in
+    let heads = is.awaits.sending.heads in
+    let told : told_of (judged_by past arrival) ≡ answer.Answered (map outcome_for (map (judge since) (zip heads arrival.parts))) =
+    ap told_of is.judged_as ∙ frame_told since heads arrival.parts frame (sym (ap (list_any is_news) is.judged_as) ∙ news) in
+    record {
+      news = is.fresh;
+      sending = is.awaits.sending;
+      there = is.awaits.there;
+      frame = frame;
+      goods = ap (flat_map fresh) is.judged_as ∙ goods_alike since heads arrival.parts
+          ∙ ap (λ all. goods_in all arrival.parts) (same_outcomes (map outcome_for (map (judge since) (zip heads arrival.parts))) outcomes (sym told ∙ e));
+    }
+
+pub told-inputs : (past : Record) (arrival : Arrival) (outcomes : List Outcome) → told_of (judged_by past arrival) ≡ answer.Answered outcomes → TellsInputs past arrival outcomes
+told-inputs past arrival outcomes e =
+    by_bool (list_any is_news (judged_by past arrival))
+    (λ t. let is = news_of past arrival t in
+    inputs_by past arrival outcomes is t e (sort_of past arrival.serial is.awaits.sending is.awaits.there))
+    (λ t. let never : answer.Stale ≡ answer.Answered outcomes = sym (stale_told past arrival t) ∙ e in cc)
+
+-- a write
+
+pub record TellsWrite (past : Record) (arrival : Arrival) (good : Bool) : Type 0 where
+  pub news : is_stale_to past arrival ≡ false
+  pub sending : Sending
+  pub there : awaited past arrival.serial ≡ Some sending
+  pub writes : is_write sending ≡ true
+  pub good_is : list_any has_good (judged_by past arrival) ≡ good
+  pub none : fresh_by past arrival ≡ []
+
+write_by : (past : Record) (arrival : Arrival) (told : Answer) (good : Bool) → (is : IsNews past arrival) → list_any is_news (judged_by past arrival) ≡ true → told_of (judged_by past arrival) ≡ told
+    → ((verdict : Verdict) → told_of_block verdict ≡ told → is_good verdict ≡ good) → ((outcomes : List Outcome) → answer.Answered outcomes ≡ told → ⊥) → IsSort is.awaits.sending → TellsWrite past arrival good
+write_by past arrival told good is news e of_block of_frame (inl frame) =
+    absurd (of_frame (map outcome_for (map (judge is.awaits.sending.since) (zip is.awaits.sending.heads arrival.parts)))
+    (sym (frame_told is.awaits.sending.since is.awaits.sending.heads arrival.parts frame (sym (ap (list_any is_news) is.judged_as) ∙ news)) ∙ sym (ap told_of is.judged_as) ∙ e))
+write_by past arrival told good is news e of_block of_frame (inr (block, heads)) =
+    let one = one_back arrival is.awaits.sending block arrival.parts refl (sym (ap (λ all. has_heads all arrival.parts) heads) ∙ is.awaits.fits) heads in
+    let head' = write_head block in
+    let verdict' = verdict is.awaits.sending.since head' one.part in
+    let all : judged_by past arrival ≡ judge is.awaits.sending.since (head', one.part) ∷ [] = is.judged_as ∙ one.one in
+    record {
+      news = is.fresh;
+      sending = is.awaits.sending;
+      there = is.awaits.there;
+      writes = ap (list_any (λ head. is_block head.item)) heads;
+      good_is = ap (list_any has_good) all ∙ or_false (is_good verdict') ∙ of_block verdict' (sym (ap told_of all) ∙ e);
+      none = ap (flat_map fresh) all ∙ ap (λ goods. goods ++ []) (fresh_alike head' one.part verdict') ∙ no_good block one.part verdict';
+    }
+
+told_write : (past : Record) (arrival : Arrival) (told : Answer) (good : Bool) → told_of (judged_by past arrival) ≡ told
+    → ((verdict : Verdict) → told_of_block verdict ≡ told → is_good verdict ≡ good) → ((outcomes : List Outcome) → answer.Answered outcomes ≡ told → ⊥) → (answer.Stale ≡ told → ⊥) → TellsWrite past arrival good
+told_write past arrival told good e of_block of_frame of_none =
+    by_bool (list_any is_news (judged_by past arrival))
+    (λ t. let is = news_of past arrival t in
+    write_by past arrival told good is t e of_block of_frame (sort_of past arrival.serial is.awaits.sending is.awaits.there))
+    (λ t. absurd (of_none (sym (stale_told past arrival t) ∙ e)))
+
+is_done : (verdict : Verdict) → told_of_block verdict ≡ answer.WriteDone → is_good verdict ≡ true
+is_done Good e = refl
+is_done Wrong e = cc
+is_done Stale e = cc
+
+is_missed : (verdict : Verdict) → told_of_block verdict ≡ answer.WriteMissed → is_good verdict ≡ false
+is_missed Good e = cc
+is_missed Wrong e = refl
+is_missed Stale e = cc
+
+pub told-done : (past : Record) (arrival : Arrival) → told_of (judged_by past arrival) ≡ answer.WriteDone → TellsWrite past arrival true
+told-done past arrival e = told_write past arrival answer.WriteDone true e is_done (λ outcomes same. cc) (λ same. cc)
+
+pub told-missed : (past : Record) (arrival : Arrival) → told_of (judged_by past arrival) ≡ answer.WriteMissed → TellsWrite past arrival false
+told-missed past arrival e = told_write past arrival answer.WriteMissed false e is_missed (λ outcomes same. cc) (λ same. cc)
+
+-- nothing
+
+is_over : (verdict : Verdict) → told_of_block verdict ≡ answer.Stale → not (is_stale verdict) ≡ false
+is_over Good e = cc
+is_over Wrong e = cc
+is_over Stale e = refl
+
+stale_by : (past : Record) (arrival : Arrival) → (is : IsNews past arrival) → list_any is_news (judged_by past arrival) ≡ true → told_of (judged_by past arrival) ≡ answer.Stale → IsSort is.awaits.sending → ⊥
+stale_by past arrival is news e (inl frame) =
+    let since = is.awaits.sending.since in
+    let heads = is.awaits.sending.heads in
+    let never : answer.Answered (map outcome_for (map (judge since) (zip heads arrival.parts))) ≡ answer.Stale =
+    sym (frame_told since heads arrival.parts frame (sym (ap (list_any is_news) is.judged_as) ∙ news)) ∙ sym (ap told_of is.judged_as) ∙ e in cc
+stale_by past arrival is news e (inr (block, heads)) =
+    let one = one_back arrival is.awaits.sending block arrival.parts refl (sym (ap (λ all. has_heads all arrival.parts) heads) ∙ is.awaits.fits) heads in
+    let verdict' = verdict is.awaits.sending.since (write_head block) one.part in
+    let all : judged_by past arrival ≡ judge is.awaits.sending.since (write_head block, one.part) ∷ [] = is.judged_as ∙ one.one in
+    let never : true ≡ false = sym news ∙ ap (list_any is_news) all ∙ or_false (not (is_stale verdict')) ∙ is_over verdict' (sym (ap told_of all) ∙ e) in cc
+
+pub told-stale : (past : Record) (arrival : Arrival) → told_of (judged_by past arrival) ≡ answer.Stale → is_stale_to past arrival ≡ true
+told-stale past arrival e =
+    by_bool (list_any is_news (judged_by past arrival))
+    (λ t. let is = news_of past arrival t in absurd (stale_by past arrival is t e (sort_of past arrival.serial is.awaits.sending is.awaits.there)))
+    (λ t. ap not t)
+
+-- what is neither inputs nor of a write is nothing
+
+block_else : (verdict : Verdict) (told : Answer) → told_of_block verdict ≡ told → (told ≡ answer.WriteDone → ⊥) → (told ≡ answer.WriteMissed → ⊥) → told ≡ answer.Stale
+block_else Good told e done missed = absurd (done (sym e))
+block_else Wrong told e done missed = absurd (missed (sym e))
+block_else Stale told e done missed = sym e
+
+pub told-else : (datagrams : List Judged) (told : Answer) → told_of datagrams ≡ told → ((outcomes : List Outcome) → told ≡ answer.Answered outcomes → ⊥) → (told ≡ answer.WriteDone → ⊥) → (told ≡ answer.WriteMissed → ⊥) → told ≡ answer.Stale
+told-else [] told e inputs done missed = sym e
+told-else (datagram ∷ datagrams) told e inputs done missed =
+    let all = datagram ∷ datagrams in
+    by_bool (is_block datagram.head.item)
+    (λ t. block_else datagram.verdict told (sym (ap (λ b. cond b (told_of_block datagram.verdict) (cond (list_any is_news all) (answer.Answered (map outcome_for all)) answer.Stale)) t) ∙ e) done missed)
+    (λ t. by_bool (list_any is_news all)
+    (λ u. absurd (inputs (map outcome_for all)
+    (sym (sym (ap (λ b. cond b (answer.Answered (map outcome_for all)) answer.Stale) u) ∙ sym (ap (λ b. cond b (told_of_block datagram.verdict) (cond (list_any is_news all) (answer.Answered (map outcome_for all)) answer.Stale)) t) ∙ e))))
+    (λ u. sym (sym (ap (λ b. cond b (answer.Answered (map outcome_for all)) answer.Stale) u) ∙ sym (ap (λ b. cond b (told_of_block datagram.verdict) (cond (list_any is_news all) (answer.Answered (map outcome_for all)) answer.Stale)) t) ∙ e)))
+
+-- where a write is answered something is owed
+
+some_owed : (block : LineBlock) (rest : List LineBlock) → [] ≡ block ∷ rest → ⊥
+some_owed block rest e = cc
+
+pub written-owes : (past : Record) (arrival : Arrival) (good : Bool) → AreAccepted past → TellsWrite past arrival good → owed_blocks past ≡ [] → ⊥
+written-owes past arrival good all tells none =
+    let one = (all-alone past all).writes arrival.serial tells.sending tells.there tells.writes in
+    some_owed one.first one.rest (sym none ∙ one.owed)

@@ -1,0 +1,123 @@
+-- The bytes that are kept of outputs are the data that the record sends.
+use Rattle.std.proofs.Common.{◌≡◌, ◌⊎◌, inl, inr, ℕ, ◌+◌, ◌-◌, ◌*◌, ◌/◌, ◌%◌, ◌<◌, ◌≤◌, List, [], ◌∷◌, length, map, get_or, sym, ap, ◌∙◌, subst, arith, refl, None}
+use Rattle.std.specs.Prelude.{All}
+use Rattle.std.proofs.lemmas.List.Elements.{All-head, All-tail}
+use Rattle.std.proofs.lemmas.List.FromFn.{get_or-map-range_with_len}
+use Rattle.std.proofs.lemmas.Nat.Bits.{bit_at-lt}
+use Rattle.hc_bits.specs.Bits.{AreBytes, bit_of, number_of}
+use Rattle.hc_bits.proofs.lemmas.Places.{same_bytes_from_bits}
+use Rattle.hc_records.specs.declared.limits.TheConstants.{MOST_DATAGRAMS, TASKS}
+use Rattle.hc_records.specs.Edits.{crowded_task}
+use Rattle.hc_records.specs.Image.{datagram_count, logical_address, task_places}
+use Rattle.hc_records.specs.Line.{groups_of}
+use Rattle.hc_records.specs.Project.{lowest_fault}
+use Rattle.hc_records.proofs.lemmas.Addresses.{uncrowded-few}
+use Rattle.hc_places.specs.Table.{table_of}
+use Rattle.hc_places.proofs.lemmas.Ascends.{table-ascends}
+use Rattle.hc_frames.specs.FrameText.{frame_text, lrw}
+use Rattle.hc_events.specs.Accepted.{StandsIn}
+use Rattle.hc_events.specs.Entries.{Record}
+use Rattle.hc_events.specs.Outputs.{byte_of, outputs_in, sent_bit, sent_data, value_bit}
+use Rattle.hc_events.specs.DataLaws.{IsSentData}
+use Rattle.hc_events.specs.Points.{line_of, state_of}
+use Rattle.hc_events.specs.Sendings.{Frame, Named, length_of}
+use Rattle.hc_events.specs.Steps.{sent_datagram, sent_text}
+use Rattle.hc_events.proofs.lemmas.SentBits.{sent-data}
+use Rattle.hc_events.proofs.lemmas.SentValues.{sent-values}
+use Rattle.hc_outputs.specs.Packed.{Bytes, Carries, Packed, bytes_of, sent_bytes}
+use Rattle.hc_outputs.proofs.lemmas.Bits.{HasBit, HasNoBit, bit-lies, carried-bit, sent-there}
+use Rattle.hc_outputs.proofs.lemmas.LaidOut.{length-of_line, place-of_line}
+use Rattle.hc_sendings.specs.Texts.{carried_by, text_of}
+use Rattle.hc_core.specs.Values.{HoldsValues}
+
+-- the data that the record sends are bytes
+
+bit_small : (bytes : List ℕ) (k : ℕ) → bit_of bytes k < 2
+unfolding bit_of
+bit_small bytes k = bit_at-lt (get_or bytes (k / 8) 0) (k % 8)
+
+eight_small : (a b c d e f g h : ℕ) → a < 2 → b < 2 → c < 2 → d < 2 → e < 2 → f < 2 → g < 2 → h < 2
+    → a + 2 * (b + 2 * (c + 2 * (d + 2 * (e + 2 * (f + 2 * (g + 2 * (h + 2 * 0))))))) < 256
+eight_small a b c d e f g h la lb lc ld le lf lg lh = omega arith
+
+byte_small : (bit : ℕ → ℕ) (n : ℕ) → ((j : ℕ) → j < 8 → bit (8 * n + j) < 2) → byte_of bit n < 256
+unfolding number_of
+byte_small bit n small =
+    eight_small (bit (8 * n + 0)) (bit (8 * n + 1)) (bit (8 * n + 2)) (bit (8 * n + 3)) (bit (8 * n + 4)) (bit (8 * n + 5)) (bit (8 * n + 6)) (bit (8 * n + 7))
+    (small 0 (omega arith)) (small 1 (omega arith)) (small 2 (omega arith)) (small 3 (omega arith)) (small 4 (omega arith)) (small 5 (omega arith)) (small 6 (omega arith)) (small 7 (omega arith))
+
+bytes-sent : (past : Record) (task d : ℕ) → AreBytes (sent_data past task d)
+bytes-sent past task d i inside =
+    let has = sent-data past task d in
+    let bit = sent_bit past (outputs_in (line_of past) task d) in
+    let size : ℕ = length_of (line_of past) (task, d) in
+    let long : length (sent_data past task d) ≡ size = has.size in
+    let low : i < size = omega arith in
+    let is : get_or (sent_data past task d) i 0 ≡ byte_of bit i = get_or-map-range_with_len (byte_of bit) 0 size i i 0 low (omega arith) in
+    subst (λ n. n < 256) (sym is)
+    (byte_small bit i
+    (λ j few. subst (λ n. n < 2) (has.bits (8 * i + j) (omega arith)) (bit_small (sent_data past task d) (8 * i + j))))
+
+-- bit for bit the same
+
+bit_same : (past : Record) (bytes : Bytes) (task d k : ℕ) → task < TASKS → d < MOST_DATAGRAMS → Carries (table_of (line_of past)) (value_bit past) bytes → IsSentData past task d (sent_data past task d)
+    → k < 8 * length (sent_data past task d) → HasBit (table_of (line_of past)) task d k ⊎ HasNoBit (table_of (line_of past)) task d k
+    → bit_of (bytes_of bytes task d) k ≡ bit_of (sent_data past task d) k
+bit_same past bytes task d k low few carries sent below (inl has) =
+    let place = has.place in
+    let from = has.lies.from in
+    let ends = has.lies.below in
+    let inside : k - place.bit < place.bits = omega arith in
+    let whole : place.bit + (k - place.bit) ≡ k = omega arith in
+    carried-bit (table_of (line_of past)) (value_bit past) bytes task d k carries has
+    ∙ sym (sent.values has.variable (k - place.bit) place
+    (record {
+      there = sym (place-of_line (line_of past) has.variable) ∙ has.is.there;
+      task_is = has.lies.task_is;
+      datagram = has.lies.datagram;
+      output = has.is.output;
+    })
+    inside)
+    ∙ ap (bit_of (sent_data past task d)) whole
+bit_same past bytes task d k low few carries sent below (inr none) =
+    carries.others task d k low few none
+    ∙ sym (sent.others k below
+    (λ variable place is lies. none variable place (record { there = place-of_line (line_of past) variable ∙ is.there; output = is.output })
+    (record { task_is = is.task_is; datagram = is.datagram; from = lies.from; below = lies.below })))
+
+pub data-same : (past : Record) (bytes : Bytes) (task d : ℕ) → lowest_fault (groups_of (state_of past).groups) ≡ None → task < TASKS → d < MOST_DATAGRAMS → StandsIn (line_of past) (task, d)
+    → Carries (table_of (line_of past)) (value_bit past) bytes → bytes_of bytes task d ≡ sent_data past task d
+data-same past bytes task d project low few stands carries =
+    let sent = sent-values past task d project low in
+    same_bytes_from_bits (bytes_of bytes task d) (sent_data past task d) (carries.all_bytes task d low few) (bytes-sent past task d)
+    (carries.sizes task d low few ∙ length-of_line (line_of past) task d low stands ∙ sym sent.size)
+    (λ k below. bit_same past bytes task d k low few carries sent
+    (subst (λ n. k < 8 * n) (carries.sizes task d low few ∙ length-of_line (line_of past) task d low stands ∙ sym sent.size) below)
+    (bit-lies (table_of (line_of past)) task d k (table-ascends (state_of past).groups project)))
+
+-- what is sent of each datagram of the line
+
+pub data-sent : (past : Record) (packed : Packed) (task d : ℕ) → lowest_fault (groups_of (state_of past).groups) ≡ None → crowded_task (line_of past) ≡ None → task < TASKS → StandsIn (line_of past) (task, d)
+    → HoldsValues past packed → sent_bytes packed task d ≡ sent_data past task d
+data-sent past packed task d project uncrowded low stands holds =
+    let most : datagram_count (task_places task (line_of past)) ≤ MOST_DATAGRAMS = uncrowded-few (line_of past) task uncrowded low in
+    let few : d < MOST_DATAGRAMS = omega (arith, stands) in
+    sent-there packed task d low few ∙ data-same past packed.sent task d project low few stands holds.sent
+
+-- so a frame's text is the one that the record sends
+
+carried_same : (past : Record) (packed : Packed) (names : List Named) → lowest_fault (groups_of (state_of past).groups) ≡ None → crowded_task (line_of past) ≡ None
+    → All (λ named. named.0 < TASKS) names → All (StandsIn (line_of past)) names → HoldsValues past packed
+    → map (carried_by (sent_bytes packed)) names ≡ map (sent_datagram past) names
+carried_same past packed [] project uncrowded low stands holds = refl
+carried_same past packed (named ∷ names) project uncrowded low stands holds =
+    ap (λ bytes. lrw (logical_address named.0 named.1) bytes ∷ map (carried_by (sent_bytes packed)) names)
+    (data-sent past packed named.0 named.1 project uncrowded (All-head (λ (n : Named). n.0 < TASKS) named names low) (All-head (StandsIn (line_of past)) named names stands) holds)
+    ∙ ap (λ rest. sent_datagram past named ∷ rest)
+    (carried_same past packed names project uncrowded (All-tail (λ (n : Named). n.0 < TASKS) named names low) (All-tail (StandsIn (line_of past)) named names stands) holds)
+
+pub text-sent : (past : Record) (packed : Packed) (frame : Frame) → lowest_fault (groups_of (state_of past).groups) ≡ None → crowded_task (line_of past) ≡ None
+    → All (λ named. named.0 < TASKS) frame.datagrams → All (StandsIn (line_of past)) frame.datagrams → HoldsValues past packed
+    → text_of (sent_bytes packed) frame ≡ sent_text past frame
+text-sent past packed frame project uncrowded low stands holds =
+    ap (frame_text frame.serial) (carried_same past packed frame.datagrams project uncrowded low stands holds)

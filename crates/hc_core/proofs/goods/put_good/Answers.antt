@@ -1,0 +1,16 @@
+use Rattle.std.proofs.Common.{◌≤◌, ap, length, sym, subst}
+use Rattle.hc_records.specs.declared.limits.TheConstants.{MOST_DATAGRAM_BYTES}
+use Rattle.hc_frames.specs.Arrived.{Placed}
+use Rattle.hc_core.proofs.GoodsSteps.{input-fits}
+use Rattle.hc_core.proofs.goods.put_good.Goals as goal
+
+pub put-requires-clause-task : goal.put-requires-clause-task
+put-requires-clause-task c = (input-fits c.args.outcome.now c.in-Inputs.task c.in-Inputs.datagram c.args.part.now.carried c.in-Inputs.is c.requires).task
+
+pub put-requires-clause-number : goal.put-requires-clause-number
+put-requires-clause-number c = (input-fits c.args.outcome.now c.in-Inputs.task c.in-Inputs.datagram c.args.part.now.carried c.in-Inputs.is c.requires).datagram
+
+pub put-requires-clause-few : goal.put-requires-clause-few
+put-requires-clause-few c =
+    subst (λ n. n ≤ MOST_DATAGRAM_BYTES) (sym (ap (λ (part : Placed). length part.carried.bytes) c.part.view_is))
+    (input-fits c.args.outcome.now c.in-Inputs.task c.in-Inputs.datagram c.args.part.now.carried c.in-Inputs.is c.requires).few

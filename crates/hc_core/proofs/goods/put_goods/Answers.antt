@@ -1,0 +1,52 @@
+use Rattle.std.proofs.Common.{◌∙◌, ◌+◌, ap, sym, subst, drop, get_or}
+use Rattle.std.specs.Prelude.{All, fold}
+use Rattle.std.proofs.lemmas.List.Sums.{fold-append}
+use Rattle.hc_records.proofs.lemmas.Lists.{All-append_left, All-append_right}
+use Rattle.hc_events.specs.declared.answer.Outcome.TheVariants.{Inputs}
+use Rattle.hc_events.specs.Images.{renewed}
+use Rattle.hc_inputs.specs.Image.{data_of}
+use Rattle.hc_core.specs.Goods.{FitsImage, good_of, goods_in, parts_of}
+use Rattle.hc_core.proofs.GoodsSteps.{goods-over, goods-short, goods-step, parts-back}
+use Rattle.hc_core.proofs.goods.put_goods.Goals as goal
+
+pub loop-outcome-init : goal.loop-outcome-init
+loop-outcome-init c =
+    let back = ap parts_of c.parts-parts.ensures ∙ parts-back 16 c.args.arrival.now.parts in
+    let same = ap (goods_in c.args.outcomes.now) back in
+    record {
+      same = λ task d below. ap (fold (renewed task d) (data_of c.args.inputs.now task d)) same;
+      fit = subst (All FitsImage) (sym same) c.requires;
+    }
+
+pub returns-in_default : goal.returns-in_default
+returns-in_default c = λ task d below.
+    sym (ap (fold (renewed task d) (data_of c.loop-outcome.inputs task d)) (goods-short (drop c.loop-outcome.outcome-index c.args.outcomes.now) c.loop-outcome.parts c.in_default.ensures.steps.0))
+    ∙ c.loop-outcome.invariant.same task d below
+
+pub returns : goal.returns
+returns c = λ task d below.
+    sym (ap (fold (renewed task d) (data_of c.loop-outcome.inputs task d)) (goods-over c.args.outcomes.now c.loop-outcome.outcome-index c.loop-outcome.parts c.loop-outcome-test.false))
+    ∙ c.loop-outcome.invariant.same task d below
+
+pub put_good-requires : goal.put_good-requires
+put_good-requires c =
+    let i = c.loop-outcome.outcome-index in
+    let first = good_of (get_or c.args.outcomes.now i (Inputs 0 0)) c.in-Some.part.carried in
+    let rest = goods_in (drop (i + 1) c.args.outcomes.now) (parts_of c.next.new.self) in
+    let split = goods-step c.args.outcomes.now i (Inputs 0 0) c.loop-outcome.parts c.next.new.self c.in-Some.part c.loop-outcome-test.true c.in-Some.ensures.steps in
+    All-append_left FitsImage first rest (subst (All FitsImage) split c.loop-outcome.invariant.fit)
+
+pub loop-outcome-preserved : goal.loop-outcome-preserved
+loop-outcome-preserved c =
+    let i = c.loop-outcome.outcome-index in
+    let first = good_of (get_or c.args.outcomes.now i (Inputs 0 0)) c.in-Some.part.carried in
+    let rest = goods_in (drop (i + 1) c.args.outcomes.now) (parts_of c.next.new.self) in
+    let split = goods-step c.args.outcomes.now i (Inputs 0 0) c.loop-outcome.parts c.next.new.self c.in-Some.part c.loop-outcome-test.true c.in-Some.ensures.steps in
+    record {
+      same = λ task d below.
+          ap (λ start. fold (renewed task d) start rest) (c.put_good.ensures task d below)
+          ∙ sym (fold-append (renewed task d) (data_of c.loop-outcome.inputs task d) first rest)
+          ∙ sym (ap (fold (renewed task d) (data_of c.loop-outcome.inputs task d)) split)
+          ∙ c.loop-outcome.invariant.same task d below;
+      fit = All-append_right FitsImage first rest (subst (All FitsImage) split c.loop-outcome.invariant.fit);
+    }

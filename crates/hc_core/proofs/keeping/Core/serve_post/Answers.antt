@@ -1,0 +1,20 @@
+use Rattle.std.proofs.Common.{◌∷◌, sym, subst}
+use Rattle.hc_events.specs.declared.answer.Answer.{Answer}
+use Rattle.hc_events.specs.Calls.{MayAnswer}
+use Rattle.hc_events.specs.Entries.{Posted}
+use Rattle.hc_events.specs.Steps.{Posts}
+use Rattle.hc_core.proofs.Serves.{past-behind, past-same, post-served, taken-same}
+use Rattle.hc_core.proofs.keeping.Core.serve_post.Goals as goal
+
+pub returns-clause-answer : goal.returns-clause-answer
+returns-clause-answer c =
+    let old = c.args.self.now in
+    let new = c.post.new.self in
+    let is = c.post.ensures in
+    let bytes = c.args.bytes.now in
+    subst (λ (told : Answer). MayAnswer old.past (Posts c.args.task c.args.epoch bytes) told new.past) (sym c.answer_of_post.ensures)
+    (post-served old.past new.past c.args.task c.args.epoch bytes c.post.result is.accepted is.refused (past-behind c.post.result old new (Posted c.args.task bytes ∷ old.past) is.entries) (past-same c.post.result old new is.unchanged))
+
+pub returns-clause-taken : goal.returns-clause-taken
+returns-clause-taken c =
+    taken-same c.post.result c.args.self.now c.post.new.self (Posted c.args.task c.args.bytes.now ∷ c.args.self.now.past) c.post.ensures.entries c.post.ensures.unchanged

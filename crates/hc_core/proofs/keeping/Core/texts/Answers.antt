@@ -1,0 +1,17 @@
+use Rattle.std.proofs.Common.{◌∙◌, ◌∷◌, ◌++◌, [], List, ℕ, ap, map, sym, take}
+use Rattle.std.proofs.lemmas.List.{map_more}
+use Rattle.hc_events.specs.Sendings.{Frame}
+use Rattle.hc_events.specs.Steps.{sent_text}
+use Rattle.hc_core.proofs.keeping.Core.texts.Goals as goal
+
+pub loop-frame-preserved : goal.loop-frame-preserved
+loop-frame-preserved c =
+    let past = c.args.self.now.past in
+    let frames = c.args.frames.now in
+    let frame = c.frame-item.result in
+    let i = c.loop-frame.frame-index in
+    let before = map (sent_text past) (take i frames) in
+    c.in_ok-push.ensures.items
+    ∙ ap (λ (texts : List (List ℕ)). texts ++ c.in_ok-text.field-0 ∷ []) c.loop-frame.invariant
+    ∙ ap (λ (text : List ℕ). before ++ text ∷ []) c.in_ok-text.ensures
+    ∙ sym (map_more (sent_text past) frames i frame c.loop-frame-test.true ∙ ap (λ (one : Frame). before ++ sent_text past one ∷ []) (sym c.frame-item.is))

@@ -1,0 +1,24 @@
+use Rattle.std.proofs.Common.{◌≡◌, ◌∙◌, ap, sym}
+use Rattle.hc_events.specs.declared.answer.Answer.TheVariants as answer
+use Rattle.hc_events.specs.Entries.{Record}
+use Rattle.hc_events.specs.Points.{next_serial}
+use Rattle.hc_events.specs.Steps.{write_text}
+use Rattle.hc_core.proofs.Writes.{write-entries, write-told}
+use Rattle.hc_core.specs.State.{CoreState}
+use Rattle.hc_core.proofs.keeping.Core.write.Goals as goal
+
+pub returns-clause-answer : goal.returns-clause-answer
+returns-clause-answer c =
+    let past = c.args.self.now.past in
+    let block = c.in_ok-found.found.1 in
+    let first = c.in_ok-found.ensures.found in
+    let serial : c.self.inside.serial ≡ next_serial past = c.self.invariant.serial ∙ ap (λ (state : CoreState). next_serial state.past) c.self.view_is in
+    ap answer.WriteSent (c.in_ok-text.ensures ∙ ap (λ n. write_text n block) serial)
+    ∙ sym (write-told past block first.rest first.first c.in_ok-found.ensures.left)
+
+pub returns-clause-entries : goal.returns-clause-entries
+returns-clause-entries c =
+    let old = c.args.self.now in
+    let first = c.in_ok-found.ensures.found in
+    c.commit_write.ensures
+    ∙ ap (λ (entries : Record). let next : CoreState = record old { past = entries } in next) (sym (write-entries old.past c.in_ok-found.found.1 first.rest first.first c.in_ok-found.ensures.left))

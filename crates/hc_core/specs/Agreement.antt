@@ -1,0 +1,82 @@
+-- What a core keeps, by the record of what it accepted.
+use Rattle.std.specs.Prelude.{◌≡◌, ℕ, ◌<◌, ◌≤◌, List, ◌++◌, map, None}
+use Rattle.hc_records.specs.declared.limits.TheConstants.{MOST_DATAGRAMS}
+use Rattle.hc_records.specs.Line.{State, groups_of}
+use Rattle.hc_records.specs.Edits.{crowded_task}
+use Rattle.hc_records.specs.Project.{lowest_fault}
+use Rattle.hc_frames.specs.declared.limits.TheConstants.{SETUP_SERIAL}
+use Rattle.hc_events.specs.declared.change.Change.{Change}
+use Rattle.hc_events.specs.Accepted.{AreAccepted}
+use Rattle.hc_events.specs.Entries.{Record}
+use Rattle.hc_events.specs.Points.{line_of, next_serial, state_of}
+use Rattle.hc_events.specs.Images.{slot_of}
+use Rattle.hc_events.specs.Owed.{known_bytes}
+use Rattle.hc_events.specs.Changes.{SwapsLeadFrom, news_of, told_by}
+use Rattle.hc_events.specs.NewsLaws.{state_behind}
+use Rattle.hc_awaited.specs.Waiting.{Waiting}
+use Rattle.hc_inputs.specs.Image.{Image, data_of}
+use Rattle.hc_outputs.specs.Packed.{Packed}
+use Rattle.hc_owed.specs.Kept.{Owed, declared_blocks}
+use Rattle.hc_owed.specs.Laws.{kept_of}
+use Rattle.hc_past.specs.Records.{record_of}
+use Rattle.hc_core.specs.declared.keeping.Core.TheInside.{Inside}
+use Rattle.hc_core.specs.State.{CoreState}
+use Rattle.hc_core.specs.Values.{HoldsValues}
+use Rattle.hc_core.specs.Waits.{Waits}
+
+-- the input image has of each datagram what a task reads of it
+abbrev pub ShowsSlots : Record → Image → Type 0
+ShowsSlots past image = (task d : ℕ) → d < MOST_DATAGRAMS → data_of image task d ≡ slot_of past task d
+
+-- of each block of the line what its slave is known to have, and room for those of all declared slaves
+pub record Knows (past : Record) (owed : Owed) : Type 0 where
+  pub blocks : owed.blocks ≡ kept_of (known_bytes past) (state_of past)
+  pub room : declared_blocks (state_of past).groups ≤ owed.room
+
+-- the changes that nobody took tell what is news since the last taking, and their swaps lead from the line as it was then to the present one
+pub record TellNews (taken past : Record) (changes : List Change) : Type 0 where
+  pub told : news_of past ≡ news_of taken ++ map told_by changes
+  pub lead : SwapsLeadFrom (state_of taken) changes
+  pub behind : state_behind (state_of taken) changes ≡ state_of past
+
+-- the parts of a core
+pub record Kept : Type 0 where
+  pub plan : State
+  pub serial : ℕ
+  pub awaited : Waiting
+  pub inputs : Image
+  pub outputs : Packed
+  pub owed : Owed
+  pub changes : List Change
+
+-- each part says what the record says
+pub record Agree (kept : Kept) (past taken : Record) : Type 0 where
+  pub accepted : AreAccepted past
+  pub state : kept.plan ≡ state_of past
+  pub project : lowest_fault (groups_of (state_of past).groups) ≡ None
+  pub uncrowded : crowded_task (line_of past) ≡ None
+  pub serial : kept.serial ≡ next_serial past
+  pub left : kept.serial ≤ SETUP_SERIAL
+  pub waits : Waits past kept.awaited
+  pub slots : ShowsSlots past kept.inputs
+  pub values : HoldsValues past kept.outputs
+  pub known : Knows past kept.owed
+  pub tells : TellNews taken past kept.changes
+
+-- what contracts see of a core
+abbrev pub state_in : Inside → CoreState
+state_in core = record { past = record_of core.past; taken = record_of core.taken.value }
+
+abbrev pub kept_in : Inside → Kept
+kept_in core = record {
+  plan = core.plan;
+  serial = core.serial;
+  awaited = core.awaited;
+  inputs = core.inputs;
+  outputs = core.outputs;
+  owed = core.owed;
+  changes = core.changes.items;
+}
+
+abbrev pub Agrees : Inside → Type 0
+Agrees core = Agree (kept_in core) (record_of core.past) (record_of core.taken.value)

@@ -1,0 +1,36 @@
+-- The good answers of an arrival, by its outcomes and what came back.
+use Rattle.std.specs.Prelude.{◌<◌, ◌≤◌, List, [], ◌∷◌, ◌++◌, length, map}
+use Rattle.hc_records.specs.declared.limits.TheConstants.{MOST_DATAGRAMS, MOST_DATAGRAM_BYTES, TASKS}
+use Rattle.hc_frames.specs.Arrived.{Placed}
+use Rattle.hc_events.specs.declared.answer.Outcome.{Outcome}
+use Rattle.hc_events.specs.declared.answer.Outcome.TheVariants.{Inputs, WrongCount, Stale}
+use Rattle.hc_events.specs.declared.change.Change.{Change}
+use Rattle.hc_events.specs.declared.change.Change.TheVariants as change
+use Rattle.hc_events.specs.Arrivals.{Part}
+use Rattle.hc_events.specs.Images.{Fresh}
+
+-- the data that came back where an outcome is inputs of a datagram
+abbrev pub good_of : Outcome → Part → List Fresh
+good_of (Inputs task d) part = record { task = task; datagram = d; bytes = part.bytes } ∷ []
+good_of (WrongCount expected got) part = []
+good_of Stale part = []
+
+-- outcome beside part, in order
+abbrev pub goods_in : List Outcome → List Part → List Fresh
+goods_in [] parts = []
+goods_in (outcome ∷ outcomes) [] = []
+goods_in (outcome ∷ outcomes) (part ∷ parts) = good_of outcome part ++ goods_in outcomes parts
+
+-- what a reader of the input images is told of a good answer
+abbrev pub change_of : Fresh → Change
+change_of good = change.Good good.task good.datagram good.bytes
+
+-- a good answer of a datagram that tasks can have
+pub record FitsImage (good : Fresh) : Type 0 where
+  pub task : good.task < TASKS
+  pub datagram : good.datagram < MOST_DATAGRAMS
+  pub few : length good.bytes ≤ MOST_DATAGRAM_BYTES
+
+-- the data of the datagrams that came back, without their places in the frame
+abbrev pub parts_of : List Placed → List Part
+parts_of placed = map (λ one. one.carried) placed

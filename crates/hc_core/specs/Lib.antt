@@ -1,0 +1,11 @@
+pub mod Waits
+pub mod Goods
+pub mod Firsts
+pub mod State
+pub mod Agreement
+pub mod Proposed
+pub mod Written
+pub mod Serving
+pub mod Values
+pub mod Filled
+pub mod Laws

@@ -1,0 +1,118 @@
+//! What an arrival is, and what it changes.
+ghost use Rattle.std.specs.Prelude.{◌≡◌, ◌∷◌, IfOk, Ok, OnErr, OnOk};
+ghost use Rattle.hc_events.specs.declared.answer.Answer.TheVariants as answer;
+ghost use Rattle.hc_events.specs.Answering.{judged_by};
+ghost use Rattle.hc_events.specs.Arrivals.{arrival_in};
+ghost use Rattle.hc_events.specs.Entries.{Came};
+ghost use Rattle.hc_events.specs.Steps.{Arrives, answer_to, entries_after, told_of};
+ghost use Rattle.hc_core.specs.Firsts.{IsFirstOwed};
+
+use crate::goods::{changes_of, put_goods};
+use crate::keeping::Core;
+use hc_events::answer::{Answer, Outcome};
+use hc_events::faults::CoreFault;
+use hc_frames::reading::{Returned, read_frame};
+use hc_plan::blocks::LineBlock;
+use std::alloc::{AllocError, Global};
+
+impl Core {
+    /// A stale arrival is recorded, and nothing else changes.
+    fn take_stale(&mut self, bytes: &[u8], arrival: &Returned<'_>)
+        requires read { arrival_in bytes.now ≡ Ok arrival.now }
+        requires told { told_of (judged_by self.old.past arrival.now) ≡ answer.Stale }
+        ensures { self.new ≡ record self.old { past = Came arrival.now ∷ self.old.past } }
+    {
+        let _ = arrival;
+        self.past = self.past.came(bytes);
+    }
+
+    /// The answer to a frame of tasks: the data of its good answers are what the tasks read from now on.
+    /// `AllocError` where a growth was refused, and nothing changed.
+    fn take_inputs(
+        &mut self,
+        alloc: Global,
+        bytes: &[u8],
+        arrival: &Returned<'_>,
+        outcomes: &[Outcome],
+    ) -> Result<(), AllocError>
+        requires read { arrival_in bytes.now ≡ Ok arrival.now }
+        requires told { told_of (judged_by self.old.past arrival.now) ≡ answer.Answered outcomes.now }
+        ensures taken { OnOk result (self.new ≡ record self.old { past = Came arrival.now ∷ self.old.past }) }
+        ensures unchanged { OnErr result (self.new ≡ self.old) }
+    {
+        let mut changes = changes_of(alloc, outcomes, arrival)?;
+        self.changes.append(&mut changes)?;
+        put_goods(&mut self.inputs, outcomes, arrival);
+        self.awaited.end(arrival.serial());
+        self.past = self.past.came(bytes);
+        Ok(())
+    }
+
+    /// The answer to a register write with another working counter: the block stays owed.
+    fn take_missed(&mut self, bytes: &[u8], arrival: &Returned<'_>)
+        requires read { arrival_in bytes.now ≡ Ok arrival.now }
+        requires told { told_of (judged_by self.old.past arrival.now) ≡ answer.WriteMissed }
+        ensures { self.new ≡ record self.old { past = Came arrival.now ∷ self.old.past } }
+    {
+        self.awaited.end(arrival.serial());
+        self.past = self.past.came(bytes);
+    }
+
+    /// The answer to a register write with a working counter of 1: the block is known.
+    fn take_written(&mut self, bytes: &[u8], arrival: &Returned<'_>, n: u32, block: LineBlock)
+        requires read { arrival_in bytes.now ≡ Ok arrival.now }
+        requires told { told_of (judged_by self.old.past arrival.now) ≡ answer.WriteDone }
+        requires first { IsFirstOwed self.old.past n block }
+        ensures { self.new ≡ record self.old { past = Came arrival.now ∷ self.old.past } }
+    {
+        self.owed.confirmed(n, block.block);
+        self.awaited.end(arrival.serial());
+        self.past = self.past.came(bytes);
+    }
+
+    /// What an arrival changes, by its answer. `AllocError` where a growth was refused, and nothing changed.
+    fn take(
+        &mut self,
+        alloc: Global,
+        bytes: &[u8],
+        arrival: &Returned<'_>,
+        told: &Answer,
+    ) -> Result<(), AllocError>
+        requires read { arrival_in bytes.now ≡ Ok arrival.now }
+        requires told { told_of (judged_by self.old.past arrival.now) ≡ told.now }
+        ensures taken { OnOk result (self.new ≡ record self.old { past = Came arrival.now ∷ self.old.past }) }
+        ensures unchanged { OnErr result (self.new ≡ self.old) }
+    {
+        let _ = &self.past;
+        match told {
+            Answer::Answered(outcomes) => {
+                self.take_inputs(alloc, bytes, arrival, outcomes.as_slice())?;
+            }
+            Answer::WriteDone => {
+                if let Some((n, block)) = self.first_block() {
+                    self.take_written(bytes, arrival, n, block);
+                }
+            }
+            Answer::WriteMissed => self.take_missed(bytes, arrival),
+            _ => self.take_stale(bytes, arrival),
+        }
+        Ok(())
+    }
+
+    /// An arrival, any bytes: a frame that can't be read is refused, and nothing changes; else it is recorded,
+    /// and is for each datagram of what it answers as its answer tells. `AllocError` where a growth was
+    /// refused, and nothing changed.
+    pub(crate) fn arrive(&mut self, alloc: Global, bytes: &[u8]) -> Result<Answer, AllocError>
+        ensures answer { IfOk result (λ told. told ≡ answer_to self.old.past (Arrives bytes.now)) }
+        ensures entries { OnOk result (self.new ≡ record self.old { past = entries_after self.old.past (Arrives bytes.now) }) }
+        ensures unchanged { OnErr result (self.new ≡ self.old) }
+    {
+        let arrival = match read_frame(bytes) {
+            Ok(arrival) => arrival,
+            Err(fault) => return Ok(Answer::Refused(CoreFault::from(fault))),
+        };
+        let told = self.awaited.judge(alloc, &self.plan, &arrival)?;
+        self.take(alloc, bytes, &arrival, &told)?;
+        Ok(told)
+    }
+}

@@ -1,0 +1,88 @@
+//! What an arrival's good answers change: the input image, and the changes that its readers are told.
+ghost use Rattle.std.specs.Prelude.{◌≡◌, ◌<◌, ℕ, All, IfOk, fold, map, option_to_list};
+ghost use Rattle.hc_records.specs.declared.limits.TheConstants.{MOST_DATAGRAMS};
+ghost use Rattle.hc_events.specs.Images.{renewed};
+ghost use Rattle.hc_inputs.specs.Image.{data_of};
+ghost use Rattle.hc_core.specs.Goods.{FitsImage, change_of, good_of, goods_in};
+
+use hc_events::answer::Outcome;
+use hc_events::change::Change;
+use hc_frames::reading::{Part, Returned};
+use hc_inputs::inputs::Inputs;
+use hc_records::items::Items;
+use std::alloc::{AllocError, Global};
+
+/// The change that an outcome tells; none where it is no good answer.
+fn change_of(
+    alloc: Global,
+    outcome: &Outcome,
+    part: &Part<'_>,
+) -> Result<Option<Change>, AllocError>
+    ensures { IfOk result (λ change. option_to_list change ≡ map change_of (good_of outcome.now part.now.carried)) }
+{
+    match outcome {
+        Outcome::Inputs { task, datagram } => {
+            let bytes = Items::of(Vec::from_slice(alloc, part.bytes)?);
+            Ok(Some(Change::Good {
+                task: *task,
+                datagram: *datagram,
+                bytes,
+            }))
+        }
+        Outcome::WrongCount {
+            expected: _,
+            got: _,
+        } => Ok(None),
+        Outcome::Stale => Ok(None),
+    }
+}
+
+/// The changes of an arrival's good answers, each with a copy of its data.
+pub(crate) fn changes_of(
+    alloc: Global,
+    outcomes: &[Outcome],
+    arrival: &Returned<'_>,
+) -> Result<Vec<Change>, AllocError>
+    ensures { IfOk result (λ changes. changes.items ≡ map change_of (goods_in outcomes.now arrival.now.parts)) }
+{
+    let mut changes = Vec::new(alloc);
+    let mut parts = arrival.parts();
+    for outcome in outcomes {
+        let Some(part) = parts.next() else {
+            return Ok(changes);
+        };
+        if let Some(change) = change_of(alloc, outcome, &part)? {
+            changes.push(change)?;
+        }
+    }
+    Ok(changes)
+}
+
+/// An outcome's data are those of its datagram from now on, where it is a good answer.
+fn put_good(inputs: &mut Inputs, outcome: &Outcome, part: &Part<'_>)
+    requires { All FitsImage (good_of outcome.now part.now.carried) }
+    ensures { (task d : ℕ) → d < MOST_DATAGRAMS → data_of inputs.new task d ≡ fold (renewed task d) (data_of inputs.old task d) (good_of outcome.now part.now.carried) }
+{
+    match outcome {
+        Outcome::Inputs { task, datagram } => inputs.put(*task, *datagram, part.bytes),
+        Outcome::WrongCount {
+            expected: _,
+            got: _,
+        } => {}
+        Outcome::Stale => {}
+    }
+}
+
+/// So are those of all good answers of an arrival, one after another.
+pub(crate) fn put_goods(inputs: &mut Inputs, outcomes: &[Outcome], arrival: &Returned<'_>)
+    requires { All FitsImage (goods_in outcomes.now arrival.now.parts) }
+    ensures { (task d : ℕ) → d < MOST_DATAGRAMS → data_of inputs.new task d ≡ fold (renewed task d) (data_of inputs.old task d) (goods_in outcomes.now arrival.now.parts) }
+{
+    let mut parts = arrival.parts();
+    for outcome in outcomes {
+        let Some(part) = parts.next() else {
+            return;
+        };
+        put_good(inputs, outcome, &part);
+    }
+}

@@ -1,0 +1,37 @@
+//! What a core keeps.
+use hc_awaited::awaited::Awaited;
+use hc_events::change::Change;
+use hc_inputs::inputs::Inputs;
+use hc_outputs::outputs::Outputs;
+use hc_owed::owed::Owed;
+use hc_past::past::Past;
+use hc_plan::plan::Plan;
+use std::marker::Model;
+use std::snapshot::Snapshot;
+
+/// The line, the next serial, what is awaited, the input image, the output values, the known and the owed
+/// register blocks, and the changes that nobody took. Contracts see the record of what was accepted, and that record as it was
+/// when the changes were taken last.
+#[derive(Drop)]
+pub struct Core {
+    pub(crate) plan: Plan,
+    pub(crate) serial: u64,
+    pub(crate) awaited: Awaited,
+    pub(crate) inputs: Inputs,
+    pub(crate) outputs: Outputs,
+    pub(crate) owed: Owed,
+    pub(crate) changes: Vec<Change>,
+    pub(crate) past: Past,
+    pub(crate) taken: Snapshot<Past>,
+}
+
+impl Model for Core {
+    ghost use Rattle.hc_core.specs.Agreement.{Agrees, state_in};
+    ghost use Rattle.hc_core.specs.State.{CoreState};
+
+    ghost Value = { CoreState };
+
+    ghost view = { state_in };
+
+    ghost invariant = { Agrees };
+}

@@ -1,0 +1,49 @@
+//! The opening of a project's line.
+ghost use Rattle.std.specs.Prelude.{◌≡◌, IfErr, IfOk, None, OnOk};
+ghost use Rattle.hc_records.specs.Edits.{crowded_task};
+ghost use Rattle.hc_records.specs.Line.{line, opened};
+ghost use Rattle.hc_places.specs.Layout.{NamesCrowded};
+ghost use Rattle.hc_events.specs.Accepted.{just_opened};
+
+use crate::keeping::Core;
+use hc_awaited::awaited::Awaited;
+use hc_inputs::inputs::Inputs;
+use hc_outputs::outputs::Outputs;
+use hc_owed::owed::Owed;
+use hc_past::past::Past;
+use hc_plan::plan::Plan;
+use hc_records::faults::EditFault;
+use hc_records::project::Project;
+use std::alloc::Global;
+use std::snapshot::Snapshot;
+
+impl Core {
+    /// The core of a project at its opening: the mandatory group alone is present, the epoch and the next
+    /// serial are 0, nothing is awaited, no datagram has data, every output value is 0, every register block is
+    /// owed, and there is no change. Otherwise `TooManyDatagrams` with the lowest task that needs more than 16, or `Memory` where a
+    /// growth was refused; the project is then dropped.
+    pub fn new(alloc: Global, project: Project) -> Result<Core, EditFault>
+        ensures opened { IfOk result (λ core. core ≡ record { past = just_opened project; taken = just_opened project }) }
+        ensures accepted { OnOk result (crowded_task (line (opened project)) ≡ None) }
+        ensures refused { IfErr result (NamesCrowded (line (opened project))) }
+    {
+        let past = Past::opened(&project);
+        let plan = Plan::new(alloc, project)?;
+        let awaited = Awaited::new(alloc)?;
+        let inputs = Inputs::new(alloc)?;
+        let owed = Owed::new(alloc, &plan)?;
+        let outputs = Outputs::new(alloc, plan.places())?;
+        let taken = Snapshot::of(&past);
+        Ok(Core {
+            plan,
+            serial: 0,
+            awaited,
+            inputs,
+            outputs,
+            owed,
+            changes: Vec::new(alloc),
+            past,
+            taken,
+        })
+    }
+}

@@ -1,0 +1,33 @@
+//! The first owed register block.
+ghost use Rattle.std.specs.Prelude.{◌≡◌, [], MatchOption};
+ghost use Rattle.hc_events.specs.Owed.{owed_blocks};
+ghost use Rattle.hc_core.specs.Firsts.{IsFirstOwed};
+
+use crate::keeping::Core;
+use hc_plan::blocks::LineBlock;
+
+impl Core {
+    /// The first owed block, with its position in line and block order; none where nothing is owed. It takes
+    /// no memory.
+    pub(crate) fn first_block(&self) -> Option<(u32, LineBlock)>
+        ensures { MatchOption result (owed_blocks self.now.past ≡ []) (λ found. IsFirstOwed self.now.past found.0 found.1) }
+    {
+        let Some(n) = self.owed.first() else {
+            return None;
+        };
+        let Some((station, block)) = self.plan.nth_block(n) else {
+            return None;
+        };
+        let Some((_, number)) = self.owed.name(n) else {
+            return None;
+        };
+        Some((
+            n,
+            LineBlock {
+                station,
+                number,
+                block,
+            },
+        ))
+    }
+}

@@ -1,0 +1,50 @@
+//! What a core tells of itself and to tasks.
+ghost use Rattle.std.specs.Prelude.{◌≡◌, IfOk, length};
+ghost use Rattle.hc_events.specs.Owed.{owed_blocks};
+ghost use Rattle.hc_events.specs.Points.{next_serial, state_of};
+ghost use Rattle.hc_events.specs.Steps.{Reads, answer_to};
+
+use crate::keeping::Core;
+use hc_events::answer::Answer;
+use hc_events::faults::CoreFault;
+use hc_plan::plan::Plan;
+use hc_records::limits::TASKS;
+use std::alloc::{AllocError, Global};
+
+impl Core {
+    /// The plan of the present line.
+    pub fn plan(&self) -> &Plan
+        ensures { result.now ≡ state_of self.now.past }
+    {
+        &self.plan
+    }
+
+    /// The serial of the next sending, which is the number of sendings before it.
+    pub fn next_serial(&self) -> u64
+        ensures { result ≡ next_serial self.now.past }
+    {
+        self.serial
+    }
+
+    /// How many register blocks of the present line are owed. It takes no memory, and no time.
+    pub fn owed(&self) -> u32
+        ensures { result ≡ length (owed_blocks self.now.past) }
+    {
+        self.owed.count()
+    }
+
+    /// What a task reads: the present epoch, and of each datagram that the task has in it the data of its last
+    /// good answer, or none. A task over 7 is refused with `NoSuchTask`. `AllocError` where a growth was
+    /// refused.
+    pub fn read(&self, alloc: Global, task: u8) -> Result<Answer, AllocError>
+        ensures { IfOk result (λ told. told ≡ answer_to self.now.past (Reads task)) }
+    {
+        if task >= TASKS {
+            return Ok(Answer::Refused(CoreFault::NoSuchTask));
+        }
+        let count = self.plan.places().datagrams(task).len() as u8;
+        let slots = self.inputs.read(alloc, task, count)?;
+        let epoch = self.plan.epoch();
+        Ok(Answer::Image { epoch, slots })
+    }
+}

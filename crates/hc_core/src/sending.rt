@@ -1,0 +1,81 @@
+//! What is sent: frames of tasks and register writes.
+ghost use Rattle.std.specs.Prelude.{◌≡◌, ◌≢◌, ◌<◌, ◌∷◌, IfErr, IfOk, None, OnErr, OnOk, Some};
+ghost use Rattle.hc_records.specs.Lists.{lowest};
+ghost use Rattle.hc_frames.specs.declared.limits.TheConstants.{SETUP_SERIAL};
+ghost use Rattle.hc_events.specs.declared.faults.CoreFault.TheVariants.{Memory};
+ghost use Rattle.hc_events.specs.Calls.{AreSentTogether, preview};
+ghost use Rattle.hc_events.specs.Entries.{Wrote};
+ghost use Rattle.hc_events.specs.Steps.{SendsTasks, answer_to, entries_after, proposal, task_faults, with_sent};
+ghost use Rattle.hc_events.specs.Points.{next_serial};
+ghost use Rattle.hc_core.specs.Firsts.{IsFirstOwed};
+ghost use Rattle.hc_core.specs.Proposed.{IsProposal};
+
+use crate::keeping::Core;
+use hc_events::answer::Answer;
+use hc_events::faults::CoreFault;
+use hc_events::sending::Sending;
+use hc_plan::blocks::LineBlock;
+use hc_sendings::proposing::{preview, propose};
+use std::alloc::Global;
+
+impl Core {
+    /// The frames in which 1 to 8 distinct tasks would be sent next, in their order, with the next serials; none
+    /// where the tasks have no datagram. Nothing is sent by it. `NoSuchTask` where a number is over 7;
+    /// `Unprogrammed` where register blocks are owed, with their number; `SerialsSpent` where too few serials
+    /// are left; and of several the first of these. `Memory` where a growth was refused.
+    pub fn propose(&self, alloc: Global, tasks: &[u8]) -> Result<Vec<Sending>, CoreFault>
+        requires { AreSentTogether tasks.now }
+        ensures frames { IfOk result (λ frames. frames.items ≡ proposal self.now.past tasks.now) }
+        ensures accepted { OnOk result (lowest (task_faults self.now.past tasks.now) ≡ None) }
+        ensures refused { IfErr result (λ fault. fault ≢ Memory → lowest (task_faults self.now.past tasks.now) ≡ Some fault) }
+    {
+        let owed = self.owed.count();
+        propose(alloc, &self.plan, self.serial, owed, tasks)
+    }
+
+    /// The frame of one datagram of a task alone, as it would be sent next, whether or not blocks are owed; none
+    /// where the task has no such datagram, there is no such task, or no serial is left. Nothing is sent by it.
+    /// It takes no memory.
+    pub fn preview(&self, task: u8, number: u8) -> Option<Sending>
+        ensures { result ≡ preview self.now.past task number }
+    {
+        preview(&self.plan, self.serial, task, number)
+    }
+
+    /// All frames of the present proposal are sent, in their order: each is recorded, and is awaited from now on.
+    /// It takes no memory.
+    pub fn commit(&mut self, frames: &[Sending])
+        requires { IsProposal self.old.past frames.now }
+        ensures { self.new ≡ record self.old { past = with_sent self.old.past frames.now } }
+    {
+        self.awaited.send(frames);
+        self.serial += frames.len() as u64;
+        self.past.sent_all(frames);
+    }
+
+    /// Tasks are sent: the texts of the frames that `propose` gives, which are then committed.
+    pub(crate) fn send(&mut self, alloc: Global, tasks: &[u8]) -> Result<Answer, CoreFault>
+        requires { AreSentTogether tasks.now }
+        ensures answer { IfOk result (λ told. told ≡ answer_to self.old.past (SendsTasks tasks.now)) }
+        ensures entries { OnOk result (self.new ≡ record self.old { past = entries_after self.old.past (SendsTasks tasks.now) }) }
+        ensures refused { IfErr result (λ fault. fault ≢ Memory → lowest (task_faults self.old.past tasks.now) ≡ Some fault) }
+        ensures unchanged { OnErr result (self.new ≡ self.old) }
+    {
+        let frames = self.propose(alloc, tasks)?;
+        let texts = self.texts(alloc, frames.as_slice())?;
+        self.commit(frames.as_slice());
+        Ok(Answer::Sent(texts))
+    }
+
+    /// The first owed block is sent, with the next serial. It takes no memory.
+    pub(crate) fn commit_write(&mut self, n: u32, block: &LineBlock)
+        requires first { IsFirstOwed self.old.past n block.now }
+        requires left { next_serial self.old.past < SETUP_SERIAL }
+        ensures { self.new ≡ record self.old { past = Wrote block.now ∷ self.old.past } }
+    {
+        self.awaited.write(self.serial, block);
+        self.owed.sent(n);
+        self.serial += 1;
+        self.past = self.past.wrote(block);
+    }
+}

@@ -1,0 +1,137 @@
+//! Serves events.
+ghost use Rattle.std.specs.Prelude.{◌≡◌, All, IfOk, OnErr, map};
+ghost use Rattle.hc_events.specs.Calls.{AreSentTogether, MayAnswer};
+ghost use Rattle.hc_events.specs.Steps.{Arrives, Edits, Posts, Reads, SendsTasks, SendsWrite, step_of};
+ghost use Rattle.hc_core.specs.Serving.{IsAsked, MayAnswerAll, told_by, told_by_edit, told_by_post, told_or_memory};
+
+use crate::keeping::Core;
+use hc_events::answer::Answer;
+use hc_events::event::Event;
+use hc_events::faults::CoreFault;
+use hc_records::edit::Edit;
+use hc_records::faults::EditFault;
+use std::alloc::{AllocError, Global};
+
+/// The answer, or that the event was refused.
+fn answer_of(told: Result<Answer, CoreFault>) -> Answer
+    ensures { result ≡ told_by told }
+{
+    match told {
+        Ok(told) => told,
+        Err(fault) => Answer::Refused(fault),
+    }
+}
+
+/// The same of a post.
+fn answer_of_post(told: Result<(), CoreFault>) -> Answer
+    ensures { result ≡ told_by_post told }
+{
+    match told {
+        Ok(()) => Answer::Posted,
+        Err(fault) => Answer::Refused(fault),
+    }
+}
+
+/// The same of an edit.
+fn answer_of_edit(told: Result<Answer, EditFault>) -> Answer
+    ensures { result ≡ told_by_edit told }
+{
+    match told {
+        Ok(told) => told,
+        Err(fault) => Answer::Refused(CoreFault::from(fault)),
+    }
+}
+
+/// The answer, or want of memory.
+fn answer_or_memory(told: Result<Answer, AllocError>) -> Answer
+    ensures { result ≡ told_or_memory told }
+{
+    match told {
+        Ok(told) => told,
+        Err(_) => Answer::Refused(CoreFault::Memory),
+    }
+}
+
+impl Core {
+    /// Serves an edit.
+    fn serve_edit(&mut self, alloc: Global, edit: &Edit) -> Answer
+        ensures answer { MayAnswer self.old.past (Edits edit.now) result self.new.past }
+        ensures taken { self.new.taken ≡ self.old.taken }
+    {
+        answer_of_edit(self.edit(alloc, edit))
+    }
+
+    /// Serves a post.
+    fn serve_post(&mut self, task: u8, epoch: u32, bytes: &[u8]) -> Answer
+        ensures answer { MayAnswer self.old.past (Posts task epoch bytes.now) result self.new.past }
+        ensures taken { self.new.taken ≡ self.old.taken }
+    {
+        answer_of_post(self.post(task, epoch, bytes))
+    }
+
+    /// Serves a sending of tasks.
+    fn serve_tasks(&mut self, alloc: Global, tasks: &[u8]) -> Answer
+        requires { AreSentTogether tasks.now }
+        ensures answer { MayAnswer self.old.past (SendsTasks tasks.now) result self.new.past }
+        ensures taken { self.new.taken ≡ self.old.taken }
+    {
+        answer_of(self.send(alloc, tasks))
+    }
+
+    /// Serves a register write.
+    fn serve_write(&mut self, alloc: Global) -> Answer
+        ensures answer { MayAnswer self.old.past SendsWrite result self.new.past }
+        ensures taken { self.new.taken ≡ self.old.taken }
+    {
+        answer_of(self.write(alloc))
+    }
+
+    /// Serves an arrival.
+    fn serve_arrival(&mut self, alloc: Global, bytes: &[u8]) -> Answer
+        ensures answer { MayAnswer self.old.past (Arrives bytes.now) result self.new.past }
+        ensures taken { self.new.taken ≡ self.old.taken }
+    {
+        answer_or_memory(self.arrive(alloc, bytes))
+    }
+
+    /// Serves a read.
+    fn serve_read(&self, alloc: Global, task: u8) -> Answer
+        ensures { MayAnswer self.now.past (Reads task) result self.now.past }
+    {
+        answer_or_memory(self.read(alloc, task))
+    }
+
+    /// Serves an event: the answer is that of `specs/Steps` of the events for the record of what was accepted,
+    /// and what it accepts is recorded; or want of memory, where the event takes some, and nothing changed.
+    /// Tasks that are sent together are 1 to 8, and none twice.
+    pub fn step(&mut self, alloc: Global, event: Event<'_>) -> Answer
+        requires { IsAsked (step_of event) }
+        ensures answer { MayAnswer self.old.past (step_of event.entry) result self.new.past }
+        ensures taken { self.new.taken ≡ self.old.taken }
+    {
+        match event {
+            Event::Edit(edit) => self.serve_edit(alloc, edit),
+            Event::SendWrite => self.serve_write(alloc),
+            Event::Arrive(bytes) => self.serve_arrival(alloc, bytes),
+            Event::Read(task) => self.serve_read(alloc, task),
+            Event::SendTasks(tasks) => self.serve_tasks(alloc, tasks),
+            Event::Post { task, epoch, bytes } => self.serve_post(task, epoch, bytes),
+        }
+    }
+
+    /// Serves events one after another, each as `step` does. The room for the answers is taken first: after
+    /// `AllocError` no event was served, and nothing changed.
+    pub fn run(&mut self, alloc: Global, events: &[Event<'_>]) -> Result<Vec<Answer>, AllocError>
+        requires { All (λ event. IsAsked (step_of event)) events.now }
+        ensures answers { IfOk result (λ answers. MayAnswerAll self.old.past (map step_of events.now) answers.items self.new.past) }
+        ensures taken { self.new.taken ≡ self.old.taken }
+        ensures unchanged { OnErr result (self.new ≡ self.old) }
+    {
+        let mut answers = Vec::with_capacity(alloc, events.len())?;
+        for event in events {
+            let answer = self.step(alloc, *event);
+            answers.push_reserved(answer);
+        }
+        Ok(answers)
+    }
+}

@@ -1,0 +1,26 @@
+//! Takes the changes.
+ghost use Rattle.std.specs.Prelude.{◌≡◌, ◌++◌, map};
+ghost use Rattle.hc_events.specs.Changes.{SwapsLeadFrom, news_of, told_by};
+ghost use Rattle.hc_events.specs.NewsLaws.{state_behind};
+ghost use Rattle.hc_events.specs.Points.{state_of};
+
+use crate::keeping::Core;
+use hc_events::change::Change;
+use std::alloc::Global;
+use std::mem;
+use std::snapshot::Snapshot;
+
+impl Core {
+    /// The changes since they were taken last, or since the opening, in order: what was news since then, and
+    /// swaps that lead from the line as it was then to the present one. They are no longer kept, and the
+    /// record stays. It takes no memory.
+    pub fn take_changes(&mut self, alloc: Global) -> Vec<Change>
+        ensures told { news_of self.old.past ≡ news_of self.old.taken ++ map told_by result.items }
+        ensures lead { SwapsLeadFrom (state_of self.old.taken) result.items }
+        ensures behind { state_behind (state_of self.old.taken) result.items ≡ state_of self.old.past }
+        ensures taken { self.new ≡ record { past = self.old.past; taken = self.old.past } }
+    {
+        self.taken = Snapshot::of(&self.past);
+        mem::replace(&mut self.changes, Vec::new(alloc))
+    }
+}
