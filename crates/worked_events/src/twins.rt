@@ -1,5 +1,6 @@
 //! The core beside the program that looks back: each event is put to both.
-ghost use Rattle.std.specs.Prelude.{◌≡◌, IsTrue};
+ghost use Rattle.std.specs.Prelude.{◌≡◌, ◌==◌, IsTrue};
+ghost use Rattle.std.specs.List.{list_any};
 ghost use Rattle.hc_records.specs.Lists.{has_repeat};
 ghost use Rattle.hc_events.specs.Calls.{AreSentTogether};
 ghost use Rattle.hc_events.specs.Steps.{step_of};
@@ -15,13 +16,20 @@ use hc_events::faults::CoreFault;
 use hc_records::limits::TASKS;
 use std::alloc::{AllocError, Global};
 
+/// Whether a task stands in a list.
+fn stands_in(task: u8, list: &[u8]) -> bool
+    ensures { result ≡ list_any (λ other. other == task) list.now }
+{
+    list.iter().any(|other| *other == task)
+}
+
 /// Whether a task stands twice. A sending has at most eight, so deep is this recursion.
 fn repeats(tasks: &[u8]) -> bool
     ensures { result ≡ has_repeat tasks.now }
 {
     match tasks {
         [] => false,
-        [first, rest @ ..] => rest.iter().any(|task| *task == *first) || repeats(rest),
+        [first, rest @ ..] => stands_in(*first, rest) || repeats(rest),
     }
 }
 
