@@ -131,10 +131,9 @@ impl Driven for Twins {
         if !is_asked(event) {
             return Ok(Answer::Refused(CoreFault::Memory));
         }
+        let entries = self.back.len();
         let answer = self.core.step(alloc, event);
-        if matches!(answer, Answer::Refused(CoreFault::Memory))
-            && self.is_told(alloc, self.back.len())
-        {
+        if matches!(answer, Answer::Refused(CoreFault::Memory)) && self.is_told(alloc, entries) {
             self.wants = self.wants.saturating_add(1);
             return Err(AllocError);
         }
