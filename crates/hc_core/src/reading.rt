@@ -1,8 +1,10 @@
 //! What a core tells of itself and to tasks.
-ghost use Rattle.std.specs.Prelude.{◌≡◌, IfOk, length};
+ghost use Rattle.std.specs.Prelude.{◌≡◌, ◌<◌, IfOk, length};
+ghost use Rattle.hc_records.specs.declared.limits.TheConstants.{TASKS};
 ghost use Rattle.hc_events.specs.Owed.{owed_blocks};
 ghost use Rattle.hc_events.specs.Points.{next_serial, state_of};
 ghost use Rattle.hc_events.specs.Steps.{Reads, answer_to};
+ghost use Rattle.hc_core.specs.Reads.{ShowsLastData};
 
 use crate::keeping::Core;
 use hc_events::answer::Answer;
@@ -33,10 +35,8 @@ impl Core {
         self.owed.count()
     }
 
-    /// What a task reads: the present epoch, and of each datagram that the task has in it the data of its last
-    /// good answer, or none. A task over 7 is refused with `NoSuchTask`. `AllocError` where a growth was
-    /// refused.
-    pub fn read(&self, alloc: Global, task: u8) -> Result<Answer, AllocError>
+    /// The image of a task as it is kept.
+    fn image(&self, alloc: Global, task: u8) -> Result<Answer, AllocError>
         ensures { IfOk result (λ told. told ≡ answer_to self.now.past (Reads task)) }
     {
         if task >= TASKS {
@@ -46,5 +46,14 @@ impl Core {
         let slots = self.inputs.read(alloc, task, count)?;
         let epoch = self.plan.epoch();
         Ok(Answer::Image { epoch, slots })
+    }
+    /// What a task reads: the present epoch, and of each datagram that the task has in the present line the
+    /// data of its last good answer in this epoch, or none where it had none. A task over 7 is refused with
+    /// `NoSuchTask`. `AllocError` where a growth was refused.
+    pub fn read(&self, alloc: Global, task: u8) -> Result<Answer, AllocError>
+        ensures answer { IfOk result (λ told. told ≡ answer_to self.now.past (Reads task)) }
+        ensures shows { IfOk result (λ told. task < TASKS → ShowsLastData self.now.past task told) }
+    {
+        self.image(alloc, task)
     }
 }

@@ -2,6 +2,8 @@
 ghost use Rattle.std.specs.Prelude.{◌≡◌, All, IfOk, OnErr, map};
 ghost use Rattle.hc_events.specs.Calls.{AreSentTogether, MayAnswer};
 ghost use Rattle.hc_events.specs.Steps.{Arrives, Edits, Posts, Reads, SendsTasks, SendsWrite, step_of};
+ghost use Rattle.hc_core.specs.Lines.{IsLineAfter};
+ghost use Rattle.hc_core.specs.Reads.{IsAsWithoutStale, ReadsShowLastData, StaleLeavesNothing, TasksReadLastData};
 ghost use Rattle.hc_core.specs.Serving.{IsAsked, MayAnswerAll, told_by, told_by_edit, told_by_post, told_or_memory};
 
 use crate::keeping::Core;
@@ -101,10 +103,8 @@ impl Core {
         answer_or_memory(self.read(alloc, task))
     }
 
-    /// Serves an event: the answer is that of `specs/Steps` of the events for the record of what was accepted,
-    /// and what it accepts is recorded; or want of memory, where the event takes some, and nothing changed.
-    /// Tasks that are sent together are 1 to 8, and none twice.
-    pub fn step(&mut self, alloc: Global, event: Event<'_>) -> Answer
+    /// Serves an event by its kind.
+    fn serve(&mut self, alloc: Global, event: Event<'_>) -> Answer
         requires { IsAsked (step_of event) }
         ensures answer { MayAnswer self.old.past (step_of event.entry) result self.new.past }
         ensures taken { self.new.taken ≡ self.old.taken }
@@ -119,9 +119,21 @@ impl Core {
         }
     }
 
-    /// Serves events one after another, each as `step` does. The room for the answers is taken first: after
-    /// `AllocError` no event was served, and nothing changed.
-    pub fn run(&mut self, alloc: Global, events: &[Event<'_>]) -> Result<Vec<Answer>, AllocError>
+    /// Serves an event: the answer is that of `specs/Steps` of the events for the record of what was accepted,
+    /// and what it accepts is recorded; or want of memory, where the event takes some, and nothing changed.
+    /// Tasks that are sent together are 1 to 8, and none twice. An arrival that is told to be stale leaves
+    /// nothing: whatever comes behind it is answered as if it hadn't come, what tasks read too.
+    pub fn step(&mut self, alloc: Global, event: Event<'_>) -> Answer
+        requires { IsAsked (step_of event) }
+        ensures answer { MayAnswer self.old.past (step_of event.entry) result self.new.past }
+        ensures stale { StaleLeavesNothing self.old.past result self.new.past }
+        ensures taken { self.new.taken ≡ self.old.taken }
+    {
+        self.serve(alloc, event)
+    }
+
+    /// Serves events one after another. The room for the answers is taken first.
+    fn serve_all(&mut self, alloc: Global, events: &[Event<'_>]) -> Result<Vec<Answer>, AllocError>
         requires { All (λ event. IsAsked (step_of event)) events.now }
         ensures answers { IfOk result (λ answers. MayAnswerAll self.old.past (map step_of events.now) answers.items self.new.past) }
         ensures taken { self.new.taken ≡ self.old.taken }
@@ -133,5 +145,27 @@ impl Core {
             answers.push_reserved(answer);
         }
         Ok(answers)
+    }
+
+    /// Serves events one after another, each as `step` does. The room for the answers is taken first: after
+    /// `AllocError` no event was served, and nothing changed.
+    ///
+    /// Behind the events the line is the one to which the edits among them lead, refused ones changing
+    /// nothing; `plan` gives what configuring that line from nothing makes of it. Whatever a task reads,
+    /// between the events (`shown`) or behind them (`reads`), is of each datagram that it has in the present
+    /// line the data of the last good answer in the present epoch, or none where there was none in it; that
+    /// answer's frame was sent in a line with the same places. A stale frame changes nothing: all that comes
+    /// is answered as if none had come.
+    pub fn run(&mut self, alloc: Global, events: &[Event<'_>]) -> Result<Vec<Answer>, AllocError>
+        requires { All (λ event. IsAsked (step_of event)) events.now }
+        ensures answers { IfOk result (λ answers. MayAnswerAll self.old.past (map step_of events.now) answers.items self.new.past) }
+        ensures line { IfOk result (λ answers. IsLineAfter self.old.past (map step_of events.now) answers.items self.new.past) }
+        ensures shown { IfOk result (λ answers. ReadsShowLastData self.old.past (map step_of events.now) answers.items) }
+        ensures reads { TasksReadLastData self.new.past }
+        ensures stale { IsAsWithoutStale self.new.past }
+        ensures taken { self.new.taken ≡ self.old.taken }
+        ensures unchanged { OnErr result (self.new ≡ self.old) }
+    {
+        self.serve_all(alloc, events)
     }
 }

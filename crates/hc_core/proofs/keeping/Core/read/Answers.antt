@@ -1,35 +1,15 @@
-use Rattle.std.proofs.Common.{◌≤◌, ◌∙◌, ap, sym, subst, cond, map, Some, None}
-use Rattle.std.specs.List.{range_with_len}
-use Rattle.hc_records.specs.declared.limits.TheConstants.{MOST_DATAGRAMS}
-use Rattle.hc_records.specs.Image.{datagram_count, task_places}
-use Rattle.hc_records.specs.Line.{State, line}
-use Rattle.hc_places.specs.Table.{datagrams_in}
-use Rattle.hc_events.specs.declared.answer.Answer.TheVariants.{Image}
-use Rattle.hc_events.specs.declared.faults.CoreFault.TheVariants.{NoSuchTask}
-use Rattle.hc_events.specs.Points.{epoch_of}
-use Rattle.hc_events.specs.Images.{slot_of}
-use Rattle.hc_events.specs.Steps.{image_of, is_no_task, unless}
-use Rattle.hc_events.proofs.lemmas.Epochs.{epochs-counted}
-use Rattle.hc_sendings.proofs.lemmas.Listed.{listed-count}
-use Rattle.hc_inputs.specs.Image.{data_of_first}
-use Rattle.hc_past.specs.Records.{record_of}
-use Rattle.hc_core.proofs.Shown.{is-task, slots-shown}
-use Rattle.hc_core.specs.State.{CoreState}
+use Rattle.std.proofs.Common.{◌≡◌, ◌<◌}
+use Rattle.hc_records.specs.declared.limits.TheConstants.{TASKS}
+use Rattle.hc_events.specs.Steps.{Reads, answer_to}
+use Rattle.hc_core.specs.Reads.{ShowsLastData}
+use Rattle.hc_core.proofs.ReadsAmong.{if-ok, read-shows}
 use Rattle.hc_core.proofs.keeping.Core.read.Goals as goal
 
-pub returns : goal.returns
-returns c =
-    let kept = c.self.invariant in
-    let past = record_of c.self.inside.past in
+pub returns-clause-answer : goal.returns-clause-answer
+returns-clause-answer c = c.image.ensures
+
+pub returns-clause-shows : goal.returns-clause-shows
+returns-clause-shows c =
+    let past = c.args.self.now.past in
     let task = c.args.task in
-    let image = c.self.inside.inputs in
-    let count = listed-count c.self.inside.plan task c.datagrams.result.now c.places.ensures.kept (c.datagrams.ensures.datagrams ∙ ap (λ table. datagrams_in table task) c.places.ensures.table) in
-    let few : datagram_count (task_places task (line c.self.inside.plan)) ≤ MOST_DATAGRAMS = subst (λ n. n ≤ MOST_DATAGRAMS) count c.datagrams.ensures.few in
-    let slots = c.in_ok-slots.ensures ∙ ap (data_of_first image task) count
-    ∙ slots-shown past image task (datagram_count (task_places task (line c.self.inside.plan))) kept.slots few
-    ∙ ap (λ (state : State). map (slot_of past task) (range_with_len 0 (datagram_count (task_places task (line state))))) kept.state in
-    let epoch = c.epoch-epoch.ensures ∙ ap (λ (state : State). state.epoch) kept.state ∙ epochs-counted past kept.accepted in
-    ap (λ n. Image n c.in_ok-slots.slots) epoch
-    ∙ ap (Image (epoch_of past)) slots
-    ∙ sym (ap (λ b. unless (cond b (Some NoSuchTask) None) (image_of past task)) (is-task task c.if-task-ge-TASKS.false))
-    ∙ ap (λ (state : CoreState). unless (cond (is_no_task task) (Some NoSuchTask) None) (image_of state.past task)) c.self.view_is
+    if-ok (λ told. told ≡ answer_to past (Reads task)) (λ told. task < TASKS → ShowsLastData past task told) c.image.result (read-shows past task) c.image.ensures

@@ -1,28 +1,31 @@
-use Rattle.std.proofs.Common.{◌∙◌, ◌+◌, ◌∷◌, ◌++◌, [], List, length, length-append, map, take, sym, subst, ap, ℕ, arith}
-use Rattle.std.proofs.lemmas.List.{map_more}
-use Rattle.hc_events.specs.declared.answer.Answer.{Answer}
-use Rattle.hc_events.specs.Steps.{Step, step_of}
+use Rattle.std.proofs.Common.{map}
+use Rattle.hc_events.specs.Steps.{step_of}
+use Rattle.hc_core.specs.Lines.{IsLineAfter}
+use Rattle.hc_core.specs.Reads.{ReadsShowLastData}
 use Rattle.hc_core.specs.Serving.{MayAnswerAll}
-use Rattle.hc_core.proofs.Serves.{all-answered}
+use Rattle.hc_core.proofs.Lines.{line-after}
+use Rattle.hc_core.proofs.Reads.{reads-last}
+use Rattle.hc_core.proofs.ReadsAmong.{if-ok, shows-among, without-stale}
 use Rattle.hc_core.proofs.keeping.Core.run.Goals as goal
 
-pub loop-event-preserved : goal.loop-event-preserved
-loop-event-preserved c =
-    let i = c.loop-event.event-index in
-    let list = c.push_reserved.ensures in
-    let answers = c.loop-event.answers.items in
-    let answer = c.step-answer.result in
+pub returns-clause-line : goal.returns-clause-line
+returns-clause-line c =
     let past = c.args.self.now.past in
-    let next = c.step-answer.new.self.past in
-    let longer = length-append answers (answer ∷ []) in
-    let steps = map step_of (take i c.args.events.now) in
-    let more = all-answered past c.loop-event.self.past next steps answers (step_of c.event-item.result) answer c.loop-event.invariant.answers c.step-answer.ensures.answer in
-    let grown = map_more step_of c.args.events.now i c.event-item.result c.loop-event-test.true ∙ ap (λ event. steps ++ step_of event ∷ []) (sym c.event-item.is) in
-    record {
-      answers =
-          subst (λ (all : List Answer). MayAnswerAll past (map step_of (take (i + 1) c.args.events.now)) all next) (sym list.items)
-          (subst (λ (all : List Step). MayAnswerAll past all (answers ++ answer ∷ []) next) (sym grown) more);
-      taken = c.step-answer.ensures.taken ∙ c.loop-event.invariant.taken;
-      counted = ap length list.items ∙ longer ∙ ap (λ (n : ℕ). n + 1) c.loop-event.invariant.counted;
-      room = let room = c.loop-event.invariant.room in omega (arith, list.capacity, room);
-    }
+    let next = c.serve_all.new.self.past in
+    let steps = map step_of c.args.events.now in
+    if-ok (λ answers. MayAnswerAll past steps answers.items next) (λ answers. IsLineAfter past steps answers.items next) c.serve_all.result
+    (λ answers. line-after past next steps answers.items) c.serve_all.ensures.answers
+
+pub returns-clause-shown : goal.returns-clause-shown
+returns-clause-shown c =
+    let past = c.args.self.now.past in
+    let next = c.serve_all.new.self.past in
+    let steps = map step_of c.args.events.now in
+    if-ok (λ answers. MayAnswerAll past steps answers.items next) (λ answers. ReadsShowLastData past steps answers.items) c.serve_all.result
+    (λ answers. shows-among past next steps answers.items) c.serve_all.ensures.answers
+
+pub returns-clause-reads : goal.returns-clause-reads
+returns-clause-reads c = reads-last c.serve_all.new.self.past
+
+pub returns-clause-stale : goal.returns-clause-stale
+returns-clause-stale c = without-stale c.serve_all.new.self.past

@@ -9,4 +9,4 @@ pub returns : goal.returns
 returns c =
     let past = c.args.self.now.past in
     subst (λ (told : Answer). MayAnswer past (Reads c.args.task) told past) (sym c.answer_or_memory.ensures)
-    (read-served past c.args.task c.read.result c.read.ensures)
+    (read-served past c.args.task c.read.result c.read.ensures.answer)

@@ -1,7 +1,7 @@
 use Rattle.std.proofs.Common.{◌≡◌, ◌≤◌, length, map, take, vec_capacity}
 use Rattle.hc_events.specs.Steps.{step_of}
 use Rattle.hc_core.specs.Serving.{MayAnswerAll}
-use Rattle.hc_core.proofs.keeping.Core.run.Given as goal
+use Rattle.hc_core.proofs.keeping.Core.serve_all.Given as goal
 
 -- the events so far have their answers, for which there is room
 abbrev pub invariant-loop-event : goal.invariant-loop-event

@@ -1,0 +1,490 @@
+-- What a task reads of a datagram is its last good answer.
+use Rattle.std.proofs.Common.{◌≡◌, ◌⊎◌, inl, inr, ℕ, zero, suc, ◌+◌, ◌<◌, ◌==◌, Bool, true, false, cond, not, ◌&&◌, ◌||◌, List, [], ◌∷◌, ◌++◌, length, map, slice_get, refl, sym, ap, ◌∙◌, subst, arith, Option, Some, None}
+use Rattle.std.specs.Prelude.{All, fold}
+use Rattle.std.specs.Option.{option_map_or}
+use Rattle.std.specs.List.{flat_map, list_any, range_with_len, zip}
+use Rattle.std.proofs.lemmas.Bool.{and_parts, eq-eqb, eqb-true, or_parts}
+use Rattle.std.proofs.lemmas.Bool.Decides.{nat_tests}
+use Rattle.std.proofs.lemmas.List.Elements.{All-head, All-tail}
+use Rattle.hc_records.specs.declared.limits.TheConstants.{TASKS}
+use Rattle.hc_records.specs.Line.{Member}
+use Rattle.hc_records.specs.Image.{datagram_count, expected_counter, task_places}
+use Rattle.hc_registers.specs.Blocks.{LineBlock}
+use Rattle.hc_events.specs.declared.answer.Answer.{Answer}
+use Rattle.hc_events.specs.declared.faults.CoreFault.TheVariants.{NoSuchTask}
+use Rattle.hc_events.specs.Arrivals.{Arrival, Part}
+use Rattle.hc_events.specs.Entries.{Entry, Record, Opened, Edited, Posted, Sent, Wrote, Came}
+use Rattle.hc_events.specs.Points.{line_of, next_serial}
+use Rattle.hc_events.specs.Sendings.{Named}
+use Rattle.hc_events.specs.Heads.{Block, Datagram, Head, data_head, data_heads, item_of, write_head}
+use Rattle.hc_events.specs.Answering.{Good, Sending, Stale, Wrong, answered_by, has_good, has_heads, is_good, judge, judged, sends}
+use Rattle.hc_events.specs.AnswerLaws.{IsFirstAnswer, LeavesOpen}
+use Rattle.hc_events.specs.Awaited.{is_no_arrival}
+use Rattle.hc_events.specs.Images.{Fresh, fresh, fresh_by, fresh_item, renewed, slot_of, slots_of}
+use Rattle.hc_events.specs.SendingLaws.{heads_of, is_sending}
+use Rattle.hc_events.specs.Steps.{image_of, unless}
+use Rattle.hc_events.proofs.lemmas.Answers.{answers-first, none-opened}
+use Rattle.hc_events.proofs.lemmas.Slots.{slots-fit}
+use Rattle.hc_core.specs.Reads.{AreLastData, CameBack, GoodAnswer, IsGoodIn, IsLastData, IsLater, ShowsLastData, TasksReadLastData, begins_epoch}
+use Rattle.hc_core.proofs.Shown.{is-task}
+
+-- a frame that came back is the answer to its sending
+
+answered_back : (past : Record) (arrival : Arrival) (back : CameBack past arrival)
+    → answered_by past arrival ≡ Some (record { heads = data_heads (line_of back.before) back.frame; since = back.since })
+answered_back past arrival back =
+    let heads = data_heads (line_of back.before) back.frame in
+    (answers-first past arrival (record { heads = heads; since = back.since })).1 (record {
+      stands = record {
+        before = back.before;
+        entry = Sent back.frame;
+        split = back.sent;
+        sends = refl;
+        serial_is = sym back.serial;
+        heads = refl;
+        running = none-opened arrival.serial heads back.since back.first;
+      };
+      fits = back.fits;
+      left_open = back.first;
+    })
+
+same_sending : (a b : Sending) → Some a ≡ Some b → a ≡ b
+same_sending a b e = cc
+
+same_split : (since : List Entry) (one other : Entry) (a b : Record) → since ++ one ∷ a ≡ since ++ other ∷ b → (one ≡ other) × (a ≡ b)
+same_split [] one other a b e = (cc, cc)
+same_split (entry ∷ since) one other a b e =
+    let rest : since ++ one ∷ a ≡ since ++ other ∷ b = cc in
+    same_split since one other a b rest
+
+-- what a frame's good answers leave of a datagram's data
+
+record GoodAt (since : List Entry) (line : List Member) (task d : ℕ) (pairs : List (Named × Part)) (n : ℕ) (part : Part) : Type 0 where
+  at : slice_get pairs n ≡ Some ((task, d), part)
+  newest : list_any (sends (Datagram task d)) since ≡ false
+  counter : part.counter ≡ expected_counter task d line
+
+record LastAt (since : List Entry) (line : List Member) (task d : ℕ) (pairs : List (Named × Part)) (slot : Option (List ℕ)) : Type 0 where
+  n : ℕ
+  part : Part
+  good : GoodAt since line task d pairs n part
+  is : slot ≡ Some part.bytes
+  last : (m : ℕ) (other : Part) → n < m → ¬ (GoodAt since line task d pairs m other)
+
+abbrev NoneAt : List Entry → List Member → ℕ → ℕ → List (Named × Part) → Option (List ℕ) → Option (List ℕ) → Type 0
+NoneAt since line task d pairs before slot = (slot ≡ before) × ((m : ℕ) (other : Part) → ¬ (GoodAt since line task d pairs m other))
+
+abbrev is_own : List Entry → List Member → ℕ → ℕ → Named → Part → Bool
+is_own since line task d named part = has_good (judge since (data_head line named, part)) && ((named.0 == task) && (named.1 == d))
+
+fold_one : (task d : ℕ) (slot : Option (List ℕ)) (good : Bool) (named : Named) (bytes : List ℕ) (rest : List Fresh)
+    → fold (renewed task d) slot (cond good (fresh_item (item_of named) bytes) [] ++ rest) ≡ fold (renewed task d) (cond (good && ((named.0 == task) && (named.1 == d))) (Some bytes) slot) rest
+fold_one task d slot true named bytes rest = refl
+fold_one task d slot false named bytes rest = refl
+
+good_means : (again same : Bool) → is_good (cond again Stale (cond same Good Wrong)) ≡ true → (again ≡ false) × (same ≡ true)
+good_means true same good = cc
+good_means false true good = (refl, refl)
+good_means false false good = cc
+
+named_is : (named : Named) (task d : ℕ) → named.0 ≡ task → named.1 ≡ d → named ≡ (task, d)
+named_is (t, e) task d first second = rw (first, second) refl
+
+own_here : (since : List Entry) (line : List Member) (task d : ℕ) (named : Named) (part : Part) (pairs : List (Named × Part)) → is_own since line task d named part ≡ true → GoodAt since line task d ((named, part) ∷ pairs) 0 part
+own_here since line task d named part pairs own =
+    let both = and_parts (has_good (judge since (data_head line named, part))) ((named.0 == task) && (named.1 == d)) own in
+    let means = good_means (list_any (sends (item_of named)) since) (part.counter == expected_counter named.0 named.1 line) both.0 in
+    let names = and_parts (named.0 == task) (named.1 == d) both.1 in
+    let is = named_is named task d (eqb-true named.0 task names.0) (eqb-true named.1 d names.1) in
+    record {
+      at = ap (λ (one : Named). Some (one, part)) is;
+      newest = subst (λ (one : Named). list_any (sends (item_of one)) since ≡ false) is means.0;
+      counter = subst (λ (one : Named). part.counter ≡ expected_counter one.0 one.1 line) is (eqb-true part.counter (expected_counter named.0 named.1 line) means.1);
+    }
+
+its_own : (task d : ℕ) → ((task == task) && (d == d)) ≡ true
+its_own task d = grind (arith, nat_tests)
+
+here_own : (since : List Entry) (line : List Member) (task d : ℕ) (part : Part) → list_any (sends (Datagram task d)) since ≡ false → part.counter ≡ expected_counter task d line → is_own since line task d (task, d) part ≡ true
+here_own since line task d part newest counter =
+    ap (λ again. is_good (cond again Stale (cond (part.counter == expected_counter task d line) Good Wrong)) && ((task == task) && (d == d))) newest
+    ∙ ap (λ same. is_good (cond same Good Wrong) && ((task == task) && (d == d))) (eq-eqb part.counter (expected_counter task d line) counter)
+    ∙ its_own task d
+
+same_pair : (named : Named) (part : Part) (one : Named) (other : Part) → Some (named, part) ≡ Some (one, other) → (named ≡ one) × (part ≡ other)
+same_pair named part one other e = (cc, cc)
+
+not_here : (since : List Entry) (line : List Member) (task d : ℕ) (named : Named) (part other : Part) (pairs : List (Named × Part)) → is_own since line task d named part ≡ false → ¬ (GoodAt since line task d ((named, part) ∷ pairs) 0 other)
+not_here since line task d named part other pairs none good =
+    let same = same_pair named part (task, d) other good.at in
+    let own = here_own since line task d other good.newest good.counter in
+    let is : is_own since line task d named part ≡ is_own since line task d (task, d) other =
+    ap (λ (one : Named). is_own since line task d one part) same.0 ∙ ap (λ (one : Part). is_own since line task d (task, d) one) same.1 in
+    let never : false ≡ true = sym none ∙ is ∙ own in
+    cc
+
+behind_here : (since : List Entry) (line : List Member) (task d : ℕ) (pair : Named × Part) (pairs : List (Named × Part)) (n : ℕ) (part : Part) → GoodAt since line task d pairs n part → GoodAt since line task d (pair ∷ pairs) (suc n) part
+behind_here since line task d pair pairs n part good = record { at = good.at; newest = good.newest; counter = good.counter }
+
+behind_it : (since : List Entry) (line : List Member) (task d : ℕ) (pair : Named × Part) (pairs : List (Named × Part)) (n : ℕ) (part : Part) → GoodAt since line task d (pair ∷ pairs) (suc n) part → GoodAt since line task d pairs n part
+behind_it since line task d pair pairs n part good = record { at = good.at; newest = good.newest; counter = good.counter }
+
+abbrev NoneBehind : List Entry → List Member → ℕ → ℕ → List (Named × Part) → ℕ → Type 0
+NoneBehind since line task d pairs n = (m : ℕ) (other : Part) → n < m → ¬ (GoodAt since line task d pairs m other)
+
+later_none : (since : List Entry) (line : List Member) (task d : ℕ) (pair : Named × Part) (pairs : List (Named × Part)) (n : ℕ) → NoneBehind since line task d pairs n → NoneBehind since line task d (pair ∷ pairs) (suc n)
+later_none since line task d pair pairs n none zero other less good = absurd (omega (arith, less))
+later_none since line task d pair pairs n none (suc m) other less good =
+    let lower : n < m = omega (arith, less) in
+    none m other lower (behind_it since line task d pair pairs m other good)
+
+all_none : (since : List Entry) (line : List Member) (task d : ℕ) (pair : Named × Part) (pairs : List (Named × Part)) → ((m : ℕ) (other : Part) → ¬ (GoodAt since line task d pairs m other)) → NoneBehind since line task d (pair ∷ pairs) 0
+all_none since line task d pair pairs none zero other less good = absurd (omega (arith, less))
+all_none since line task d pair pairs none (suc m) other less good = none m other (behind_it since line task d pair pairs m other good)
+
+none_more : (since : List Entry) (line : List Member) (task d : ℕ) (named : Named) (part : Part) (pairs : List (Named × Part)) → is_own since line task d named part ≡ false → ((m : ℕ) (other : Part) → ¬ (GoodAt since line task d pairs m other))
+    → (m : ℕ) (other : Part) → ¬ (GoodAt since line task d ((named, part) ∷ pairs) m other)
+none_more since line task d named part pairs own none zero other good = not_here since line task d named part other pairs own good
+none_more since line task d named part pairs own none (suc m) other good = none m other (behind_it since line task d (named, part) pairs m other good)
+
+told_more : (since : List Entry) (line : List Member) (task d : ℕ) (named : Named) (part : Part) (pairs : List (Named × Part)) (before slot : Option (List ℕ)) (own : Bool) → is_own since line task d named part ≡ own
+    → LastAt since line task d pairs slot ⊎ NoneAt since line task d pairs (cond own (Some part.bytes) before) slot
+    → LastAt since line task d ((named, part) ∷ pairs) slot ⊎ NoneAt since line task d ((named, part) ∷ pairs) before slot
+told_more since line task d named part pairs before slot own is (inl last) = inl (record {
+  n = suc last.n;
+  part = last.part;
+  good = behind_here since line task d (named, part) pairs last.n last.part last.good;
+  is = last.is;
+  last = later_none since line task d (named, part) pairs last.n last.last;
+})
+told_more since line task d named part pairs before slot true is (inr (same, none)) = inl (record {
+  n = 0;
+  part = part;
+  good = own_here since line task d named part pairs is;
+  is = same;
+  last = all_none since line task d (named, part) pairs none;
+})
+told_more since line task d named part pairs before slot false is (inr (same, none)) = inr (same, none_more since line task d named part pairs is none)
+
+abbrev slot_behind : List Entry → List Member → ℕ → ℕ → List Named → List Part → Option (List ℕ) → Option (List ℕ)
+slot_behind since line task d frame parts slot = fold (renewed task d) slot (flat_map fresh (map (judge since) (zip (data_heads line frame) parts)))
+
+nothing_at : (since : List Entry) (line : List Member) (task d n : ℕ) (part : Part) → ¬ (GoodAt since line task d [] n part)
+nothing_at since line task d n part good = let never = good.at in cc
+
+told_goods : (since : List Entry) (line : List Member) (task d : ℕ) (frame : List Named) (parts : List Part) (slot : Option (List ℕ))
+    → LastAt since line task d (zip frame parts) (slot_behind since line task d frame parts slot) ⊎ NoneAt since line task d (zip frame parts) slot (slot_behind since line task d frame parts slot)
+told_goods since line task d [] parts slot = inr (refl, nothing_at since line task d)
+told_goods since line task d (named ∷ frame) [] slot = inr (refl, nothing_at since line task d)
+told_goods since line task d (named ∷ frame) (part ∷ parts) slot =
+    let next = cond (is_own since line task d named part) (Some part.bytes) slot in
+    let rest = flat_map fresh (map (judge since) (zip (data_heads line frame) parts)) in
+    let more = told_more since line task d named part (zip frame parts) slot (slot_behind since line task d frame parts next) (is_own since line task d named part) refl (told_goods since line task d frame parts next) in
+    let same = fold_one task d slot (has_good (judge since (data_head line named, part))) named part.bytes rest in
+    subst (λ (found : Option (List ℕ)). LastAt since line task d (zip (named ∷ frame) (part ∷ parts)) found ⊎ NoneAt since line task d (zip (named ∷ frame) (part ∷ parts)) slot found) (sym same) more
+
+-- what an arrival leaves of them
+
+record IsRenewed (past : Record) (arrival : Arrival) (task d : ℕ) (slot : Option (List ℕ)) : Type 0 where
+  place : ℕ
+  part : Part
+  good : IsGoodIn past arrival task d place part
+  is : slot ≡ Some part.bytes
+  last : (m : ℕ) (other : Part) → place < m → ¬ (IsGoodIn past arrival task d m other)
+
+abbrev IsLeft : Record → Arrival → ℕ → ℕ → Option (List ℕ) → Option (List ℕ) → Type 0
+IsLeft past arrival task d before slot = (slot ≡ before) × ((m : ℕ) (other : Part) → ¬ (IsGoodIn past arrival task d m other))
+
+abbrev Tells : Record → Arrival → ℕ → ℕ → Option (List ℕ) → Option (List ℕ) → Type 0
+Tells past arrival task d before slot = IsRenewed past arrival task d slot ⊎ IsLeft past arrival task d before slot
+
+abbrev slot_by : Arrival → ℕ → ℕ → Option (List ℕ) → Option Sending → Option (List ℕ)
+slot_by arrival task d slot found = fold (renewed task d) slot (flat_map fresh (option_map_or (judged arrival) found []))
+
+-- the sending that a frame came back from is the one that was answered
+record IsThatSending (past : Record) (arrival : Arrival) (back : CameBack past arrival) (since : List Entry) (entry : Entry) (before : Record) : Type 0 where
+  since_is : since ≡ back.since
+  entry_is : entry ≡ Sent back.frame
+  before_is : before ≡ back.before
+
+that_sending : (past : Record) (arrival : Arrival) (back : CameBack past arrival) (sending : Sending) (entry : Entry) (before : Record) → answered_by past arrival ≡ Some sending → past ≡ sending.since ++ entry ∷ before
+    → IsThatSending past arrival back sending.since entry before
+that_sending past arrival back sending entry before found split =
+    let one = same_sending sending (record { heads = data_heads (line_of back.before) back.frame; since = back.since }) (sym found ∙ answered_back past arrival back) in
+    let since : sending.since ≡ back.since = ap (λ (s : Sending). s.since) one in
+    let same = same_split sending.since entry (Sent back.frame) before back.before
+    (sym split ∙ subst (λ (entries : List Entry). past ≡ entries ++ Sent back.frame ∷ back.before) (sym since) back.sent) in
+    record { since_is = since; entry_is = same.0; before_is = same.1 }
+
+same_frame : (a b : List Named) → Sent a ≡ Sent b → a ≡ b
+same_frame a b e = cc
+
+-- what is good in a frame of tasks is good in what came back of it
+good_there : (past : Record) (arrival : Arrival) (task d : ℕ) (sending : Sending) (frame : List Named) (before : Record) → answered_by past arrival ≡ Some sending → past ≡ sending.since ++ Sent frame ∷ before
+    → (n : ℕ) (part : Part) → IsGoodIn past arrival task d n part → GoodAt sending.since (line_of before) task d (zip frame arrival.parts) n part
+good_there past arrival task d sending frame before found split n part good =
+    let is = that_sending past arrival good.back sending (Sent frame) before found split in
+    record {
+      at = subst (λ (f : List Named). slice_get (zip f arrival.parts) n ≡ Some ((task, d), part)) (sym (same_frame frame good.back.frame is.entry_is)) good.at;
+      newest = subst (λ (entries : List Entry). list_any (sends (Datagram task d)) entries ≡ false) (sym is.since_is) good.newest;
+      counter = subst (λ (behind : Record). part.counter ≡ expected_counter task d (line_of behind)) (sym is.before_is) good.counter;
+    }
+
+good_here : (past : Record) (arrival : Arrival) (task d n : ℕ) (part : Part) (back : CameBack past arrival) → GoodAt back.since (line_of back.before) task d (zip back.frame arrival.parts) n part → IsGoodIn past arrival task d n part
+good_here past arrival task d n part back good = record { back = back; at = good.at; newest = good.newest; counter = good.counter }
+
+converted : (past : Record) (arrival : Arrival) (task d : ℕ) (before slot : Option (List ℕ)) (back : CameBack past arrival)
+    → ((n : ℕ) (part : Part) → IsGoodIn past arrival task d n part → GoodAt back.since (line_of back.before) task d (zip back.frame arrival.parts) n part)
+    → LastAt back.since (line_of back.before) task d (zip back.frame arrival.parts) slot ⊎ NoneAt back.since (line_of back.before) task d (zip back.frame arrival.parts) before slot
+    → Tells past arrival task d before slot
+converted past arrival task d before slot back there (inl last) = inl (record {
+  place = last.n;
+  part = last.part;
+  good = good_here past arrival task d last.n last.part back last.good;
+  is = last.is;
+  last = λ m other less good. last.last m other less (there m other good);
+})
+converted past arrival task d before slot back there (inr (same, none)) = inr (same, λ m other good. none m other (there m other good))
+
+abbrev no_goods : List Fresh
+no_goods = []
+
+nothing_of : (good : Bool) → cond good no_goods no_goods ++ no_goods ≡ no_goods
+nothing_of true = refl
+nothing_of false = refl
+
+write_goods : (since : List Entry) (block : LineBlock) (parts : List Part) → flat_map fresh (map (judge since) (zip (write_head block ∷ []) parts)) ≡ no_goods
+write_goods since block [] = refl
+write_goods since block (part ∷ parts) = nothing_of (has_good (judge since (write_head block, part)))
+
+by_entry : (past : Record) (arrival : Arrival) (task d : ℕ) (slot : Option (List ℕ)) (sending : Sending) (entry : Entry) (before : Record) → answered_by past arrival ≡ Some sending → past ≡ sending.since ++ entry ∷ before → is_sending entry ≡ true
+    → next_serial before ≡ arrival.serial → sending.heads ≡ heads_of before entry → has_heads sending.heads arrival.parts ≡ true → All (LeavesOpen arrival.serial sending.heads) sending.since
+    → Tells past arrival task d slot (fold (renewed task d) slot (flat_map fresh (map (judge sending.since) (zip (heads_of before entry) arrival.parts))))
+by_entry past arrival task d slot sending (Opened groups) before found split sends serial heads fit open = cc
+by_entry past arrival task d slot sending (Edited edit) before found split sends serial heads fit open = cc
+by_entry past arrival task d slot sending (Posted t bytes) before found split sends serial heads fit open = cc
+by_entry past arrival task d slot sending (Came other) before found split sends serial heads fit open = cc
+by_entry past arrival task d slot sending (Wrote block) before found split sends serial heads fit open = inr (
+  ap (fold (renewed task d) slot) (write_goods sending.since block arrival.parts),
+  λ m other good. let is = that_sending past arrival good.back sending (Wrote block) before found split in let never = is.entry_is in cc,
+)
+by_entry past arrival task d slot sending (Sent frame) before found split sends serial heads fit open =
+    let back : CameBack past arrival = record {
+      since = sending.since;
+      frame = frame;
+      before = before;
+      sent = split;
+      serial = sym serial;
+      fits = subst (λ (all : List Head). has_heads all arrival.parts ≡ true) heads fit;
+      first = subst (λ (all : List Head). All (LeavesOpen arrival.serial all) sending.since) heads open;
+    } in
+    converted past arrival task d slot (slot_behind sending.since (line_of before) task d frame arrival.parts slot) back
+    (good_there past arrival task d sending frame before found split) (told_goods sending.since (line_of before) task d frame arrival.parts slot)
+
+by_answer : (past : Record) (arrival : Arrival) (task d : ℕ) (slot : Option (List ℕ)) (found : Option Sending) → answered_by past arrival ≡ found → Tells past arrival task d slot (slot_by arrival task d slot found)
+by_answer past arrival task d slot None e = inr (refl, λ m other good. let never = sym e ∙ answered_back past arrival good.back in cc)
+by_answer past arrival task d slot (Some sending) e =
+    let first = (answers-first past arrival sending).0 e in
+    let at = first.stands in
+    subst (λ (heads : List Head). Tells past arrival task d slot (fold (renewed task d) slot (flat_map fresh (map (judge sending.since) (zip heads arrival.parts))))) (sym at.heads)
+    (by_entry past arrival task d slot sending at.entry at.before e at.split at.sends at.serial_is at.heads first.fits first.left_open)
+
+arrival_tells : (past : Record) (arrival : Arrival) (task d : ℕ) (slot : Option (List ℕ)) → Tells past arrival task d slot (fold (renewed task d) slot (fresh_by past arrival))
+arrival_tells past arrival task d slot = by_answer past arrival task d slot (answered_by past arrival) refl
+
+-- along the record
+
+abbrev HasLast : Record → ℕ → ℕ → Option (List ℕ) → Type 0
+HasLast past task d None = ¬ (GoodAnswer past task d)
+HasLast past task d (Some bytes) = (answer : GoodAnswer past task d) × (bytes ≡ answer.part.bytes) × ((other : GoodAnswer past task d) → ¬ (IsLater other answer))
+
+-- a good answer behind one more entry is the newest entry, or one of the older ones
+record Older (past : Record) (task d : ℕ) (behind : List Entry) (place : ℕ) : Type 0 where
+  older : GoodAnswer past task d
+  counted : length behind ≡ suc (length older.behind)
+  place_is : place ≡ older.place
+
+record Newest (entry : Entry) (past : Record) (behind : List Entry) (arrival : Arrival) (before : Record) : Type 0 where
+  none : behind ≡ []
+  entry_is : entry ≡ Came arrival
+  before_is : past ≡ before
+
+popped : (entry : Entry) (past : Record) (task d : ℕ) (behind : List Entry) (arrival : Arrival) (before : Record) (place : ℕ) (part : Part) → entry ∷ past ≡ behind ++ Came arrival ∷ before → list_any begins_epoch behind ≡ false
+    → IsGoodIn before arrival task d place part → Newest entry past behind arrival before ⊎ Older past task d behind place
+popped entry past task d [] arrival before place part e present good = inl (record { none = refl; entry_is = cc; before_is = cc })
+popped entry past task d (first ∷ behind) arrival before place part e present good =
+    let tail : past ≡ behind ++ Came arrival ∷ before = cc in
+    inr (record {
+      older = record {
+        behind = behind;
+        arrival = arrival;
+        before = before;
+        came = tail;
+        present = (or_parts (begins_epoch first) (list_any begins_epoch behind) present).1;
+        place = place;
+        part = part;
+        good = good;
+      };
+      counted = refl;
+      place_is = refl;
+    })
+
+pop : (entry : Entry) (past : Record) (task d : ℕ) (answer : GoodAnswer (entry ∷ past) task d) → Newest entry past answer.behind answer.arrival answer.before ⊎ Older past task d answer.behind answer.place
+pop entry past task d answer = popped entry past task d answer.behind answer.arrival answer.before answer.place answer.part answer.came answer.present answer.good
+
+-- none where an epoch begins
+none_begun : (entry : Entry) (past : Record) (behind : List Entry) (arrival : Arrival) (before : Record) → begins_epoch entry ≡ true → entry ∷ past ≡ behind ++ Came arrival ∷ before → list_any begins_epoch behind ≡ false → ⊥
+none_begun entry past [] arrival before begins e present =
+    let same : entry ≡ Came arrival = cc in
+    let never : false ≡ true = sym (ap begins_epoch same) ∙ begins in
+    cc
+none_begun entry past (first ∷ behind) arrival before begins e present =
+    let same : entry ≡ first = cc in
+    let never : false ≡ true = sym (or_parts (begins_epoch first) (list_any begins_epoch behind) present).0 ∙ sym (ap begins_epoch same) ∙ begins in
+    cc
+
+nothing_in : (behind : List Entry) (arrival : Arrival) (before : Record) → [] ≡ behind ++ Came arrival ∷ before → ⊥
+nothing_in [] arrival before e = cc
+nothing_in (first ∷ behind) arrival before e = cc
+
+-- the same one behind another entry
+later_too : (l a b p q r : ℕ) → l ≡ suc a → p ≡ q → (l < suc b) ⊎ ((l ≡ suc b) × (r < p)) → (a < b) ⊎ ((a ≡ b) × (r < q))
+later_too l a b p q r one same (inl less) = inl (omega (arith, one, less))
+later_too l a b p q r one same (inr (equal, less)) = inr (omega (arith, one, equal), omega (arith, same, less))
+
+carried_on : (entry : Entry) (past : Record) (task d : ℕ) (slot : Option (List ℕ)) → begins_epoch entry ≡ false → ((answer : GoodAnswer (entry ∷ past) task d) → Older past task d answer.behind answer.place) → HasLast past task d slot → HasLast (entry ∷ past) task d slot
+carried_on entry past task d None plain older has = λ answer. has (older answer).older
+carried_on entry past task d (Some bytes) plain older (answer, read, last) =
+    let kept : GoodAnswer (entry ∷ past) task d = record {
+      behind = entry ∷ answer.behind;
+      arrival = answer.arrival;
+      before = answer.before;
+      came = ap (λ entries. entry ∷ entries) answer.came;
+      present = ap (λ b. b || list_any begins_epoch answer.behind) plain ∙ answer.present;
+      place = answer.place;
+      part = answer.part;
+      good = answer.good;
+    } in
+    (kept, read, λ other later.
+    let one = older other in
+    last one.older (later_too (length other.behind) (length one.older.behind) (length answer.behind) other.place one.older.place answer.place one.counted one.place_is later))
+
+no_newest : (entry : Entry) (past : Record) (task d : ℕ) (behind : List Entry) (arrival : Arrival) (before : Record) (place : ℕ) → is_no_arrival entry ≡ true → Newest entry past behind arrival before ⊎ Older past task d behind place → Older past task d behind place
+no_newest entry past task d behind arrival before place plain (inl newest) =
+    let never : false ≡ true = sym (ap is_no_arrival newest.entry_is) ∙ plain in
+    absurd cc
+no_newest entry past task d behind arrival before place plain (inr older) = older
+
+plain_entry : (entry : Entry) (past : Record) (task d : ℕ) (slot : Option (List ℕ)) → begins_epoch entry ≡ false → is_no_arrival entry ≡ true → HasLast past task d slot → HasLast (entry ∷ past) task d slot
+plain_entry entry past task d slot plain none has =
+    carried_on entry past task d slot plain (λ answer. no_newest entry past task d answer.behind answer.arrival answer.before answer.place none (pop entry past task d answer)) has
+
+same_arrival : (a b : Arrival) → Came a ≡ Came b → a ≡ b
+same_arrival a b e = cc
+
+moved_good : (past before : Record) (arrival other : Arrival) (task d place : ℕ) (part : Part) → Came arrival ≡ Came other → past ≡ before → IsGoodIn before other task d place part → IsGoodIn past arrival task d place part
+moved_good past before arrival other task d place part one same good =
+    subst (λ (a : Arrival). IsGoodIn past a task d place part) (sym (same_arrival arrival other one))
+    (subst (λ (p : Record). IsGoodIn p other task d place part) (sym same) good)
+
+none_later : (past : Record) (arrival : Arrival) (task d place : ℕ) → ((m : ℕ) (part : Part) → place < m → ¬ (IsGoodIn past arrival task d m part)) → (other : GoodAnswer (Came arrival ∷ past) task d)
+    → Newest (Came arrival) past other.behind other.arrival other.before ⊎ Older past task d other.behind other.place → (length other.behind < 0) ⊎ ((length other.behind ≡ 0) × (place < other.place)) → ⊥
+none_later past arrival task d place none other found (inl less) = absurd (omega (arith, less))
+none_later past arrival task d place none other (inl newest) (inr (equal, less)) =
+    none other.place other.part less (moved_good past other.before arrival other.arrival task d other.place other.part newest.entry_is newest.before_is other.good)
+none_later past arrival task d place none other (inr older) (inr (equal, less)) =
+    let counted = older.counted in
+    absurd (omega (arith, counted, equal))
+
+no_good : (past : Record) (arrival : Arrival) (task d : ℕ) → ((m : ℕ) (part : Part) → ¬ (IsGoodIn past arrival task d m part)) → (answer : GoodAnswer (Came arrival ∷ past) task d)
+    → Newest (Came arrival) past answer.behind answer.arrival answer.before ⊎ Older past task d answer.behind answer.place → Older past task d answer.behind answer.place
+no_good past arrival task d none answer (inl newest) =
+    absurd (none answer.place answer.part (moved_good past answer.before arrival answer.arrival task d answer.place answer.part newest.entry_is newest.before_is answer.good))
+no_good past arrival task d none answer (inr older) = older
+
+came : (past : Record) (arrival : Arrival) (task d : ℕ) (before slot : Option (List ℕ)) → Tells past arrival task d before slot → HasLast past task d before → HasLast (Came arrival ∷ past) task d slot
+came past arrival task d before slot (inl newest) has =
+    let answer : GoodAnswer (Came arrival ∷ past) task d = record {
+      behind = [];
+      arrival = arrival;
+      before = past;
+      came = refl;
+      present = refl;
+      place = newest.place;
+      part = newest.part;
+      good = newest.good;
+    } in
+    subst (HasLast (Came arrival ∷ past) task d) (sym newest.is)
+    (answer, refl, λ other later. none_later past arrival task d newest.place newest.last other (pop (Came arrival) past task d other) later)
+came past arrival task d before slot (inr (same, none)) has =
+    subst (HasLast (Came arrival ∷ past) task d) (sym same)
+    (carried_on (Came arrival) past task d before refl (λ answer. no_good past arrival task d none answer (pop (Came arrival) past task d answer)) has)
+
+has_last : (past : Record) (task d : ℕ) → HasLast past task d (slot_of past task d)
+has_last [] task d = λ answer. nothing_in answer.behind answer.arrival answer.before answer.came
+has_last (Opened groups ∷ past) task d = λ answer. none_begun (Opened groups) past answer.behind answer.arrival answer.before refl answer.came answer.present
+has_last (Edited edit ∷ past) task d = λ answer. none_begun (Edited edit) past answer.behind answer.arrival answer.before refl answer.came answer.present
+has_last (Posted t bytes ∷ past) task d = plain_entry (Posted t bytes) past task d (slot_of past task d) refl refl (has_last past task d)
+has_last (Sent frame ∷ past) task d = plain_entry (Sent frame) past task d (slot_of past task d) refl refl (has_last past task d)
+has_last (Wrote block ∷ past) task d = plain_entry (Wrote block) past task d (slot_of past task d) refl refl (has_last past task d)
+has_last (Came arrival ∷ past) task d =
+    came past arrival task d (slot_of past task d) (slot_of (Came arrival ∷ past) task d) (arrival_tells past arrival task d (slot_of past task d)) (has_last past task d)
+
+-- in one epoch the line stays
+
+line_stays : (behind : List Entry) (past : Record) → list_any begins_epoch behind ≡ false → line_of (behind ++ past) ≡ line_of past
+line_stays [] past none = refl
+line_stays (Opened groups ∷ behind) past none = cc
+line_stays (Edited edit ∷ behind) past none = cc
+line_stays (Posted task bytes ∷ behind) past none = line_stays behind past none
+line_stays (Sent frame ∷ behind) past none = line_stays behind past none
+line_stays (Wrote block ∷ behind) past none = line_stays behind past none
+line_stays (Came arrival ∷ behind) past none = line_stays behind past none
+
+none_begins : (serial : ℕ) (heads : List Head) (since : List Entry) → All (LeavesOpen serial heads) since → list_any begins_epoch since ≡ false
+none_begins serial heads [] all = refl
+none_begins serial heads (Opened groups ∷ since) all = absurd (All-head (LeavesOpen serial heads) (Opened groups) since all)
+none_begins serial heads (Edited edit ∷ since) all = absurd (All-head (LeavesOpen serial heads) (Edited edit) since all)
+none_begins serial heads (Posted task bytes ∷ since) all = none_begins serial heads since (All-tail (LeavesOpen serial heads) (Posted task bytes) since all)
+none_begins serial heads (Sent frame ∷ since) all = none_begins serial heads since (All-tail (LeavesOpen serial heads) (Sent frame) since all)
+none_begins serial heads (Wrote block ∷ since) all = none_begins serial heads since (All-tail (LeavesOpen serial heads) (Wrote block) since all)
+none_begins serial heads (Came other ∷ since) all = none_begins serial heads since (All-tail (LeavesOpen serial heads) (Came other) since all)
+
+sent_here : (past : Record) (task d : ℕ) (answer : GoodAnswer past task d) → line_of answer.good.back.before ≡ line_of past
+sent_here past task d answer =
+    let back = answer.good.back in
+    sym (ap line_of answer.came ∙ line_stays answer.behind (Came answer.arrival ∷ answer.before) answer.present
+    ∙ ap line_of back.sent ∙ line_stays back.since (Sent back.frame ∷ back.before) (none_begins answer.arrival.serial (data_heads (line_of back.before) back.frame) back.since back.first))
+
+is_last : (past : Record) (task d : ℕ) (slot : Option (List ℕ)) → slot_of past task d ≡ slot → HasLast past task d slot → IsLastData past task d slot
+is_last past task d None e has = has
+is_last past task d (Some bytes) e (answer, read, last) =
+    record { answer = answer; read = read; last = last; line = sent_here past task d answer; fits = slots-fit past task d bytes e }
+
+-- an image
+
+listed : (f : ℕ → Option (List ℕ)) (first count d : ℕ) (slot : Option (List ℕ)) → slice_get (map f (range_with_len first count)) d ≡ Some slot → slot ≡ f (first + d)
+listed f first zero d slot e = cc
+listed f first (suc count) zero slot e =
+    let here : f first ≡ slot = cc in
+    let same : first ≡ first + 0 = omega arith in
+    sym here ∙ ap f same
+listed f first (suc count) (suc d) slot e =
+    let same : (first + 1) + d ≡ first + suc d = omega arith in
+    listed f (first + 1) count d slot e ∙ ap f same
+
+counted_list : (f : ℕ → Option (List ℕ)) (first count : ℕ) → length (map f (range_with_len first count)) ≡ count
+counted_list f first zero = refl
+counted_list f first (suc count) = ap suc (counted_list f (first + 1) count)
+
+pub reads-last : (past : Record) → TasksReadLastData past
+reads-last past task low = record {
+  slots = slots_of past task;
+  image = ap (λ b. unless (cond b (Some NoSuchTask) None) (image_of past task)) (is-task task low);
+  counted = counted_list (slot_of past task) 0 (datagram_count (task_places task (line_of past)));
+  each = λ d slot e.
+      let same = listed (slot_of past task) 0 (datagram_count (task_places task (line_of past))) d slot e in
+      let zero_more : 0 + d ≡ d = omega arith in
+      let is = same ∙ ap (slot_of past task) zero_more in
+      subst (IsLastData past task d) (sym is) (is_last past task d (slot_of past task d) refl (has_last past task d));
+}
