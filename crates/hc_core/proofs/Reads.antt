@@ -14,7 +14,7 @@ use Rattle.hc_events.specs.declared.answer.Answer.{Answer}
 use Rattle.hc_events.specs.declared.faults.CoreFault.TheVariants.{NoSuchTask}
 use Rattle.hc_events.specs.Arrivals.{Arrival, Part}
 use Rattle.hc_events.specs.Entries.{Entry, Record, Opened, Edited, Posted, Sent, Wrote, Came}
-use Rattle.hc_events.specs.Points.{line_of, next_serial}
+use Rattle.hc_events.specs.Points.{epoch_of, line_of, next_serial}
 use Rattle.hc_events.specs.Sendings.{Named}
 use Rattle.hc_events.specs.Heads.{Block, Datagram, Head, data_head, data_heads, item_of, write_head}
 use Rattle.hc_events.specs.Answering.{Good, Sending, Stale, Wrong, answered_by, has_good, has_heads, is_good, judge, judged, sends}
@@ -88,7 +88,7 @@ good_means false true good = (refl, refl)
 good_means false false good = cc
 
 named_is : (named : Named) (task d : ℕ) → named.0 ≡ task → named.1 ≡ d → named ≡ (task, d)
-named_is (t, e) task d first second = rw (first, second) refl
+named_is (t, e) task d first second = ap (λ (n : ℕ). (n, e)) first ∙ ap (λ (n : ℕ). (task, n)) second
 
 own_here : (since : List Entry) (line : List Member) (task d : ℕ) (named : Named) (part : Part) (pairs : List (Named × Part)) → is_own since line task d named part ≡ true → GoodAt since line task d ((named, part) ∷ pairs) 0 part
 own_here since line task d named part pairs own =
@@ -111,10 +111,15 @@ here_own since line task d part newest counter =
     ∙ ap (λ same. is_good (cond same Good Wrong) && ((task == task) && (d == d))) (eq-eqb part.counter (expected_counter task d line) counter)
     ∙ its_own task d
 
-same_pair : (named : Named) (part : Part) (one : Named) (other : Part) → Some (named, part) ≡ Some (one, other) → (named ≡ one) × (part ≡ other)
-same_pair named part one other e = (cc, cc)
+some_same : (a b : Named × Part) → Some a ≡ Some b → a ≡ b
+some_same a b e = cc
 
-not_here : (since : List Entry) (line : List Member) (task d : ℕ) (named : Named) (part other : Part) (pairs : List (Named × Part)) → is_own since line task d named part ≡ false → ¬ (GoodAt since line task d ((named, part) ∷ pairs) 0 other)
+same_pair : (named : Named) (part : Part) (one : Named) (other : Part) → Some (named, part) ≡ Some (one, other) → (named ≡ one) × (part ≡ other)
+same_pair named part one other e =
+    let same = some_same (named, part) (one, other) e in
+    (ap (λ (pair : Named × Part). pair.0) same, ap (λ (pair : Named × Part). pair.1) same)
+
+not_here : (since : List Entry) (line : List Member) (task d : ℕ) (named : Named) (part other : Part) (pairs : List (Named × Part)) → is_own since line task d named part ≡ false → GoodAt since line task d ((named, part) ∷ pairs) 0 other → ⊥
 not_here since line task d named part other pairs none good =
     let same = same_pair named part (task, d) other good.at in
     let own = here_own since line task d other good.newest good.counter in
@@ -129,21 +134,20 @@ behind_here since line task d pair pairs n part good = record { at = good.at; ne
 behind_it : (since : List Entry) (line : List Member) (task d : ℕ) (pair : Named × Part) (pairs : List (Named × Part)) (n : ℕ) (part : Part) → GoodAt since line task d (pair ∷ pairs) (suc n) part → GoodAt since line task d pairs n part
 behind_it since line task d pair pairs n part good = record { at = good.at; newest = good.newest; counter = good.counter }
 
-abbrev NoneBehind : List Entry → List Member → ℕ → ℕ → List (Named × Part) → ℕ → Type 0
-NoneBehind since line task d pairs n = (m : ℕ) (other : Part) → n < m → ¬ (GoodAt since line task d pairs m other)
-
-later_none : (since : List Entry) (line : List Member) (task d : ℕ) (pair : Named × Part) (pairs : List (Named × Part)) (n : ℕ) → NoneBehind since line task d pairs n → NoneBehind since line task d (pair ∷ pairs) (suc n)
+later_none : (since : List Entry) (line : List Member) (task d : ℕ) (pair : Named × Part) (pairs : List (Named × Part)) (n : ℕ) → ((m : ℕ) (other : Part) → n < m → ¬ (GoodAt since line task d pairs m other))
+    → (m : ℕ) (other : Part) → suc n < m → GoodAt since line task d (pair ∷ pairs) m other → ⊥
 later_none since line task d pair pairs n none zero other less good = absurd (omega (arith, less))
 later_none since line task d pair pairs n none (suc m) other less good =
     let lower : n < m = omega (arith, less) in
     none m other lower (behind_it since line task d pair pairs m other good)
 
-all_none : (since : List Entry) (line : List Member) (task d : ℕ) (pair : Named × Part) (pairs : List (Named × Part)) → ((m : ℕ) (other : Part) → ¬ (GoodAt since line task d pairs m other)) → NoneBehind since line task d (pair ∷ pairs) 0
+all_none : (since : List Entry) (line : List Member) (task d : ℕ) (pair : Named × Part) (pairs : List (Named × Part)) → ((m : ℕ) (other : Part) → ¬ (GoodAt since line task d pairs m other))
+    → (m : ℕ) (other : Part) → 0 < m → GoodAt since line task d (pair ∷ pairs) m other → ⊥
 all_none since line task d pair pairs none zero other less good = absurd (omega (arith, less))
 all_none since line task d pair pairs none (suc m) other less good = none m other (behind_it since line task d pair pairs m other good)
 
 none_more : (since : List Entry) (line : List Member) (task d : ℕ) (named : Named) (part : Part) (pairs : List (Named × Part)) → is_own since line task d named part ≡ false → ((m : ℕ) (other : Part) → ¬ (GoodAt since line task d pairs m other))
-    → (m : ℕ) (other : Part) → ¬ (GoodAt since line task d ((named, part) ∷ pairs) m other)
+    → (m : ℕ) (other : Part) → GoodAt since line task d ((named, part) ∷ pairs) m other → ⊥
 none_more since line task d named part pairs own none zero other good = not_here since line task d named part other pairs own good
 none_more since line task d named part pairs own none (suc m) other good = none m other (behind_it since line task d (named, part) pairs m other good)
 
@@ -169,7 +173,7 @@ told_more since line task d named part pairs before slot false is (inr (same, no
 abbrev slot_behind : List Entry → List Member → ℕ → ℕ → List Named → List Part → Option (List ℕ) → Option (List ℕ)
 slot_behind since line task d frame parts slot = fold (renewed task d) slot (flat_map fresh (map (judge since) (zip (data_heads line frame) parts)))
 
-nothing_at : (since : List Entry) (line : List Member) (task d n : ℕ) (part : Part) → ¬ (GoodAt since line task d [] n part)
+nothing_at : (since : List Entry) (line : List Member) (task d n : ℕ) (part : Part) → GoodAt since line task d [] n part → ⊥
 nothing_at since line task d n part good = let never = good.at in cc
 
 told_goods : (since : List Entry) (line : List Member) (task d : ℕ) (frame : List Named) (parts : List Part) (slot : Option (List ℕ))
@@ -450,6 +454,21 @@ none_begins serial heads (Sent frame ∷ since) all = none_begins serial heads s
 none_begins serial heads (Wrote block ∷ since) all = none_begins serial heads since (All-tail (LeavesOpen serial heads) (Wrote block) since all)
 none_begins serial heads (Came other ∷ since) all = none_begins serial heads since (All-tail (LeavesOpen serial heads) (Came other) since all)
 
+epoch_stays : (behind : List Entry) (past : Record) → list_any begins_epoch behind ≡ false → epoch_of (behind ++ past) ≡ epoch_of past
+epoch_stays [] past none = refl
+epoch_stays (Opened groups ∷ behind) past none = cc
+epoch_stays (Edited edit ∷ behind) past none = cc
+epoch_stays (Posted task bytes ∷ behind) past none = epoch_stays behind past none
+epoch_stays (Sent frame ∷ behind) past none = epoch_stays behind past none
+epoch_stays (Wrote block ∷ behind) past none = epoch_stays behind past none
+epoch_stays (Came arrival ∷ behind) past none = epoch_stays behind past none
+
+epoch_here : (past : Record) (task d : ℕ) (answer : GoodAnswer past task d) → epoch_of answer.good.back.before ≡ epoch_of past
+epoch_here past task d answer =
+    let back = answer.good.back in
+    sym (ap epoch_of answer.came ∙ epoch_stays answer.behind (Came answer.arrival ∷ answer.before) answer.present
+    ∙ ap epoch_of back.sent ∙ epoch_stays back.since (Sent back.frame ∷ back.before) (none_begins answer.arrival.serial (data_heads (line_of back.before) back.frame) back.since back.first))
+
 sent_here : (past : Record) (task d : ℕ) (answer : GoodAnswer past task d) → line_of answer.good.back.before ≡ line_of past
 sent_here past task d answer =
     let back = answer.good.back in
@@ -459,7 +478,7 @@ sent_here past task d answer =
 is_last : (past : Record) (task d : ℕ) (slot : Option (List ℕ)) → slot_of past task d ≡ slot → HasLast past task d slot → IsLastData past task d slot
 is_last past task d None e has = has
 is_last past task d (Some bytes) e (answer, read, last) =
-    record { answer = answer; read = read; last = last; line = sent_here past task d answer; fits = slots-fit past task d bytes e }
+    record { which = answer; read = read; last = last; epoch = epoch_here past task d answer; line = sent_here past task d answer; fits = slots-fit past task d bytes e }
 
 -- an image
 

@@ -17,7 +17,7 @@ use Rattle.hc_events.specs.Stale.{SameBehind, without_stale}
 use Rattle.hc_events.specs.Steps.{Step, Reads, answer_to}
 use Rattle.hc_core.specs.Serving.{MayAnswerAll}
 
--- an arrival is a frame of tasks come back: behind it in time lies a sending whose number, counted from 0, is the arrival's serial, with the same commands, addresses and lengths, datagram for datagram; between the two no edit was accepted, and no other such arrival came
+-- an arrival is the return of a frame of tasks: one that was sent before, with as many sendings before it as the arrival's serial says, and with the same commands, addresses and lengths, datagram for datagram; between the two no edit was accepted, and no other such arrival came
 pub record CameBack (past : Record) (arrival : Arrival) : Type 0 where
   pub since : List Entry
   pub frame : List Named
@@ -55,12 +55,13 @@ pub record GoodAnswer (past : Record) (task d : ℕ) : Type 0 where
 abbrev pub IsLater : {past : Record} {task d : ℕ} → GoodAnswer past task d → GoodAnswer past task d → Type 0
 IsLater one other = (length one.behind < length other.behind) ⊎ ((length one.behind ≡ length other.behind) × (other.place < one.place))
 
--- data of a datagram: those of its last good answer in the present epoch. Its frame was sent in a line with the present places, and there are as many bytes as the datagram has there
+-- data of a datagram: those of its last good answer in the present epoch. Its frame was sent in this epoch too, so in a line with the present places, and there are as many bytes as the datagram has in it
 pub record AreLastData (past : Record) (task d : ℕ) (bytes : List ℕ) : Type 0 where
-  pub answer : GoodAnswer past task d
-  pub read : bytes ≡ answer.part.bytes
-  pub last : (other : GoodAnswer past task d) → ¬ (IsLater other answer)
-  pub line : line_of answer.good.back.before ≡ line_of past
+  pub which : GoodAnswer past task d
+  pub read : bytes ≡ which.part.bytes
+  pub last : (other : GoodAnswer past task d) → ¬ (IsLater other which)
+  pub epoch : epoch_of which.good.back.before ≡ epoch_of past
+  pub line : line_of which.good.back.before ≡ line_of past
   pub fits : length bytes ≡ length_of (line_of past) (task, d)
 
 -- or none, where it has no good answer in the present epoch
