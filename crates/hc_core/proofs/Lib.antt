@@ -23,6 +23,6 @@ pub mod Posts
 pub mod Values
 pub mod Fills
 pub mod PostFaults
-pub mod Reads
+pub mod LastData
 pub mod Lines
 pub mod ReadsAmong

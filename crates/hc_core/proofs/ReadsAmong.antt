@@ -16,9 +16,9 @@ use Rattle.hc_events.specs.Points.{next_serial, state_of}
 use Rattle.hc_events.specs.Stale.{SameBehind, without_stale}
 use Rattle.hc_events.specs.Steps.{Step, Edits, Posts, SendsTasks, SendsWrite, Arrives, Reads, answer_to, edit_refused, entries_after, image_of, post_faults, proposal, read_faults, sent_text, task_faults, told_of_arrival, told_of_edit, told_of_write, unless, with_arrival, write_faults}
 use Rattle.hc_events.proofs.lemmas.SameBehind.{same-behind, same-stale, same-without}
-use Rattle.hc_core.specs.Reads.{IsAsWithoutStale, ReadsShowLastData, ShowsLastData, StaleLeavesNothing}
+use Rattle.hc_core.specs.LastData.{IsAsWithoutStale, ReadsShowLastData, ShowsLastData, StaleLeavesNothing}
 use Rattle.hc_core.specs.Serving.{MayAnswerAll}
-use Rattle.hc_core.proofs.Reads.{reads-last}
+use Rattle.hc_core.proofs.LastData.{reads-last}
 use Rattle.hc_core.proofs.Told.{told-stale}
 
 -- a read among events

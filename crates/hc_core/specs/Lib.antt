@@ -9,5 +9,5 @@ pub mod Serving
 pub mod Values
 pub mod Filled
 pub mod Laws
-pub mod Reads
+pub mod LastData
 pub mod Lines

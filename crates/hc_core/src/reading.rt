@@ -4,7 +4,7 @@ ghost use Rattle.hc_records.specs.declared.limits.TheConstants.{TASKS};
 ghost use Rattle.hc_events.specs.Owed.{owed_blocks};
 ghost use Rattle.hc_events.specs.Points.{next_serial, state_of};
 ghost use Rattle.hc_events.specs.Steps.{Reads, answer_to};
-ghost use Rattle.hc_core.specs.Reads.{ShowsLastData};
+ghost use Rattle.hc_core.specs.LastData.{ShowsLastData};
 
 use crate::keeping::Core;
 use hc_events::answer::Answer;

@@ -3,7 +3,7 @@ ghost use Rattle.std.specs.Prelude.{◌≡◌, All, IfOk, OnErr, map};
 ghost use Rattle.hc_events.specs.Calls.{AreSentTogether, MayAnswer};
 ghost use Rattle.hc_events.specs.Steps.{Arrives, Edits, Posts, Reads, SendsTasks, SendsWrite, step_of};
 ghost use Rattle.hc_core.specs.Lines.{IsLineAfter};
-ghost use Rattle.hc_core.specs.Reads.{IsAsWithoutStale, ReadsShowLastData, StaleLeavesNothing, TasksReadLastData};
+ghost use Rattle.hc_core.specs.LastData.{IsAsWithoutStale, ReadsShowLastData, StaleLeavesNothing, TasksReadLastData};
 ghost use Rattle.hc_core.specs.Serving.{IsAsked, MayAnswerAll, told_by, told_by_edit, told_by_post, told_or_memory};
 
 use crate::keeping::Core;

@@ -1,7 +1,7 @@
 use Rattle.std.proofs.Common.{◌≡◌, ◌<◌}
 use Rattle.hc_records.specs.declared.limits.TheConstants.{TASKS}
 use Rattle.hc_events.specs.Steps.{Reads, answer_to}
-use Rattle.hc_core.specs.Reads.{ShowsLastData}
+use Rattle.hc_core.specs.LastData.{ShowsLastData}
 use Rattle.hc_core.proofs.ReadsAmong.{if-ok, read-shows}
 use Rattle.hc_core.proofs.keeping.Core.read.Goals as goal
 

@@ -1,10 +1,10 @@
 use Rattle.std.proofs.Common.{map}
 use Rattle.hc_events.specs.Steps.{step_of}
 use Rattle.hc_core.specs.Lines.{IsLineAfter}
-use Rattle.hc_core.specs.Reads.{ReadsShowLastData}
+use Rattle.hc_core.specs.LastData.{ReadsShowLastData}
 use Rattle.hc_core.specs.Serving.{MayAnswerAll}
 use Rattle.hc_core.proofs.Lines.{line-after}
-use Rattle.hc_core.proofs.Reads.{reads-last}
+use Rattle.hc_core.proofs.LastData.{reads-last}
 use Rattle.hc_core.proofs.ReadsAmong.{if-ok, shows-among, without-stale}
 use Rattle.hc_core.proofs.keeping.Core.run.Goals as goal
 

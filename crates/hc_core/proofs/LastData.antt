@@ -25,7 +25,7 @@ use Rattle.hc_events.specs.SendingLaws.{heads_of, is_sending}
 use Rattle.hc_events.specs.Steps.{image_of, unless}
 use Rattle.hc_events.proofs.lemmas.Answers.{answers-first, none-opened}
 use Rattle.hc_events.proofs.lemmas.Slots.{slots-fit}
-use Rattle.hc_core.specs.Reads.{AreLastData, CameBack, GoodAnswer, IsGoodIn, IsLastData, IsLater, ShowsLastData, TasksReadLastData, begins_epoch}
+use Rattle.hc_core.specs.LastData.{AreLastData, CameBack, GoodAnswer, IsGoodIn, IsLastData, IsLater, ShowsLastData, TasksReadLastData, begins_epoch}
 use Rattle.hc_core.proofs.Shown.{is-task}
 
 -- a frame that came back is the answer to its sending
@@ -34,7 +34,8 @@ answered_back : (past : Record) (arrival : Arrival) (back : CameBack past arriva
     → answered_by past arrival ≡ Some (record { heads = data_heads (line_of back.before) back.frame; since = back.since })
 answered_back past arrival back =
     let heads = data_heads (line_of back.before) back.frame in
-    (answers-first past arrival (record { heads = heads; since = back.since })).1 (record {
+    let either = answers-first past arrival (record { heads = heads; since = back.since }) in
+    either.1 (record {
       stands = record {
         before = back.before;
         entry = Sent back.frame;
@@ -288,7 +289,8 @@ by_entry past arrival task d slot sending (Sent frame) before found split sends 
 by_answer : (past : Record) (arrival : Arrival) (task d : ℕ) (slot : Option (List ℕ)) (found : Option Sending) → answered_by past arrival ≡ found → Tells past arrival task d slot (slot_by arrival task d slot found)
 by_answer past arrival task d slot None e = inr (refl, λ m other good. let never = sym e ∙ answered_back past arrival good.back in cc)
 by_answer past arrival task d slot (Some sending) e =
-    let first = (answers-first past arrival sending).0 e in
+    let either = answers-first past arrival sending in
+    let first = either.0 e in
     let at = first.stands in
     subst (λ (heads : List Head). Tells past arrival task d slot (fold (renewed task d) slot (flat_map fresh (map (judge sending.since) (zip heads arrival.parts))))) (sym at.heads)
     (by_entry past arrival task d slot sending at.entry at.before e at.split at.sends at.serial_is at.heads first.fits first.left_open)
@@ -344,7 +346,8 @@ none_begun entry past [] arrival before begins e present =
     cc
 none_begun entry past (first ∷ behind) arrival before begins e present =
     let same : entry ≡ first = cc in
-    let never : false ≡ true = sym (or_parts (begins_epoch first) (list_any begins_epoch behind) present).0 ∙ sym (ap begins_epoch same) ∙ begins in
+    let parts = or_parts (begins_epoch first) (list_any begins_epoch behind) present in
+    let never : false ≡ true = sym parts.0 ∙ sym (ap begins_epoch same) ∙ begins in
     cc
 
 nothing_in : (behind : List Entry) (arrival : Arrival) (before : Record) → [] ≡ behind ++ Came arrival ∷ before → ⊥
@@ -357,7 +360,7 @@ later_too l a b p q r one same (inl less) = inl (omega (arith, one, less))
 later_too l a b p q r one same (inr (equal, less)) = inr (omega (arith, one, equal), omega (arith, same, less))
 
 carried_on : (entry : Entry) (past : Record) (task d : ℕ) (slot : Option (List ℕ)) → begins_epoch entry ≡ false → ((answer : GoodAnswer (entry ∷ past) task d) → Older past task d answer.behind answer.place) → HasLast past task d slot → HasLast (entry ∷ past) task d slot
-carried_on entry past task d None plain older has = λ answer. has (older answer).older
+carried_on entry past task d None plain older has = λ answer. let one = older answer in has one.older
 carried_on entry past task d (Some bytes) plain older (answer, read, last) =
     let kept : GoodAnswer (entry ∷ past) task d = record {
       behind = entry ∷ answer.behind;
