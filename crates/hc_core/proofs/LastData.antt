@@ -53,8 +53,11 @@ same_sending : (a b : Sending) → Some a ≡ Some b → a ≡ b
 same_sending a b e = cc
 
 same_split : (since : List Entry) (one other : Entry) (a b : Record) → since ++ one ∷ a ≡ since ++ other ∷ b → (one ≡ other) × (a ≡ b)
-same_split [] one other a b e = (cc, cc)
+same_split [] one other a b e =
+    let same : one ∷ a ≡ other ∷ b = e in
+    (cc, cc)
 same_split (entry ∷ since) one other a b e =
+    let same : entry ∷ (since ++ one ∷ a) ≡ entry ∷ (since ++ other ∷ b) = e in
     let rest : since ++ one ∷ a ≡ since ++ other ∷ b = cc in
     same_split since one other a b rest
 
@@ -265,15 +268,15 @@ write_goods since block (part ∷ parts) = nothing_of (has_good (judge since (wr
 by_entry : (past : Record) (arrival : Arrival) (task d : ℕ) (slot : Option (List ℕ)) (sending : Sending) (entry : Entry) (before : Record) → answered_by past arrival ≡ Some sending → past ≡ sending.since ++ entry ∷ before → is_sending entry ≡ true
     → next_serial before ≡ arrival.serial → sending.heads ≡ heads_of before entry → has_heads sending.heads arrival.parts ≡ true → All (LeavesOpen arrival.serial sending.heads) sending.since
     → Tells past arrival task d slot (fold (renewed task d) slot (flat_map fresh (map (judge sending.since) (zip (heads_of before entry) arrival.parts))))
-by_entry past arrival task d slot sending (Opened groups) before found split sends serial heads fit open = cc
-by_entry past arrival task d slot sending (Edited edit) before found split sends serial heads fit open = cc
-by_entry past arrival task d slot sending (Posted t bytes) before found split sends serial heads fit open = cc
-by_entry past arrival task d slot sending (Came other) before found split sends serial heads fit open = cc
-by_entry past arrival task d slot sending (Wrote block) before found split sends serial heads fit open = inr (
+by_entry past arrival task d slot sending (Opened groups) before found split sends serial heads fit left = cc
+by_entry past arrival task d slot sending (Edited edit) before found split sends serial heads fit left = cc
+by_entry past arrival task d slot sending (Posted t bytes) before found split sends serial heads fit left = cc
+by_entry past arrival task d slot sending (Came other) before found split sends serial heads fit left = cc
+by_entry past arrival task d slot sending (Wrote block) before found split sends serial heads fit left = inr (
   ap (fold (renewed task d) slot) (write_goods sending.since block arrival.parts),
   λ m other good. let is = that_sending past arrival good.back sending (Wrote block) before found split in let never = is.entry_is in cc,
 )
-by_entry past arrival task d slot sending (Sent frame) before found split sends serial heads fit open =
+by_entry past arrival task d slot sending (Sent frame) before found split sends serial heads fit left =
     let back : CameBack past arrival = record {
       since = sending.since;
       frame = frame;
@@ -281,7 +284,7 @@ by_entry past arrival task d slot sending (Sent frame) before found split sends 
       sent = split;
       serial = sym serial;
       fits = subst (λ (all : List Head). has_heads all arrival.parts ≡ true) heads fit;
-      first = subst (λ (all : List Head). All (LeavesOpen arrival.serial all) sending.since) heads open;
+      first = subst (λ (all : List Head). All (LeavesOpen arrival.serial all) sending.since) heads left;
     } in
     converted past arrival task d slot (slot_behind sending.since (line_of before) task d frame arrival.parts slot) back
     (good_there past arrival task d sending frame before found split) (told_goods sending.since (line_of before) task d frame arrival.parts slot)
@@ -317,8 +320,11 @@ record Newest (entry : Entry) (past : Record) (behind : List Entry) (arrival : A
 
 popped : (entry : Entry) (past : Record) (task d : ℕ) (behind : List Entry) (arrival : Arrival) (before : Record) (place : ℕ) (part : Part) → entry ∷ past ≡ behind ++ Came arrival ∷ before → list_any begins_epoch behind ≡ false
     → IsGoodIn before arrival task d place part → Newest entry past behind arrival before ⊎ Older past task d behind place
-popped entry past task d [] arrival before place part e present good = inl (record { none = refl; entry_is = cc; before_is = cc })
+popped entry past task d [] arrival before place part e present good =
+    let same : entry ∷ past ≡ Came arrival ∷ before = e in
+    inl (record { none = refl; entry_is = cc; before_is = cc })
 popped entry past task d (first ∷ behind) arrival before place part e present good =
+    let same : entry ∷ past ≡ first ∷ (behind ++ Came arrival ∷ before) = e in
     let tail : past ≡ behind ++ Came arrival ∷ before = cc in
     inr (record {
       older = record {
@@ -341,18 +347,24 @@ pop entry past task d answer = popped entry past task d answer.behind answer.arr
 -- none where an epoch begins
 none_begun : (entry : Entry) (past : Record) (behind : List Entry) (arrival : Arrival) (before : Record) → begins_epoch entry ≡ true → entry ∷ past ≡ behind ++ Came arrival ∷ before → list_any begins_epoch behind ≡ false → ⊥
 none_begun entry past [] arrival before begins e present =
+    let whole : entry ∷ past ≡ Came arrival ∷ before = e in
     let same : entry ≡ Came arrival = cc in
     let never : false ≡ true = sym (ap begins_epoch same) ∙ begins in
     cc
 none_begun entry past (first ∷ behind) arrival before begins e present =
+    let whole : entry ∷ past ≡ first ∷ (behind ++ Came arrival ∷ before) = e in
     let same : entry ≡ first = cc in
     let parts = or_parts (begins_epoch first) (list_any begins_epoch behind) present in
     let never : false ≡ true = sym parts.0 ∙ sym (ap begins_epoch same) ∙ begins in
     cc
 
 nothing_in : (behind : List Entry) (arrival : Arrival) (before : Record) → [] ≡ behind ++ Came arrival ∷ before → ⊥
-nothing_in [] arrival before e = cc
-nothing_in (first ∷ behind) arrival before e = cc
+nothing_in [] arrival before e =
+    let same : [] ≡ Came arrival ∷ before = e in
+    cc
+nothing_in (first ∷ behind) arrival before e =
+    let same : [] ≡ first ∷ (behind ++ Came arrival ∷ before) = e in
+    cc
 
 -- the same one behind another entry
 later_too : (l a b p q r : ℕ) → l ≡ suc a → p ≡ q → (l < suc b) ⊎ ((l ≡ suc b) × (r < p)) → (a < b) ⊎ ((a ≡ b) × (r < q))
@@ -371,10 +383,13 @@ carried_on entry past task d (Some bytes) plain older (answer, read, last) =
       place = answer.place;
       part = answer.part;
       good = answer.good;
-    } in
-    (kept, read, λ other later.
-    let one = older other in
-    last one.older (later_too (length other.behind) (length one.older.behind) (length answer.behind) other.place one.older.place answer.place one.counted one.place_is later))
+    } in (
+      kept,
+      read,
+      λ other later.
+          let one = older other in
+          last one.older (later_too (length other.behind) (length one.older.behind) (length answer.behind) other.place one.older.place answer.place one.counted one.place_is later),
+    )
 
 no_newest : (entry : Entry) (past : Record) (task d : ℕ) (behind : List Entry) (arrival : Arrival) (before : Record) (place : ℕ) → is_no_arrival entry ≡ true → Newest entry past behind arrival before ⊎ Older past task d behind place → Older past task d behind place
 no_newest entry past task d behind arrival before place plain (inl newest) =

@@ -1,7 +1,9 @@
 -- What tasks read among events, and what a stale arrival leaves.
-use Rattle.std.proofs.Common.{◌≡◌, ◌⊎◌, inl, inr, ℕ, zero, suc, ◌<◌, List, [], ◌∷◌, refl, sym, ◌∙◌, subst, Option, Some, None}
+use Rattle.std.proofs.Common.{◌≡◌, ◌⊎◌, inl, inr, ℕ, zero, suc, ◌<◌, Bool, true, false, List, [], ◌∷◌, map, refl, sym, ap, ◌∙◌, subst, Option, Some, None}
 use Rattle.std.specs.Prelude.{IfOk, Result, Ok, Err, slice_get}
 use Rattle.hc_records.specs.declared.limits.TheConstants.{TASKS}
+use Rattle.hc_records.specs.Edits.{state_after}
+use Rattle.hc_records.specs.Lists.{lowest}
 use Rattle.hc_registers.specs.Blocks.{LineBlock}
 use Rattle.hc_frames.specs.declared.reading.faults.FrameFault.{FrameFault}
 use Rattle.hc_events.specs.declared.answer.Answer.{Answer}
@@ -46,32 +48,46 @@ shows-among past next (step ∷ steps) (first ∷ answers) all (suc n) task told
 
 -- a stale arrival
 
-unless_stale : (refused : Option CoreFault) (told : Answer) → (told ≡ answer.Stale → ⊥) → unless refused told ≡ answer.Stale → ⊥
-unless_stale None told other e = other e
-unless_stale (Some fault) told other e = cc
+abbrev tells_stale : Answer → Bool
+tells_stale answer.Stale = true
+tells_stale _ = false
 
-no_write_stale : (serial : ℕ) (blocks : List LineBlock) → told_of_write serial blocks ≡ answer.Stale → ⊥
-no_write_stale serial [] e = cc
-no_write_stale serial (block ∷ blocks) e = cc
+unless_stale : (refused : Option CoreFault) (told : Answer) → tells_stale told ≡ false → unless refused told ≡ answer.Stale → ⊥
+unless_stale None told plain e =
+    let never : false ≡ true = sym plain ∙ ap tells_stale e in
+    cc
+unless_stale (Some fault) told plain e =
+    let never : false ≡ true = ap tells_stale e in
+    cc
+
+no_write_stale : (serial : ℕ) (blocks : List LineBlock) → tells_stale (told_of_write serial blocks) ≡ false
+no_write_stale serial [] = refl
+no_write_stale serial (block ∷ blocks) = refl
 
 stale_arrival : (past next : Record) (read : Result Arrival FrameFault) → told_of_arrival past read ≡ answer.Stale → next ≡ with_arrival past read → (later : List Step) → SameBehind next past later
-stale_arrival past next (Err fault) told entries later = absurd cc
+stale_arrival past next (Err fault) told entries later =
+    let never : false ≡ true = ap tells_stale told in
+    absurd cc
 stale_arrival past next (Ok arrival) told entries later =
     subst (λ (grown : Record). SameBehind grown past later) (sym entries)
     (same-behind (Came arrival ∷ past) past later (same-stale past arrival (told-stale past arrival told)))
 
 stale_step : (past next : Record) (step : Step) → answer_to past step ≡ answer.Stale → next ≡ entries_after past step → (later : List Step) → SameBehind next past later
-stale_step past next (Edits edit) told entries later = absurd (unless_stale (edit_refused past edit) _ (λ e. cc) told)
-stale_step past next (Posts task epoch bytes) told entries later = absurd (unless_stale _ answer.Posted (λ e. cc) told)
-stale_step past next (SendsTasks tasks) told entries later = absurd (unless_stale _ _ (λ e. cc) told)
-stale_step past next SendsWrite told entries later = absurd (unless_stale _ (told_of_write (next_serial past) (owed_blocks past)) (no_write_stale (next_serial past) (owed_blocks past)) told)
+stale_step past next (Edits edit) told entries later =
+    absurd (unless_stale (edit_refused past edit) (told_of_edit (state_of past) (state_after (state_of past) edit)) refl told)
+stale_step past next (Posts task epoch bytes) told entries later =
+    absurd (unless_stale (lowest (post_faults past task epoch bytes)) answer.Posted refl told)
+stale_step past next (SendsTasks tasks) told entries later =
+    absurd (unless_stale (lowest (task_faults past tasks)) (answer.Sent (map (sent_text past) (proposal past tasks))) refl told)
+stale_step past next SendsWrite told entries later =
+    absurd (unless_stale (lowest (write_faults past (owed_blocks past))) (told_of_write (next_serial past) (owed_blocks past)) (no_write_stale (next_serial past) (owed_blocks past)) told)
 stale_step past next (Arrives bytes) told entries later = stale_arrival past next (arrival_in bytes) told entries later
-stale_step past next (Reads task) told entries later = absurd (unless_stale _ (image_of past task) (λ e. cc) told)
+stale_step past next (Reads task) told entries later = absurd (unless_stale (lowest (read_faults task)) (image_of past task) refl told)
 
 pub stale-leaves : (past next : Record) (step : Step) (told : Answer) → MayAnswer past step told next → StaleLeavesNothing past told next
 stale-leaves past next step told (inl answered) stale later = stale_step past next step (sym answered.answer ∙ stale) answered.entries later
 stale-leaves past next step told (inr wanting) stale later =
-    let never : answer.Refused Memory ≡ answer.Stale = sym wanting.answer ∙ stale in
+    let never : false ≡ true = ap tells_stale (sym wanting.answer ∙ stale) in
     absurd cc
 
 pub without-stale : (past : Record) → IsAsWithoutStale past
