@@ -500,8 +500,11 @@ is_last past task d (Some bytes) e (answer, read, last) =
 
 -- an image
 
+pub none-some : {X : Type 0} (x : X) → None ≡ Some x → ⊥
+none-some x e = cc
+
 listed : (f : ℕ → Option (List ℕ)) (first count d : ℕ) (slot : Option (List ℕ)) → slice_get (map f (range_with_len first count)) d ≡ Some slot → slot ≡ f (first + d)
-listed f first zero d slot e = cc
+listed f first zero d slot e = absurd (none-some slot e)
 listed f first (suc count) zero slot e =
     let here : f first ≡ slot = cc in
     let same : first ≡ first + 0 = omega arith in

@@ -20,7 +20,7 @@ use Rattle.hc_events.specs.Steps.{Step, Edits, Posts, SendsTasks, SendsWrite, Ar
 use Rattle.hc_events.proofs.lemmas.SameBehind.{same-behind, same-stale, same-without}
 use Rattle.hc_core.specs.LastData.{IsAsWithoutStale, ReadsShowLastData, ShowsLastData, StaleLeavesNothing}
 use Rattle.hc_core.specs.Serving.{MayAnswerAll}
-use Rattle.hc_core.proofs.LastData.{reads-last}
+use Rattle.hc_core.proofs.LastData.{none-some, reads-last}
 use Rattle.hc_core.proofs.Told.{told-stale}
 
 -- a read among events
@@ -36,7 +36,7 @@ same_told : (a b : Answer) → Some a ≡ Some b → a ≡ b
 same_told a b e = cc
 
 pub shows-among : (past next : Record) (steps : List Step) (answers : List Answer) → MayAnswerAll past steps answers next → ReadsShowLastData past steps answers
-shows-among past next [] answers all n task told low at got = cc
+shows-among past next [] answers all n task told low at got = absurd (none-some (Reads task) at)
 shows-among past next (step ∷ steps) [] all n task told low at got = absurd all
 shows-among past next (step ∷ steps) (first ∷ answers) all zero task told low at got =
     let one = subst (λ (asked : Step). MayAnswer past asked told all.0) (same_step step (Reads task) at)
