@@ -118,14 +118,14 @@ here_own since line task d part newest counter =
 some_same : (a b : Named × Part) → Some a ≡ Some b → a ≡ b
 some_same a b e = cc
 
-same_pair : (named : Named) (part : Part) (one : Named) (other : Part) → Some (named, part) ≡ Some (one, other) → (named ≡ one) × (part ≡ other)
-same_pair named part one other e =
-    let same = some_same (named, part) (one, other) e in
-    (ap (λ (pair : Named × Part). pair.0) same, ap (λ (pair : Named × Part). pair.1) same)
+same_pair : (pair other : Named × Part) → Some pair ≡ Some other → (pair.0 ≡ other.0) × (pair.1 ≡ other.1)
+same_pair pair other e =
+    let same = some_same pair other e in
+    (ap (λ (one : Named × Part). one.0) same, ap (λ (one : Named × Part). one.1) same)
 
 not_here : (since : List Entry) (line : List Member) (task d : ℕ) (named : Named) (part other : Part) (pairs : List (Named × Part)) → is_own since line task d named part ≡ false → GoodAt since line task d ((named, part) ∷ pairs) 0 other → ⊥
 not_here since line task d named part other pairs none good =
-    let same = same_pair named part (task, d) other good.at in
+    let same = same_pair (named, part) ((task, d), other) good.at in
     let own = here_own since line task d other good.newest good.counter in
     let is : is_own since line task d named part ≡ is_own since line task d (task, d) other =
     ap (λ (one : Named). is_own since line task d one part) same.0 ∙ ap (λ (one : Part). is_own since line task d (task, d) one) same.1 in
