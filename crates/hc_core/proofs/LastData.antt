@@ -1,31 +1,29 @@
 -- What a task reads of a datagram is its last good answer.
-use Rattle.std.proofs.Common.{◌≡◌, ◌⊎◌, inl, inr, ℕ, zero, suc, ◌+◌, ◌<◌, ◌==◌, Bool, true, false, cond, not, ◌&&◌, ◌||◌, List, [], ◌∷◌, ◌++◌, length, map, slice_get, refl, sym, ap, ◌∙◌, subst, arith, Option, Some, None}
+use Rattle.std.proofs.Common.{◌≡◌, ◌⊎◌, inl, inr, ℕ, zero, suc, ◌+◌, ◌<◌, ◌==◌, Bool, true, false, cond, ◌&&◌, ◌||◌, List, [], ◌∷◌, ◌++◌, length, map, slice_get, refl, sym, ap, ◌∙◌, subst, arith, Option, Some, None}
 use Rattle.std.specs.Prelude.{All, fold}
 use Rattle.std.specs.Option.{option_map_or}
 use Rattle.std.specs.List.{flat_map, list_any, range_with_len, zip}
 use Rattle.std.proofs.lemmas.Bool.{and_parts, eq-eqb, eqb-true, or_parts}
 use Rattle.std.proofs.lemmas.Bool.Decides.{nat_tests}
 use Rattle.std.proofs.lemmas.List.Elements.{All-head, All-tail}
-use Rattle.hc_records.specs.declared.limits.TheConstants.{TASKS}
 use Rattle.hc_records.specs.Line.{Member}
 use Rattle.hc_records.specs.Image.{datagram_count, expected_counter, task_places}
 use Rattle.hc_registers.specs.Blocks.{LineBlock}
-use Rattle.hc_events.specs.declared.answer.Answer.{Answer}
 use Rattle.hc_events.specs.declared.faults.CoreFault.TheVariants.{NoSuchTask}
 use Rattle.hc_events.specs.Arrivals.{Arrival, Part}
 use Rattle.hc_events.specs.Entries.{Entry, Record, Opened, Edited, Posted, Sent, Wrote, Came}
 use Rattle.hc_events.specs.Points.{epoch_of, line_of, next_serial}
 use Rattle.hc_events.specs.Sendings.{Named}
-use Rattle.hc_events.specs.Heads.{Block, Datagram, Head, data_head, data_heads, item_of, write_head}
+use Rattle.hc_events.specs.Heads.{Datagram, Head, data_head, data_heads, item_of, write_head}
 use Rattle.hc_events.specs.Answering.{Good, Sending, Stale, Wrong, answered_by, has_good, has_heads, is_good, judge, judged, sends}
-use Rattle.hc_events.specs.AnswerLaws.{IsFirstAnswer, LeavesOpen}
+use Rattle.hc_events.specs.AnswerLaws.{LeavesOpen}
 use Rattle.hc_events.specs.Awaited.{is_no_arrival}
 use Rattle.hc_events.specs.Images.{Fresh, fresh, fresh_by, fresh_item, renewed, slot_of, slots_of}
 use Rattle.hc_events.specs.SendingLaws.{heads_of, is_sending}
 use Rattle.hc_events.specs.Steps.{image_of, unless}
 use Rattle.hc_events.proofs.lemmas.Answers.{answers-first, none-opened}
 use Rattle.hc_events.proofs.lemmas.Slots.{slots-fit}
-use Rattle.hc_core.specs.LastData.{AreLastData, CameBack, GoodAnswer, IsGoodIn, IsLastData, IsLater, ShowsLastData, TasksReadLastData, begins_epoch}
+use Rattle.hc_core.specs.LastData.{CameBack, GoodAnswer, IsGoodIn, IsLastData, IsLater, TasksReadLastData, begins_epoch}
 use Rattle.hc_core.proofs.Shown.{is-task}
 
 -- a frame that came back is the answer to its sending

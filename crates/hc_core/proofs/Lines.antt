@@ -1,5 +1,5 @@
 -- Events lead to the line of their edits.
-use Rattle.std.proofs.Common.{◌≡◌, ◌⊎◌, inl, inr, ℕ, true, false, cond, List, [], ◌∷◌, ◌++◌, refl, sym, ap, ◌∙◌, Option, Some, None}
+use Rattle.std.proofs.Common.{◌≡◌, inl, inr, false, cond, List, [], ◌∷◌, ◌++◌, refl, sym, ap, ◌∙◌, Option, Some, None}
 use Rattle.std.specs.Prelude.{Result, Ok, Err, option_map}
 use Rattle.std.specs.Result.{result_unwrap_or}
 use Rattle.hc_records.specs.declared.edit.Edit.{Edit}
@@ -10,11 +10,9 @@ use Rattle.hc_records.specs.Edits.{changed, edit_faults, refused_by, state_after
 use Rattle.hc_registers.specs.Blocks.{LineBlock}
 use Rattle.hc_frames.specs.declared.reading.faults.FrameFault.{FrameFault}
 use Rattle.hc_events.specs.declared.answer.Answer.{Answer}
-use Rattle.hc_events.specs.declared.answer.Answer.TheVariants as answer
 use Rattle.hc_events.specs.declared.faults.CoreFault.{CoreFault}
-use Rattle.hc_events.specs.declared.faults.CoreFault.TheVariants.{Memory}
 use Rattle.hc_events.specs.Arrivals.{Arrival, arrival_in}
-use Rattle.hc_events.specs.Calls.{IsAnswered, MayAnswer}
+use Rattle.hc_events.specs.Calls.{MayAnswer}
 use Rattle.hc_events.specs.Entries.{Record, Edited, Posted, Sent}
 use Rattle.hc_events.specs.Faults.{edit_refusal}
 use Rattle.hc_events.specs.Owed.{owed_blocks}
