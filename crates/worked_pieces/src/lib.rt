@@ -19,3 +19,5 @@ mod projects;
 mod registers;
 #[cfg(test)]
 mod searches;
+#[cfg(test)]
+mod tasks;
