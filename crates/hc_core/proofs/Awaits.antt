@@ -26,7 +26,8 @@ use Rattle.hc_awaited.specs.Waiting.{AwaitedFrame, AwaitedWrite, Waiting, is_ali
 use Rattle.hc_awaited.specs.Judging.{due_with, found_frame, frame_due, write_due}
 use Rattle.hc_core.proofs.Names.{owed-wrote}
 use Rattle.hc_core.proofs.Sorts.{none-framed}
-use Rattle.hc_core.specs.Waits.{IsUnderWay, Waits, due_by, dues_of}
+use Rattle.hc_core.specs.Waits.{IsUnderWay, Waits}
+use Rattle.hc_awaited.specs.Record.{due_by, dues_of}
 
 none_some : (write : AwaitedWrite) → None ≡ Some write → ⊥
 none_some write e = let never : false ≡ true = ap is_some e in cc

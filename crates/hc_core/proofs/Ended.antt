@@ -20,7 +20,8 @@ use Rattle.hc_events.proofs.lemmas.OneWrite.{all-alone}
 use Rattle.hc_awaited.specs.Waiting.{AwaitedFrame, AwaitedWrite, Waiting, ended, is_alive}
 use Rattle.hc_awaited.specs.Judging.{due_with, found_frame, found_write, frame_due, write_due}
 use Rattle.hc_core.proofs.Sorts.{write-awaited}
-use Rattle.hc_core.specs.Waits.{Waits, due_by, dues_of}
+use Rattle.hc_core.specs.Waits.{Waits}
+use Rattle.hc_awaited.specs.Record.{due_by, dues_of}
 
 -- among what is kept
 

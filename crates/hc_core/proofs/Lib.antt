@@ -1,7 +1,6 @@
 pub mod Arrivals
 pub mod Awaits
 pub mod Commits
-pub mod Dues
 pub mod Edits
 pub mod Ended
 pub mod Firsts
@@ -9,7 +8,6 @@ pub mod GoodsSteps
 pub mod Known
 pub mod Names
 pub mod News
-pub mod Resent
 pub mod Sendings
 pub mod SentAll
 pub mod Shown

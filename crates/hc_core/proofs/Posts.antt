@@ -29,7 +29,8 @@ use Rattle.hc_outputs.proofs.lemmas.Bits.{AreAlike, holds-alike}
 use Rattle.hc_outputs.proofs.lemmas.LaidOut.{offset-of_line, place-of_line}
 use Rattle.hc_core.specs.Agreement.{Agree, Kept}
 use Rattle.hc_core.specs.Values.{HoldsValues}
-use Rattle.hc_core.specs.Waits.{IsUnderWay, Waits, due_by, dues_of}
+use Rattle.hc_core.specs.Waits.{IsUnderWay, Waits}
+use Rattle.hc_awaited.specs.Record.{due_by, dues_of}
 
 -- at the opening each value is 0
 

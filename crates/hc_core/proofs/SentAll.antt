@@ -16,7 +16,7 @@ use Rattle.hc_events.proofs.lemmas.Accepted.{proposal-stands}
 use Rattle.hc_events.proofs.lemmas.Frames.{proposals-numbered}
 use Rattle.hc_awaited.specs.Waiting as waiting
 use Rattle.hc_awaited.specs.Waiting.{AwaitedFrame, AwaitedWrite, Carried, Waiting, all_sent, as_sent, is_alive, sent, with_again}
-use Rattle.hc_core.proofs.Resent.{due-both, sent-frames}
+use Rattle.hc_awaited.proofs.lemmas.Resent.{due-both, sent-frames}
 use Rattle.hc_core.proofs.Sorts.{none-written}
 use Rattle.hc_core.specs.Waits.{Waits}
 

@@ -17,8 +17,9 @@ use Rattle.hc_events.proofs.lemmas.Awaited.{by_bool, same_is}
 use Rattle.hc_events.proofs.lemmas.OneWrite.{all-alone}
 use Rattle.hc_awaited.specs.Waiting.{AwaitedFrame, AwaitedWrite, Carried, Waiting}
 use Rattle.hc_awaited.specs.Judging.{Due, due_of, due_with, found_frame, frame_due, write_due, written_head}
-use Rattle.hc_core.proofs.Dues.{heads-back}
-use Rattle.hc_core.specs.Waits.{Waits, due_by, dues_of}
+use Rattle.hc_awaited.proofs.lemmas.Dues.{heads-back}
+use Rattle.hc_core.specs.Waits.{Waits}
+use Rattle.hc_awaited.specs.Record.{due_by, dues_of}
 
 -- what is due is that of an awaited sending
 
