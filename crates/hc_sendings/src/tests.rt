@@ -1,6 +1,7 @@
 //! Frames of lines whose sizes were worked out by hand: a datagram of n bytes has 12 beside its data,
 //! a frame 16 before its datagrams, and 1,500 may follow the Ethernet header of 14.
-ghost use Rattle.std.specs.Prelude.{◌≡◌, length};
+ghost use Rattle.std.specs.Prelude.{◌≡◌, ◌≤◌, length};
+ghost use Rattle.hc_frames.specs.declared.limits.TheConstants.{SETUP_SERIAL};
 ghost use Rattle.hc_events.specs.Calls.{AreSentTogether};
 ghost use Rattle.hc_events.specs.Sendings.{alone, joined};
 
@@ -81,114 +82,145 @@ fn plan_of(alloc: Global, areas: &[(u8, u16)]) -> Result<Plan, Fail> {
     Ok(Plan::new(alloc, project)?)
 }
 
-/// Whether the frames have these sizes, and serials from this one on.
-fn are(frames: &[Sending], serial: u64, sizes: &[usize]) -> bool {
+/// A frame that is to come: its size and its datagrams.
+type Wanted = (usize, &'static [Named]);
+
+/// Whether a frame is that, with this serial.
+fn is_wanted(frame: &Sending, serial: u64, wanted: &Wanted) -> bool {
+    frame.size() == wanted.0 && frame.serial() == serial && frame.datagrams() == wanted.1
+}
+
+/// Whether the frames are these, with serials from this one on.
+fn are(frames: &[Sending], serial: u64, wanted: &[Wanted]) -> bool {
     let mut expected = serial;
-    for (frame, size) in frames.iter().zip(sizes) {
-        if frame.size() != *size || frame.serial() != expected {
+    for (frame, wanted) in frames.iter().zip(wanted) {
+        if !is_wanted(frame, expected, wanted) {
             return false;
         }
         expected = expected.saturating_add(1);
     }
-    frames.len() == sizes.len()
+    frames.len() == wanted.len()
 }
 
-/// Whether there is the frame, and it carries these datagrams.
-fn carries(frame: Option<&Sending>, datagrams: &[Named]) -> bool {
-    match frame {
-        Some(frame) => frame.datagrams() == datagrams,
-        None => false,
+/// Whether tasks are sent in these frames where no block is owed.
+fn are_sent(alloc: Global, plan: &Plan, serial: u64, tasks: &[u8], wanted: &[Wanted]) -> bool
+    requires serial { serial ≤ SETUP_SERIAL }
+    requires together { AreSentTogether tasks.now }
+{
+    match propose(alloc, plan, serial, 0, tasks) {
+        Ok(frames) => are(&frames, serial, wanted),
+        Err(_) => false,
     }
 }
 
+/// Three tasks in a frame each.
+const APART: [Wanted; 3] = [(728, &[(0, 0)]), (1028, &[(1, 0)]), (728, &[(2, 0)])];
+
+/// The first and the third of them in one: 14 + 2 + 712 + 712 bytes.
+const TOGETHER: [Wanted; 2] = [(1440, &[(0, 0), (2, 0)]), (1028, &[(1, 0)])];
+
 /// Three tasks with 700, 1,000 and 700 bytes, in this order: no two neighbours share a frame. With the
-/// tasks of 700 bytes beside one another these two do: 14 + 2 + 712 + 712 bytes.
+/// tasks of 700 bytes beside one another these two do.
 #[test]
 fn neighbours_alone_share_a_frame(rt: HostRuntime) -> Result<(), Fail> {
-    let plan = plan_of(rt.alloc(), &[(0, 700), (1, 1000), (2, 700)])?;
-    let frames = propose(rt.alloc(), &plan, 4, 0, &[0, 1, 2])?;
-    assert!(rt; are(&frames, 4, &[728, 1028, 728]));
-    let frames = propose(rt.alloc(), &plan, 4, 0, &[0, 2, 1])?;
-    assert!(rt; are(&frames, 4, &[1440, 1028]));
-    assert!(rt; carries(frames.first(), &[(0, 0), (2, 0)]));
-    assert!(rt; carries(frames.get(1), &[(1, 0)]));
+    let alloc = rt.alloc();
+    let plan = plan_of(alloc, &[(0, 700), (1, 1000), (2, 700)])?;
+    let apart = are_sent(alloc, &plan, 4, &[0, 1, 2], &APART);
+    let together = are_sent(alloc, &plan, 4, &[0, 2, 1], &TOGETHER);
+    assert_eq!(rt; [apart, together], [true, true]);
     Ok(())
+}
+
+/// Whether task 0 and task 1 with so many bytes are sent in these frames.
+fn two_are_sent(alloc: Global, bytes: (u16, u16), wanted: &[Wanted]) -> Result<bool, Fail> {
+    let plan = plan_of(alloc, &[(0, bytes.0), (1, bytes.1)])?;
+    Ok(are_sent(alloc, &plan, 0, &[0, 1], wanted))
 }
 
 /// Two tasks with 737 bytes each fill a frame of 1,514 bytes; with one byte more they don't share it.
 #[test]
 fn longest_frame_of_two_tasks(rt: HostRuntime) -> Result<(), Fail> {
-    let plan = plan_of(rt.alloc(), &[(0, 737), (1, 737)])?;
-    let frames = propose(rt.alloc(), &plan, 0, 0, &[0, 1])?;
-    assert!(rt; are(&frames, 0, &[1514]));
-    let plan = plan_of(rt.alloc(), &[(0, 738), (1, 737)])?;
-    let frames = propose(rt.alloc(), &plan, 0, 0, &[0, 1])?;
-    assert!(rt; are(&frames, 0, &[766, 765]));
+    let alloc = rt.alloc();
+    let shared = two_are_sent(alloc, (737, 737), &[(1514, &[(0, 0), (1, 0)])])?;
+    let apart = two_are_sent(alloc, (738, 737), &[(766, &[(0, 0)]), (765, &[(1, 0)])])?;
+    assert_eq!(rt; [shared, apart], [true, true]);
     Ok(())
 }
 
 /// A task of two datagrams, of 1,486 bytes and of one byte, and a task without any.
 #[test]
 fn datagrams_of_one_task(rt: HostRuntime) -> Result<(), Fail> {
-    let plan = plan_of(rt.alloc(), &[(3, 1486), (3, 1)])?;
-    let frames = propose(rt.alloc(), &plan, 9, 0, &[3])?;
-    assert!(rt; are(&frames, 9, &[1514, 60]));
-    assert!(rt; carries(frames.get(1), &[(3, 1)]));
-    let frames = propose(rt.alloc(), &plan, 9, 0, &[0])?;
-    assert!(rt; are(&frames, 9, &[]));
+    let alloc = rt.alloc();
+    let plan = plan_of(alloc, &[(3, 1486), (3, 1)])?;
+    let two = are_sent(alloc, &plan, 9, &[3], &[(1514, &[(3, 0)]), (60, &[(3, 1)])]);
+    let none = are_sent(alloc, &plan, 9, &[0], &[]);
+    assert_eq!(rt; [two, none], [true, true]);
     Ok(())
 }
 
+/// Why tasks are refused where so many blocks are owed, if they are.
+fn refusal(alloc: Global, plan: &Plan, serial: u64, owed: u32, tasks: &[u8]) -> Option<CoreFault>
+    requires serial { serial ≤ SETUP_SERIAL }
+    requires together { AreSentTogether tasks.now }
+{
+    propose(alloc, plan, serial, owed, tasks).err()
+}
+
+/// The last serial of tasks.
+const LAST: u64 = SETUP_SERIAL - 1;
+
+/// Why each of four sendings is refused.
+fn refusals(alloc: Global, plan: &Plan) -> [Option<CoreFault>; 4] {
+    [
+        refusal(alloc, plan, LAST, 5, &[0, 8]),
+        refusal(alloc, plan, LAST, 5, &[0, 1]),
+        refusal(alloc, plan, LAST, 0, &[0, 1]),
+        refusal(alloc, plan, SETUP_SERIAL, 0, &[1]),
+    ]
+}
+
 /// A task over 7 is told before owed blocks, and these before the end of the serials.
+const REFUSALS: [Option<CoreFault>; 4] = [
+    Some(CoreFault::NoSuchTask),
+    Some(CoreFault::Unprogrammed(5)),
+    Some(CoreFault::SerialsSpent),
+    Some(CoreFault::SerialsSpent),
+];
+
 #[test]
 fn first_refusal_is_told(rt: HostRuntime) -> Result<(), Fail> {
     let alloc = rt.alloc();
     let plan = plan_of(alloc, &[(0, 738), (1, 737)])?;
-    let last = SETUP_SERIAL - 1;
-    assert!(rt;
-        matches!(
-            propose(alloc, &plan, last, 5, &[0, 8]),
-            Err(CoreFault::NoSuchTask)
-        )
-    );
-    assert!(rt;
-        matches!(
-            propose(alloc, &plan, last, 5, &[0, 1]),
-            Err(CoreFault::Unprogrammed(5))
-        )
-    );
-    assert!(rt;
-        matches!(
-            propose(alloc, &plan, last, 0, &[0, 1]),
-            Err(CoreFault::SerialsSpent)
-        )
-    );
-    let frames = propose(alloc, &plan, last, 0, &[1])?;
-    assert!(rt; are(&frames, last, &[765]));
-    assert!(rt;
-        matches!(
-            propose(alloc, &plan, SETUP_SERIAL, 0, &[1]),
-            Err(CoreFault::SerialsSpent)
-        )
-    );
-    let frames = propose(alloc, &plan, SETUP_SERIAL, 0, &[2])?;
-    assert!(rt; are(&frames, SETUP_SERIAL, &[]));
+    let one = are_sent(alloc, &plan, LAST, &[1], &[(765, &[(1, 0)])]);
+    let none = are_sent(alloc, &plan, SETUP_SERIAL, &[2], &[]);
+    assert!(rt; refusals(alloc, &plan) == REFUSALS && one && none);
     Ok(())
+}
+
+/// Whether a datagram alone would be sent in such a frame, or could not be sent.
+fn is_preview(plan: &Plan, serial: u64, task: u8, number: u8, wanted: Option<&Wanted>) -> bool
+    requires { serial ≤ SETUP_SERIAL }
+{
+    match (preview(plan, serial, task, number), wanted) {
+        (Some(frame), Some(wanted)) => is_wanted(&frame, serial, wanted),
+        (None, None) => true,
+        _ => false,
+    }
 }
 
 /// One datagram alone, or none.
 #[test]
 fn previews_of_a_line(rt: HostRuntime) -> Result<(), Fail> {
     let plan = plan_of(rt.alloc(), &[(3, 1486), (3, 1)])?;
-    let frame = preview(&plan, 9, 3, 0).ok_or("no preview")?;
-    assert_eq!(rt; frame.serial(), 9);
-    assert_eq!(rt; frame.size(), 1514);
-    assert!(rt; carries(Some(&frame), &[(3, 0)]));
-    assert!(rt; preview(&plan, 9, 3, 2).is_none());
-    assert!(rt; preview(&plan, 9, 2, 0).is_none());
-    assert!(rt; preview(&plan, 9, 8, 0).is_none());
-    assert!(rt; preview(&plan, SETUP_SERIAL - 1, 3, 1).is_some());
-    assert!(rt; preview(&plan, SETUP_SERIAL, 3, 1).is_none());
+    let previews = [
+        is_preview(&plan, 9, 3, 0, Some(&(1514, &[(3, 0)]))),
+        is_preview(&plan, 9, 3, 2, None),
+        is_preview(&plan, 9, 2, 0, None),
+        is_preview(&plan, 9, 8, 0, None),
+        is_preview(&plan, LAST, 3, 1, Some(&(60, &[(3, 1)]))),
+        is_preview(&plan, SETUP_SERIAL, 3, 1, None),
+    ];
+    assert_eq!(rt; previews, [true; 6]);
     Ok(())
 }
 
@@ -205,16 +237,24 @@ fn parts_of(alloc: Global, plan: &Plan, tasks: &[u8]) -> Result<(usize, usize, u
     ))
 }
 
+/// Those of three sendings.
+fn shares(alloc: Global, plan: &Plan) -> Result<[(usize, usize, usize); 3], CoreFault> {
+    Ok([
+        parts_of(alloc, plan, &[0, 1])?,
+        parts_of(alloc, plan, &[1, 0])?,
+        parts_of(alloc, plan, &[2])?,
+    ])
+}
+
 /// Two tasks of two bytes and of one byte share the least frame, of 60 bytes: 16, 14 and 13 bytes, and 17
 /// zeros. The first task of a frame has the 16 bytes, the last one the zeros, and a task that isn't sent
 /// has none.
+const SHARES: [(usize, usize, usize); 3] = [(30, 30, 0), (31, 29, 0), (0, 0, 728)];
+
 #[test]
 fn parts_of_a_shared_frame(rt: HostRuntime) -> Result<(), Fail> {
-    let alloc = rt.alloc();
-    let plan = plan_of(alloc, &[(0, 2), (1, 1), (2, 700)])?;
-    assert_eq!(rt; parts_of(alloc, &plan, &[0, 1])?, (30, 30, 0));
-    assert_eq!(rt; parts_of(alloc, &plan, &[1, 0])?, (31, 29, 0));
-    assert_eq!(rt; parts_of(alloc, &plan, &[2])?, (0, 0, 728));
+    let plan = plan_of(rt.alloc(), &[(0, 2), (1, 1), (2, 700)])?;
+    assert!(rt; shares(rt.alloc(), &plan)? == SHARES);
     Ok(())
 }
 
