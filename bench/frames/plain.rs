@@ -108,13 +108,20 @@ fn judged(region: &[u8], index: u8) -> Result<u64, u64> {
     }
 }
 
+/// The serial and the bytes of the datagrams of a frame that is whole, or the number of its first fault.
+pub fn whole_frame(frame: &[u8]) -> Result<(u64, &[u8]), u64> {
+    let (serial, region) = region_of(frame)?;
+    judged(region, serial as u8)?;
+    Ok((serial, region))
+}
+
 /// The number of the frame's first fault.
 pub fn fault(frame: &[u8]) -> Option<u64> {
-    region_of(frame).and_then(|(serial, region)| judged(region, serial as u8)).err()
+    whole_frame(frame).err()
 }
 
 /// The part at the front of whole datagrams, and what stands behind it.
-fn part_of(bytes: &[u8]) -> Option<(&[u8; 10], usize, u16, &[u8])> {
+pub fn part_of(bytes: &[u8]) -> Option<(&[u8; 10], usize, u16, &[u8])> {
     let (head, rest) = bytes.split_first_chunk::<10>()?;
     let size = usize::from(u16::from_le_bytes([head[6], head[7]]) & 0x7ff);
     let (counter, behind) = rest.get(size..)?.split_first_chunk::<2>()?;

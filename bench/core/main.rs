@@ -1,0 +1,374 @@
+//! The core's calls, timed against plain Rust that gives the same answers and against a memory copy of the same bytes,
+//! in one run: at 8 and at 2,048 slaves with eight areas each.
+//!
+//! A call of the library opens the line of a project's text, plays what comes before, and then times rounds of calls by
+//! a clock of its own, so that the opening isn't in any figure. An arrival is the difference of rounds of sendings that
+//! are answered and of rounds of the same sendings alone. Each kind is timed in turns, the proved core, the plain one
+//! (twice) and the memory copy, and what is printed are medians over the turns of the ratios of medians over the rounds.
+
+mod line;
+mod plain;
+mod script;
+mod told;
+
+use plain::{Answer, Core, Slave};
+use script::{Asked, LISTS, Script, returned, starts};
+use std::hint::black_box;
+use std::time::Instant;
+
+/// What is timed, as the library's exports take it.
+#[repr(C)]
+#[derive(Clone, Copy, Default)]
+struct Timed {
+    kind: u8,
+    task: u8,
+    area: u8,
+    station: u16,
+    here: u16,
+    there: u16,
+    calls: u32,
+}
+
+const SEND: u8 = 0;
+const SEND_ALONE: u8 = 1;
+const SEND_AND_ARRIVE: u8 = 2;
+const ARRIVE_ALONE: u8 = 3;
+const READ_IMAGE: u8 = 4;
+const WRITE_AND_ARRIVE: u8 = 5;
+const POST_OUTPUTS: u8 = 6;
+const FILL: u8 = 7;
+const EDIT: u8 = 8;
+
+unsafe extern "C" {
+    fn core_told(
+        text: *const u8, text_size: usize, events: *const Asked, count: usize, bytes: *const u8, size: usize,
+        told: *mut u64, told_count: usize,
+    ) -> usize;
+    fn core_timed(
+        text: *const u8, text_size: usize, events: *const Asked, count: usize, bytes: *const u8, size: usize,
+        timed: *const Timed, frame: *mut u8, frame_size: usize, indexes: *const u32, index_count: usize,
+        times: *mut u64, time_count: usize,
+    ) -> u64;
+}
+
+/// A line with what was played on it before.
+struct Opened {
+    slaves: Vec<Slave>,
+    text: String,
+    script: Script,
+}
+
+/// What is timed of a line: as many calls in a round, in as many rounds, and the bytes that are carried.
+struct Case {
+    name: &'static str,
+    timed: Timed,
+    /// The kind whose time is taken off.
+    without: Option<u8>,
+    frame: Vec<u8>,
+    bytes: usize,
+    rounds: usize,
+    turns: usize,
+}
+
+fn opened(slaves: usize) -> Opened {
+    let slaves = line::line(slaves);
+    let text = line::text(&slaves);
+    let script = Script::new(Core::new(slaves.clone()));
+    Opened { slaves, text, script }
+}
+
+/// Everything is written, posted, sent and answered once.
+fn ready(slaves: usize) -> Opened {
+    let mut opened = opened(slaves);
+    opened.script.write_all();
+    for task in 0..8 {
+        let bytes = vec![0xc3; opened.script.core.table(task).outputs.into()];
+        opened.script.add(Asked { kind: script::POST, task: task as u8, ..Asked::default() }, &bytes);
+    }
+    for list in 0..4 {
+        opened.script.cycle(list);
+    }
+    opened
+}
+
+/// Stops the benchmark where the proved core tells otherwise than the plain one.
+fn compare(name: &str, opened: &Opened) {
+    let Script { events, bytes, told, .. } = &opened.script;
+    let mut found = vec![0; told.len()];
+    let count = unsafe {
+        core_told(
+            opened.text.as_ptr(), opened.text.len(), events.as_ptr(), events.len(), bytes.as_ptr(), bytes.len(),
+            found.as_mut_ptr(), found.len(),
+        )
+    };
+    assert_eq!(count, told.len(), "{name}: not all events were played");
+    if let Some(place) = (0..count).find(|place| found[*place] != told[*place]) {
+        panic!("{name}: event {place} of kind {} is answered otherwise", events[place].kind);
+    }
+}
+
+fn median(times: &mut [f64]) -> f64 {
+    times.sort_by(f64::total_cmp);
+    times[times.len() / 2]
+}
+
+/// Where the indexes of a frame's datagrams stand.
+fn indexes(frame: &[u8]) -> Vec<u32> {
+    starts(frame).iter().map(|at| *at as u32 + 1).collect()
+}
+
+/// The nanoseconds of one call of the proved core.
+fn proved(opened: &Opened, case: &Case, kind: u8) -> f64 {
+    let timed = Timed { kind, ..case.timed };
+    let mut frame = case.frame.clone();
+    let places = if kind == SEND_ALONE || kind == SEND_AND_ARRIVE { indexes(&frame) } else { Vec::new() };
+    let mut times = vec![0u64; case.rounds];
+    let script = &opened.script;
+    let count = unsafe {
+        core_timed(
+            opened.text.as_ptr(), opened.text.len(), script.events.as_ptr(), script.events.len(),
+            script.bytes.as_ptr(), script.bytes.len(), &timed, frame.as_mut_ptr(), frame.len(), places.as_ptr(),
+            places.len(), times.as_mut_ptr(), times.len(),
+        )
+    };
+    assert_eq!(count, u64::from(timed.calls) * case.rounds as u64, "{}: another answer", case.name);
+    let mut each: Vec<f64> = times.iter().map(|time| *time as f64 / f64::from(timed.calls)).collect();
+    median(&mut each)
+}
+
+fn put_serial(frame: &mut [u8], places: &[u32], serial: u64) {
+    let bytes = serial.to_be_bytes();
+    for (at, byte) in bytes[3..].iter().enumerate() {
+        if let Some(own) = frame.get_mut(7 + at) {
+            *own = *byte;
+        }
+    }
+    for at in places {
+        if let Some(own) = frame.get_mut(*at as usize) {
+            *own = bytes[7];
+        }
+    }
+}
+
+fn send_and_put(core: &mut Core, list: u8, frame: &mut [u8], places: &[u32]) -> bool {
+    let serial = core.next_serial();
+    let sent = matches!(core.send(LISTS[usize::from(list)]), Answer::Sent(_));
+    put_serial(frame, places, serial);
+    sent
+}
+
+/// What is timed, once, in the plain core: whether the answer is the one that is looked for.
+fn once(core: &mut Core, timed: &Timed, frame: &mut [u8], places: &[u32]) -> bool {
+    match timed.kind {
+        SEND => matches!(core.send(LISTS[usize::from(timed.task)]), Answer::Sent(_)),
+        SEND_ALONE => send_and_put(core, timed.task, frame, places),
+        SEND_AND_ARRIVE => {
+            send_and_put(core, timed.task, frame, places)
+                && matches!(core.arrive(frame), Answer::Answered(_))
+                && !core.take_changes().is_empty()
+        }
+        ARRIVE_ALONE => matches!(core.arrive(frame), Answer::Stale),
+        READ_IMAGE => matches!(core.read(timed.task), Answer::Image { .. }),
+        WRITE_AND_ARRIVE => {
+            let Answer::WriteSent(mut frame) = core.send_write() else {
+                return false;
+            };
+            let size = usize::from(frame[22]);
+            frame[26 + size] = 1;
+            matches!(core.arrive(&frame), Answer::WriteDone)
+        }
+        POST_OUTPUTS => matches!(core.post(timed.task, core.epoch(), frame), Answer::Posted),
+        FILL => {
+            core.preview_into(timed.task, black_box(frame));
+            true
+        }
+        _ => {
+            let there = core.remap(timed.station, timed.area, &[timed.there]);
+            let here = core.remap(timed.station, timed.area, &[timed.here]);
+            let both = matches!((there, here), (Answer::Edited { .. }, Answer::Edited { .. }));
+            both && !core.take_changes().is_empty()
+        }
+    }
+}
+
+/// The nanoseconds of one call of the plain core.
+fn plain(opened: &Opened, case: &Case, kind: u8) -> f64 {
+    let timed = Timed { kind, ..case.timed };
+    let mut script = Script::new(Core::new(opened.slaves.clone()));
+    let bytes = &opened.script.bytes;
+    for asked in &opened.script.events {
+        let own = &bytes[asked.from as usize..(asked.from + asked.size) as usize];
+        script.add(*asked, own);
+    }
+    let (mut core, mut frame) = (script.core, case.frame.clone());
+    let places = if kind == SEND_ALONE || kind == SEND_AND_ARRIVE { indexes(&frame) } else { Vec::new() };
+    let mut each = Vec::with_capacity(case.rounds);
+    for _ in 0..case.rounds {
+        let begun = Instant::now();
+        for _ in 0..timed.calls {
+            assert!(once(&mut core, &timed, &mut frame, &places), "{}: another answer", case.name);
+        }
+        each.push(begun.elapsed().as_nanos() as f64 / f64::from(timed.calls));
+    }
+    median(&mut each)
+}
+
+/// The nanoseconds of a copy of so many bytes.
+fn memory(bytes: usize) -> f64 {
+    let (from, mut to) = (vec![0x5au8; bytes], vec![0u8; bytes]);
+    let mut each = Vec::with_capacity(301);
+    for _ in 0..301 {
+        let begun = Instant::now();
+        for _ in 0..200 {
+            black_box(&mut to).copy_from_slice(black_box(&from));
+        }
+        each.push(begun.elapsed().as_nanos() as f64 / 200.0);
+    }
+    median(&mut each)
+}
+
+/// The nanoseconds of the proved core, of the plain one twice, and of a memory copy.
+struct Figures {
+    proved: f64,
+    plain: f64,
+    again: f64,
+    memory: f64,
+}
+
+fn turn(opened: &Opened, case: &Case) -> Figures {
+    let less = |whole: f64, of: &dyn Fn(u8) -> f64| case.without.map_or(whole, |kind| whole - of(kind));
+    let plain_one = || less(plain(opened, case, case.timed.kind), &|kind| plain(opened, case, kind));
+    let plain = plain_one();
+    let proved = less(proved(opened, case, case.timed.kind), &|kind| proved(opened, case, kind));
+    Figures { proved, plain, again: plain_one(), memory: memory(case.bytes) }
+}
+
+/// The medians over the turns.
+fn figures(opened: &Opened, case: &Case) -> Figures {
+    let turns: Vec<Figures> = (0..case.turns).map(|_| turn(opened, case)).collect();
+    let of = |pick: &dyn Fn(&Figures) -> f64| median(&mut turns.iter().map(pick).collect::<Vec<f64>>());
+    Figures {
+        proved: of(&|turn| turn.proved),
+        plain: of(&|turn| turn.plain),
+        again: of(&|turn| turn.again),
+        memory: of(&|turn| turn.memory),
+    }
+}
+
+/// A frame of 60 datagrams, the first of which are those of the sent one.
+fn sixty(sent: &[u8]) -> Vec<u8> {
+    let mut frame = sent.to_vec();
+    let own = starts(sent);
+    let end = 16 + usize::from(u16::from_le_bytes([sent[14], sent[15]]) & 0x7ff);
+    frame.truncate(end);
+    let last = own[own.len() - 1];
+    frame[last + 7] |= 0x80;
+    let size = (1514 - end) / (60 - own.len()) - 12;
+    for number in own.len()..60 {
+        let more = if number < 59 { 0x80 } else { 0 };
+        frame.extend_from_slice(&[12, sent[17], 0, 0, 0, 9, size as u8, more, 0, 0]);
+        frame.resize(frame.len() + size + 2, 0x77);
+    }
+    let header = (frame.len() - 16) as u16 | 0x1000;
+    frame[14..16].copy_from_slice(&header.to_le_bytes());
+    frame
+}
+
+/// The frames of a list of tasks as they come back, and how many bytes they have.
+fn frames_of(opened: &mut Opened, list: u8) -> (Vec<u8>, usize) {
+    opened.script.add(Asked { kind: script::TASKS, task: list, ..Asked::default() }, &[]);
+    let sent = std::mem::take(&mut opened.script.sent);
+    let frame = returned(&opened.script.core, &sent[0], || 0x3c);
+    (frame, sent.iter().map(Vec::len).sum())
+}
+
+/// All that is timed of a line on which everything was played.
+fn cases(opened: &mut Opened, turns: usize, edits: usize) -> Vec<Case> {
+    let (one, one_size) = frames_of(opened, 0);
+    let (_, all_size) = frames_of(opened, 1);
+    let (outputs, full_size) = frames_of(opened, 2);
+    let (five, five_size) = frames_of(opened, 3);
+    let many = sixty(&five);
+    let many_size = many.len();
+    let posted = opened.script.core.table(2).outputs.into();
+    let image = opened.script.core.table(1).datagrams().iter().map(|datagram| usize::from(datagram.length)).sum();
+    let case = |name, kind, task, frame, bytes, calls| Case {
+        name,
+        timed: Timed { kind, task, area: 3, station: 1001, here: line::PDO, there: line::PDO + 1, calls },
+        without: (kind == SEND_AND_ARRIVE).then_some(SEND_ALONE),
+        frame,
+        bytes,
+        rounds: 301,
+        turns,
+    };
+    let mut all = vec![
+        case("arrival, one datagram of 1,486 bytes", SEND_AND_ARRIVE, 0, one, one_size, 100),
+        case("arrival, five datagrams", SEND_AND_ARRIVE, 3, five, five_size, 100),
+        case("arrival, 60 datagrams, stale", ARRIVE_ALONE, 3, many, many_size, 100),
+        case("sending of 16 datagrams", SEND, 1, Vec::new(), all_size, 20),
+        case("read of 16 datagrams", READ_IMAGE, 1, Vec::new(), image, 20),
+        case("post of 1,486 bytes", POST_OUTPUTS, 2, vec![0x69; posted], posted, 200),
+        case("fill of a frame of 1,514 bytes", FILL, 2, outputs, full_size, 200),
+        case("two edits that move 100 variables", EDIT, 3, Vec::new(), 27, 1),
+    ];
+    if let Some(edit) = all.last_mut() {
+        edit.rounds = edits;
+    }
+    all
+}
+
+fn main() {
+    let few = std::env::args().any(|word| word == "few");
+    let mut drawn = ready(8);
+    drawn.script.draw(if few { 300 } else { 3000 });
+    compare("drawn events", &drawn);
+    let (mut small, mut large) = (ready(8), ready(2048));
+    large.script.draw(100);
+    compare("2,048 slaves", &large);
+    large = ready(2048);
+    let turns = if few { 1 } else { 5 };
+    let (small_cases, large_cases) = (cases(&mut small, 2 * turns, 101), cases(&mut large, turns, 21));
+    let mut lost = ready(8);
+    for round in 0..1000 {
+        lost.script.add(Asked { kind: script::TASKS, task: (round % 4) as u8, ..Asked::default() }, &[]);
+    }
+    let lost_cases = cases(&mut lost, 2 * turns, 101);
+    println!("| Call | Slaves | Ratio to plain Rust | Ratio to a memory copy | Plain Rust to a memory copy | Growth |");
+    println!("|---|---|---|---|---|---|");
+    for ((small_case, large_case), lost_case) in small_cases.iter().zip(&large_cases).zip(&lost_cases) {
+        let base = figures(&small, small_case);
+        tell("8", small_case, &base, &base);
+        tell("8, 1,000 unanswered sendings", lost_case, &figures(&lost, lost_case), &base);
+        tell("2,048", large_case, &figures(&large, large_case), &base);
+    }
+    let writes = |rounds, turns| Case {
+        name: "write with its answer",
+        timed: Timed { kind: WRITE_AND_ARRIVE, calls: 16, ..Timed::default() },
+        without: None,
+        frame: Vec::new(),
+        bytes: 60,
+        rounds,
+        turns,
+    };
+    let (small, large) = (opened(8), opened(2048));
+    let base = figures(&small, &writes(8, 20 * turns));
+    tell("8", &writes(8, 0), &base, &base);
+    tell("2,048, the first 128 blocks", &writes(8, 0), &figures(&large, &writes(8, turns)), &base);
+    tell("2,048, all blocks", &writes(8, 0), &figures(&large, &writes(2048, turns)), &base);
+}
+
+fn tell(slaves: &str, case: &Case, found: &Figures, base: &Figures) {
+    let Figures { proved, plain, again, memory } = found;
+    let apart = if (0.9..=1.1).contains(&(again / plain)) { "" } else { " (plain Rust differs from itself)" };
+    println!(
+        "| {} | {slaves} | {:.2}{apart} | {:.1} | {:.1} | {:.2} |",
+        case.name,
+        proved / plain.min(*again),
+        proved / memory,
+        plain.min(*again) / memory,
+        proved / base.proved
+    );
+    if std::env::var_os("NANOSECONDS").is_some() {
+        println!("    {proved:.0} {plain:.0} {again:.0} {memory:.0}");
+    }
+}
