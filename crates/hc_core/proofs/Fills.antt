@@ -8,15 +8,16 @@ use Rattle.std.proofs.lemmas.List.Sums.{sum_by-cons}
 use Rattle.hc_records.specs.declared.limits.TheConstants.{TASKS}
 use Rattle.hc_records.specs.Edits.{crowded_task}
 use Rattle.hc_records.specs.Image.{datagram_count, task_places}
-use Rattle.hc_records.specs.Line.{groups_of}
+use Rattle.hc_records.specs.Line.{State, groups_of, line}
 use Rattle.hc_records.specs.Lists.{lowest}
 use Rattle.hc_records.specs.Project.{lowest_fault}
 use Rattle.hc_frames.specs.declared.limits.TheConstants.{SETUP_SERIAL}
 use Rattle.hc_events.specs.Accepted.{StandsIn}
-use Rattle.hc_events.specs.Calls.{preview}
+use Rattle.hc_events.specs.Calls.{AreSentTogether, preview}
 use Rattle.hc_events.specs.Entries.{Record}
+use Rattle.hc_events.specs.Owed.{owed_blocks}
 use Rattle.hc_events.specs.Points.{line_of, next_serial, state_of}
-use Rattle.hc_events.specs.Sendings.{Frame, Named, alone, length_of, task_datagrams}
+use Rattle.hc_events.specs.Sendings.{Frame, Named, alone, length_of, sendings_of, task_datagrams}
 use Rattle.hc_events.specs.declared.answer.Answer.TheVariants as answer
 use Rattle.hc_events.specs.declared.faults.CoreFault.{CoreFault}
 use Rattle.hc_events.specs.Steps.{has_serials, kept_if, proposal, sent_text, task_faults, unless, with_sent}
@@ -24,6 +25,7 @@ use Rattle.hc_events.proofs.lemmas.Accepted.{proposal-stands}
 use Rattle.hc_events.proofs.lemmas.Frames.{frames-counted, proposals-numbered}
 use Rattle.hc_events.proofs.lemmas.SentBits.{sent-data}
 use Rattle.hc_outputs.specs.Packed.{Packed, sent_bytes}
+use Rattle.hc_sendings.specs.Refusals.{sending_faults}
 use Rattle.hc_sendings.specs.Texts.{carried_bytes}
 use Rattle.hc_sendings.proofs.lemmas.Listed.{standing-task}
 use Rattle.hc_core.proofs.Commits.{allowed, numbers_of}
@@ -31,6 +33,7 @@ use Rattle.hc_core.proofs.SentAll.{first-number}
 use Rattle.hc_core.proofs.Values.{data-sent}
 use Rattle.hc_core.specs.Filled.{CanBeFilled}
 use Rattle.hc_core.specs.Laws.{PiecesAreTheEvent, PreviewsCanBeFilled}
+use Rattle.hc_core.specs.Proposed.{IsProposal}
 use Rattle.hc_core.specs.Values.{HoldsValues}
 
 abbrev HasTask : Named → Type 0
@@ -76,6 +79,20 @@ few-frames serial count most left = omega (arith, left)
 
 pub proposal-few : (past : Record) (tasks : List ℕ) → lowest (task_faults past tasks) ≡ None → length (proposal past tasks) ≤ SETUP_SERIAL
 proposal-few past tasks none = few-frames (next_serial past) (length (proposal past tasks)) SETUP_SERIAL (allowed past tasks none).left
+
+pub proposed-as : (past : Record) (state : State) (serial owed : ℕ) (tasks : List ℕ) → state ≡ state_of past → serial ≡ next_serial past → owed ≡ length (owed_blocks past) → AreSentTogether tasks
+    → (frames : List Frame) → frames ≡ sendings_of (line state) serial tasks → lowest (sending_faults (line state) serial owed tasks) ≡ None → IsProposal past frames
+proposed-as past state serial owed tasks same number count together frames is none =
+    let faults : lowest (sending_faults (line state) serial owed tasks) ≡ lowest (task_faults past tasks) =
+    ap (λ (s : State). lowest (sending_faults (line s) serial owed tasks)) same
+    ∙ ap (λ (n : ℕ). lowest (sending_faults (line_of past) n owed tasks)) number
+    ∙ ap (λ (n : ℕ). lowest (sending_faults (line_of past) (next_serial past) n tasks)) count in
+    record {
+      tasks = tasks;
+      together = together;
+      accepted = sym faults ∙ none;
+      whole = is ∙ ap (λ (s : State). sendings_of (line s) serial tasks) same ∙ ap (λ (n : ℕ). sendings_of (line_of past) n tasks) number;
+    }
 
 pub if-proposed : {X E : Type 0} (P : X → Type 0) (Q : Type 0) (R : X → Type 0) (result : Result X E) → ((x : X) → P x → Q → R x) → IfOk result P → OnOk result Q → IfOk result R
 if-proposed P Q R (Ok x) next is on = next x is on

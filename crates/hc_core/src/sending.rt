@@ -31,6 +31,7 @@ impl Core {
     pub fn propose(&self, alloc: Global, tasks: &[u8]) -> Result<Vec<Sending>, CoreFault>
         requires { AreSentTogether tasks.now }
         ensures frames { IfOk result (λ frames. frames.items ≡ proposal self.now.past tasks.now) }
+        ensures present { IfOk result (λ frames. IsProposal self.now.past frames.items) }
         ensures filled { IfOk result (λ frames. All (CanBeFilled self.now.past) frames.items) }
         ensures few { IfOk result (λ frames. length frames.items ≤ SETUP_SERIAL) }
         ensures accepted { OnOk result (lowest (task_faults self.now.past tasks.now) ≡ None) }
