@@ -138,7 +138,7 @@ sweep_test worked_lines edits::a_list_of_edits_is_answered_in_its_order
 sweep_test hc_rings tests::a_buffer_begins_anew
 sweep_test hc_rings tests::four_buffers_go_round
 sweep_test hc_rings tests::a_dropped_sender_leaves_its_posts
-sweep_test hc_rings tests::frames_go_in_order
+sweep_test hc_rings tests::frames::frames_go_in_order
 sweep_test hc_awaited tests::a_late_answer
 sweep_test hc_segment tests::chained::machines_stay_where_a_chain_is_refused
 sweep_test hc_owed tests::writes_are_owed_until_confirmed

@@ -9,6 +9,7 @@ use crate::outputs::Outputs;
 use hc_plan::plan::Plan;
 use hc_records::edit::Edit;
 use hc_records::items::Items;
+use hc_records::limits::TASKS;
 use hc_records::project::Project;
 use hc_records::records::{Area, Dir, Group, Pdo, Slave, VarId};
 use std::alloc::{AllocError, Global};
@@ -102,62 +103,108 @@ fn edit(alloc: Global, plan: &mut Plan, outputs: &mut Outputs, edit: &Edit) -> R
     Ok(())
 }
 
-/// Moves the axis's outputs to a task.
-fn move_axis(alloc: Global, plan: &mut Plan, outputs: &mut Outputs, task: u8) -> Result<(), Fail>
-    requires { (value : ℕ → ℕ → ℕ) × Holds (table_of (line plan.old)) value outputs.old }
-    ensures { OnOk result ((value : ℕ → ℕ → ℕ) × Holds (table_of (line plan.new)) value outputs.new) }
-{
-    let moved = Edit::Move {
+/// The edit that moves the axis's outputs to a task.
+fn move_axis(task: u8) -> Edit {
+    Edit::Move {
         station: 1001,
         area: 0,
         task,
-    };
-    edit(alloc, plan, outputs, &moved)
+    }
+}
+
+/// What is done with the outputs of the axis and its tool.
+enum Step {
+    /// A task's outputs are posted.
+    Post(u8, &'static [u8]),
+    /// The tool comes.
+    Connect,
+    /// The tool goes.
+    Disconnect,
+    /// The axis's outputs move to a task.
+    Move(u8),
+}
+
+/// A step is taken.
+fn take(alloc: Global, plan: &mut Plan, outputs: &mut Outputs, step: &Step) -> Result<(), Fail>
+    requires { (value : ℕ → ℕ → ℕ) × Holds (table_of (line plan.old)) value outputs.old }
+    ensures { OnOk result ((value : ℕ → ℕ → ℕ) × Holds (table_of (line plan.new)) value outputs.new) }
+{
+    match step {
+        Step::Post(task, bytes) => {
+            if *task < TASKS {
+                post(plan, outputs, *task, *bytes);
+            }
+            Ok(())
+        }
+        Step::Connect => edit(alloc, plan, outputs, &Edit::Connect(5)),
+        Step::Disconnect => edit(alloc, plan, outputs, &Edit::Disconnect(5)),
+        Step::Move(task) => edit(alloc, plan, outputs, &move_axis(*task)),
+    }
+}
+
+/// The bytes of the first datagrams of the tasks 0 and 1.
+type Sent = (&'static [u8], &'static [u8]);
+
+/// Whether these are sent, and nothing for a datagram that there is not.
+fn are_sent(outputs: &Outputs, sent: &Sent) -> bool {
+    outputs.bytes(0, 0) == sent.0
+        && outputs.bytes(1, 0) == sent.1
+        && outputs.bytes(0, 16).is_empty()
+}
+
+/// How many of the steps, from the first on, leave what stands beside them.
+fn followed(alloc: Global, steps: &[(Step, Sent)]) -> Result<usize, Fail> {
+    let mut plan = tool_changer(alloc)?;
+    let mut outputs = outputs_of(alloc, &plan)?;
+    let mut count = 0;
+    for (step, sent) in steps {
+        take(alloc, &mut plan, &mut outputs, step)?;
+        if !are_sent(&outputs, sent) {
+            return Ok(count);
+        }
+        count = count.saturating_add(1);
+    }
+    Ok(count)
 }
 
 /// Gaps and inputs are never sent as posted. When the tool comes its value is 0; it keeps a posted value while
 /// the axis moves to another task and the tool's bits move to the front; after it was away its value is 0.
+const FOLLOWED: [(Step, Sent); 6] = [
+    (Step::Post(0, &[0xff, 0xff, 0xff]), (&[0xe7, 0xff, 0], &[])),
+    (Step::Connect, (&[0xe7, 0xff, 0, 0], &[])),
+    (
+        Step::Post(0, &[0x01, 0x40, 0x81]),
+        (&[0x01, 0x40, 0x81, 0], &[]),
+    ),
+    (Step::Move(1), (&[0x81, 0], &[0x01, 0x40])),
+    (Step::Disconnect, (&[0], &[0x01, 0x40])),
+    (Step::Connect, (&[0, 0], &[0x01, 0x40])),
+];
+
 #[test]
 fn values_follow_their_variables(rt: HostRuntime) -> Result<(), Fail> {
-    let alloc = rt.alloc();
-    let mut plan = tool_changer(alloc)?;
-    let mut outputs = outputs_of(alloc, &plan)?;
-    post(&plan, &mut outputs, 0, &[0xff, 0xff, 0xff]);
-    assert!(rt; outputs.bytes(0, 0) == [0xe7, 0xff, 0].as_slice());
-    edit(alloc, &mut plan, &mut outputs, &Edit::Connect(5))?;
-    assert!(rt; outputs.bytes(0, 0) == [0xe7, 0xff, 0, 0].as_slice());
-    post(&plan, &mut outputs, 0, &[0x01, 0x40, 0x81]);
-    let moved = Edit::Move {
-        station: 1001,
-        area: 0,
-        task: 1,
-    };
-    edit(alloc, &mut plan, &mut outputs, &moved)?;
-    assert!(rt; outputs.bytes(0, 0) == [0x81, 0].as_slice());
-    assert!(rt; outputs.bytes(1, 0) == [0x01, 0x40].as_slice());
-    edit(alloc, &mut plan, &mut outputs, &Edit::Disconnect(5))?;
-    edit(alloc, &mut plan, &mut outputs, &Edit::Connect(5))?;
-    assert!(rt; outputs.bytes(0, 0) == [0, 0].as_slice());
+    assert_eq!(rt; followed(rt.alloc(), &FOLLOWED)?, 6);
     Ok(())
 }
 
 /// A post of one byte where the task has outputs of three: the bits behind its end are 0. The axis then goes
 /// to task 1 and back: it has the value of the last post of the task that it had, and a post of task 0 while
 /// it was away is the tool's alone.
+const MOVED: [(Step, Sent); 7] = [
+    (Step::Connect, (&[0, 0, 0, 0], &[])),
+    (
+        Step::Post(0, &[0x3c, 0xff, 0xff]),
+        (&[0x24, 0xff, 0xff, 0], &[]),
+    ),
+    (Step::Post(0, &[0xff]), (&[0xe7, 0, 0, 0], &[])),
+    (Step::Move(1), (&[0, 0], &[0xe7, 0])),
+    (Step::Post(1, &[0x1a, 0x80]), (&[0, 0], &[0x02, 0x80])),
+    (Step::Post(0, &[0x3c, 0xff]), (&[0x3c, 0], &[0x02, 0x80])),
+    (Step::Move(0), (&[0x02, 0x80, 0x3c, 0], &[])),
+];
+
 #[test]
 fn short_posts_and_a_way_back(rt: HostRuntime) -> Result<(), Fail> {
-    let alloc = rt.alloc();
-    let mut plan = tool_changer(alloc)?;
-    let mut outputs = outputs_of(alloc, &plan)?;
-    edit(alloc, &mut plan, &mut outputs, &Edit::Connect(5))?;
-    post(&plan, &mut outputs, 0, &[0x3c, 0xff, 0xff]);
-    post(&plan, &mut outputs, 0, &[0xff]);
-    assert!(rt; outputs.bytes(0, 0) == [0xe7, 0, 0, 0].as_slice());
-    move_axis(alloc, &mut plan, &mut outputs, 1)?;
-    post(&plan, &mut outputs, 1, &[0x1a, 0x80]);
-    post(&plan, &mut outputs, 0, &[0x3c, 0xff]);
-    move_axis(alloc, &mut plan, &mut outputs, 0)?;
-    assert!(rt; outputs.bytes(0, 0) == [0x02, 0x80, 0x3c, 0].as_slice());
-    assert!(rt; outputs.bytes(1, 0).is_empty() && outputs.bytes(0, 16).is_empty());
+    assert_eq!(rt; followed(rt.alloc(), &MOVED)?, 7);
     Ok(())
 }

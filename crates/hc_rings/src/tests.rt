@@ -1,11 +1,13 @@
 //! Rings between threads, and what no clause says of them: that what was put is found, and that a call succeeds where there is memory.
-ghost use Rattle.std.specs.Prelude.{◌≡◌, ◌≤◌, ℕ, List, [], ◌∷◌, ◌++◌, length, slice_set, IfSome, IsTrue};
-ghost use Rattle.hc_rings.specs.Frames.{frames_sent, frames_taken};
-ghost use Rattle.hc_rings.specs.Post.{post_of};
+ghost use Rattle.std.specs.Prelude.{◌≡◌, IfSome};
 ghost use Rattle.hc_rings.specs.Ring.{taken, posted, ArePostEnds, EndCameAfter, SameSender, SameReceiver};
 ghost use Rattle.hc_rings.specs.Finished.{all_posted, IsEndOf};
 
+mod frames;
+mod held;
+
 use super::*;
+use std::alloc::{AllocError, Global};
 use std::test::Fail;
 use std::thread;
 
@@ -14,9 +16,6 @@ const TURNS: u32 = 10_000_000;
 
 /// How many posts go from thread to thread.
 const POSTS: u32 = 500;
-
-/// How many frames go from thread to thread.
-const FRAMES: u32 = 12;
 
 /// Posts `POSTS` posts, each as soon as a buffer is back, and answers whether it could.
 fn post_all(mut sender: PostSender) -> bool {
@@ -76,8 +75,7 @@ fn take_waiting(receiver: &mut PostReceiver) -> Option<PostBuffer> {
 fn posts_go_from_thread_to_thread(rt: HostRuntime) -> Result<(), Fail> {
     let (sender, receiver) = post_ring(rt.alloc())?;
     let (posted, taken) = thread::join(&rt, move || post_all(sender), move || take_all(receiver));
-    assert!(rt; posted);
-    assert!(rt; taken);
+    assert!(rt; posted && taken);
     Ok(())
 }
 
@@ -107,20 +105,70 @@ fn takes(receiver: &mut PostReceiver, epoch: u32, bytes: &[u8; 3]) -> bool
     same
 }
 
+/// What a receiver does, with what is to come of it.
+enum Taking {
+    /// It takes a post with this epoch and these bytes, and gives its buffer back.
+    Post(u32, [u8; 3]),
+    /// It finds no post.
+    Nothing,
+    /// It tells how many posts are left, where it sees that the sender is gone.
+    Left(Option<u32>),
+}
+
+/// Whether that comes of it.
+fn comes(receiver: &mut PostReceiver, taking: &Taking) -> bool
+    ensures { SameReceiver receiver.old receiver.new }
+{
+    match taking {
+        Taking::Post(epoch, bytes) => takes(receiver, *epoch, bytes),
+        Taking::Nothing => receiver.take().is_none(),
+        Taking::Left(left) => receiver.finish() == *left,
+    }
+}
+
+/// How many of these, from the first on, come as they are to.
+fn taken_as(receiver: &mut PostReceiver, takings: &[Taking]) -> usize {
+    let mut count = 0;
+    for taking in takings {
+        if !comes(receiver, taking) {
+            return count;
+        }
+        count = count.saturating_add(1);
+    }
+    count
+}
+
+/// Whether the posts can be posted, one after another.
+fn post_each(sender: &mut PostSender, posts: &[(u32, [u8; 3])]) -> bool {
+    for (epoch, bytes) in posts {
+        if !post(sender, *epoch, bytes) {
+            return false;
+        }
+    }
+    true
+}
+
+const TWO_POSTS: [(u32, [u8; 3]); 2] = [(7, [1, 2, 3]), (8, [4, 5, 6])];
+
+/// What is taken of them once the sender is gone.
+const TWO_TAKEN: [Taking; 6] = [
+    Taking::Left(Some(2)),
+    Taking::Post(7, [1, 2, 3]),
+    Taking::Left(Some(1)),
+    Taking::Post(8, [4, 5, 6]),
+    Taking::Nothing,
+    Taking::Left(Some(0)),
+];
+
 #[test]
 fn a_dropped_sender_leaves_its_posts(rt: HostRuntime) -> Result<(), Fail> {
     let (mut sender, mut receiver) = post_ring(rt.alloc())?;
-    assert_eq!(rt; receiver.finish(), None);
-    assert!(rt; post(&mut sender, 7, &[1, 2, 3]));
-    assert!(rt; post(&mut sender, 8, &[4, 5, 6]));
-    assert_eq!(rt; receiver.finish(), None);
+    let before = receiver.finish();
+    let posted = post_each(&mut sender, &TWO_POSTS);
+    let between = receiver.finish();
     drop(sender);
-    assert_eq!(rt; receiver.finish(), Some(2));
-    assert!(rt; takes(&mut receiver, 7, &[1, 2, 3]));
-    assert_eq!(rt; receiver.finish(), Some(1));
-    assert!(rt; takes(&mut receiver, 8, &[4, 5, 6]));
-    assert!(rt; receiver.take().is_none());
-    assert_eq!(rt; receiver.finish(), Some(0));
+    let taken = taken_as(&mut receiver, &TWO_TAKEN);
+    assert!(rt; before.is_none() && posted && between.is_none() && taken == 6);
     Ok(())
 }
 
@@ -138,217 +186,181 @@ fn take_what_is_left(receiver: &mut PostReceiver) -> Option<u32>
     Some(count)
 }
 
+/// Whether six posts can be posted, the first two of which are taken at once.
+fn post_six(sender: &mut PostSender, receiver: &mut PostReceiver) -> bool {
+    for epoch in 0..6 {
+        if !post(sender, epoch, &[9, 9, 9]) || epoch < 2 && !takes(receiver, epoch, &[9, 9, 9]) {
+            return false;
+        }
+    }
+    true
+}
+
+/// What is taken of the last four of them at first.
+const FOUR_LEFT: [Taking; 2] = [Taking::Left(Some(4)), Taking::Post(2, [9, 9, 9])];
+
 #[test]
 fn a_full_ring_is_finished_too(rt: HostRuntime) -> Result<(), Fail> {
     let (mut sender, mut receiver) = post_ring(rt.alloc())?;
-    for epoch in 0..6 {
-        assert!(rt; post(&mut sender, epoch, &[9, 9, 9]), "epoch {epoch}");
-        if epoch < 2 {
-            assert!(rt; takes(&mut receiver, epoch, &[9, 9, 9]), "epoch {epoch}");
-        }
-    }
+    let posted = post_six(&mut sender, &mut receiver);
     drop(sender);
-    assert_eq!(rt; receiver.finish(), Some(4));
-    assert!(rt; takes(&mut receiver, 2, &[9, 9, 9]));
-    assert_eq!(rt; take_what_is_left(&mut receiver), Some(3));
-    assert!(rt; receiver.take().is_none());
+    let taken = taken_as(&mut receiver, &FOUR_LEFT);
+    let left = take_what_is_left(&mut receiver);
+    assert!(rt; posted && taken == 2 && left == Some(3) && receiver.take().is_none());
     Ok(())
 }
+
+/// What is taken of one post before the end is seen.
+const ONE_TAKEN: [Taking; 3] = [
+    Taking::Post(1, [1, 1, 1]),
+    Taking::Nothing,
+    Taking::Left(Some(0)),
+];
 
 #[test]
 fn a_take_may_meet_the_end_first(rt: HostRuntime) -> Result<(), Fail> {
     let (mut sender, mut receiver) = post_ring(rt.alloc())?;
-    assert!(rt; post(&mut sender, 1, &[1, 1, 1]));
+    let posted = post(&mut sender, 1, &[1, 1, 1]);
     drop(sender);
-    assert!(rt; takes(&mut receiver, 1, &[1, 1, 1]));
-    assert!(rt; receiver.take().is_none());
-    assert_eq!(rt; receiver.finish(), Some(0));
+    let taken = taken_as(&mut receiver, &ONE_TAKEN);
+    assert!(rt; posted && taken == 3);
     Ok(())
+}
+
+/// Whether posts of the epochs 0 to 3 with these bytes can be posted.
+fn post_four(sender: &mut PostSender, bytes: &[u8; 3]) -> bool {
+    for epoch in 0..4 {
+        if !post(sender, epoch, bytes) {
+            return false;
+        }
+    }
+    true
+}
+
+/// Whether the next four posts are these.
+fn takes_four(receiver: &mut PostReceiver, bytes: &[u8; 3]) -> bool {
+    for epoch in 0..4 {
+        if !takes(receiver, epoch, bytes) {
+            return false;
+        }
+    }
+    true
+}
+
+/// How many rounds of four posts go, each through a ring that is then empty.
+fn rounds(sender: &mut PostSender, receiver: &mut PostReceiver) -> u8 {
+    for round in 0..3 {
+        let bytes = [round, 0, 0];
+        let is_full = post_four(sender, &bytes) && sender.buffer().is_err();
+        if !is_full || !takes_four(receiver, &bytes) || receiver.take().is_some() {
+            return round;
+        }
+    }
+    3
 }
 
 #[test]
 fn four_buffers_go_round(rt: HostRuntime) -> Result<(), Fail> {
     let (mut sender, mut receiver) = post_ring(rt.alloc())?;
-    for round in 0..3 {
-        for epoch in 0..4 {
-            assert!(rt; post(&mut sender, epoch, &[round, 0, 0]), "round {round}");
-        }
-        assert!(rt; sender.buffer().is_err(), "round {round}");
-        for epoch in 0..4 {
-            assert!(rt;
-                takes(&mut receiver, epoch, &[round, 0, 0]),
-                "round {round}"
-            );
-        }
-        assert!(rt; receiver.take().is_none(), "round {round}");
-    }
+    assert_eq!(rt; rounds(&mut sender, &mut receiver), 3);
     Ok(())
+}
+
+/// How many posts are left at the opening, behind two posts, and behind a taking; none where one of them
+/// fails.
+fn counts_left(sender: &mut PostSender, receiver: &mut PostReceiver) -> Option<[u32; 3]>
+    requires { ArePostEnds sender.old receiver.old }
+{
+    let opening = receiver.beside(sender);
+    if !post(sender, 3, &[3, 3, 3]) || !post(sender, 4, &[4, 4, 4]) {
+        return None;
+    }
+    let posted = receiver.beside(sender);
+    if !takes(receiver, 3, &[3, 3, 3]) {
+        return None;
+    }
+    Some([opening, posted, receiver.beside(sender)])
 }
 
 #[test]
 fn both_ends_in_hand_count_what_is_left(rt: HostRuntime) -> Result<(), Fail> {
     let (mut sender, mut receiver) = post_ring(rt.alloc())?;
-    assert_eq!(rt; receiver.beside(&mut sender), 0);
-    assert!(rt; post(&mut sender, 3, &[3, 3, 3]));
-    assert!(rt; post(&mut sender, 4, &[4, 4, 4]));
-    assert_eq!(rt; receiver.beside(&mut sender), 2);
-    assert!(rt; takes(&mut receiver, 3, &[3, 3, 3]));
-    assert_eq!(rt; receiver.beside(&mut sender), 1);
+    assert_eq!(rt; counts_left(&mut sender, &mut receiver), Some([0, 2, 1]));
     Ok(())
+}
+
+/// A buffer of another ring, with the epoch 70 and two bytes; none where there is no spare.
+fn foreign_buffer(alloc: Global) -> Result<Option<PostBuffer>, AllocError> {
+    let (mut other, _) = post_ring(alloc)?;
+    Ok(match other.buffer() {
+        Ok(mut buffer) => {
+            buffer.begin(70, 2);
+            buffer.bytes_mut().fill(5);
+            Some(buffer)
+        }
+        Err(NoSpare) => None,
+    })
+}
+
+/// The buffer where it is handed back with its epoch and its bytes.
+fn handed_back(sender: &mut PostSender, buffer: PostBuffer) -> Option<PostBuffer> {
+    match sender.post(buffer) {
+        Err(Full(buffer)) if buffer.epoch() == 70 && buffer.bytes() == [5, 5].as_slice() => {
+            Some(buffer)
+        }
+        _ => None,
+    }
+}
+
+/// Whether a full ring hands a buffer of another ring back. Given back to it behind its own four the buffer
+/// finds no place among the spares, and is dropped.
+fn takes_no_fifth(
+    sender: &mut PostSender,
+    receiver: &mut PostReceiver,
+    buffer: PostBuffer,
+) -> bool {
+    if !post_four(sender, &[0, 0, 0]) {
+        return false;
+    }
+    let Some(buffer) = handed_back(sender, buffer) else {
+        return false;
+    };
+    let is_empty = takes_four(receiver, &[0, 0, 0]);
+    receiver.give_back(buffer);
+    is_empty && post_four(sender, &[0, 0, 0]) && sender.buffer().is_err()
 }
 
 #[test]
 fn a_full_ring_hands_the_post_back(rt: HostRuntime) -> Result<(), Fail> {
     let (mut sender, mut receiver) = post_ring(rt.alloc())?;
-    let (mut other, _) = post_ring(rt.alloc())?;
-    for epoch in 0..4 {
-        assert!(rt; post(&mut sender, epoch, &[0, 0, 0]), "epoch {epoch}");
-    }
-    let mut buffer = other.buffer().ok().ok_or("no spare")?;
-    buffer.begin(70, 2);
-    buffer.bytes_mut().fill(5);
-    let Full(buffer) = sender.post(buffer).err().ok_or("not full")?;
-    assert_eq!(rt; buffer.epoch(), 70);
-    assert_eq!(rt; buffer.bytes(), [5, 5].as_slice());
-
-    // A fifth buffer finds no place among the spares, and is dropped.
-    for epoch in 0..4 {
-        assert!(rt; takes(&mut receiver, epoch, &[0, 0, 0]), "epoch {epoch}");
-    }
-    receiver.give_back(buffer);
-    for epoch in 0..4 {
-        assert!(rt; post(&mut sender, epoch, &[0, 0, 0]), "epoch {epoch}");
-    }
-    assert!(rt; sender.buffer().is_err());
+    let is_well = match foreign_buffer(rt.alloc())? {
+        Some(buffer) => takes_no_fifth(&mut sender, &mut receiver, buffer),
+        None => false,
+    };
+    assert!(rt; is_well);
     Ok(())
+}
+
+/// Whether a buffer is empty at first, is filled with the largest image, and is then begun anew with zeros.
+fn begins_anew(buffer: &mut PostBuffer) -> bool {
+    let is_empty = (buffer.epoch(), buffer.bytes().len()) == (0, 0);
+    buffer.begin(4_294_967_295, LARGEST_IMAGE);
+    buffer.bytes_mut().fill(255);
+    let is_largest = (buffer.epoch(), buffer.bytes().len()) == (4_294_967_295, 23_776);
+    let is_filled = buffer.bytes().iter().all(|&b| b == 255);
+    buffer.begin(1, 4);
+    let is_anew = buffer.epoch() == 1 && buffer.bytes() == [0; 4].as_slice();
+    is_empty && is_largest && is_filled && is_anew
 }
 
 #[test]
 fn a_buffer_begins_anew(rt: HostRuntime) -> Result<(), Fail> {
     let (mut sender, _) = post_ring(rt.alloc())?;
-    let mut buffer = sender.buffer().ok().ok_or("no spare")?;
-    assert_eq!(rt; (buffer.epoch(), buffer.bytes().len()), (0, 0));
-    buffer.begin(4_294_967_295, LARGEST_IMAGE);
-    buffer.bytes_mut().fill(255);
-    assert_eq!(rt; buffer.epoch(), 4_294_967_295);
-    assert_eq!(rt; buffer.bytes().len(), 23_776);
-    assert!(rt; buffer.bytes().iter().all(|&b| b == 255));
-    buffer.begin(1, 4);
-    assert_eq!(rt; buffer.epoch(), 1);
-    assert_eq!(rt; buffer.bytes(), [0; 4].as_slice());
-    Ok(())
-}
-
-#[test]
-fn frames_go_in_order(rt: HostRuntime) -> Result<(), Fail> {
-    let alloc = rt.alloc();
-    let (mut sender, mut receiver) = frame_ring(alloc, 2)?;
-    assert!(rt; receiver.take().is_none());
-    assert!(rt; sender.send(FrameBox::of(alloc, &[1, 2, 3])?).is_ok());
-    assert!(rt; sender.send(FrameBox::of(alloc, &[])?).is_ok());
-    assert_eq!(rt; receiver.beside(&mut sender), 2);
-    let back = sender.send(FrameBox::of(alloc, &[4; 1514])?);
-    let mut back = back.err().ok_or("not full")?;
-    assert_eq!(rt; back.bytes(), [4; 1514].as_slice());
-    back.bytes_mut().fill(6);
-    let first = receiver.take().ok_or("no frame")?;
-    assert_eq!(rt; first.bytes(), [1, 2, 3].as_slice());
-    assert!(rt; sender.send(back).is_ok());
-    let second = receiver.take().ok_or("no frame")?;
-    assert!(rt; second.bytes().is_empty());
-    assert_eq!(rt; receiver.beside(&mut sender), 1);
-    let third = receiver.take().ok_or("no frame")?;
-    assert_eq!(rt; third.bytes(), [6; 1514].as_slice());
-    assert!(rt; receiver.take().is_none());
-    Ok(())
-}
-
-#[test]
-fn a_ring_with_no_room_hands_each_frame_back(rt: HostRuntime) -> Result<(), Fail> {
-    let (mut sender, mut receiver) = frame_ring(rt.alloc(), 0)?;
-    let back = sender.send(FrameBox::of(rt.alloc(), &[8])?);
-    assert_eq!(rt; back.err().ok_or("not full")?.bytes(), [8].as_slice());
-    assert_eq!(rt; receiver.beside(&mut sender), 0);
-    Ok(())
-}
-
-/// Posts these bytes for this epoch, from the buffer that the sender holds.
-fn post_held_bytes(sender: &mut PostSender, epoch: u32, bytes: &[u8]) -> bool
-    requires { length bytes.now ≤ LARGEST_IMAGE }
-    ensures { IsTrue result → posted sender.new ≡ posted sender.old ++ post_of epoch bytes.now ∷ [] }
-{
-    if sender.hold(epoch, bytes.len()).is_err() {
-        return false;
-    }
-    sender.held_mut().copy_from_slice(bytes);
-    sender.post_held().is_ok()
-}
-
-#[test]
-fn held_buffers_are_posted(rt: HostRuntime) -> Result<(), Fail> {
-    let (mut sender, mut receiver) = post_ring(rt.alloc())?;
-    assert_eq!(rt; sender.post_held(), Err(PostFault::NoBuffer));
-    for epoch in 0..4 {
-        assert!(rt;
-            post_held_bytes(&mut sender, epoch, &[1, 2, epoch as u8]),
-            "epoch {epoch}"
-        );
-    }
-    assert_eq!(rt; sender.hold(9, 5), Err(NoSpare));
-    assert!(rt; sender.outputs(9, 5).is_err());
-    assert_eq!(rt; sender.post_held(), Err(PostFault::NoBuffer));
-    for epoch in 0..4 {
-        assert!(rt;
-            takes(&mut receiver, epoch, &[1, 2, epoch as u8]),
-            "epoch {epoch}"
-        );
-    }
-    assert!(rt; receiver.take().is_none());
-    Ok(())
-}
-
-#[test]
-fn a_held_buffer_is_begun_anew(rt: HostRuntime) -> Result<(), Fail> {
-    let (mut sender, mut receiver) = post_ring(rt.alloc())?;
-    for _ in 0..6 {
-        match sender.outputs(7, LARGEST_IMAGE) {
-            Ok(outputs) => outputs.fill(255),
-            Err(NoSpare) => return Err("no spare".into()),
-        }
-    }
-    match sender.outputs(8, 3) {
-        Ok(outputs) => {
-            assert_eq!(rt; &*outputs, [0, 0, 0].as_slice());
-            outputs.fill(6);
-        }
-        Err(NoSpare) => return Err("no spare".into()),
-    }
-    assert!(rt; sender.post_held().is_ok());
-    assert!(rt; takes(&mut receiver, 8, &[6, 6, 6]));
-    Ok(())
-}
-
-#[test]
-fn a_full_ring_keeps_the_held_buffer(rt: HostRuntime) -> Result<(), Fail> {
-    let (mut sender, mut receiver) = post_ring(rt.alloc())?;
-    let (mut other, _) = post_ring(rt.alloc())?;
-    for epoch in 0..3 {
-        assert!(rt; post(&mut sender, epoch, &[0, 0, 0]), "epoch {epoch}");
-    }
-    assert!(rt; sender.hold(70, 3).is_ok());
-    sender.held_mut().fill(5);
-    let Ok(mut buffer) = other.buffer() else {
-        return Err("no spare".into());
+    let is_well = match sender.buffer() {
+        Ok(mut buffer) => begins_anew(&mut buffer),
+        Err(NoSpare) => false,
     };
-    buffer.begin(3, 3);
-    assert!(rt; sender.post(buffer).is_ok());
-    assert_eq!(rt; sender.post_held(), Err(PostFault::Full));
-    assert!(rt; takes(&mut receiver, 0, &[0, 0, 0]));
-    assert!(rt; sender.post_held().is_ok());
-    for epoch in 1..4 {
-        assert!(rt; takes(&mut receiver, epoch, &[0, 0, 0]), "epoch {epoch}");
-    }
-    assert!(rt; takes(&mut receiver, 70, &[5, 5, 5]));
+    assert!(rt; is_well);
     Ok(())
 }
 
@@ -378,115 +390,33 @@ fn finish_and_take(sender: PostSender, receiver: &mut PostReceiver) -> Option<u3
     Some(take_up_to(receiver, &mut end))
 }
 
+/// Whether three posts are posted and the first of them is taken, and a buffer is held.
+fn begins_to_finish(sender: &mut PostSender, receiver: &mut PostReceiver) -> bool
+    requires { ArePostEnds sender.old receiver.old }
+    ensures { ArePostEnds sender.new receiver.new }
+{
+    let first = post(sender, 0, &[2, 2, 2]);
+    let second = post(sender, 1, &[2, 2, 2]);
+    let third = post(sender, 2, &[2, 2, 2]);
+    let is_taken = takes(receiver, 0, &[2, 2, 2]);
+    let is_held = sender.hold(9, 1).is_ok();
+    first && second && third && is_taken && is_held
+}
+
 #[test]
 fn a_finished_sender_tells_its_posts(rt: HostRuntime) -> Result<(), Fail> {
     let (mut sender, mut receiver) = post_ring(rt.alloc())?;
-    assert!(rt; post(&mut sender, 0, &[2, 2, 2]));
-    assert!(rt; post(&mut sender, 1, &[2, 2, 2]));
-    assert!(rt; post(&mut sender, 2, &[2, 2, 2]));
-    assert!(rt; takes(&mut receiver, 0, &[2, 2, 2]));
-    assert!(rt; sender.hold(9, 1).is_ok());
-    assert_eq!(rt; finish_and_take(sender, &mut receiver), Some(2));
-    assert!(rt; receiver.take().is_none());
-    assert_eq!(rt; receiver.finish(), Some(0));
+    let is_begun = begins_to_finish(&mut sender, &mut receiver);
+    let left = finish_and_take(sender, &mut receiver);
+    let is_ended = receiver.take().is_none() && receiver.finish() == Some(0);
+    assert!(rt; is_begun && left == Some(2) && is_ended);
+    Ok(())
+}
+
+#[test]
+fn a_sender_without_a_receiver_does_not_finish(rt: HostRuntime) -> Result<(), Fail> {
     let (sender, receiver) = post_ring(rt.alloc())?;
     drop(receiver);
     assert!(rt; sender.finish().is_none());
-    Ok(())
-}
-
-/// Marks a frame as one that was passed on: its source address becomes a locally administered one (IEEE 802.3).
-fn mark(frame: &mut [u8])
-    ensures { frame.new ≡ slice_set frame.old 6 2 }
-{
-    if frame.len() > 6 {
-        frame[6] = 2;
-    }
-}
-
-/// Takes a frame, marks it in its box and sends it on.
-fn pass_on(from: &mut FrameReceiver, to: &mut FrameSender) -> bool
-    ensures { IsTrue result → (frame : List ℕ) × (frames_taken from.new ≡ frames_taken from.old ++ frame ∷ [])
-        × (frames_sent to.new ≡ frames_sent to.old ++ slice_set frame 6 2 ∷ []) }
-{
-    let Some(mut frame) = from.take() else {
-        return false;
-    };
-    mark(frame.bytes_mut());
-    to.send(frame).is_ok()
-}
-
-#[test]
-fn a_frame_is_marked_on_its_way(rt: HostRuntime) -> Result<(), Fail> {
-    let (mut sender, mut between) = frame_ring(rt.alloc(), 1)?;
-    let (mut further, mut receiver) = frame_ring(rt.alloc(), 1)?;
-    assert!(rt; !pass_on(&mut between, &mut further));
-    assert!(rt; sender.send(FrameBox::of(rt.alloc(), &[9; 8])?).is_ok());
-    assert!(rt; pass_on(&mut between, &mut further));
-    let frame = receiver.take().ok_or("no frame")?;
-    assert_eq!(rt; frame.bytes(), [9, 9, 9, 9, 9, 9, 2, 9].as_slice());
-    Ok(())
-}
-
-/// Sends each frame as soon as there is a place, and answers whether it could.
-fn send_all(mut sender: FrameSender, frames: Vec<FrameBox>) -> bool {
-    for frame in frames {
-        if !send_waiting(&mut sender, frame) {
-            return false;
-        }
-    }
-    true
-}
-
-fn send_waiting(sender: &mut FrameSender, frame: FrameBox) -> bool {
-    let mut frame = frame;
-    for _ in 0..TURNS {
-        match sender.send(frame) {
-            Ok(()) => return true,
-            Err(back) => frame = back,
-        }
-        thread::yield_now();
-    }
-    false
-}
-
-/// Takes `FRAMES` frames, and answers whether they came as they were sent, in order.
-fn take_frames(mut receiver: FrameReceiver) -> bool {
-    for number in 0..FRAMES {
-        let Some(frame) = take_frame_waiting(&mut receiver) else {
-            return false;
-        };
-        if frame.bytes() != [(number % 256) as u8, 1].as_slice() {
-            return false;
-        }
-    }
-    receiver.take().is_none()
-}
-
-fn take_frame_waiting(receiver: &mut FrameReceiver) -> Option<FrameBox> {
-    for _ in 0..TURNS {
-        if let Some(frame) = receiver.take() {
-            return Some(frame);
-        }
-        thread::yield_now();
-    }
-    None
-}
-
-#[test]
-fn frames_go_from_thread_to_thread(rt: HostRuntime) -> Result<(), Fail> {
-    let alloc = rt.alloc();
-    let mut frames = Vec::new(alloc);
-    for number in 0..FRAMES {
-        frames.push(FrameBox::of(alloc, &[(number % 256) as u8, 1])?)?;
-    }
-    let (sender, receiver) = frame_ring(alloc, 3)?;
-    let (sent, taken) = thread::join(
-        &rt,
-        move || send_all(sender, frames),
-        move || take_frames(receiver),
-    );
-    assert!(rt; sent);
-    assert!(rt; taken);
     Ok(())
 }

@@ -6,20 +6,38 @@ ghost use Rattle.hc_frames.specs.Sizes.{frame_bytes};
 use super::*;
 use crate::Command;
 use crate::limits::{BESIDE_DATA_BYTES, HEAD_BYTES, MAX_DATAGRAMS};
-use std::process::Abort;
 use std::test::Fail;
 
 const OLD: u8 = 0xa5;
 
-fn equal(rt: &impl Abort, found: &[u8], expected: &[u8]) {
-    assert_eq!(rt; found, expected);
+/// Bytes that are to stand from a place of a frame on.
+type Piece = (usize, &'static [u8]);
+
+/// Whether bytes stand from a place of a frame on.
+fn stands(out: &[u8], at: usize, bytes: &[u8]) -> bool {
+    match out.get(at..) {
+        Some(rest) => rest.starts_with(bytes),
+        None => false,
+    }
 }
 
-/// The sixteen bytes before the datagrams of a sending with a serial below 256.
-fn head(serial: u8, low: u8, high: u8) -> [u8; 16] {
-    [
+/// Whether each of the pieces stands at its place.
+fn stand(out: &[u8], pieces: &[Piece]) -> bool {
+    for (at, bytes) in pieces {
+        if !stands(out, *at, *bytes) {
+            return false;
+        }
+    }
+    true
+}
+
+/// Whether the sixteen bytes before the datagrams are those of a sending with a serial below 256 and with these
+/// two bytes of the header.
+fn has_head(out: &[u8], serial: u8, low: u8, high: u8) -> bool {
+    let head = [
         255, 255, 255, 255, 255, 255, 2, 0, 0, 0, 0, serial, 0x88, 0xa4, low, high,
-    ]
+    ];
+    stands(out, 0, &head)
 }
 
 /// Writes the frame of two datagrams, given by address and data, into a slice of its exact size: the form in which a
@@ -42,188 +60,200 @@ fn write_two(out: &mut [u8], serial: u64, address: u32, bytes: &[u8], address2: 
     padding.fill(0);
 }
 
-#[test]
-fn two_tasks_from_their_data(rt: HostRuntime) {
-    let mut out = [OLD; 60];
-    write_two(&mut out, 6, 0x0100_0000, &[0x34, 0x0a], 0x0200_0000, &[2]);
-    equal(&rt, &out[..16], &head(6, 0x1b, 0x10));
-    equal(
-        &rt,
-        &out[16..43],
+const TWO_TASKS: [Piece; 2] = [
+    (
+        16,
         &[
             0x0c, 6, 0, 0, 0, 1, 2, 0x80, 0, 0, 0x34, 0x0a, 0, 0, 0x0c, 6, 0, 0, 0, 2, 1, 0, 0, 0,
             2, 0, 0,
         ],
-    );
-    equal(&rt, &out[43..], &[0; 17]);
+    ),
+    (43, &[0; 17]),
+];
+
+#[test]
+fn two_tasks_from_their_data(rt: HostRuntime) {
+    let mut out = [OLD; 60];
+    write_two(&mut out, 6, 0x0100_0000, &[0x34, 0x0a], 0x0200_0000, &[2]);
+    assert!(rt; has_head(&out, 6, 0x1b, 0x10) && stand(&out, &TWO_TASKS));
 }
+
+const THREE_BYTES: [Piece; 3] = [
+    (16, &[0x0c, 0, 0, 0, 0, 1, 3, 0, 0, 0]),
+    (26, &[0; 34]),
+    (60, &[OLD; 4]),
+];
 
 #[test]
 fn process_data_of_three_bytes(rt: HostRuntime) -> Result<(), Fail> {
     let mut out = [OLD; 64];
     let data = build_lrw(&mut out, 0, 0x0100_0000, 3)?;
-    equal(&rt, &data[..], &[0, 0, 0]);
-    equal(&rt, &out[..16], &head(0, 0x0f, 0x10));
-    equal(&rt, &out[16..26], &[0x0c, 0, 0, 0, 0, 1, 3, 0, 0, 0]);
-    equal(&rt, &out[26..60], &[0; 34]);
-    equal(&rt, &out[60..], &[OLD; 4]);
+    let is_blank = &*data == [0, 0, 0].as_slice();
+    assert!(rt; is_blank && has_head(&out, 0, 0x0f, 0x10) && stand(&out, &THREE_BYTES));
     Ok(())
 }
+
+const FILLED: [Piece; 2] = [
+    (16, &[0x0c, 6, 0, 0, 0, 2, 1, 0, 0, 0, 2, 0, 0, 0]),
+    (30, &[0; 30]),
+];
 
 #[test]
 fn process_data_that_was_filled(rt: HostRuntime) -> Result<(), Fail> {
     let mut out = [OLD; 60];
     let data = build_lrw(&mut out, 6, 0x0200_0000, 1)?;
     data.fill(2);
-    equal(&rt, &out[..16], &head(6, 0x0d, 0x10));
-    equal(
-        &rt,
-        &out[16..30],
-        &[0x0c, 6, 0, 0, 0, 2, 1, 0, 0, 0, 2, 0, 0, 0],
-    );
-    equal(&rt, &out[30..], &[0; 30]);
+    assert!(rt; has_head(&out, 6, 0x0d, 0x10) && stand(&out, &FILLED));
     Ok(())
 }
+
+const LONGEST: [Piece; 3] = [(14, &[0xda, 0x15]), (22, &[0xce, 0x05]), (1511, &[1, 0, 0])];
 
 #[test]
 fn longest_process_data(rt: HostRuntime) -> Result<(), Fail> {
     let mut out = [OLD; 1514];
-    assert_eq!(rt; frame_size(1486), 1514);
     let data = build_lrw(&mut out, 0, 0x0100_0000, 1486)?;
-    assert_eq!(rt; data.len(), 1486);
+    let sizes = (frame_size(1486), data.len());
     data.fill(1);
-    equal(&rt, &out[14..16], &[0xda, 0x15]);
-    equal(&rt, &out[22..24], &[0xce, 0x05]);
-    equal(&rt, &out[1511..], &[1, 0, 0]);
+    assert!(rt; sizes == (1514, 1486) && stand(&out, &LONGEST));
     Ok(())
 }
 
+/// How many of the seven calls, from the first on, say that 60 bytes are needed.
+fn calls_without_room(out: &mut [u8]) -> usize
+    requires { length out.old ≡ 59 }
+{
+    let calls = [
+        matches!(build_lrw(out, 0, 0x0100_0000, 3), Err(Room(60))),
+        build_blank_lrw(out, 0, 0x0100_0000, 3) == Err(Room(60)),
+        build_write(out, 0, 1001, 0x0810, &[0; 8]) == Err(Room(60)),
+        build_alias_read(out, 2) == Err(Room(60)),
+        build_station(out, 2, 1001) == Err(Room(60)),
+        build_blank_frame(out, 0, &[(0, 1)]) == Err(Room(60)),
+        matches!(build_frame(out, 0, &[(0, 1)]), Err(Room(60))),
+    ];
+    calls.iter().filter(|call| **call).count()
+}
+
 #[test]
-fn room_for_process_data(rt: HostRuntime) -> Result<(), Fail> {
+fn room_for_process_data(rt: HostRuntime) {
     let mut out = [OLD; 59];
-    assert!(rt; matches!(build_lrw(&mut out, 0, 0x0100_0000, 3), Err(Room(60))));
-    equal(&rt, &out[..], &[OLD; 59]);
-    assert_eq!(rt; build_blank_lrw(&mut out, 0, 0x0100_0000, 3), Err(Room(60)));
-    assert_eq!(rt;
-        build_write(&mut out, 0, 1001, 0x0810, &[0; 8]),
-        Err(Room(60))
-    );
-    assert_eq!(rt; build_alias_read(&mut out, 2), Err(Room(60)));
-    assert_eq!(rt; build_station(&mut out, 2, 1001), Err(Room(60)));
-    assert_eq!(rt; build_blank_frame(&mut out, 0, &[(0, 1)]), Err(Room(60)));
-    assert!(rt; matches!(build_frame(&mut out, 0, &[(0, 1)]), Err(Room(60))));
-    equal(&rt, &out[..], &[OLD; 59]);
-    Ok(())
+    let calls = calls_without_room(&mut out);
+    assert!(rt; calls == 7 && out == [OLD; 59]);
 }
 
+/// The block of a sync manager.
+const BLOCK: [u8; 8] = [0x00, 0x11, 0x01, 0x00, 0x64, 0x00, 0x01, 0x00];
+
+const WRITTEN: [Piece; 4] = [
+    (16, &[5, 0, 0xe9, 0x03, 0x10, 0x08, 8, 0, 0, 0]),
+    (26, &BLOCK),
+    (34, &[0; 26]),
+    (60, &[OLD; 2]),
+];
+
 #[test]
-fn write_of_a_sync_manager(rt: HostRuntime) -> Result<(), Fail> {
+fn write_of_a_sync_manager(rt: HostRuntime) {
     let mut out = [OLD; 62];
-    let block = [0x00, 0x11, 0x01, 0x00, 0x64, 0x00, 0x01, 0x00];
-    assert_eq!(rt; build_write(&mut out, 0, 1001, 0x0810, &block), Ok(60));
-    equal(&rt, &out[..16], &head(0, 0x14, 0x10));
-    equal(
-        &rt,
-        &out[16..26],
-        &[5, 0, 0xe9, 0x03, 0x10, 0x08, 8, 0, 0, 0],
-    );
-    equal(&rt, &out[26..34], &block);
-    equal(&rt, &out[34..60], &[0; 26]);
-    equal(&rt, &out[60..], &[OLD; 2]);
-    Ok(())
+    let built = build_write(&mut out, 0, 1001, 0x0810, &BLOCK);
+    assert!(rt; built == Ok(60) && has_head(&out, 0, 0x14, 0x10) && stand(&out, &WRITTEN));
 }
 
-#[test]
-fn setup_of_a_position(rt: HostRuntime) -> Result<(), Fail> {
-    let mut out = [OLD; 60];
-    assert_eq!(rt; build_alias_read(&mut out, 2), Ok(60));
-    equal(
-        &rt,
-        &out[..16],
+const ALIAS_READ: [Piece; 3] = [
+    (
+        0,
         &[
             255, 255, 255, 255, 255, 255, 2, 255, 255, 255, 255, 255, 0x88, 0xa4, 0x0e, 0x10,
         ],
-    );
-    equal(&rt, &out[16..26], &[1, 255, 254, 255, 0x12, 0, 2, 0, 0, 0]);
-    equal(&rt, &out[26..], &[0; 34]);
-    assert_eq!(rt; build_station(&mut out, 0, 1001), Ok(60));
-    equal(
-        &rt,
-        &out[16..30],
-        &[2, 255, 0, 0, 0x10, 0, 2, 0, 0, 0, 0xe9, 0x03, 0, 0],
-    );
-    Ok(())
+    ),
+    (16, &[1, 255, 254, 255, 0x12, 0, 2, 0, 0, 0]),
+    (26, &[0; 34]),
+];
+
+const STATION: [Piece; 1] = [(16, &[2, 255, 0, 0, 0x10, 0, 2, 0, 0, 0, 0xe9, 0x03, 0, 0])];
+
+#[test]
+fn setup_of_a_position(rt: HostRuntime) {
+    let mut out = [OLD; 60];
+    let is_read = build_alias_read(&mut out, 2) == Ok(60) && stand(&out, &ALIAS_READ);
+    let is_written = build_station(&mut out, 0, 1001) == Ok(60) && stand(&out, &STATION);
+    assert!(rt; is_read && is_written);
 }
+
+const IN_ONE_FRAME: [Piece; 4] = [
+    (16, &[0x0c, 6, 0, 0, 0, 1, 2, 0x80, 0, 0, 0, 0, 0, 0]),
+    (30, &[0x0c, 6, 0, 0, 0, 2, 1, 0, 0, 0, 2, 0, 0]),
+    (43, &[0; 17]),
+    (60, &[OLD; 1]),
+];
 
 #[test]
 fn two_tasks_in_one_frame(rt: HostRuntime) -> Result<(), Fail> {
     let mut out = [OLD; 61];
     let open = build_frame(&mut out, 6, &[(0x0100_0000, 2), (0x0200_0000, 1)])?;
     let (first, open) = open.next().ok_or("no first part")?;
-    equal(&rt, &first[..], &[0, 0]);
+    let is_first = &*first == [0, 0].as_slice();
     let (second, open) = open.next().ok_or("no second part")?;
-    equal(&rt, &second[..], &[0]);
+    let is_second = &*second == [0].as_slice();
     second.fill(2);
-    assert!(rt; open.next().is_none());
-    equal(&rt, &out[..16], &head(6, 0x1b, 0x10));
-    equal(
-        &rt,
-        &out[16..30],
-        &[0x0c, 6, 0, 0, 0, 1, 2, 0x80, 0, 0, 0, 0, 0, 0],
-    );
-    equal(
-        &rt,
-        &out[30..43],
-        &[0x0c, 6, 0, 0, 0, 2, 1, 0, 0, 0, 2, 0, 0],
-    );
-    equal(&rt, &out[43..60], &[0; 17]);
-    equal(&rt, &out[60..], &[OLD; 1]);
+    let is_handed_out = is_first && is_second && open.next().is_none();
+    assert!(rt; is_handed_out && has_head(&out, 6, 0x1b, 0x10) && stand(&out, &IN_ONE_FRAME));
     Ok(())
 }
 
 #[test]
-fn frames_of_two_large_tasks(rt: HostRuntime) -> Result<(), Fail> {
+fn frames_of_two_large_tasks(rt: HostRuntime) {
     let mut out = [OLD; 1514];
-    assert_eq!(rt;
-        build_blank_frame(&mut out, 0, &[(0x0100_0000, 737), (0x0200_0000, 737)]),
-        Ok(1514)
-    );
-    equal(&rt, &out[14..16], &[0xda, 0x15]);
-    assert_eq!(rt; build_blank_lrw(&mut out, 0, 0x0100_0000, 738), Ok(766));
-    assert_eq!(rt; build_blank_lrw(&mut out, 0, 0x0200_0000, 737), Ok(765));
-    Ok(())
+    let built = build_blank_frame(&mut out, 0, &[(0x0100_0000, 737), (0x0200_0000, 737)]);
+    let is_long = built == Ok(1514) && stands(&out, 14, &[0xda, 0x15]);
+    let first = build_blank_lrw(&mut out, 0, 0x0100_0000, 738) == Ok(766);
+    let second = build_blank_lrw(&mut out, 0, 0x0200_0000, 737) == Ok(765);
+    assert!(rt; is_long && first && second);
+}
+
+/// The second datagram of the two.
+const SECOND: [u8; 13] = [0x0c, 6, 0, 0, 0, 2, 1, 0, 0, 0, 2, 0, 0];
+
+/// Whether it is built in its piece.
+fn is_second_built() -> bool {
+    let mut second = [OLD; 13];
+    let data = build_datagram(&mut second, 6, 0x0200_0000, 1, false);
+    data.fill(2);
+    second == SECOND
+}
+
+/// The first of them without its data.
+const FIRST: [u8; 14] = [0x0c, 6, 0, 0, 0, 1, 2, 0x80, 0, 0, 0, 0, 0, 0];
+
+/// Whether it is built in its piece.
+fn is_first_built() -> bool {
+    let mut first = [OLD; 14];
+    let data = build_datagram(&mut first, 6, 0x0100_0000, 2, true);
+    let is_blank = &*data == [0, 0].as_slice();
+    is_blank && first == FIRST
 }
 
 #[test]
 fn one_frame_from_its_pieces(rt: HostRuntime) {
     let mut start = [OLD; 16];
     build_head(&mut start, 6, 27);
-    equal(&rt, &start, &head(6, 0x1b, 0x10));
-    let mut first = [OLD; 14];
-    let data = build_datagram(&mut first, 6, 0x0100_0000, 2, true);
-    equal(&rt, &data[..], &[0, 0]);
-    equal(
-        &rt,
-        &first,
-        &[0x0c, 6, 0, 0, 0, 1, 2, 0x80, 0, 0, 0, 0, 0, 0],
-    );
-    let mut second = [OLD; 13];
-    let data = build_datagram(&mut second, 6, 0x0200_0000, 1, false);
-    data.fill(2);
-    equal(&rt, &second, &[0x0c, 6, 0, 0, 0, 2, 1, 0, 0, 0, 2, 0, 0]);
+    assert!(rt; has_head(&start, 6, 0x1b, 0x10) && is_first_built() && is_second_built());
 }
 
 #[test]
 fn datagram_of_zeros(rt: HostRuntime) {
     let mut out = [OLD; 14];
     build_blank_datagram(&mut out, 6, 0x0100_0000, 2, true);
-    equal(&rt, &out, &[0x0c, 6, 0, 0, 0, 1, 2, 0x80, 0, 0, 0, 0, 0, 0]);
+    assert!(rt; out == FIRST);
 }
 
 #[test]
 fn numbers_of_the_commands(rt: HostRuntime) {
-    assert_eq!(rt; Command::Aprd.code(), 1);
-    assert_eq!(rt; Command::Apwr.code(), 2);
-    assert_eq!(rt; Command::Fpwr.code(), 5);
-    assert_eq!(rt; Command::Lrw.code(), 12);
+    let numbers = [
+        Command::Aprd.code(),
+        Command::Apwr.code(),
+        Command::Fpwr.code(),
+        Command::Lrw.code(),
+    ];
+    assert!(rt; numbers == [1, 2, 5, 12]);
 }

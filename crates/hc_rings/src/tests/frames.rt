@@ -1,0 +1,209 @@
+//! Rings of frames.
+ghost use Rattle.std.specs.Prelude.{◌≡◌, ◌≤◌, ℕ, List, [], ◌∷◌, ◌++◌, length, slice_set, IsTrue, OnOk};
+ghost use Rattle.hc_rings.specs.Frames.{frames_sent, frames_taken, AreFrameEnds, SameFrameReceiver, SameFrameSender};
+
+use super::TURNS;
+use crate::{FrameBox, FrameReceiver, FrameSender, LARGEST_FRAME, frame_ring};
+use std::alloc::{AllocError, Global};
+use std::test::Fail;
+use std::thread;
+
+/// How many frames go from thread to thread.
+const FRAMES: u32 = 12;
+
+/// Whether a frame of these bytes is sent.
+fn is_sent(alloc: Global, sender: &mut FrameSender, bytes: &[u8]) -> Result<bool, AllocError>
+    requires { length bytes.now ≤ LARGEST_FRAME }
+    ensures { OnOk result (SameFrameSender sender.old sender.new) }
+{
+    let frame = FrameBox::of(alloc, bytes)?;
+    Ok(sender.send(frame).is_ok())
+}
+
+/// The frame of these bytes that a full ring hands back; none where it takes it.
+fn refused(
+    alloc: Global,
+    sender: &mut FrameSender,
+    bytes: &[u8],
+) -> Result<Option<FrameBox>, AllocError>
+    requires { length bytes.now ≤ LARGEST_FRAME }
+    ensures { OnOk result (SameFrameSender sender.old sender.new) }
+{
+    let frame = FrameBox::of(alloc, bytes)?;
+    Ok(sender.send(frame).err())
+}
+
+/// Whether the next frame has these bytes.
+fn gives(receiver: &mut FrameReceiver, bytes: &[u8]) -> bool
+    ensures { SameFrameReceiver receiver.old receiver.new }
+{
+    match receiver.take() {
+        Some(frame) => frame.bytes() == bytes,
+        None => false,
+    }
+}
+
+/// Whether two frames are sent into a ring for two, and are then counted.
+fn sends_two(
+    alloc: Global,
+    sender: &mut FrameSender,
+    receiver: &mut FrameReceiver,
+) -> Result<bool, AllocError>
+    requires { AreFrameEnds sender.old receiver.old }
+    ensures { OnOk result (AreFrameEnds sender.new receiver.new) }
+{
+    let was_empty = receiver.take().is_none();
+    let sent = is_sent(alloc, sender, &[1, 2, 3])? && is_sent(alloc, sender, &[])?;
+    Ok(was_empty && sent && receiver.beside(sender) == 2)
+}
+
+/// Whether a frame that was handed back has 1,514 bytes of 4. Each is then 6.
+fn is_changed(frame: &mut FrameBox) -> bool {
+    let is_same = frame.bytes() == [4; 1514].as_slice();
+    frame.bytes_mut().fill(6);
+    is_same
+}
+
+/// Whether a frame that was handed back is sent behind the first two, and all three come in order.
+fn come_in_order(sender: &mut FrameSender, receiver: &mut FrameReceiver, back: FrameBox) -> bool
+    requires { AreFrameEnds sender.old receiver.old }
+{
+    let first = gives(receiver, &[1, 2, 3]);
+    let sent = sender.send(back).is_ok();
+    let second = gives(receiver, &[]);
+    let left = receiver.beside(sender);
+    let third = gives(receiver, &[6; 1514]);
+    first && sent && second && left == 1 && third && receiver.take().is_none()
+}
+
+#[test]
+fn frames_go_in_order(rt: HostRuntime) -> Result<(), Fail> {
+    let alloc = rt.alloc();
+    let (mut sender, mut receiver) = frame_ring(alloc, 2)?;
+    let two = sends_two(alloc, &mut sender, &mut receiver)?;
+    let is_well = match refused(alloc, &mut sender, &[4; 1514])? {
+        Some(mut back) => two
+            && is_changed(&mut back)
+            && come_in_order(&mut sender, &mut receiver, back),
+        None => false,
+    };
+    assert!(rt; is_well);
+    Ok(())
+}
+
+/// Whether a ring with no room hands a frame back, and nothing is left.
+fn hands_each_back(
+    alloc: Global,
+    sender: &mut FrameSender,
+    receiver: &mut FrameReceiver,
+) -> Result<bool, AllocError>
+    requires { AreFrameEnds sender.old receiver.old }
+{
+    let is_back = match refused(alloc, sender, &[8])? {
+        Some(back) => back.bytes() == [8].as_slice(),
+        None => false,
+    };
+    Ok(is_back && receiver.beside(sender) == 0)
+}
+
+#[test]
+fn a_ring_with_no_room_hands_each_frame_back(rt: HostRuntime) -> Result<(), Fail> {
+    let (mut sender, mut receiver) = frame_ring(rt.alloc(), 0)?;
+    assert!(rt; hands_each_back(rt.alloc(), &mut sender, &mut receiver)?);
+    Ok(())
+}
+
+/// Marks a frame as one that was passed on: its source address becomes a locally administered one (IEEE 802.3).
+fn mark(frame: &mut [u8])
+    ensures { frame.new ≡ slice_set frame.old 6 2 }
+{
+    if frame.len() > 6 {
+        frame[6] = 2;
+    }
+}
+
+/// Takes a frame, marks it in its box and sends it on.
+fn pass_on(from: &mut FrameReceiver, to: &mut FrameSender) -> bool
+    ensures { IsTrue result → (frame : List ℕ) × (frames_taken from.new ≡ frames_taken from.old ++ frame ∷ [])
+        × (frames_sent to.new ≡ frames_sent to.old ++ slice_set frame 6 2 ∷ []) }
+{
+    let Some(mut frame) = from.take() else {
+        return false;
+    };
+    mark(frame.bytes_mut());
+    to.send(frame).is_ok()
+}
+
+#[test]
+fn a_frame_is_marked_on_its_way(rt: HostRuntime) -> Result<(), Fail> {
+    let (mut sender, mut between) = frame_ring(rt.alloc(), 1)?;
+    let (mut further, mut receiver) = frame_ring(rt.alloc(), 1)?;
+    let early = pass_on(&mut between, &mut further);
+    let sent = is_sent(rt.alloc(), &mut sender, &[9; 8])?;
+    let passed = pass_on(&mut between, &mut further);
+    let marked = gives(&mut receiver, &[9, 9, 9, 9, 9, 9, 2, 9]);
+    assert_eq!(rt; [early, sent, passed, marked], [false, true, true, true]);
+    Ok(())
+}
+
+/// Sends each frame as soon as there is a place, and answers whether it could.
+fn send_all(mut sender: FrameSender, frames: Vec<FrameBox>) -> bool {
+    for frame in frames {
+        if !send_waiting(&mut sender, frame) {
+            return false;
+        }
+    }
+    true
+}
+
+fn send_waiting(sender: &mut FrameSender, frame: FrameBox) -> bool {
+    let mut frame = frame;
+    for _ in 0..TURNS {
+        match sender.send(frame) {
+            Ok(()) => return true,
+            Err(back) => frame = back,
+        }
+        thread::yield_now();
+    }
+    false
+}
+
+/// Takes `FRAMES` frames, and answers whether they came as they were sent, in order.
+fn take_frames(mut receiver: FrameReceiver) -> bool {
+    for number in 0..FRAMES {
+        let Some(frame) = take_frame_waiting(&mut receiver) else {
+            return false;
+        };
+        if frame.bytes() != [(number % 256) as u8, 1].as_slice() {
+            return false;
+        }
+    }
+    receiver.take().is_none()
+}
+
+fn take_frame_waiting(receiver: &mut FrameReceiver) -> Option<FrameBox> {
+    for _ in 0..TURNS {
+        if let Some(frame) = receiver.take() {
+            return Some(frame);
+        }
+        thread::yield_now();
+    }
+    None
+}
+
+#[test]
+fn frames_go_from_thread_to_thread(rt: HostRuntime) -> Result<(), Fail> {
+    let alloc = rt.alloc();
+    let mut frames = Vec::new(alloc);
+    for number in 0..FRAMES {
+        frames.push(FrameBox::of(alloc, &[(number % 256) as u8, 1])?)?;
+    }
+    let (sender, receiver) = frame_ring(alloc, 3)?;
+    let (sent, taken) = thread::join(
+        &rt,
+        move || send_all(sender, frames),
+        move || take_frames(receiver),
+    );
+    assert!(rt; sent && taken);
+    Ok(())
+}
