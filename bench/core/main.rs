@@ -368,9 +368,9 @@ fn main() {
     }
     let lost_cases = cases(&mut lost, 2 * turns, 101);
     println!(
-        "| Call | Slaves | To plain Rust | To a memory copy | Plain Rust to a memory copy | Growth | Of plain Rust |"
+        "| Call, slaves | To plain Rust | To a memory copy | Plain Rust to a memory copy | Growth | Of plain Rust |"
     );
-    println!("|---|---|---|---|---|---|---|");
+    println!("|---|---|---|---|---|---|");
     for ((small_case, large_case), lost_case) in small_cases.iter().zip(&large_cases).zip(&lost_cases) {
         if !is_wanted(small_case.name) {
             continue;
