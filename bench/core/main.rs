@@ -3,8 +3,11 @@
 //!
 //! A call of the library opens the line of a project's text, plays what comes before, and then times rounds of calls by
 //! a clock of its own, so that the opening isn't in any figure. An arrival is the difference of rounds of sendings that
-//! are answered and of rounds of the same sendings alone. Each kind is timed in turns, the proved core, the plain one
-//! (twice) and the memory copy, and what is printed are medians over the turns of the ratios of medians over the rounds.
+//! are answered and of rounds of the same sendings alone. Each kind is timed in turns, the plain core before the proved
+//! one and behind it, then a memory copy; what is printed are medians over the turns of the ratios of medians over the
+//! rounds.
+//!
+//! Words after the program's name: `few` for a short run, any other one for the calls whose names have it.
 
 mod line;
 mod plain;
@@ -97,8 +100,14 @@ fn compare(name: &str, opened: &Opened) {
     let mut found = vec![0; told.len()];
     let count = unsafe {
         core_told(
-            opened.text.as_ptr(), opened.text.len(), events.as_ptr(), events.len(), bytes.as_ptr(), bytes.len(),
-            found.as_mut_ptr(), found.len(),
+            opened.text.as_ptr(),
+            opened.text.len(),
+            events.as_ptr(),
+            events.len(),
+            bytes.as_ptr(),
+            bytes.len(),
+            found.as_mut_ptr(),
+            found.len(),
         )
     };
     assert_eq!(count, told.len(), "{name}: not all events were played");
@@ -126,9 +135,19 @@ fn proved(opened: &Opened, case: &Case, kind: u8) -> f64 {
     let script = &opened.script;
     let count = unsafe {
         core_timed(
-            opened.text.as_ptr(), opened.text.len(), script.events.as_ptr(), script.events.len(),
-            script.bytes.as_ptr(), script.bytes.len(), &timed, frame.as_mut_ptr(), frame.len(), places.as_ptr(),
-            places.len(), times.as_mut_ptr(), times.len(),
+            opened.text.as_ptr(),
+            opened.text.len(),
+            script.events.as_ptr(),
+            script.events.len(),
+            script.bytes.as_ptr(),
+            script.bytes.len(),
+            &timed,
+            frame.as_mut_ptr(),
+            frame.len(),
+            places.as_ptr(),
+            places.len(),
+            times.as_mut_ptr(),
+            times.len(),
         )
     };
     assert_eq!(count, u64::from(timed.calls) * case.rounds as u64, "{}: another answer", case.name);
@@ -227,31 +246,40 @@ fn memory(bytes: usize) -> f64 {
     median(&mut each)
 }
 
-/// The nanoseconds of the proved core, of the plain one twice, and of a memory copy.
-struct Figures {
-    proved: f64,
-    plain: f64,
-    again: f64,
-    memory: f64,
+/// The ratios of one turn, in which the plain core is timed before the proved one and behind it.
+struct Ratios {
+    to_plain: f64,
+    to_memory: f64,
+    plain_to_memory: f64,
+    plain_to_itself: f64,
 }
 
-fn turn(opened: &Opened, case: &Case) -> Figures {
-    let less = |whole: f64, of: &dyn Fn(u8) -> f64| case.without.map_or(whole, |kind| whole - of(kind));
-    let plain_one = || less(plain(opened, case, case.timed.kind), &|kind| plain(opened, case, kind));
-    let plain = plain_one();
-    let proved = less(proved(opened, case, case.timed.kind), &|kind| proved(opened, case, kind));
-    Figures { proved, plain, again: plain_one(), memory: memory(case.bytes) }
+fn turn(opened: &Opened, case: &Case) -> Ratios {
+    let less = |of: &dyn Fn(u8) -> f64| of(case.timed.kind) - case.without.map_or(0.0, of);
+    let before = less(&|kind| plain(opened, case, kind));
+    let proved = less(&|kind| proved(opened, case, kind));
+    let behind = less(&|kind| plain(opened, case, kind));
+    let (plain, memory) = ((before + behind) / 2.0, memory(case.bytes));
+    if std::env::var_os("NANOSECONDS").is_some() {
+        eprintln!("{}: {proved:.0}, plain {before:.0} and {behind:.0}, memory {memory:.0}", case.name);
+    }
+    Ratios {
+        to_plain: proved / plain,
+        to_memory: proved / memory,
+        plain_to_memory: plain / memory,
+        plain_to_itself: behind / before,
+    }
 }
 
 /// The medians over the turns.
-fn figures(opened: &Opened, case: &Case) -> Figures {
-    let turns: Vec<Figures> = (0..case.turns).map(|_| turn(opened, case)).collect();
-    let of = |pick: &dyn Fn(&Figures) -> f64| median(&mut turns.iter().map(pick).collect::<Vec<f64>>());
-    Figures {
-        proved: of(&|turn| turn.proved),
-        plain: of(&|turn| turn.plain),
-        again: of(&|turn| turn.again),
-        memory: of(&|turn| turn.memory),
+fn ratios(opened: &Opened, case: &Case) -> Ratios {
+    let turns: Vec<Ratios> = (0..case.turns).map(|_| turn(opened, case)).collect();
+    let of = |pick: &dyn Fn(&Ratios) -> f64| median(&mut turns.iter().map(pick).collect::<Vec<f64>>());
+    Ratios {
+        to_plain: of(&|turn| turn.to_plain),
+        to_memory: of(&|turn| turn.to_memory),
+        plain_to_memory: of(&|turn| turn.plain_to_memory),
+        plain_to_itself: of(&|turn| turn.plain_to_itself),
     }
 }
 
@@ -279,6 +307,10 @@ fn frames_of(opened: &mut Opened, list: u8) -> (Vec<u8>, usize) {
     opened.script.add(Asked { kind: script::TASKS, task: list, ..Asked::default() }, &[]);
     let sent = std::mem::take(&mut opened.script.sent);
     let frame = returned(&opened.script.core, &sent[0], || 0x3c);
+    // the last list stays unanswered: the frame of 60 datagrams has its serial
+    if list < 3 {
+        sent.iter().for_each(|frame| opened.script.answer(frame));
+    }
     (frame, sent.iter().map(Vec::len).sum())
 }
 
@@ -318,7 +350,9 @@ fn cases(opened: &mut Opened, turns: usize, edits: usize) -> Vec<Case> {
 }
 
 fn main() {
-    let few = std::env::args().any(|word| word == "few");
+    let words: Vec<String> = std::env::args().skip(1).collect();
+    let few = words.iter().any(|word| word == "few");
+    let is_wanted = |name: &str| words.iter().all(|word| word == "few" || name.contains(word.as_str()));
     let mut drawn = ready(8);
     drawn.script.draw(if few { 300 } else { 3000 });
     compare("drawn events", &drawn);
@@ -333,13 +367,18 @@ fn main() {
         lost.script.add(Asked { kind: script::TASKS, task: (round % 4) as u8, ..Asked::default() }, &[]);
     }
     let lost_cases = cases(&mut lost, 2 * turns, 101);
-    println!("| Call | Slaves | Ratio to plain Rust | Ratio to a memory copy | Plain Rust to a memory copy | Growth |");
+    println!(
+        "| Call, slaves | To plain Rust | To a memory copy | Plain Rust to a memory copy | Growth | Of plain Rust |"
+    );
     println!("|---|---|---|---|---|---|");
     for ((small_case, large_case), lost_case) in small_cases.iter().zip(&large_cases).zip(&lost_cases) {
-        let base = figures(&small, small_case);
+        if !is_wanted(small_case.name) {
+            continue;
+        }
+        let base = ratios(&small, small_case);
         tell("8", small_case, &base, &base);
-        tell("8, 1,000 unanswered sendings", lost_case, &figures(&lost, lost_case), &base);
-        tell("2,048", large_case, &figures(&large, large_case), &base);
+        tell("8, 1,000 unanswered sendings", lost_case, &ratios(&lost, lost_case), &base);
+        tell("2,048", large_case, &ratios(&large, large_case), &base);
     }
     let writes = |rounds, turns| Case {
         name: "write with its answer",
@@ -350,25 +389,21 @@ fn main() {
         rounds,
         turns,
     };
+    if !is_wanted(writes(8, 0).name) {
+        return;
+    }
     let (small, large) = (opened(8), opened(2048));
-    let base = figures(&small, &writes(8, 20 * turns));
+    let base = ratios(&small, &writes(8, 20 * turns));
     tell("8", &writes(8, 0), &base, &base);
-    tell("2,048, the first 128 blocks", &writes(8, 0), &figures(&large, &writes(8, turns)), &base);
-    tell("2,048, all blocks", &writes(8, 0), &figures(&large, &writes(2048, turns)), &base);
+    tell("2,048, the first 128 blocks", &writes(8, 0), &ratios(&large, &writes(8, turns)), &base);
+    tell("2,048, all blocks", &writes(8, 0), &ratios(&large, &writes(2048, turns)), &base);
 }
 
-fn tell(slaves: &str, case: &Case, found: &Figures, base: &Figures) {
-    let Figures { proved, plain, again, memory } = found;
-    let apart = if (0.9..=1.1).contains(&(again / plain)) { "" } else { " (plain Rust differs from itself)" };
-    println!(
-        "| {} | {slaves} | {:.2}{apart} | {:.1} | {:.1} | {:.2} |",
-        case.name,
-        proved / plain.min(*again),
-        proved / memory,
-        plain.min(*again) / memory,
-        proved / base.proved
-    );
-    if std::env::var_os("NANOSECONDS").is_some() {
-        println!("    {proved:.0} {plain:.0} {again:.0} {memory:.0}");
-    }
+/// Prints a row; what it grows by is told by the ratios to a memory copy, since the machine's speed changes.
+fn tell(slaves: &str, case: &Case, found: &Ratios, base: &Ratios) {
+    let Ratios { to_plain, to_memory, plain_to_memory, plain_to_itself } = found;
+    let apart = if (0.9..=1.1).contains(plain_to_itself) { "" } else { " (plain Rust differs from itself)" };
+    let (growth, plain_growth) = (to_memory / base.to_memory, plain_to_memory / base.plain_to_memory);
+    let own = format!("{to_plain:.2}{apart} | {to_memory:.1} | {plain_to_memory:.1}");
+    println!("| {}, {slaves} | {own} | {growth:.2} | {plain_growth:.2} |", case.name);
 }

@@ -1,16 +1,18 @@
 //! The same core in plain Rust, written for speed: what is sent is kept packed with masks, what is awaited is found by
-//! the places of its datagrams, blocks stand in one array by their number, and an edit looks at the task that it touches
-//! alone. Of edits it knows new PDOs for an area.
+//! its serial, blocks stand in one array by their number, and an edit looks at the task that it touches alone. Of edits
+//! it knows new PDOs for an area.
 
 #[allow(dead_code)]
 #[path = "../frames/plain.rs"]
 mod reader;
 
+#[path = "edits.rs"]
+mod edits;
 #[path = "layout.rs"]
 mod layout;
 
-use layout::{Block, fmmu_block, pack, sync_block};
 pub use layout::{Area, Pdo, Place, Slave, Table};
+use layout::{Block, fmmu_block, pack, sync_block};
 
 const TASKS: usize = 8;
 const SLOTS: usize = 16 * TASKS;
@@ -40,10 +42,18 @@ pub enum Answer {
 }
 
 pub enum Change {
-    Good { task: u8, datagram: u8, bytes: Vec<u8> },
-    /// An edit: the area and its PDOs, the new tables of the tasks, and the places of the variables that stand elsewhere.
+    Good {
+        task: u8,
+        datagram: u8,
+        bytes: Vec<u8>,
+    },
+    /// An edit: the area and its PDOs, the new tables of the tasks, and the places of variables that stand elsewhere.
     #[allow(dead_code)]
-    Swapped { edit: (u16, u8, Vec<u16>), tasks: Vec<Table>, rows: Vec<(u32, Option<Place>)> },
+    Swapped {
+        edit: (u16, u8, Vec<u16>),
+        tasks: Vec<Table>,
+        rows: Vec<(u32, Option<Place>)>,
+    },
 }
 
 /// A frame of tasks: its serial and its datagrams.
@@ -113,14 +123,7 @@ fn finish(out: &mut Vec<u8>, serial: u64) {
     }
 }
 
-/// Copies `count` bits, 1 to 64; both arrays have eight bytes behind their last bit.
-fn copy_bits(from: &[u8; ROOM], at: usize, to: &mut [u8; ROOM], at2: usize, count: usize) {
-    let source: [u8; 9] = from[at / 8..at / 8 + 9].try_into().expect("nine bytes");
-    let low = u64::from_le_bytes(*source.first_chunk().expect("eight bytes"));
-    let bits = (u128::from(low) | u128::from(source[8]) << 64) >> (at % 8);
-    put_bits(to, at2, count, bits as u64);
-}
-
+/// Puts `count` bits, 1 to 64, into an array that has eight bytes behind its last bit.
 fn put_bits(to: &mut [u8; ROOM], at: usize, count: usize, bits: u64) {
     let mask = u128::from(u64::MAX >> (64 - count)) << (at % 8);
     let own = &mut to[at / 8..at / 8 + 9];
@@ -198,7 +201,7 @@ impl Core {
 
     /// Makes the masks of a task's datagrams.
     fn mask(&mut self, task: usize) {
-        for mask in &mut self.masks[16 * task..16 * task + 16] {
+        for mask in &mut self.masks[16 * task..16 * task + self.tables[task].count] {
             mask.fill(0);
         }
         for (rank, number) in &self.lists[task] {
@@ -250,8 +253,9 @@ impl Core {
             let bytes = bytes.get(offset..).unwrap_or(&[]);
             let count = length.min(bytes.len());
             let (front, rest) = own.split_at_mut(count);
-            for ((own, byte), mask) in front.iter_mut().zip(bytes).zip(mask) {
-                *own = byte & mask;
+            let (bytes, mask) = (&bytes[..count], &mask[..count]);
+            for place in 0..count {
+                front[place] = bytes[place] & mask[place];
             }
             rest.fill(0);
         }
@@ -273,7 +277,7 @@ impl Core {
             for (number, datagram) in self.tables[usize::from(*task)].datagrams().iter().enumerate() {
                 let (slot, length) = (16 * usize::from(*task) + number, usize::from(datagram.length));
                 if texts.last().is_none_or(|text| text.len() + 12 + length > 1514) {
-                    let mut text = Vec::with_capacity(1514.min(28 + length.max(32)));
+                    let mut text = Vec::with_capacity(1514);
                     text.extend_from_slice(&[0; 16]);
                     let serial = self.serial + texts.len() as u64;
                     texts.push(text);
@@ -456,133 +460,5 @@ impl Core {
             slots.push(self.fresh[slot].then(|| self.image[slot][..usize::from(datagram.length)].to_vec()));
         }
         Answer::Image { epoch: self.epoch, slots }
-    }
-
-    /// An area gets these PDOs.
-    #[inline(never)]
-    pub fn remap(&mut self, station: u16, number: u8, pdos: &[u16]) -> Answer {
-        let rank = self.stations[usize::from(station)];
-        let Some(slave) = self.slaves.get_mut(usize::from(rank)) else {
-            return Answer::Refused(5);
-        };
-        let Some(area) = slave.areas.get_mut(usize::from(number)) else {
-            return Answer::Refused(7);
-        };
-        if pdos.iter().any(|index| area.offered.iter().all(|pdo| pdo.index != *index)) {
-            return Answer::Refused(9);
-        }
-        let mut gone = Vec::new();
-        area.each_variable(|variable, place| gone.push((variable, place)));
-        let (task, old_width) = (usize::from(area.task), area.width);
-        let old_pdos = std::mem::replace(&mut area.assigned, pdos.to_vec());
-        area.measure();
-        if area.width > 11_888 {
-            area.assigned = old_pdos;
-            area.measure();
-            return Answer::Refused(11);
-        }
-        let touched = area.width != old_width;
-        let Some(packed) = pack(task as u8, &self.lists[task], &self.slaves) else {
-            let area = &mut self.slaves[usize::from(rank)].areas[usize::from(number)];
-            area.assigned = old_pdos;
-            area.measure();
-            return Answer::Refused(12);
-        };
-        let at = self.lists[task].iter().position(|key| *key == (rank, number)).unwrap_or(0);
-        let recut = if touched { self.recut(task, at, &packed.starts) } else { 0 };
-        let (rows, moved) = self.turn(task, at, gone, &packed.starts);
-        self.tables[task] = packed.table;
-        self.mask(task);
-        self.epoch += 1;
-        self.newest.fill(NEVER);
-        self.frames.clear();
-        self.write = None;
-        self.fresh.fill(false);
-        let edit = (station, number, pdos.to_vec());
-        self.changes.push(Change::Swapped { edit, tasks: self.tables.clone(), rows });
-        Answer::Edited { epoch: self.epoch, recut, moved }
-    }
-
-    /// The spans of a task that don't begin where one began before, or that have the area in which the widths differ.
-    fn recut(&self, task: usize, at: usize, starts: &[(u8, u16)]) -> u32 {
-        let list = &self.lists[task];
-        let (mut count, mut begun, mut settled, mut last) = (0, 0, true, 0);
-        for (place, (rank, number)) in list.iter().enumerate() {
-            let area = &self.slaves[usize::from(*rank)].areas[usize::from(*number)];
-            if area.width > 0 && starts[place].0 != last {
-                count += u32::from(!settled || (begun..=place).contains(&at));
-                (begun, last) = (place, starts[place].0);
-                settled = area.bit == 0 && area.datagram > 0;
-            }
-        }
-        count + u32::from(!settled || begun <= at)
-    }
-
-    /// Moves the areas of a task to their new places, with the values, the blocks and the rows of what moved.
-    fn turn(
-        &mut self, task: usize, at: usize, mut gone: Vec<(u32, Place)>, starts: &[(u8, u16)],
-    ) -> (Vec<(u32, Option<Place>)>, u32) {
-        let (mut rows, mut moved) = (Vec::new(), 0);
-        let old: Vec<[u8; ROOM]> = self.sent[16 * task..16 * task + 16].to_vec();
-        let count = self.tables[task].count.max(usize::from(starts.last().map_or(0, |start| start.0)) + 1);
-        for bytes in &mut self.sent[16 * task..16 * task + count] {
-            bytes.fill(0);
-        }
-        for place in 0..self.lists[task].len() {
-            let (rank, number) = self.lists[task][place];
-            let area = &mut self.slaves[usize::from(rank)].areas[usize::from(number)];
-            let before = (area.datagram, area.bit);
-            (area.datagram, area.bit) = starts[place];
-            let own = self.firsts[usize::from(rank)] + usize::from(number);
-            if place == at {
-                area.each_variable(|variable, place| match gone.iter().position(|row| row.0 == variable) {
-                    Some(found) => {
-                        let old_place = gone.swap_remove(found).1;
-                        if place != old_place {
-                            rows.push((variable, Some(place)));
-                        }
-                        if place.is_out {
-                            let (from, to) = (usize::from(old_place.datagram), 16 * task + usize::from(place.datagram));
-                            let to = &mut self.sent[to];
-                            copy_bits(&old[from], old_place.bit.into(), to, place.bit.into(), place.bits.into());
-                        }
-                    }
-                    None => rows.push((variable, Some(place))),
-                });
-                rows.extend(gone.drain(..).map(|(variable, _)| (variable, None)));
-            } else {
-                let to = &mut self.sent[16 * task + usize::from(area.datagram)];
-                area.each_variable(|variable, place| {
-                    if before != (area.datagram, area.bit) {
-                        rows.push((variable, Some(place)));
-                    }
-                    if place.is_out {
-                        let bit = usize::from(before.1 + (place.bit - area.bit));
-                        copy_bits(&old[usize::from(before.0)], bit, to, place.bit.into(), place.bits.into());
-                    }
-                });
-            }
-            let new = [sync_block(area), fmmu_block(number, area)];
-            for (n, block) in (2 * own..).zip(new) {
-                if self.blocks[n].block != block {
-                    moved += 1;
-                    self.blocks[n].block = block;
-                    let owed = self.blocks[n].known != Some(block);
-                    self.set_owed(n, owed);
-                }
-            }
-        }
-        rows.sort_unstable_by_key(|row| row.0);
-        for (variable, place) in &rows {
-            match (self.rows.binary_search_by_key(variable, |row| row.0), place) {
-                (Ok(found), Some(place)) => self.rows[found].1 = *place,
-                (Ok(found), None) => {
-                    self.rows.remove(found);
-                }
-                (Err(found), Some(place)) => self.rows.insert(found, (*variable, *place)),
-                (Err(_), None) => {}
-            }
-        }
-        (rows, moved)
     }
 }

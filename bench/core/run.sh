@@ -8,8 +8,8 @@ here=$(cd "$(dirname "$0")" && pwd)
 top="$here/../.."
 scratch=$(mktemp -d)
 trap 'rm -rf "$scratch"' EXIT
-crates="hc_records hc_project hc_registers hc_bitsum hc_cuts hc_tasks hc_edits hc_places hc_plan hc_owed hc_frames hc_events
-    hc_inputs hc_outputs hc_sendings hc_past hc_awaited hc_bits hc_core"
+crates="hc_records hc_project hc_registers hc_bitsum hc_cuts hc_tasks hc_edits hc_places hc_plan hc_owed hc_frames
+    hc_events hc_inputs hc_outputs hc_sendings hc_past hc_awaited hc_bits hc_core"
 for crate in $crates; do
     mkdir -p "$scratch/crates/$crate"
     for part in src specs proofs ${KEPT:+out}; do
@@ -18,11 +18,13 @@ for crate in $crates; do
     grep -E "^$crate[: ]" "$top/crates.txt" >> "$scratch/crates.txt"
 done
 cp "$top/HANDLES" "$scratch/"
-echo "core_bench staticlib: hc_records hc_project hc_places hc_frames hc_plan hc_events hc_core libc" >> "$scratch/crates.txt"
+bench_crate="core_bench staticlib: hc_records hc_project hc_places hc_frames hc_plan hc_events hc_core libc"
+echo "$bench_crate" >> "$scratch/crates.txt"
 bench="$scratch/crates/core_bench"
 mkdir -p "$bench/src" "$bench/proofs"
 # That the frame of a preview can be filled: `fill` asks for it.
-cat > "$bench/proofs/Fill.antt" <<'END_OF_PROOF'
+echo "mod Previews" > "$bench/proofs/Lib.antt"
+cat > "$bench/proofs/Previews.antt" <<'END_OF_PROOF'
 use Rattle.std.proofs.Common.{◌≡◌, ℕ, ◌+◌, ◌<◌, ◌≤◌, nat_lt, not, Bool, true, false, cond, ◌&&◌, [], refl, sym, ◌∙◌, subst, arith, Some, None}
 use Rattle.std.proofs.lemmas.Bool.{and_parts, ltb-true, ltb-false}
 use Rattle.std.proofs.lemmas.List.Elements.{All-cons, All-nil}
@@ -96,15 +98,22 @@ pub struct Asked {
 }
 
 const POST: u8 = 0;
+
 const TASKS: u8 = 1;
+
 const WRITE: u8 = 2;
+
 const ARRIVE: u8 = 3;
+
 const READ: u8 = 4;
+
 const REMAP: u8 = 5;
 
 /// A number, mixed into what was told before.
 fn told_of(told: u64, number: u64) -> u64 {
-    (told ^ number).wrapping_mul(0x9e37_79b9_7f4a_7c15).rotate_left(29)
+    (told ^ number)
+        .wrapping_mul(0x9e37_79b9_7f4a_7c15)
+        .rotate_left(29)
 }
 
 fn told_of_bytes(told: u64, bytes: &[u8]) -> u64 {
@@ -126,10 +135,16 @@ fn told_of_frames(told: u64, frames: &[Items<u8>]) -> u64 {
 fn told_of_outcome(told: u64, outcome: &Outcome) -> u64 {
     match outcome {
         Outcome::Inputs { task, datagram } => {
-            told_of(told_of(told_of(told, 1), u64::from(*task)), u64::from(*datagram))
+            told_of(
+                told_of(told_of(told, 1), u64::from(*task)),
+                u64::from(*datagram),
+            )
         }
         Outcome::WrongCount { expected, got } => {
-            told_of(told_of(told_of(told, 2), u64::from(*expected)), u64::from(*got))
+            told_of(
+                told_of(told_of(told, 2), u64::from(*expected)),
+                u64::from(*got),
+            )
         }
         Outcome::Stale => told_of(told, 3),
     }
@@ -156,7 +171,11 @@ fn told_of_slots(told: u64, slots: &[Option<Items<u8>>]) -> u64 {
 
 fn told_of_answer(told: u64, answer: &Answer) -> u64 {
     match answer {
-        Answer::Edited { epoch, recut, moved } => {
+        Answer::Edited {
+            epoch,
+            recut,
+            moved,
+        } => {
             let told = told_of(told_of(told, 11), u64::from(*epoch));
             told_of(told_of(told, u64::from(*recut)), u64::from(*moved))
         }
@@ -168,22 +187,35 @@ fn told_of_answer(told: u64, answer: &Answer) -> u64 {
         Answer::WriteMissed => told_of(told, 17),
         Answer::Stale => told_of(told, 18),
         Answer::Image { epoch, slots } => {
-            told_of_slots(told_of(told_of(told, 19), u64::from(*epoch)), slots.as_slice())
+            told_of_slots(
+                told_of(told_of(told, 19), u64::from(*epoch)),
+                slots.as_slice(),
+            )
         }
         Answer::Refused(fault) => told_of(told_of(told, 20), u64::from(fault.number())),
     }
 }
 
 fn told_of_place(told: u64, place: &Place) -> u64 {
-    let told = told_of(told_of(told, u64::from(place.task)), u64::from(place.datagram));
+    let told = told_of(
+        told_of(told, u64::from(place.task)),
+        u64::from(place.datagram),
+    );
     let told = told_of(told_of(told, u64::from(place.bit)), u64::from(place.bits));
     told_of(told, if place.dir == Dir::Out { 1 } else { 2 })
 }
 
 fn told_of_change(told: u64, change: &Change) -> u64 {
     match change {
-        Change::Good { task, datagram, bytes } => {
-            let told = told_of(told_of(told_of(told, 31), u64::from(*task)), u64::from(*datagram));
+        Change::Good {
+            task,
+            datagram,
+            bytes,
+        } => {
+            let told = told_of(
+                told_of(told_of(told, 31), u64::from(*task)),
+                u64::from(*datagram),
+            );
             told_of_bytes(told, bytes.as_slice())
         }
         Change::Swapped(swap) => {
@@ -321,13 +353,21 @@ pub struct Timed {
 }
 
 const SEND: u8 = 0;
+
 const SEND_ALONE: u8 = 1;
+
 const SEND_AND_ARRIVE: u8 = 2;
+
 const ARRIVE_ALONE: u8 = 3;
+
 const READ_IMAGE: u8 = 4;
+
 const WRITE_AND_ARRIVE: u8 = 5;
+
 const POST_OUTPUTS: u8 = 6;
+
 const FILL: u8 = 7;
+
 const EDIT: u8 = 8;
 
 /// The nanoseconds of a clock that never goes back.
@@ -364,7 +404,13 @@ fn put_serial(frame: &mut [u8], indexes: &[u32], serial: u64) {
 }
 
 /// A sending, whose serial is put into the frame that will come back.
-fn send_and_put(alloc: Global, core: &mut Core, list: u8, frame: &mut [u8], indexes: &[u32]) -> u64 {
+fn send_and_put(
+    alloc: Global,
+    core: &mut Core,
+    list: u8,
+    frame: &mut [u8],
+    indexes: &[u32],
+) -> u64 {
     let serial = core.next_serial();
     let sent = matches!(send(alloc, core, list), Answer::Sent(_));
     put_serial(frame, indexes, serial);
@@ -385,7 +431,10 @@ fn write_and_take(alloc: Global, core: &mut Core) -> u64 {
     let mut frame = text.into_vec();
     let size = frame.get(22).copied().unwrap_or(0);
     put(&mut frame, 26 + usize::from(size), 1);
-    u64::from(matches!(core.step(alloc, Event::Arrive(frame.as_slice())), Answer::WriteDone))
+    u64::from(matches!(
+        core.step(alloc, Event::Arrive(frame.as_slice())),
+        Answer::WriteDone
+    ))
 }
 
 /// Writes a frame into a slice of its size, so many times.
@@ -400,7 +449,7 @@ fn fill(core: &Core, frame: &Sending, calls: u32, out: &mut [u8])
 }
 
 /// Writes the frame of the first datagram of a task, so many times. How often it was written.
-#[tactic(auto, using(crate::proofs::Fill::preview_filled))]
+#[tactic(auto, using(crate::proofs::Previews::preview_filled))]
 fn fill_first(core: &Core, task: u8, calls: u32, out: &mut [u8]) -> u64 {
     let Some(frame) = core.preview(task, 0) else {
         return 0;
@@ -431,7 +480,10 @@ fn once(alloc: Global, core: &mut Core, timed: &Timed, frame: &mut [u8], indexes
         }
         ARRIVE_ALONE => u64::from(matches!(core.step(alloc, Event::Arrive(frame)), Answer::Stale)),
         READ_IMAGE => {
-            u64::from(matches!(core.step(alloc, Event::Read(timed.task)), Answer::Image { .. }))
+            u64::from(matches!(
+                core.step(alloc, Event::Read(timed.task)),
+                Answer::Image { .. }
+            ))
         }
         WRITE_AND_ARRIVE => write_and_take(alloc, core),
         POST_OUTPUTS => {

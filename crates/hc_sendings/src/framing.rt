@@ -62,6 +62,15 @@ fn place_task(
     Ok(last)
 }
 
+/// How many datagrams tasks have together: no sending of them has more frames.
+fn most_frames(plan: &Plan, tasks: &[u8]) -> usize {
+    let mut count = 0_usize;
+    for task in tasks {
+        count = count.saturating_add(plan.places().datagrams(*task).len());
+    }
+    count
+}
+
 /// The frames in which tasks are sent, with serials from this one on: datagrams in the tasks' order, each
 /// of which joins the frame before it where that has room, else begins a frame.
 pub(crate) fn frames_of(
@@ -74,7 +83,7 @@ pub(crate) fn frames_of(
     requires few { length tasks.now ≤ TASKS }
     ensures { IfOk result (λ frames. frames.items ≡ sendings_of (line plan.now) serial tasks.now) }
 {
-    let mut done = Vec::new(alloc);
+    let mut done = Vec::with_capacity(alloc, most_frames(plan, tasks))?;
     let mut last = None;
     for task in tasks {
         last = place_task(plan, &mut done, last, serial, *task)?;
