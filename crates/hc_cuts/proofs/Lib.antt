@@ -1,6 +1,6 @@
 pub mod Chain
 pub mod Firsts
-pub mod Hulls
+pub mod Unsettled
 pub mod Searched
 pub mod Walked
 pub mod Whole

@@ -1,3 +1,4 @@
 -- What the crates above cite, a file a subject.
 pub mod Found
+pub mod HullKeys
 pub mod Order

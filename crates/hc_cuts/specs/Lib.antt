@@ -1,4 +1,5 @@
 pub mod Firsts
+pub mod Hulls
 pub mod Spans
 pub mod Starts
 pub mod Walk

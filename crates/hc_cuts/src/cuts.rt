@@ -9,8 +9,10 @@ ghost use Rattle.hc_cuts.specs.Firsts.{IsCrowded};
 ghost use Rattle.hc_cuts.specs.Starts.{most_read};
 
 use crate::fold::TooManyDatagrams;
+use crate::hulls::Hulls;
 use crate::next::next_cut;
 use crate::packing::Placed;
+use crate::settled::{Reach, later};
 use crate::walk::add_span;
 use arrayvec::ArrayVec;
 use hc_bitsum::steps::Steps;
@@ -50,6 +52,7 @@ fn searched_starts<L: Ledger>(
     ensures least { IfOk result (λ starts. steps.old + length starts.items ≤ steps.new) }
     ensures most { IfOk result (λ starts. steps.new ≤ steps.old + most_read * length starts.items) }
     ensures bound { OnErr result (steps.new ≤ steps.old + most_read * MOST_DATAGRAMS) }
+    ensures short { IfOk result (λ starts. length starts.items ≤ MOST_DATAGRAMS) }
 {
     let mut starts = ArrayVec::new();
     starts.push(Key::START);
@@ -79,9 +82,12 @@ fn end_of(starts: &[Key], i: usize) -> Key
 }
 
 impl Cuts {
-    ghost use Rattle.std.specs.Prelude.{◌≡◌, ◌+◌, ◌*◌, ◌≤◌, ◌∷◌, ◌++◌, [], IfOk, OnErr, OnOk, length};
+    ghost use Rattle.std.specs.Prelude.{◌≡◌, ◌+◌, ◌*◌, ◌≤◌, ◌∷◌, ◌++◌, List, [], IfOk, OnErr, OnOk, length};
     ghost use Rattle.hc_records.specs.declared.limits.TheConstants.{MOST_AREA_BITS, MOST_SLAVES};
+    ghost use Rattle.hc_records.specs.TaskList.{Keyed};
+    ghost use Rattle.hc_records.specs.Boundaries.{is_touched, unsettled_spans};
     ghost use Rattle.hc_bitsum.specs.Tree.{HasPlace, HoldsTaskList, with_width};
+    ghost use Rattle.hc_cuts.specs.Hulls.{AreHulls};
     ghost use Rattle.hc_cuts.specs.Starts.{kept_empty};
 
     /// A task without areas of so many slaves, at most 2,048. `AllocError` where a growth was refused.
@@ -131,6 +137,36 @@ impl Cuts {
     {
         self.starts = searched_starts(&self.tree, steps)?;
         Ok(())
+    }
+
+    /// Works out the boundaries anew as `cut` does, and how many of the spans between them aren't settled,
+    /// where the boundaries before were those of an older list, from which the hulls lead to its areas:
+    /// at most 16. `TooManyDatagrams`, steps and memory as for `cut`.
+    pub fn recut<L: Ledger>(
+        &mut self,
+        hulls: &Hulls,
+        steps: &mut Steps<L>,
+    ) -> Result<u32, TooManyDatagrams>
+        ensures areas { self.new.tree ≡ self.old.tree }
+        ensures starts { OnOk result (self.new.starts ++ END ∷ [] ≡ boundaries self.old.tree.list) }
+        ensures few { OnOk result (datagram_count (packed opening self.old.tree.list) ≤ MOST_DATAGRAMS) }
+        ensures refused { OnErr result (IsCrowded self.old.tree.list) }
+        ensures stay { OnErr result (self.new.starts ≡ self.old.starts) }
+        ensures least { OnOk result (steps.old + length self.new.starts ≤ steps.new) }
+        ensures most { OnOk result (steps.new ≤ steps.old + most_read * length self.new.starts) }
+        ensures bound { steps.new ≤ steps.old + most_read * MOST_DATAGRAMS }
+        ensures count { IfOk result (λ count. (old : List Keyed) → self.old.starts ++ END ∷ [] ≡ boundaries old → AreHulls (is_touched old self.old.tree.list) hulls.now → count ≡ unsettled_spans old self.old.tree.list) }
+        ensures spans { IfOk result (λ count. count ≤ MOST_DATAGRAMS) }
+    {
+        let starts = searched_starts(&self.tree, steps)?;
+        let reach = Reach {
+            old_later: later(&self.starts),
+            outputs: hulls.outputs,
+            inputs: hulls.inputs,
+        };
+        let count = reach.count_unsettled(later(&starts)) as u32;
+        self.starts = starts;
+        Ok(count)
     }
 
     /// The areas of the task with their places, in key order: packed one after another from the empty

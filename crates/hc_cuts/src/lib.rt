@@ -3,6 +3,7 @@
 
 pub mod cuts;
 pub mod fold;
+pub mod hulls;
 pub mod laws;
 pub mod next;
 pub mod packing;
