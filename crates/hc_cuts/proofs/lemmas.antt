@@ -1,3 +1,5 @@
 -- What the crates above cite, a file a subject.
 pub mod Found
+pub mod HullKeys
 pub mod Order
+pub mod Repairs

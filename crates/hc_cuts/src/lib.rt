@@ -3,8 +3,10 @@
 
 pub mod cuts;
 pub mod fold;
+pub mod hulls;
 pub mod laws;
 pub mod next;
 pub mod packing;
+mod repair;
 pub mod settled;
 mod walk;

@@ -9,6 +9,7 @@ ghost use Rattle.hc_records.specs.Laws.{Ascends};
 ghost use Rattle.hc_records.specs.declared.keys.TheConstants.Key.{START, END};
 ghost use Rattle.hc_cuts.specs.Firsts.{first_keys};
 
+use crate::hulls::widened;
 use hc_records::keys::Key;
 use hc_records::records::Dir;
 
@@ -93,19 +94,6 @@ pub fn is_touched_task(old: &[(Key, u16)], new: &[(Key, u16)]) -> bool
     has_touched(old, old, new) || has_touched(new, old, new)
 }
 
-/// The least interval that holds a key and an interval, if there is one.
-fn widened(hull: Option<(Key, Key)>, key: Key) -> Option<(Key, Key)>
-    ensures { result ≡ widened hull key }
-{
-    let Some((first, last)) = hull else {
-        return Some((key, key));
-    };
-    Some((
-        if key.is_before(first) { key } else { first },
-        if last.is_before(key) { key } else { last },
-    ))
-}
-
 /// An interval widened by the touched keys of a direction in a list.
 fn widened_by(
     hull: Option<(Key, Key)>,
@@ -138,7 +126,7 @@ fn hull(dir: Dir, old: &[(Key, u16)], new: &[(Key, u16)]) -> Option<(Key, Key)>
 }
 
 /// Whether a span has a key in common with a hull.
-fn meets_hull(hull: Option<(Key, Key)>, span: (Key, Key)) -> bool
+pub(crate) fn meets_hull(hull: Option<(Key, Key)>, span: (Key, Key)) -> bool
     ensures { result ≡ meets_hull hull span }
 {
     match hull {
@@ -148,7 +136,7 @@ fn meets_hull(hull: Option<(Key, Key)>, span: (Key, Key)) -> bool
 }
 
 /// The keys at which a second or later datagram begins, of those at which a datagram does.
-fn later(starts: &[Key]) -> &[Key]
+pub(crate) fn later(starts: &[Key]) -> &[Key]
     ensures { result.now ≡ drop 1 starts.now }
 {
     if starts.is_empty() {
@@ -168,14 +156,14 @@ fn is_boundary(key: Key, later: &[Key]) -> bool
 /// What decides whether a span of the new list is settled: the keys at which old datagrams behind the
 /// first begin, and the intervals of the touched outputs and inputs.
 #[derive(Drop)]
-struct Reach<'a> {
-    old_later: &'a [Key],
-    outputs: Option<(Key, Key)>,
-    inputs: Option<(Key, Key)>,
+pub(crate) struct Reach<'a> {
+    pub(crate) old_later: &'a [Key],
+    pub(crate) outputs: Option<(Key, Key)>,
+    pub(crate) inputs: Option<(Key, Key)>,
 }
 
 impl Reach<'_> {
-    ghost use Rattle.std.specs.Prelude.{◌≡◌};
+    ghost use Rattle.std.specs.Prelude.{◌≡◌, ◌+◌, ◌≤◌, length};
     ghost use Rattle.hc_cuts.specs.Spans.{is_settled_by, unsettled_by};
 
     /// Whether a span begins at an old boundary and meets no hull.
@@ -187,8 +175,9 @@ impl Reach<'_> {
     }
 
     /// How many spans aren't settled of a task whose later datagrams begin at the given keys.
-    fn count_unsettled(&self, later: &[Key]) -> usize
-        ensures { result ≡ unsettled_by self.now.old_later.now self.now.outputs self.now.inputs START later.now }
+    pub(crate) fn count_unsettled(&self, later: &[Key]) -> usize
+        ensures few { result ≤ length later.now + 1 }
+        ensures count { result ≡ unsettled_by self.now.old_later.now self.now.outputs self.now.inputs START later.now }
     {
         let mut count = 0;
         let mut first = Key::START;

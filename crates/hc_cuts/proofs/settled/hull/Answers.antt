@@ -1,6 +1,6 @@
 use Rattle.std.proofs.Common.{sym, ◌∙◌, ap}
 use Rattle.hc_records.specs.Boundaries.{is_touched}
-use Rattle.hc_cuts.proofs.Hulls.{hull_by, hull-append}
+use Rattle.hc_cuts.proofs.Unsettled.{hull_by, hull-append}
 use Rattle.hc_cuts.proofs.settled.hull.Goals as goal
 
 pub returns : goal.returns

@@ -1,5 +1,5 @@
 use Rattle.std.proofs.Common.{sym, ◌∙◌, refl}
-use Rattle.hc_cuts.proofs.Hulls.{some-touched}
+use Rattle.hc_cuts.proofs.Unsettled.{some-touched}
 use Rattle.hc_cuts.proofs.settled.is_touched_task.Goals as goal
 
 pub returns-then-has_touched : goal.returns-then-has_touched

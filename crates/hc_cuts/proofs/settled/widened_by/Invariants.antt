@@ -1,6 +1,6 @@
 use Rattle.std.proofs.Common.{◌≡◌, drop}
 use Rattle.hc_records.specs.Boundaries.{is_touched}
-use Rattle.hc_cuts.proofs.Hulls.{hull_by}
+use Rattle.hc_cuts.proofs.Unsettled.{hull_by}
 use Rattle.hc_cuts.proofs.settled.widened_by.Given as goal
 
 -- the interval so far, widened by what is left, is the whole one

@@ -1,0 +1,62 @@
+//! The hulls of an edit of a task: which keys it touches, from the least to the greatest.
+ghost use Rattle.std.specs.Prelude.{◌≡◌};
+ghost use Rattle.hc_records.specs.Boundaries.{widened};
+
+use hc_records::keys::Key;
+use hc_records::records::Dir;
+
+/// The intervals from the least to the greatest touched output and from the least to the greatest
+/// touched input; none where an edit touches none.
+#[derive(Clone, Copy, Debug)]
+pub struct Hulls {
+    /// That of the outputs.
+    pub outputs: Option<(Key, Key)>,
+    /// That of the inputs.
+    pub inputs: Option<(Key, Key)>,
+}
+
+/// The least interval that holds a key and an interval, if there is one.
+pub(crate) fn widened(hull: Option<(Key, Key)>, key: Key) -> Option<(Key, Key)>
+    ensures { result ≡ widened hull key }
+{
+    let Some((first, last)) = hull else {
+        return Some((key, key));
+    };
+    Some((
+        if key.is_before(first) { key } else { first },
+        if last.is_before(key) { key } else { last },
+    ))
+}
+
+impl Hulls {
+    ghost use Rattle.std.specs.Prelude.{◌≡◌};
+    ghost use Rattle.hc_records.specs.Keys.{same_key};
+    ghost use Rattle.hc_cuts.specs.Hulls.{TakeIn, are_none, no_hulls};
+
+    /// Those of an edit that touches no key.
+    pub fn none() -> Hulls
+        ensures { result ≡ no_hulls }
+    {
+        Hulls {
+            outputs: None,
+            inputs: None,
+        }
+    }
+
+    /// Whether no key is touched.
+    pub fn are_none(&self) -> bool
+        ensures { result ≡ are_none self.now }
+    {
+        self.outputs.is_none() && self.inputs.is_none()
+    }
+
+    /// Widens the one of a key's direction, so that it holds the key.
+    pub fn add(&mut self, key: Key)
+        ensures { TakeIn self.old self.new (same_key key) }
+    {
+        match key.dir {
+            Dir::Out => self.outputs = widened(self.outputs, key),
+            Dir::In => self.inputs = widened(self.inputs, key),
+        }
+    }
+}
