@@ -1,12 +1,12 @@
 -- When an edit is refused, by itself, by the new line or by the epoch, and when it is accepted.
 use Rattle.std.proofs.Common.{◌≡◌, ◌∙◌, ℕ, Bool, true, false, List, [], ◌∷◌, Option, Some, None, refl, sym, ap}
-use Rattle.std.specs.Prelude.{Ok, Err, IfSome, ◌==◌, is_some, option_map, unwrap_or}
+use Rattle.std.specs.Prelude.{Ok, Err, ◌==◌, is_some, option_map, unwrap_or}
 use Rattle.hc_records.specs.declared.edit.Edit.{Edit}
 use Rattle.hc_records.specs.declared.faults.EditFault.{EditFault}
 use Rattle.hc_records.specs.declared.faults.EditFault.TheVariants.{TooManyDatagrams, EpochsSpent}
 use Rattle.hc_records.specs.declared.limits.TheConstants.{LAST_EPOCH}
 use Rattle.hc_records.specs.declared.records.Declared.{Declared}
-use Rattle.hc_records.specs.Edits.{changed, crowded_task, edited, groups_after, refused_by}
+use Rattle.hc_records.specs.Edits.{changed, crowded_task, edited, refused_by}
 use Rattle.hc_records.specs.Line.{State, line}
 use Rattle.hc_records.specs.Lists.{lowest}
 use Rattle.hc_edits.specs.Edits.{own_fault}
@@ -55,14 +55,3 @@ pub spent-refused : (state : State) (edit : Edit) → own_fault state.groups edi
     → (state.epoch == LAST_EPOCH) ≡ true → edited state edit ≡ Err EpochsSpent
 spent-refused state edit none uncrowded last =
     answered state edit (Some EpochsSpent) none (spent-left (crowded_task (line (changed state edit))) (state.epoch == LAST_EPOCH) uncrowded last)
-
--- an edit that was accepted has no fault of its own
-pub none-own : {X : Type 0} (own : Option EditFault) (made : X) (P : EditFault → Type 0) → IfSome own (λ fault. Ok made ≡ Err fault) → IfSome own P
-none-own None made P never = never
-none-own (Some fault) made P never = cc
-
--- the groups after an edit, as a slice of them shows them
-pub after : (slice new before groups : List Declared) (edit : Edit) → slice ≡ new → new ≡ groups_after before edit → before ≡ groups
-    → slice ≡ groups_after groups edit
-after slice new before groups edit shows is same =
-    shows ∙ is ∙ ap (λ (g : List Declared). groups_after g edit) same

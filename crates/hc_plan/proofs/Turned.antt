@@ -5,13 +5,15 @@ use Rattle.hc_records.specs.declared.records.Area.{Area}
 use Rattle.hc_records.specs.declared.edit.Edit.{Edit}
 use Rattle.hc_records.specs.declared.faults.EditFault.TheVariants.{TooManyDatagrams}
 use Rattle.hc_records.specs.declared.records.Declared.{Declared}
+use Rattle.hc_records.specs.Boundaries.{recut}
 use Rattle.hc_records.specs.Edits.{crowded_task, edited, groups_after}
 use Rattle.hc_records.specs.Line.{State, groups_of, line_from}
 use Rattle.hc_records.specs.Project.{lowest_fault}
 use Rattle.hc_edits.specs.Edits.{own_fault}
 use Rattle.hc_tasks.specs.Areas.{areas_by_rank}
 use Rattle.hc_tasks.specs.Kept.{IsLine, crowded_from}
-use Rattle.hc_tasks.proofs.lemmas.Projects.{edit-declares, line-crowded, project-line}
+use Rattle.hc_tasks.specs.Recut.{recut_from}
+use Rattle.hc_tasks.proofs.lemmas.Projects.{edit-declares, line-crowded, line-recut, project-line}
 use Rattle.hc_plan.proofs.Editing.{crowded-refused}
 
 pub is-line : (groups : List Declared) (slaves : List (List Area)) → slaves ≡ areas_by_rank groups → lowest_fault (groups_of groups) ≡ None → IsLine slaves
@@ -43,6 +45,15 @@ turn-refused state edit new after task is second none crowded =
     crowded-refused state edit (TooManyDatagrams task) none
     (ap (λ (g : List Declared). option_map TooManyDatagrams (crowded_task (line_from 1 g))) (sym is)
     ∙ ap (option_map TooManyDatagrams) (same-crowded new after second ∙ crowded))
+
+-- what the turn left unsettled is what the edit recuts
+pub line-unsettled : (old new : List Declared) (before after : List (List Area)) (unsettled : ℕ) → before ≡ areas_by_rank old → after ≡ areas_by_rank new
+    → unsettled ≡ recut_from 8 0 before after → unsettled ≡ recut (line_from 1 old) (line_from 1 new)
+line-unsettled old new before after unsettled first second is =
+    is
+    ∙ ap (λ (s : List (List Area)). recut_from 8 0 s after) first
+    ∙ ap (λ (s : List (List Area)). recut_from 8 0 (areas_by_rank old) s) second
+    ∙ sym (line-recut old new)
 
 -- what stands after an error
 pub on-err : {X Y : Type 0} (r : Result X Y) (P : Type 0) → P → OnErr r P

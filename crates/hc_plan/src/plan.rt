@@ -12,7 +12,6 @@ use hc_places::table::Places;
 use hc_records::edit::Edit;
 use hc_records::faults::EditFault;
 use hc_records::items::Items;
-use hc_records::limits::LAST_EPOCH;
 use hc_records::line::{is_declared_station, member_index, nth_member, slave_count};
 use hc_records::project::Project;
 use hc_records::records::{Declared, Group};
@@ -189,40 +188,6 @@ impl Plan {
             &self.layout,
             &self.places,
         )
-    }
-
-    /// The plan that an edit makes of this one, configured from nothing; this one stays as it is.
-    /// Otherwise the lowest fault whose condition holds, or `Memory` where a growth was refused; a fault
-    /// that the edit has by itself, of the faults 1 to 11, is judged before the first growth.
-    pub fn edited(&self, alloc: Global, edit: &Edit) -> Result<Plan, EditFault>
-        ensures accepted { IfOk result (λ next. edited self.now edit.now ≡ Ok next) }
-        ensures refused { IfErr result (λ fault. fault ≢ Memory → edited self.now edit.now ≡ Err fault) }
-        ensures own { IfSome (own_fault self.now.groups edit.now) (λ fault. result ≡ Err fault) }
-    {
-        if let Some(own) = own_fault(self.groups.as_slice(), edit) {
-            return Err(own);
-        }
-        let groups = groups_after(alloc, self.groups.as_slice(), edit)?;
-        let opened = open_line::<Brand>(alloc, groups.as_slice(), Blank::new(1))?;
-        if self.epoch == LAST_EPOCH {
-            return Err(EditFault::EpochsSpent);
-        }
-        Ok(Plan {
-            groups,
-            epoch: self.epoch + 1,
-            layout: opened.configured.layout,
-            places: opened.configured.places,
-            cuts: opened.cuts,
-        })
-    }
-
-    /// What an edit did that made the next plan of this one, as `edited` gives it: their differences, and
-    /// the edit's name. `AllocError` where a growth was refused.
-    pub fn report(&self, alloc: Global, edit: &Edit, next: &Plan) -> Result<Report, AllocError>
-        requires { edited self.now edit.now ≡ Ok next.now }
-        ensures { IfOk result (Tells self.now edit.now next.now) }
-    {
-        Report::between(alloc, edit, &self.standing(), &next.standing())
     }
 
     /// Carries an edit out: the plan is then that of the new line, and the report tells what became

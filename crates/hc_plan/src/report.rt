@@ -5,7 +5,6 @@ ghost use Rattle.hc_plan.specs.Reports.{name_of};
 use crate::blocks::LineBlock;
 use crate::moved::moved_blocks;
 use hc_places::layout::Layout;
-use hc_places::recut::recut;
 use hc_places::swap::Swap;
 use hc_places::table::Places;
 use hc_records::edit::Edit;
@@ -98,24 +97,28 @@ pub struct Report {
 }
 
 impl Report {
-    ghost use Rattle.std.specs.Prelude.{IfOk};
+    ghost use Rattle.std.specs.Prelude.{◌≡◌, IfOk};
+    ghost use Rattle.hc_records.specs.Boundaries.{recut};
+    ghost use Rattle.hc_records.specs.Line.{line};
     ghost use Rattle.hc_plan.specs.Reports.{Tells};
 
-    /// What an edit did that made one line of another: their differences, and the edit's name.
-    /// `AllocError` where a growth was refused.
+    /// What an edit did that made one line of another and left so many spans of touched tasks unsettled:
+    /// their differences, and the edit's name. `AllocError` where a growth was refused.
     pub(crate) fn between(
         alloc: Global,
         edit: &Edit,
         old: &Standing<'_>,
         new: &Standing<'_>,
+        unsettled: u32,
     ) -> Result<Report, AllocError>
+        requires { unsettled ≡ recut (line old.now) (line new.now) }
         ensures { IfOk result (Tells old.now edit.now new.now) }
     {
         let moved = moved_blocks(alloc, old.groups, old.layout, new.groups, new.layout)?;
         let blocks = names_of(alloc, moved.as_slice())?;
         Ok(Report {
             epoch: new.epoch,
-            recut: recut(alloc, old.groups, new.groups)?,
+            recut: unsettled,
             moved: blocks.len() as u32,
             swap: Swap::between(alloc, edit, old.places, new.places)?,
             blocks,

@@ -3,6 +3,7 @@
 ghost use Rattle.std.specs.Prelude.{◌≡◌, ◌≢◌, ◌<◌, Err, IfErr, IfOk, None, Ok, OnErr, OnOk, length};
 ghost use Rattle.hc_records.specs.declared.faults.EditFault.TheVariants.{Memory};
 ghost use Rattle.hc_records.specs.declared.limits.TheConstants.{LAST_EPOCH};
+ghost use Rattle.hc_records.specs.Boundaries.{recut};
 ghost use Rattle.hc_records.specs.Edits.{changed, crowded_task, edited, groups_after};
 ghost use Rattle.hc_records.specs.Line.{groups_of, line_from};
 ghost use Rattle.hc_records.specs.Project.{lowest_fault};
@@ -63,14 +64,15 @@ pub(crate) fn open_line<L: Ledger>(
     Ok(OpenedLine { cuts, configured })
 }
 
-/// What an edit without a fault of its own makes of a line, whose new trees are those given.
-/// `EpochsSpent` in the last epoch, or `Memory` where a growth was refused.
+/// What an edit without a fault of its own makes of a line, whose new trees are those given and in which
+/// it left so many spans unsettled. `EpochsSpent` in the last epoch, or `Memory` where a growth was refused.
 fn answer_edit<L: Ledger>(
     alloc: Global,
     edit: &Edit,
     old: &Standing<'_>,
     groups: &[Declared],
     cuts: &LineCuts,
+    unsettled: u32,
     steps: &mut Steps<L>,
 ) -> Result<AppliedEdit, EditFault>
     requires after { groups.now ≡ groups_after old.now.groups edit.now }
@@ -78,6 +80,7 @@ fn answer_edit<L: Ledger>(
     requires project { lowest_fault (groups_of groups.now) ≡ None }
     requires kept { cuts.now ≡ line_kept (areas_by_rank groups.now) }
     requires fits { crowded_task (line_from 1 groups.now) ≡ None }
+    requires recut { unsettled ≡ recut (line_from 1 old.now.groups) (line_from 1 groups.now) }
     ensures layout { IfOk result (λ applied. applied.configured.layout ≡ layout_of (line_from 1 groups.now)) }
     ensures places { IfOk result (λ applied. applied.configured.places ≡ table_of (line_from 1 groups.now)) }
     ensures report { IfOk result (λ applied. Tells old.now edit.now (changed old.now edit.now) applied.report) }
@@ -91,7 +94,7 @@ fn answer_edit<L: Ledger>(
     }
     let configured = configure_kept(alloc, groups, cuts, steps)?;
     let new = Standing::of(groups, epoch + 1, &configured.layout, &configured.places);
-    let report = Report::between(alloc, edit, old, &new)?;
+    let report = Report::between(alloc, edit, old, &new, unsettled)?;
     Ok(AppliedEdit { configured, report })
 }
 
@@ -110,7 +113,7 @@ fn turn_back<L: Ledger>(
     requires fitted { crowded_from 8 0 to.now ≡ None }
     ensures { cuts.new ≡ line_kept to.now }
 {
-    let Ok(()) = cuts.turn(from, to, steps) else {
+    let Ok(_) = cuts.turn(from, to, steps) else {
         unreachable!()
     };
 }
@@ -146,10 +149,11 @@ pub(crate) fn turn_line<L: Ledger>(
     let mut steps: Steps<L> = Steps::start(blank);
     let before = areas_by_rank(alloc, old.groups())?;
     let after = areas_by_rank(alloc, groups)?;
-    if let Err(task) = cuts.turn(before.as_slice(), after.as_slice(), &mut steps) {
-        return Err(EditFault::TooManyDatagrams(task));
-    }
-    match answer_edit(alloc, edit, old, groups, cuts, &mut steps) {
+    let unsettled = match cuts.turn(before.as_slice(), after.as_slice(), &mut steps) {
+        Ok(unsettled) => unsettled,
+        Err(task) => return Err(EditFault::TooManyDatagrams(task)),
+    };
+    match answer_edit(alloc, edit, old, groups, cuts, unsettled, &mut steps) {
         Ok(applied) => Ok(applied),
         Err(fault) => {
             turn_back(cuts, after.as_slice(), before.as_slice(), &mut steps);

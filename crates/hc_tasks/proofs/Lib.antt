@@ -1,4 +1,5 @@
 pub mod Lines
 pub mod Setting
+pub mod Taking
 pub mod Turned
 pub mod lemmas

@@ -16,7 +16,7 @@ use Rattle.hc_cuts.specs.Starts.{Kept}
 use Rattle.hc_tasks.specs.Areas.{areas_at, own_width, slave_width, width_at}
 use Rattle.hc_tasks.specs.Widths.{IsSetTo, with_slave}
 
-abbrev key_of : Dir → ℕ → ℕ → Key
+abbrev pub key_of : Dir → ℕ → ℕ → Key
 key_of dir rank area = record { dir = dir; rank = rank; area = area }
 
 -- one key
@@ -103,7 +103,7 @@ one-more true false true bits rest = refl
 one-more true false false bits rest = refl
 one-more false is below bits rest = refl
 
-below-next : (n count : ℕ) → (nat_lt n count || (count == n)) ≡ nat_lt n (count + 1)
+pub below-next : (n count : ℕ) → (nat_lt n count || (count == n)) ≡ nat_lt n (count + 1)
 below-next n count = grind (arith, nat_tests)
 
 pub areas-go : (task rank count : ℕ) (new : List Area) (old mid last : Kept) → IsSetTo old mid (with_areas task rank count new old)
@@ -119,7 +119,7 @@ areas-go task rank count new old mid last first second = record {
       ∙ ap (λ (test : Bool). if (rank == key.rank) && test then slave_width task new key else width_in old.tree.list key) (below-next key.area count);
 }
 
-no-area : (areas : List Area) (at : ℕ) (task : ℕ) (dir : Dir) → length areas ≤ at → own_width task dir (slice_get areas at) ≡ 0
+pub no-area : (areas : List Area) (at : ℕ) (task : ℕ) (dir : Dir) → length areas ≤ at → own_width task dir (slice_get areas at) ≡ 0
 no-area [] at task dir h = refl
 no-area (area ∷ areas) zero task dir h = absurd (omega arith)
 no-area (area ∷ areas) (suc at) task dir h = no-area areas at task dir (omega arith)
@@ -219,7 +219,7 @@ slaves-was task rank old new areas before mid own set key here =
     ∙ ap (λ (r : ℕ). slave_width task (areas_at old r) key) here
     ∙ ap (λ (list : List Area). slave_width task list key) (sym own)
 
-no-slave : (slaves : List (List Area)) (rank : ℕ) → length slaves < rank → areas_at slaves rank ≡ []
+pub no-slave : (slaves : List (List Area)) (rank : ℕ) → length slaves < rank → areas_at slaves rank ≡ []
 no-slave slaves zero h = absurd (omega arith)
 no-slave slaves (suc rank) h = behind slaves rank (omega arith)
   where

@@ -1,6 +1,7 @@
 -- A task that is turned into that of another line.
-use Rattle.std.specs.Prelude.{All, nat_lt, OnErr, Result, Ok, Err}
-use Rattle.std.proofs.Common.{◌≡◌, ℕ, ◌+◌, ◌<◌, ◌≤◌, Bool, true, false, List, [], ◌∷◌, ◌++◌, length, refl, sym, ap, subst, ◌∙◌, arith, if◌then◌else◌}
+use Rattle.std.specs.Prelude.{All, filter, map, nat_lt, not, ◌==◌, IfOk, OnErr, OnOk, Result, Ok, Err}
+use Rattle.std.proofs.Common.{◌≡◌, ℕ, suc, ◌+◌, ◌<◌, ◌≤◌, Bool, true, false, List, [], ◌∷◌, ◌++◌, length, refl, sym, ap, subst, ◌∙◌, arith, if◌then◌else◌}
+use Rattle.std.proofs.lemmas.Bool.{cond-true, eqb-true, not-false}
 use Rattle.std.proofs.lemmas.Bool.Decides.{nat_tests}
 use Rattle.std.proofs.lemmas.List.{append_cancel_right}
 use Rattle.std.proofs.lemmas.List.Elements.{All-append, All-cons, All-head, All-nil, All-tail}
@@ -12,16 +13,20 @@ use Rattle.hc_records.specs.declared.keys.Key.{Key}
 use Rattle.hc_records.specs.declared.keys.TheConstants.Key.{START, END}
 use Rattle.hc_records.specs.Area.{width}
 use Rattle.hc_records.specs.TaskList.{Keyed, belongs}
-use Rattle.hc_records.specs.Boundaries.{boundaries, later_keys, width_in}
+use Rattle.hc_records.specs.Boundaries.{boundaries, is_touched, later_keys, touched, unsettled_spans, width_in}
 use Rattle.hc_records.specs.Image.{datagram_count}
 use Rattle.hc_records.specs.Packing.{opening, packed}
 use Rattle.hc_bitsum.specs.Tree.{HasPlace, HoldsTaskList, Tree}
 use Rattle.hc_bitsum.proofs.lemmas.Widths.{told-by_widths}
 use Rattle.hc_cuts.specs.Firsts.{IsCrowded}
+use Rattle.hc_cuts.specs.declared.hulls.Hulls.{Hulls}
+use Rattle.hc_cuts.specs.Hulls.{AreHulls, are_none}
 use Rattle.hc_cuts.specs.Starts.{Kept}
+use Rattle.hc_cuts.proofs.lemmas.HullKeys.{hulls-same, none-are, none-passes, untouched-none}
 use Rattle.hc_tasks.specs.Areas.{area_list, list_by, rank_list, width_at}
 use Rattle.hc_tasks.specs.Kept.{IsLine, is_crowded, kept_by, starts_by, tree_by}
-use Rattle.hc_tasks.specs.Widths.{AreKept, IsSetTo}
+use Rattle.hc_tasks.specs.Recut.{is_touched_by, recut_by, touched_by}
+use Rattle.hc_tasks.specs.Widths.{AreKept, IsSetTo, differs_at}
 use Rattle.hc_tasks.proofs.lemmas.Told.{width-by}
 
 -- a tree has a place for each area of a line
@@ -96,21 +101,92 @@ crowds-by task slaves tree is many =
     let high : MOST_DATAGRAMS < datagram_count (packed opening (list_by task slaves)) = subst (λ (t : Tree). IsCrowded t.list) is many in
     grind (arith, nat_tests)
 
--- where no width differs, the task of the one line is that of the other
+-- the hulls of the keys whose widths differ are those of the touched ones
 
-same-lists : (task : ℕ) (old new : List (List Area)) (last : Kept) → last ≡ kept_by task old → last.tree ≡ tree_by task new → list_by task old ≡ list_by task new
-same-lists task old new last was is = sym (ap (λ (kept : Kept). kept.tree.list) was) ∙ ap (λ (tree : Tree). tree.list) is
+pub touched-hulls : (task : ℕ) (old new : List (List Area)) (hulls : Hulls) → AreHulls (differs_at task old new) hulls
+    → AreHulls (is_touched (list_by task old) (list_by task new)) hulls
+touched-hulls task old new hulls are =
+    hulls-same (differs_at task old new) (is_touched (list_by task old) (list_by task new)) hulls
+    (λ key.
+    ap (λ (bits : ℕ). not (bits == width_at task new key)) (sym (width-by old task key))
+    ∙ ap (λ (bits : ℕ). not (width_in (list_by task old) key == bits)) (sym (width-by new task key))) are
 
-pub unturned : (task : ℕ) (old new : List (List Area)) (last : Kept) → last ≡ kept_by task old → last.tree ≡ tree_by task new → last ≡ kept_by task new
-unturned task old new last was is =
-    kept-is last (tree_by task new) (starts_by task new) is
-    (ap (λ (kept : Kept). kept.starts) was ∙ ap (λ (list : List Keyed). START ∷ later_keys list) (same-lists task old new last was is))
+-- where there is none, the task of the one line is that of the other
 
-pub unturned-fits : (task : ℕ) (old new : List (List Area)) (last : Kept) → last ≡ kept_by task old → last.tree ≡ tree_by task new → is_crowded task old ≡ false
-    → is_crowded task new ≡ false
-unturned-fits task old new last was is fits =
-    sym (ap (λ (list : List Keyed). nat_lt MOST_DATAGRAMS (datagram_count (packed opening list))) (same-lists task old new last was is)) ∙ fits
+untouched-key : (task : ℕ) (old new : List (List Area)) (hulls : Hulls) → AreHulls (differs_at task old new) hulls → are_none hulls ≡ true
+    → (key : Key) → is_touched (list_by task old) (list_by task new) key ≡ false
+untouched-key task old new hulls are none key =
+    none-passes (is_touched (list_by task old) (list_by task new)) key
+    (subst (λ (h : Hulls). AreHulls (is_touched (list_by task old) (list_by task new)) h) (none-are hulls none) (touched-hulls task old new hulls are))
 
-pub on-err : {X Y : Type 0} (result : Result X Y) (P : Type 0) → P → OnErr result P
-on-err (Ok x) P holds = tt
-on-err (Err y) P holds = holds
+pub lists-same : (task : ℕ) (old new : List (List Area)) (hulls : Hulls) → IsLine old → IsLine new → AreHulls (differs_at task old new) hulls → are_none hulls ≡ true
+    → list_by task old ≡ list_by task new
+lists-same task old new hulls first second are none =
+    told-by_widths (list_by task old) (list_by task new) (first.lists task) (second.lists task)
+    (λ key.
+    eqb-true (width_in (list_by task old) key) (width_in (list_by task new) key)
+    (not-false (width_in (list_by task old) key == width_in (list_by task new) key) (untouched-key task old new hulls are none key)))
+
+pub unturned : (task : ℕ) (old new : List (List Area)) (last : Kept) → last.tree ≡ tree_by task new → last.starts ≡ starts_by task old → list_by task old ≡ list_by task new
+    → last ≡ kept_by task new
+unturned task old new last is starts same =
+    kept-is last (tree_by task new) (starts_by task new) is (starts ∙ ap (λ (list : List Keyed). START ∷ later_keys list) same)
+
+pub unturned-fits : (task : ℕ) (old new : List (List Area)) → list_by task old ≡ list_by task new → is_crowded task old ≡ false → is_crowded task new ≡ false
+unturned-fits task old new same fits =
+    sym (ap (λ (list : List Keyed). nat_lt MOST_DATAGRAMS (datagram_count (packed opening list))) same) ∙ fits
+
+filter-none : (test : Key → Bool) (keys : List Key) → ((key : Key) → test key ≡ false) → filter test keys ≡ []
+filter-none test [] none = refl
+filter-none test (key ∷ keys) none = rw (none key) (filter-none test keys none)
+
+pub recut-none : (task : ℕ) (old new : List (List Area)) (hulls : Hulls) → AreHulls (differs_at task old new) hulls → are_none hulls ≡ true → 0 ≡ recut_by task old new
+recut-none task old new hulls are none =
+    sym (ap (λ (keys : List Key). if nat_lt 0 (length keys) then unsettled_spans (list_by task old) (list_by task new) else 0)
+    (filter-none (is_touched (list_by task old) (list_by task new)) (map (λ (area : Keyed). area.0) (list_by task old ++ list_by task new)) (untouched-key task old new hulls are none)))
+
+-- where there is one, the task is touched
+
+some-above : (n : ℕ) → nat_lt 0 (suc n) ≡ true
+some-above n = grind (arith, nat_tests)
+
+some-by : (task : ℕ) (old new : List (List Area)) (hulls : Hulls) → AreHulls (differs_at task old new) hulls → are_none hulls ≡ false → (keys : List Key)
+    → touched (list_by task old) (list_by task new) ≡ keys → is_touched_by task old new ≡ true
+some-by task old new hulls are some [] is =
+    let none = untouched-none (list_by task old) (list_by task new) hulls (touched-hulls task old new hulls are) is in
+    let never : true ≡ false = sym none ∙ some in
+    cc
+some-by task old new hulls are some (key ∷ keys) is = ap (λ (list : List Key). nat_lt 0 (length list)) is ∙ some-above (length keys)
+
+pub some-touched : (task : ℕ) (old new : List (List Area)) (hulls : Hulls) → AreHulls (differs_at task old new) hulls → are_none hulls ≡ false → is_touched_by task old new ≡ true
+some-touched task old new hulls are some = some-by task old new hulls are some (touched (list_by task old) (list_by task new)) refl
+
+pub one-touched : (task : ℕ) (old new : List (List Area)) → is_touched_by task old new ≡ true → touched_by task old new ≡ 1
+one-touched task old new is = cond-true (is_touched_by task old new) 1 0 is
+
+-- and the spans that are counted are those that are recut
+pub recut-some : (task recut : ℕ) (old new : List (List Area)) (hulls : Hulls) (before mid : Kept) → AreHulls (differs_at task old new) hulls → are_none hulls ≡ false
+    → before ≡ kept_by task old → mid.starts ≡ before.starts → mid.tree ≡ tree_by task new
+    → ((list : List Keyed) → mid.starts ++ END ∷ [] ≡ boundaries list → AreHulls (is_touched list mid.tree.list) hulls → recut ≡ unsettled_spans list mid.tree.list)
+    → recut ≡ recut_by task old new
+recut-some task recut old new hulls before mid are some was starts is counted =
+    let list = ap (λ (tree : Tree). tree.list) is in
+    let begun = ap (λ (keys : List Key). keys ++ END ∷ []) (starts ∙ ap (λ (kept : Kept). kept.starts) was) in
+    let own = subst (λ (keyed : List Keyed). AreHulls (is_touched (list_by task old) keyed) hulls) (sym list) (touched-hulls task old new hulls are) in
+    counted (list_by task old) begun own
+    ∙ ap (unsettled_spans (list_by task old)) list
+    ∙ sym (cond-true (is_touched_by task old new) (unsettled_spans (list_by task old) (list_by task new)) 0 (some-touched task old new hulls are some))
+
+-- what follows of an answer
+
+pub if-ok : {X Y : Type 0} (result : Result X Y) (P Q : X → Type 0) → ((x : X) → P x → Q x) → IfOk result P → IfOk result Q
+if-ok (Ok x) P Q so holds = so x holds
+if-ok (Err y) P Q so holds = tt
+
+pub on-ok : {X Y : Type 0} (result : Result X Y) (P Q : Type 0) → (P → Q) → OnOk result P → OnOk result Q
+on-ok (Ok x) P Q so holds = so holds
+on-ok (Err y) P Q so holds = tt
+
+pub on-err : {X Y : Type 0} (result : Result X Y) (P Q : Type 0) → (P → Q) → OnErr result P → OnErr result Q
+on-err (Ok x) P Q so holds = tt
+on-err (Err y) P Q so holds = so holds

@@ -3,13 +3,14 @@ use Rattle.std.specs.Prelude.{◌≡◌, ℕ, All, List, None, Some, length}
 use Rattle.hc_records.specs.declared.edit.Edit.{Edit}
 use Rattle.hc_records.specs.declared.records.Declared.{Declared}
 use Rattle.hc_records.specs.declared.keys.Key.{Key}
-use Rattle.hc_records.specs.Boundaries.{width_in}
+use Rattle.hc_records.specs.Boundaries.{recut, width_in}
 use Rattle.hc_records.specs.Edits.{crowded_task, groups_after}
 use Rattle.hc_records.specs.Line.{groups_of, line_from}
 use Rattle.hc_records.specs.Project.{lowest_fault}
 use Rattle.hc_records.specs.TaskList.{task_areas, task_list}
 use Rattle.hc_tasks.specs.Areas.{area_in, areas_by_rank, list_by, width_at}
 use Rattle.hc_tasks.specs.Kept.{IsLine, crowded_from}
+use Rattle.hc_tasks.specs.Recut.{recut_from}
 
 -- the width of a key in a task's list is that of the area which it names
 abbrev pub WidthsAreTheAreas : Type 0
@@ -36,3 +37,8 @@ AreasTellTheCrowded = (groups : List Declared) → crowded_task (line_from 1 gro
 -- an edit leaves as many declared slaves as there were
 abbrev pub EditsDeclareNoSlave : Type 0
 EditsDeclareNoSlave = (groups : List Declared) (edit : Edit) → length (areas_by_rank (groups_after groups edit)) ≡ length (areas_by_rank groups)
+
+-- what an edit recuts is told by the areas of both lines
+abbrev pub AreasTellTheRecut : Type 0
+AreasTellTheRecut =
+    (old new : List Declared) → recut (line_from 1 old) (line_from 1 new) ≡ recut_from 8 0 (areas_by_rank old) (areas_by_rank new)

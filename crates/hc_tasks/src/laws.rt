@@ -1,6 +1,6 @@
 //! What follows from the definitions of this crate: each function does nothing, and its contract is a
 //! law. Nobody calls it.
-ghost use Rattle.hc_tasks.specs.Laws.{AreasTellTheCrowded, EditsDeclareNoSlave, KeysNameTheirAreas, ProjectsHaveLines, TaskListsAreTheAreas, WidthsAreTheAreas};
+ghost use Rattle.hc_tasks.specs.Laws.{AreasTellTheCrowded, AreasTellTheRecut, EditsDeclareNoSlave, KeysNameTheirAreas, ProjectsHaveLines, TaskListsAreTheAreas, WidthsAreTheAreas};
 
 /// The width of a key in the list of a task of a line is that of the area which the key names: the one
 /// with its place in the record of the slave with its rank, where that slave stands in the line and the
@@ -34,4 +34,10 @@ pub fn areas_tell_the_crowded()
 /// An edit leaves as many declared slaves as there were, present or not.
 pub fn edits_declare_no_slave()
     ensures { EditsDeclareNoSlave }
+{}
+
+/// How many spans of touched tasks an edit leaves unsettled is told by the areas of the line before it and
+/// of the line behind it.
+pub fn areas_tell_the_recut()
+    ensures { AreasTellTheRecut }
 {}

@@ -45,12 +45,14 @@ fn absent_slaves<'a>(alloc: Global, slaves: usize) -> Result<Vec<SlaveAreas<'a>>
 
 impl LineCuts {
     ghost use Rattle.hc_records.specs.declared.records.Area.{Area};
-    ghost use Rattle.std.specs.Prelude.{◌≡◌, ◌≢◌, ◌<◌, ◌≤◌, List, [], IfErr, IfOk, None, OnErr, OnOk, Some, length, option_map, replicate};
+    ghost use Rattle.std.specs.Prelude.{◌≡◌, ◌≢◌, ◌+◌, ◌*◌, ◌<◌, ◌≤◌, List, [], IfErr, IfOk, None, OnErr, OnOk, Some, length, option_map, replicate};
     ghost use Rattle.hc_records.specs.Packing.{opening, packed};
     ghost use Rattle.hc_records.specs.declared.faults.EditFault.TheVariants.{Memory, TooManyDatagrams};
-    ghost use Rattle.hc_records.specs.declared.limits.TheConstants.{MOST_SLAVES, TASKS};
+    ghost use Rattle.hc_records.specs.declared.limits.TheConstants.{MOST_DATAGRAMS, MOST_SLAVES, TASKS};
+    ghost use Rattle.hc_cuts.specs.Starts.{most_read};
     ghost use Rattle.hc_tasks.specs.Areas.{list_by};
     ghost use Rattle.hc_tasks.specs.Kept.{IsLine, crowded_from, line_kept, starts_by};
+    ghost use Rattle.hc_tasks.specs.Recut.{recut_from, touched_from};
 
     /// The tasks of a line of so many declared slaves, at most 2,048, none of which is present.
     fn new(alloc: Global, slaves: u16) -> Result<LineCuts, AllocError>
@@ -65,14 +67,16 @@ impl LineCuts {
     }
 
     /// Turns the tasks of a line into those of another line of the same declared slaves: their areas and
-    /// their boundaries are then those of the new line. Otherwise the lowest task that needs more than 16
-    /// datagrams, and all is as it was. None of the old line's tasks needs more. It takes no memory.
+    /// their boundaries are then those of the new line, and the answer is how many spans of touched tasks
+    /// aren't settled. Otherwise the lowest task that needs more than 16 datagrams, and all is as it was.
+    /// None of the old line's tasks needs more. A task that is turned takes no step where no width of its
+    /// keys differs, and at most 16 times 104 where one does. It takes no memory.
     pub fn turn<L: Ledger>(
         &mut self,
         old: &[SlaveAreas],
         new: &[SlaveAreas],
         steps: &mut Steps<L>,
-    ) -> Result<(), u8>
+    ) -> Result<u32, u8>
         requires old { IsLine old.now }
         requires new { IsLine new.now }
         requires same { length new.now ≡ length old.now }
@@ -82,9 +86,12 @@ impl LineCuts {
         ensures accepted { OnOk result (crowded_from 8 0 new.now ≡ None) }
         ensures refused { IfErr result (λ task. crowded_from 8 0 new.now ≡ Some task) }
         ensures unchanged { OnErr result (self.new ≡ self.old) }
+        ensures recut { IfOk result (λ recut. recut ≡ recut_from 8 0 old.now new.now) }
+        ensures steps { OnOk result (steps.new ≤ steps.old + most_read * MOST_DATAGRAMS * touched_from 8 0 old.now new.now) }
     {
-        match turn_tasks(self.tasks.as_mut_slice(), 0, old, new, steps) {
-            None => Ok(()),
+        let turned = turn_tasks(self.tasks.as_mut_slice(), 0, old, new, steps);
+        match turned.crowded {
+            None => Ok(turned.recut),
             Some(task) => {
                 put_tasks(self.tasks.as_mut_slice(), 0, new, old, steps);
                 Err(task)
@@ -107,7 +114,7 @@ impl LineCuts {
         let absent = absent_slaves(alloc, line.len())?;
         let mut cuts = LineCuts::new(alloc, line.len() as u16)?;
         match cuts.turn(absent.as_slice(), line, steps) {
-            Ok(()) => Ok(cuts),
+            Ok(_) => Ok(cuts),
             Err(task) => Err(EditFault::TooManyDatagrams(task)),
         }
     }

@@ -1,7 +1,10 @@
 //! The tasks of a line turned into those of another: widths that differ are set, and a task in which one
 //! does is cut anew.
-ghost use Rattle.std.specs.Prelude.{◌≡◌, ◌+◌, ◌<◌, ◌≤◌, None, OnErr, OnOk, false, length, map, true};
-ghost use Rattle.hc_tasks.specs.Kept.{IsLine, crowded_from, is_crowded, kept_by, kept_from, starts_by, tree_by, trees_from};
+ghost use Rattle.std.specs.Prelude.{◌≡◌, ◌+◌, ◌*◌, ◌<◌, ◌≤◌, IfOk, None, OnErr, OnOk, false, length, map, true};
+ghost use Rattle.hc_records.specs.declared.limits.TheConstants.{MOST_DATAGRAMS};
+ghost use Rattle.hc_cuts.specs.Starts.{most_read};
+ghost use Rattle.hc_tasks.specs.Kept.{IsLine, crowded_from, is_crowded, kept_by, kept_from, tree_by, trees_from};
+ghost use Rattle.hc_tasks.specs.Recut.{recut_by, recut_from, touched_by, touched_from};
 
 use crate::areas::SlaveAreas;
 use crate::widths::set_widths;
@@ -10,15 +13,16 @@ use hc_cuts::cuts::Cuts;
 use hc_cuts::fold::TooManyDatagrams;
 use std::sync::ledger::Ledger;
 
-/// Turns a task. `TooManyDatagrams` where it would need more than 16; then its widths are set, and its
-/// boundaries are as before.
+/// Turns a task, and answers how many of its spans aren't settled. `TooManyDatagrams` where it would need
+/// more than 16; then its widths are set, and its boundaries are as before. Where no width differs, no
+/// step is taken.
 fn turn_task<L: Ledger>(
     cuts: &mut Cuts,
     task: u8,
     old: &[SlaveAreas],
     new: &[SlaveAreas],
     steps: &mut Steps<L>,
-) -> Result<(), TooManyDatagrams>
+) -> Result<u32, TooManyDatagrams>
     requires old { IsLine old.now }
     requires new { IsLine new.now }
     requires same { length new.now ≡ length old.now }
@@ -28,11 +32,15 @@ fn turn_task<L: Ledger>(
     ensures turned { OnOk result (cuts.new ≡ kept_by task new.now) }
     ensures fits { OnOk result (is_crowded task new.now ≡ false) }
     ensures refused { OnErr result (is_crowded task new.now ≡ true) }
+    ensures recut { IfOk result (λ recut. recut ≡ recut_by task old.now new.now) }
+    ensures few { IfOk result (λ recut. recut ≤ MOST_DATAGRAMS) }
+    ensures steps { steps.new ≤ steps.old + most_read * MOST_DATAGRAMS * touched_by task old.now new.now }
 {
-    if set_widths(cuts, task, old, new) {
-        cuts.cut(steps)?;
+    let hulls = set_widths(cuts, task, old, new);
+    if hulls.are_none() {
+        return Ok(0);
     }
-    Ok(())
+    cuts.recut(&hulls, steps)
 }
 
 /// Puts a task back that has the widths of another line, whatever its boundaries.
@@ -56,32 +64,55 @@ fn put_task<L: Ledger>(
     };
 }
 
+/// What turning tasks in a row comes to: the first of them that would need more than 16 datagrams, if there
+/// is one; otherwise, how many spans aren't settled.
+#[derive(Drop)]
+pub(crate) struct Turned {
+    pub(crate) crowded: Option<u8>,
+    pub(crate) recut: u32,
+}
+
 /// Turns tasks in a row, the first of which has a number: each of them, also behind one that would need
-/// more than 16 datagrams. The first such task, if there is one.
+/// more than 16 datagrams.
 pub(crate) fn turn_tasks<L: Ledger>(
     tasks: &mut [Cuts],
     task: u8,
     old: &[SlaveAreas],
     new: &[SlaveAreas],
     steps: &mut Steps<L>,
-) -> Option<u8>
+) -> Turned
     requires numbers { task + length tasks.old ≤ 8 }
     requires old { IsLine old.now }
     requires new { IsLine new.now }
     requires same { length new.now ≡ length old.now }
     requires was { tasks.old ≡ kept_from (length tasks.old) task old.now }
     requires fits { crowded_from (length tasks.old) task old.now ≡ None }
-    ensures crowded { result ≡ crowded_from (length tasks.old) task new.now }
+    ensures crowded { result.crowded ≡ crowded_from (length tasks.old) task new.now }
     ensures areas { map (λ kept. kept.tree) tasks.new ≡ trees_from (length tasks.old) task new.now }
-    ensures turned { result ≡ None → tasks.new ≡ kept_from (length tasks.old) task new.now }
+    ensures turned { result.crowded ≡ None → tasks.new ≡ kept_from (length tasks.old) task new.now }
+    ensures recut { result.crowded ≡ None → result.recut ≡ recut_from (length tasks.old) task old.now new.now }
+    ensures few { result.recut ≤ MOST_DATAGRAMS * length tasks.old }
+    ensures steps { steps.new ≤ steps.old + most_read * MOST_DATAGRAMS * touched_from (length tasks.old) task old.now new.now }
 {
     if tasks.is_empty() {
-        return None;
+        return Turned {
+            crowded: None,
+            recut: 0,
+        };
     }
     let (first, rest) = tasks.split_at_mut(1);
     let turned = turn_task(&mut first[0], task, old, new, steps);
     let behind = turn_tasks(rest, task + 1, old, new, steps);
-    if turned.is_err() { Some(task) } else { behind }
+    match turned {
+        Ok(recut) => Turned {
+            crowded: behind.crowded,
+            recut: recut + behind.recut,
+        },
+        Err(_) => Turned {
+            crowded: Some(task),
+            recut: 0,
+        },
+    }
 }
 
 /// Puts tasks in a row back that have the widths of another line, whatever their boundaries.

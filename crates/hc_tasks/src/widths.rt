@@ -1,15 +1,17 @@
 //! The widths of a task's areas, set where they differ between two lines.
-ghost use Rattle.std.specs.Prelude.{◌≡◌, ◌<◌, ◌≤◌, ◌==◌, ◌&&◌, All, false, if◌then◌else◌, length};
+ghost use Rattle.std.specs.Prelude.{◌≡◌, ◌<◌, ◌≤◌, ◌==◌, ◌&&◌, All, if◌then◌else◌, length};
 ghost use Rattle.hc_bitsum.specs.Tree.{HasPlace, HoldsTaskList};
 ghost use Rattle.hc_records.specs.Boundaries.{width_in};
 ghost use Rattle.hc_records.specs.Keys.{same_key};
 ghost use Rattle.hc_records.specs.declared.keys.Key.{Key};
 ghost use Rattle.hc_records.specs.declared.limits.TheConstants.{MOST_AREAS, MOST_AREA_BITS, MOST_SLAVES};
+ghost use Rattle.hc_cuts.specs.Hulls.{AreHulls, TakeIn};
 ghost use Rattle.hc_tasks.specs.Areas.{slave_width, width_at};
-ghost use Rattle.hc_tasks.specs.Widths.{AreKept, IsSetTo, with_slave};
+ghost use Rattle.hc_tasks.specs.Widths.{AreKept, IsSetTo, differs, differs_at, with_slave};
 
 use crate::areas::SlaveAreas;
 use hc_cuts::cuts::Cuts;
+use hc_cuts::hulls::Hulls;
 use hc_records::keys::Key;
 use hc_records::records::{Area, Dir};
 
@@ -25,28 +27,36 @@ fn slave_width(areas: &[Area], task: u8, key: Key) -> u16
     }
 }
 
-/// Sets the width of a key of a slave that had some areas and has others, where it differs. Whether it
-/// does.
-fn set_key(cuts: &mut Cuts, task: u8, key: Key, old: &[Area], new: &[Area]) -> bool
+/// Sets the width of a key of a slave that had some areas and has others, where it differs; the hulls
+/// then hold the key.
+fn set_key(cuts: &mut Cuts, hulls: &mut Hulls, task: u8, key: Key, old: &[Area], new: &[Area])
     requires place { HasPlace cuts.old.tree.slaves key }
     requires holds { HoldsTaskList cuts.old.tree }
     requires old { AreKept old.now }
     requires new { AreKept new.now }
     requires was { width_in cuts.old.tree.list key ≡ slave_width task old.now key }
     ensures widths { IsSetTo cuts.old cuts.new (λ other. if same_key key other then slave_width task new.now key else width_in cuts.old.tree.list other) }
-    ensures untouched { result ≡ false → cuts.new ≡ cuts.old }
+    ensures taken { TakeIn hulls.old hulls.new (λ other. same_key key other && differs task old.now new.now other) }
 {
     let bits = slave_width(new, task, key);
     if slave_width(old, task, key) == bits {
-        return false;
+        return;
     }
     cuts.set(key, bits);
-    true
+    hulls.add(key);
 }
 
 /// Sets the widths of an output and of an input with a place in the record of a slave, where they
-/// differ. Whether one does.
-fn set_area(cuts: &mut Cuts, task: u8, rank: u16, area: u8, old: &[Area], new: &[Area]) -> bool
+/// differ.
+fn set_area(
+    cuts: &mut Cuts,
+    hulls: &mut Hulls,
+    task: u8,
+    rank: u16,
+    area: u8,
+    old: &[Area],
+    new: &[Area],
+)
     requires first { 1 ≤ rank }
     requires last { rank ≤ cuts.old.tree.slaves }
     requires area { area < MOST_AREAS }
@@ -55,7 +65,7 @@ fn set_area(cuts: &mut Cuts, task: u8, rank: u16, area: u8, old: &[Area], new: &
     requires new { AreKept new.now }
     requires was { (key : Key) → key.rank ≡ rank → key.area ≡ area → width_in cuts.old.tree.list key ≡ slave_width task old.now key }
     ensures widths { IsSetTo cuts.old cuts.new (λ key. if (rank == key.rank) && (area == key.area) then slave_width task new.now key else width_in cuts.old.tree.list key) }
-    ensures untouched { result ≡ false → cuts.new ≡ cuts.old }
+    ensures taken { TakeIn hulls.old hulls.new (λ key. (rank == key.rank) && (area == key.area) && differs task old.now new.now key) }
 {
     let output = Key {
         dir: Dir::Out,
@@ -67,13 +77,12 @@ fn set_area(cuts: &mut Cuts, task: u8, rank: u16, area: u8, old: &[Area], new: &
         rank,
         area,
     };
-    let first = set_key(cuts, task, output, old, new);
-    let second = set_key(cuts, task, input, old, new);
-    first || second
+    set_key(cuts, hulls, task, output, old, new);
+    set_key(cuts, hulls, task, input, old, new);
 }
 
-/// Sets the widths of a slave that had some areas and has others, where they differ. Whether one does.
-fn set_slave(cuts: &mut Cuts, task: u8, rank: u16, old: &[Area], new: &[Area]) -> bool
+/// Sets the widths of a slave that had some areas and has others, where they differ.
+fn set_slave(cuts: &mut Cuts, hulls: &mut Hulls, task: u8, rank: u16, old: &[Area], new: &[Area])
     requires first { 1 ≤ rank }
     requires last { rank ≤ cuts.old.tree.slaves }
     requires holds { HoldsTaskList cuts.old.tree }
@@ -81,20 +90,16 @@ fn set_slave(cuts: &mut Cuts, task: u8, rank: u16, old: &[Area], new: &[Area]) -
     requires new { AreKept new.now }
     requires was { (key : Key) → key.rank ≡ rank → width_in cuts.old.tree.list key ≡ slave_width task old.now key }
     ensures widths { IsSetTo cuts.old cuts.new (with_slave task rank new.now cuts.old) }
-    ensures untouched { result ≡ false → cuts.new ≡ cuts.old }
+    ensures taken { TakeIn hulls.old hulls.new (λ key. (rank == key.rank) && differs task old.now new.now key) }
 {
-    let mut touched = false;
     for area in 0..old.len().max(new.len()) {
-        if set_area(cuts, task, rank, area as u8, old, new) {
-            touched = true;
-        }
+        set_area(cuts, hulls, task, rank, area as u8, old, new);
     }
-    touched
 }
 
-/// Sets the widths of a task whose slaves had some areas and have others, where they differ. Whether
-/// one does. It takes no memory.
-pub(crate) fn set_widths(cuts: &mut Cuts, task: u8, old: &[SlaveAreas], new: &[SlaveAreas]) -> bool
+/// Sets the widths of a task whose slaves had some areas and have others, where they differ. The hulls of
+/// the keys whose widths do. It takes no memory.
+pub(crate) fn set_widths(cuts: &mut Cuts, task: u8, old: &[SlaveAreas], new: &[SlaveAreas]) -> Hulls
     requires few { length old.now ≤ MOST_SLAVES }
     requires slaves { cuts.old.tree.slaves ≡ length old.now }
     requires same { length new.now ≡ length old.now }
@@ -103,14 +108,19 @@ pub(crate) fn set_widths(cuts: &mut Cuts, task: u8, old: &[SlaveAreas], new: &[S
     requires new { All AreKept new.now }
     requires was { (key : Key) → width_in cuts.old.tree.list key ≡ width_at task old.now key }
     ensures widths { IsSetTo cuts.old cuts.new (width_at task new.now) }
-    ensures untouched { result ≡ false → cuts.new ≡ cuts.old }
+    ensures touched { AreHulls (differs_at task old.now new.now) result }
 {
-    let mut touched = false;
+    let mut hulls = Hulls::none();
     for i in 0..old.len() {
         let rank = i as u16 + 1;
-        if set_slave(cuts, task, rank, old[i].as_slice(), new[i].as_slice()) {
-            touched = true;
-        }
+        set_slave(
+            cuts,
+            &mut hulls,
+            task,
+            rank,
+            old[i].as_slice(),
+            new[i].as_slice(),
+        );
     }
-    touched
+    hulls
 }

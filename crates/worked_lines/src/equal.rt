@@ -79,9 +79,9 @@ fn has_same_block(one: &Plan, other: &Plan, station: u16, number: u8) -> bool {
     }
 }
 
-/// Whether two plans have the same station address at each of the first 25 positions of the line.
+/// Whether two plans have the same station address at each of the first 65 positions of the line.
 pub fn has_same_order(one: &Plan, other: &Plan) -> bool {
-    for position in 0..25 {
+    for position in 0..65 {
         if one.station(position) != other.station(position) {
             return false;
         }

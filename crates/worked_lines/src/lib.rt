@@ -3,7 +3,11 @@
 #![tactic(auto)]
 
 #[cfg(test)]
+mod boundaries;
+#[cfg(test)]
 mod drawn;
+#[cfg(test)]
+mod draws;
 #[cfg(test)]
 mod edits;
 #[cfg(test)]

@@ -1,4 +1,4 @@
-//! The records of 24 slaves with two areas each, in six groups, as edits change them by the rules.
+//! The records of 64 slaves with two areas each, in 16 groups, as edits change them by the rules.
 ghost use Rattle.std.specs.Prelude.{◌<◌};
 
 use hc_records::edit::Edit;
@@ -8,16 +8,16 @@ use hc_records::records::{Area, Dir, Group, Pdo, Slave, VarId};
 use std::alloc::{AllocError, Global};
 
 /// The areas, eight in each group: the output area and the input area of each slave in turn.
-const AREAS: usize = 48;
+pub const AREAS: usize = 128;
 
 /// The groups, the first of which is mandatory.
-const GROUPS: usize = 6;
+const GROUPS: usize = 16;
 
 /// How many lists of PDOs `list` has.
 pub const LISTS: u8 = 9;
 
 /// The variables, four of each area: the numbers from 1 to this one.
-pub const VARIABLES: u32 = 192;
+pub const VARIABLES: u32 = 512;
 
 /// The list of PDOs with a number, and why no area can have it assigned, if so.
 pub fn list(number: u8) -> (&'static [u16], Option<EditFault>) {
@@ -46,8 +46,8 @@ fn bits_of(number: u8) -> u32 {
     }
 }
 
-/// The bits of each key in a task's list, 0 where it isn't in it: first the keys of the 24 output areas,
-/// then those of the 24 input areas, each in the order of their slaves.
+/// The bits of each key in a task's list, 0 where it isn't in it: first the keys of the 64 output areas,
+/// then those of the 64 input areas, each in the order of their slaves.
 pub type Widths = [u32; AREAS];
 
 /// An edit, by the number of its group or of its area, from 0 on. Past the last it is one that is not
@@ -130,16 +130,18 @@ impl Records {
     /// The records at the opening: every area has its third PDO alone and stands in task 0, and the
     /// mandatory group alone is present.
     pub fn new() -> Records {
+        let mut present = [false; GROUPS];
+        present[0] = true;
         Records {
             lists: [2; AREAS],
             tasks: [0; AREAS],
-            present: [true, false, false, false, false, false],
+            present,
         }
     }
 
     /// The area with a number: an output area, or an input area where the number is odd.
     fn area(&self, alloc: Global, area: u8) -> Result<Area, AllocError>
-        requires { area < 48 }
+        requires { area < 128 }
     {
         let pdos = list(self.lists[usize::from(area)]).0;
         let is_output = area % 2 == 0;
@@ -155,7 +157,7 @@ impl Records {
 
     /// The slave with a number, which has the station address that is 101 more.
     fn slave(&self, alloc: Global, number: u8) -> Result<Slave, AllocError>
-        requires { number < 24 }
+        requires { number < 64 }
     {
         let mut areas = Items::new(alloc);
         areas.push(self.area(alloc, 2 * number)?)?;
@@ -173,7 +175,7 @@ impl Records {
         slaves: &mut Items<Slave>,
         group: u8,
     ) -> Result<(), AllocError>
-        requires { group < 6 }
+        requires { group < 16 }
     {
         for own in 0..4 {
             slaves.push(self.slave(alloc, 4 * group + own)?)?;
@@ -184,7 +186,7 @@ impl Records {
     /// All groups, with ten times their number as their alias.
     pub fn declared(&self, alloc: Global) -> Result<Items<Group>, AllocError> {
         let mut groups = Items::new(alloc);
-        for number in 0..6 {
+        for number in 0..16 {
             let mut slaves = Items::new(alloc);
             self.add_slaves(alloc, &mut slaves, number)?;
             let alias = 10 * u16::from(number);
@@ -196,7 +198,7 @@ impl Records {
     /// The slaves of the present groups, as one mandatory group.
     pub fn line(&self, alloc: Global) -> Result<Items<Group>, AllocError> {
         let mut slaves = Items::new(alloc);
-        for number in 0..6 {
+        for number in 0..16 {
             if self.present[usize::from(number)] {
                 self.add_slaves(alloc, &mut slaves, number)?;
             }
@@ -218,10 +220,10 @@ impl Records {
     /// The widths of the keys in a task's list.
     pub fn widths(&self, task: u8) -> Widths {
         let mut widths = [0; AREAS];
-        for area in 0..48 {
+        for area in 0..128 {
             put(
                 &mut widths,
-                area / 2 + 24 * (area % 2),
+                area / 2 + 64 * (area % 2),
                 self.width(area, task),
             );
         }

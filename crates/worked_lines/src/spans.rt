@@ -1,5 +1,5 @@
 //! How many spans are recut where one line becomes another, counted from the records of both by the
-//! rules alone. A boundary or a key is counted from 0, which is START, over the 48 keys to 49, END.
+//! rules alone. A boundary or a key is counted from 0, which is START, over the 128 keys to 129, END.
 use crate::records::{Records, Widths};
 
 /// The first and the last number of a span, or of the keys of a direction whose widths differ.
@@ -15,16 +15,16 @@ fn first_bit(behind: u32, bits: u32, turns_to_inputs: bool) -> u32 {
 }
 
 /// Which numbers are boundaries: START, the keys at which a second or later datagram begins, and END.
-fn boundaries(widths: &Widths) -> [bool; 50] {
-    let mut found = [false; 50];
+fn boundaries(widths: &Widths) -> [bool; 130] {
+    let mut found = [false; 130];
     found[0] = true;
-    found[49] = true;
+    found[129] = true;
     let mut used = 0_u32;
     let mut is_behind_output = false;
-    for key in 0..48 {
+    for key in 0..128 {
         let bits = widths[key];
         if bits > 0 {
-            let is_input = key >= 24;
+            let is_input = key >= 64;
             let end = first_bit(used, bits, is_input && is_behind_output).saturating_add(bits);
             let begins_another = end > 11_888;
             found[key + 1] = begins_another;
@@ -65,11 +65,11 @@ fn meets(span: Interval, interval: Option<Interval>) -> bool {
 fn unsettled(old: &Widths, new: &Widths) -> u32 {
     let before = boundaries(old);
     let after = boundaries(new);
-    let outputs = hull(old, new, 0, 24);
-    let inputs = hull(old, new, 24, 48);
+    let outputs = hull(old, new, 0, 64);
+    let inputs = hull(old, new, 64, 128);
     let mut count = 0_u32;
     let mut begin = 0;
-    for end in 1..50 {
+    for end in 1..130 {
         if after[end] {
             let span = (begin, end);
             let is_old = before.get(begin) == Some(&true);

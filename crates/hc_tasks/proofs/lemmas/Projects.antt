@@ -1,13 +1,15 @@
 -- The areas of the slaves of a project's groups, and of those that an edit leaves.
-use Rattle.std.specs.Prelude.{All, None, Option, Some, find, map, nat_lt}
+use Rattle.std.specs.Prelude.{All, None, Option, Some, filter, find, map, nat_lt, sum_by}
 use Rattle.std.proofs.Common.{◌≡◌, ℕ, ◌+◌, ◌==◌, Bool, true, false, List, [], ◌∷◌, length, refl, sym, ap, subst, ◌∙◌, arith, if◌then◌else◌, length-append}
 use Rattle.std.proofs.lemmas.List.{length-map}
 use Rattle.std.proofs.lemmas.List.Elements.{All-append, All-cons, All-head, All-nil, All-tail}
+use Rattle.std.proofs.lemmas.List.Sums.{sum_by-cons}
 use Rattle.hc_records.specs.declared.limits.TheConstants.{MOST_DATAGRAMS}
 use Rattle.hc_records.specs.declared.edit.Edit.{Edit}
 use Rattle.hc_records.specs.declared.edit.Edit.TheVariants.{Connect, Disconnect, Remap, Move}
 use Rattle.hc_records.specs.declared.records.Slave.{Slave}
 use Rattle.hc_records.specs.declared.records.Declared.{Declared}
+use Rattle.hc_records.specs.Boundaries.{is_touched_task, recut, touched, unsettled_spans}
 use Rattle.hc_records.specs.Edits.{crowded_task, groups_after, with_area, with_presence, with_slaves}
 use Rattle.hc_records.specs.Image.{datagram_count, task_places, tasks}
 use Rattle.hc_records.specs.Limits.{IsSlaveInside}
@@ -15,13 +17,14 @@ use Rattle.hc_records.specs.Line.{State, groups_of, line_from}
 use Rattle.hc_records.specs.Packing.{opening, packed}
 use Rattle.hc_records.specs.Project.{lowest_fault}
 use Rattle.hc_records.specs.SpanLaws.{IsTaskList}
-use Rattle.hc_records.specs.TaskList.{Keyed}
+use Rattle.hc_records.specs.TaskList.{Keyed, task_list}
 use Rattle.hc_records.proofs.lemmas.Limits.{project-inside}
 use Rattle.hc_records.proofs.lemmas.Lines.{declared_slaves, each-group}
 use Rattle.hc_records.proofs.lemmas.Projects.{project-few}
 use Rattle.hc_records.proofs.lemmas.TaskLists.{project-list}
-use Rattle.hc_tasks.specs.Areas.{areas_by_rank, present_areas}
+use Rattle.hc_tasks.specs.Areas.{areas_by_rank, list_by, present_areas}
 use Rattle.hc_tasks.specs.Kept.{IsLine, crowded_from, is_crowded}
+use Rattle.hc_tasks.specs.Recut.{recut_by, recut_from}
 use Rattle.hc_tasks.specs.Widths.{AreKept}
 use Rattle.hc_tasks.proofs.lemmas.Told.{length-present, task-listed}
 
@@ -75,6 +78,34 @@ pub line-crowded : (groups : List Declared) → crowded_task (line_from 1 groups
 line-crowded groups =
     find-same (λ task. nat_lt MOST_DATAGRAMS (datagram_count (task_places task (line_from 1 groups)))) (λ task. is_crowded task (areas_by_rank groups))
     (λ task. ap (λ (list : List Keyed). nat_lt MOST_DATAGRAMS (datagram_count (packed opening list))) (task-listed task groups)) tasks
+
+-- what is recut of each task
+
+abbrev total : (ℕ → ℕ) → List ℕ → ℕ
+total f [] = 0
+total f (task ∷ tasks) = f task + total f tasks
+
+added-by : (f : ℕ → ℕ) (task : ℕ) (rest : List ℕ) (passes : Bool) → sum_by f (if passes then task ∷ rest else rest) ≡ (if passes then f task else 0) + sum_by f rest
+added-by f task rest true = sum_by-cons f task rest
+added-by f task rest false = omega arith
+
+sum-same : (f g : ℕ → ℕ) (passes : ℕ → Bool) → ((task : ℕ) → (if passes task then f task else 0) ≡ g task) → (list : List ℕ) → sum_by f (filter passes list) ≡ total g list
+sum-same f g passes same [] = refl
+sum-same f g passes same (task ∷ list) =
+    added-by f task (filter passes list) (passes task)
+    ∙ ap (λ (n : ℕ). n + sum_by f (filter passes list)) (same task)
+    ∙ ap (λ (n : ℕ). g task + n) (sum-same f g passes same list)
+
+abbrev list_recut : List Keyed → List Keyed → ℕ
+list_recut old new = if nat_lt 0 (length (touched old new)) then unsettled_spans old new else 0
+
+pub line-recut : (old new : List Declared) → recut (line_from 1 old) (line_from 1 new) ≡ recut_from 8 0 (areas_by_rank old) (areas_by_rank new)
+line-recut old new =
+    sum-same (λ task. unsettled_spans (task_list task (line_from 1 old)) (task_list task (line_from 1 new))) (λ task. recut_by task (areas_by_rank old) (areas_by_rank new))
+    (is_touched_task (line_from 1 old) (line_from 1 new))
+    (λ task.
+    ap (λ (list : List Keyed). list_recut list (task_list task (line_from 1 new))) (task-listed task old)
+    ∙ ap (list_recut (list_by task (areas_by_rank old))) (task-listed task new)) tasks
 
 -- an edit declares no slave
 

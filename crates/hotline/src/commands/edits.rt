@@ -1,5 +1,6 @@
 //! The four edits: `connect A`, `disconnect A`, `remap S A P..` and `move S A T`.
-ghost use Rattle.std.specs.Prelude.{◌≡◌, ◌++◌, IfOk, map, option_map, OnErr, OnOk, string_bytes};
+ghost use Rattle.std.specs.Prelude.{◌≡◌, ◌≤◌, ◌+◌, ◌++◌, IfOk, map, option_map, OnErr, OnOk, string_bytes};
+ghost use Rattle.std.specs.String.{string_capacity, string_len};
 ghost use Rattle.hc_records.specs.Edits.{state_after};
 ghost use Rattle.hotline.specs.declared.commands.Command.TheVariants as command;
 ghost use Rattle.hotline.specs.Edits.{edit_text, report_text};
@@ -13,7 +14,11 @@ use hc_records::edit::Edit;
 use hc_records::faults::EditFault;
 use hc_records::items::Items;
 use hc_text::numbers::{byte_in, double_byte_in};
+use hc_text::room::{MOST_DIGITS, add_number, add_text};
 use std::alloc::{AllocError, Global};
+
+/// The bytes of the longest line of an accepted edit: its words, three numbers, and the line feed.
+const LONGEST_REPORT: usize = 21 + 3 * MOST_DIGITS;
 
 /// The edit that a name and its arguments spell; none where the name is no edit's, where that edit has
 /// another number of arguments, or where a number is malformed or its type doesn't hold it: aliases,
@@ -30,8 +35,8 @@ pub fn parse(alloc: Global, name: &[u8], arguments: &[&[u8]]) -> Result<Option<C
 
 /// Carries an edit out and adds what became different, or why it is refused: the plan is then in the
 /// state that the edit leaves. `AllocError` where a growth was refused; the plan is then as it was, and
-/// `out` may have a front of the line. The line is made before the plan is replaced, so a growth refused
-/// for it leaves the plan, too.
+/// `out` may have a front of the line. Room for the line is taken before the edit is carried out, so a
+/// growth refused for it leaves the plan, too.
 #[tactic(auto, unfolding(crate::specs::Edits::edit_text))]
 pub fn reply(
     alloc: Global,
@@ -43,11 +48,10 @@ pub fn reply(
     ensures state { OnOk result (plan.new ≡ state_after plan.old edit.now) }
     ensures unchanged { OnErr result (plan.new ≡ plan.old) }
 {
-    match plan.edited(alloc, edit) {
-        Ok(next) => {
-            let report = plan.report(alloc, edit, &next)?;
-            push_report(&report, out)?;
-            *plan = next;
+    out.reserve(LONGEST_REPORT)?;
+    match plan.apply(alloc, edit) {
+        Ok(report) => {
+            add_report(&report, out);
             Ok(())
         }
         Err(EditFault::Memory) => Err(AllocError),
@@ -55,15 +59,19 @@ pub fn reply(
     }
 }
 
-/// Adds the line of an accepted edit, as `epoch 1 recut 1 moved 4`.
+/// Adds the line of an accepted edit, as `epoch 1 recut 1 moved 4`, for which there is room.
 #[tactic(auto, unfolding(crate::specs::Edits::report_text))]
-fn push_report(report: &Report, out: &mut String) -> Result<(), AllocError>
-    ensures { OnOk result (string_bytes out.new ≡ string_bytes out.old ++ report_text report.now.epoch report.now.recut report.now.moved) }
+fn add_report(report: &Report, out: &mut String)
+    requires { string_len out.old + LONGEST_REPORT ≤ string_capacity out.old }
+    ensures { string_bytes out.new ≡ string_bytes out.old ++ report_text report.now.epoch report.now.recut report.now.moved }
 {
-    let epoch = report.epoch;
-    let recut = report.recut;
-    let moved = report.moved;
-    write!(out, "epoch {epoch} recut {recut} moved {moved}\n")
+    add_text("epoch ", out);
+    add_number(report.epoch, out);
+    add_text(" recut ", out);
+    add_number(report.recut, out);
+    add_text(" moved ", out);
+    add_number(report.moved, out);
+    add_text("\n", out);
 }
 
 fn edit_of(alloc: Global, name: &[u8], arguments: &[&[u8]]) -> Result<Option<Edit>, AllocError>

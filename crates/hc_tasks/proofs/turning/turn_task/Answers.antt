@@ -1,54 +1,69 @@
-use Rattle.std.proofs.Common.{ap, ◌∙◌}
+use Rattle.std.proofs.Common.{◌≡◌, ap, ◌∙◌, arith, sym}
 use Rattle.hc_cuts.specs.Starts.{Kept}
-use Rattle.hc_tasks.proofs.Turned.{crowds-by, cut-kept, fits-by, on-err, set-tree, tree-holds, tree-widths, unturned, unturned-fits}
+use Rattle.hc_tasks.specs.Recut.{recut_by}
+use Rattle.hc_tasks.proofs.Turned.{crowds-by, cut-kept, fits-by, if-ok, lists-same, on-err, on-ok, one-touched, recut-none, recut-some, set-tree, some-touched, tree-holds, tree-widths, unturned, unturned-fits}
 use Rattle.hc_tasks.proofs.turning.turn_task.Goals as goal
 
-pub set_widths-requires-clause-holds : goal.set_widths-requires-clause-holds
-set_widths-requires-clause-holds g c =
+pub set_widths-hulls-requires-clause-holds : goal.set_widths-hulls-requires-clause-holds
+set_widths-hulls-requires-clause-holds g c =
     tree-holds c.args.task c.args.old.now c.args.cuts.now.tree c.requires.old (ap (λ (kept : Kept). kept.tree) c.requires.was)
 
-pub set_widths-requires-clause-was : goal.set_widths-requires-clause-was
-set_widths-requires-clause-was g c key =
+pub set_widths-hulls-requires-clause-was : goal.set_widths-hulls-requires-clause-was
+set_widths-hulls-requires-clause-was g c key =
     tree-widths c.args.task c.args.old.now c.args.cuts.now.tree (ap (λ (kept : Kept). kept.tree) c.requires.was) key
 
-pub returns-in_err-cut-clause-areas : goal.returns-in_err-cut-clause-areas
-returns-in_err-cut-clause-areas g c =
-    let is = set-tree c.args.task c.args.old.now c.args.new.now c.args.cuts.now c.set_widths.new.cuts c.requires.new c.requires.same (ap (λ (kept : Kept). kept.tree) c.requires.was) c.set_widths.ensures.widths in
-    c.cut.ensures.areas ∙ is
+pub returns-then-are_none-clause-areas : goal.returns-then-are_none-clause-areas
+returns-then-are_none-clause-areas g c =
+    set-tree c.args.task c.args.old.now c.args.new.now c.args.cuts.now c.set_widths-hulls.new.cuts c.requires.new c.requires.same (ap (λ (kept : Kept). kept.tree) c.requires.was) c.set_widths-hulls.ensures.widths
 
-pub returns-in_err-cut-clause-refused : goal.returns-in_err-cut-clause-refused
-returns-in_err-cut-clause-refused g c =
-    let is = set-tree c.args.task c.args.old.now c.args.new.now c.args.cuts.now c.set_widths.new.cuts c.requires.new c.requires.same (ap (λ (kept : Kept). kept.tree) c.requires.was) c.set_widths.ensures.widths in
-    on-err c.from_residual.result _ (crowds-by c.args.task c.args.new.now c.set_widths.new.cuts.tree is c.in_err-cut.ensures.refused)
+pub returns-then-are_none-clause-turned : goal.returns-then-are_none-clause-turned
+returns-then-are_none-clause-turned g c =
+    let is = set-tree c.args.task c.args.old.now c.args.new.now c.args.cuts.now c.set_widths-hulls.new.cuts c.requires.new c.requires.same (ap (λ (kept : Kept). kept.tree) c.requires.was) c.set_widths-hulls.ensures.widths in
+    let same = lists-same c.args.task c.args.old.now c.args.new.now c.set_widths-hulls.result c.requires.old c.requires.new c.set_widths-hulls.ensures.touched (sym c.are_none.ensures ∙ c.if-are_none.true) in
+    unturned c.args.task c.args.old.now c.args.new.now c.set_widths-hulls.new.cuts is (c.set_widths-hulls.ensures.widths.starts ∙ ap (λ (kept : Kept). kept.starts) c.requires.was) same
 
-pub returns-in_ok-cut-clause-areas : goal.returns-in_ok-cut-clause-areas
-returns-in_ok-cut-clause-areas g c =
-    let is = set-tree c.args.task c.args.old.now c.args.new.now c.args.cuts.now c.set_widths.new.cuts c.requires.new c.requires.same (ap (λ (kept : Kept). kept.tree) c.requires.was) c.set_widths.ensures.widths in
-    c.cut.ensures.areas ∙ is
+pub returns-then-are_none-clause-fits : goal.returns-then-are_none-clause-fits
+returns-then-are_none-clause-fits g c =
+    unturned-fits c.args.task c.args.old.now c.args.new.now
+    (lists-same c.args.task c.args.old.now c.args.new.now c.set_widths-hulls.result c.requires.old c.requires.new c.set_widths-hulls.ensures.touched (sym c.are_none.ensures ∙ c.if-are_none.true))
+    c.requires.fits
 
-pub returns-in_ok-cut-clause-turned : goal.returns-in_ok-cut-clause-turned
-returns-in_ok-cut-clause-turned g c =
-    let is = set-tree c.args.task c.args.old.now c.args.new.now c.args.cuts.now c.set_widths.new.cuts c.requires.new c.requires.same (ap (λ (kept : Kept). kept.tree) c.requires.was) c.set_widths.ensures.widths in
-    cut-kept c.args.task c.args.new.now c.set_widths.new.cuts c.cut.new.self is c.cut.ensures.areas c.in_ok-cut.ensures.starts
+pub returns-then-are_none-clause-recut : goal.returns-then-are_none-clause-recut
+returns-then-are_none-clause-recut g c =
+    recut-none c.args.task c.args.old.now c.args.new.now c.set_widths-hulls.result c.set_widths-hulls.ensures.touched (sym c.are_none.ensures ∙ c.if-are_none.true)
 
-pub returns-in_ok-cut-clause-fits : goal.returns-in_ok-cut-clause-fits
-returns-in_ok-cut-clause-fits g c =
-    let is = set-tree c.args.task c.args.old.now c.args.new.now c.args.cuts.now c.set_widths.new.cuts c.requires.new c.requires.same (ap (λ (kept : Kept). kept.tree) c.requires.was) c.set_widths.ensures.widths in
-    fits-by c.args.task c.args.new.now c.set_widths.new.cuts.tree is c.in_ok-cut.ensures.few
+pub returns-clause-areas : goal.returns-clause-areas
+returns-clause-areas g c =
+    let is = set-tree c.args.task c.args.old.now c.args.new.now c.args.cuts.now c.set_widths-hulls.new.cuts c.requires.new c.requires.same (ap (λ (kept : Kept). kept.tree) c.requires.was) c.set_widths-hulls.ensures.widths in
+    c.recut.ensures.areas ∙ is
 
-pub returns-else-set_widths-clause-areas : goal.returns-else-set_widths-clause-areas
-returns-else-set_widths-clause-areas g c =
-    let is = set-tree c.args.task c.args.old.now c.args.new.now c.args.cuts.now c.set_widths.new.cuts c.requires.new c.requires.same (ap (λ (kept : Kept). kept.tree) c.requires.was) c.set_widths.ensures.widths in
-    is
+pub returns-clause-turned : goal.returns-clause-turned
+returns-clause-turned g c =
+    let is = set-tree c.args.task c.args.old.now c.args.new.now c.args.cuts.now c.set_widths-hulls.new.cuts c.requires.new c.requires.same (ap (λ (kept : Kept). kept.tree) c.requires.was) c.set_widths-hulls.ensures.widths in
+    on-ok c.recut.result _ _ (λ starts. cut-kept c.args.task c.args.new.now c.set_widths-hulls.new.cuts c.recut.new.self is c.recut.ensures.areas starts) c.recut.ensures.starts
 
-pub returns-else-set_widths-clause-turned : goal.returns-else-set_widths-clause-turned
-returns-else-set_widths-clause-turned g c =
-    let is = set-tree c.args.task c.args.old.now c.args.new.now c.args.cuts.now c.set_widths.new.cuts c.requires.new c.requires.same (ap (λ (kept : Kept). kept.tree) c.requires.was) c.set_widths.ensures.widths in
-    let was = c.set_widths.ensures.untouched c.if-set_widths.false ∙ c.requires.was in
-    unturned c.args.task c.args.old.now c.args.new.now c.set_widths.new.cuts was is
+pub returns-clause-fits : goal.returns-clause-fits
+returns-clause-fits g c =
+    let is = set-tree c.args.task c.args.old.now c.args.new.now c.args.cuts.now c.set_widths-hulls.new.cuts c.requires.new c.requires.same (ap (λ (kept : Kept). kept.tree) c.requires.was) c.set_widths-hulls.ensures.widths in
+    on-ok c.recut.result _ _ (λ few. fits-by c.args.task c.args.new.now c.set_widths-hulls.new.cuts.tree is few) c.recut.ensures.few
 
-pub returns-else-set_widths-clause-fits : goal.returns-else-set_widths-clause-fits
-returns-else-set_widths-clause-fits g c =
-    let is = set-tree c.args.task c.args.old.now c.args.new.now c.args.cuts.now c.set_widths.new.cuts c.requires.new c.requires.same (ap (λ (kept : Kept). kept.tree) c.requires.was) c.set_widths.ensures.widths in
-    let was = c.set_widths.ensures.untouched c.if-set_widths.false ∙ c.requires.was in
-    unturned-fits c.args.task c.args.old.now c.args.new.now c.set_widths.new.cuts was is c.requires.fits
+pub returns-clause-refused : goal.returns-clause-refused
+returns-clause-refused g c =
+    let is = set-tree c.args.task c.args.old.now c.args.new.now c.args.cuts.now c.set_widths-hulls.new.cuts c.requires.new c.requires.same (ap (λ (kept : Kept). kept.tree) c.requires.was) c.set_widths-hulls.ensures.widths in
+    on-err c.recut.result _ _ (λ many. crowds-by c.args.task c.args.new.now c.set_widths-hulls.new.cuts.tree is many) c.recut.ensures.refused
+
+pub returns-clause-recut : goal.returns-clause-recut
+returns-clause-recut g c =
+    let is = set-tree c.args.task c.args.old.now c.args.new.now c.args.cuts.now c.set_widths-hulls.new.cuts c.requires.new c.requires.same (ap (λ (kept : Kept). kept.tree) c.requires.was) c.set_widths-hulls.ensures.widths in
+    let some = sym c.are_none.ensures ∙ c.if-are_none.false in
+    if-ok c.recut.result _ (λ recut. recut ≡ recut_by c.args.task c.args.old.now c.args.new.now)
+    (λ recut counted.
+    recut-some c.args.task recut c.args.old.now c.args.new.now c.set_widths-hulls.result c.args.cuts.now c.set_widths-hulls.new.cuts c.set_widths-hulls.ensures.touched some
+    c.requires.was c.set_widths-hulls.ensures.widths.starts is counted) c.recut.ensures.count
+
+pub returns-clause-steps : goal.returns-clause-steps
+returns-clause-steps g c =
+    let some = some-touched c.args.task c.args.old.now c.args.new.now c.set_widths-hulls.result c.set_widths-hulls.ensures.touched (sym c.are_none.ensures ∙ c.if-are_none.false) in
+    let one = one-touched c.args.task c.args.old.now c.args.new.now some in
+    let bound = c.recut.ensures.bound in
+    omega (arith, one, bound)

@@ -1,6 +1,7 @@
 use Rattle.std.proofs.Common.{◌≡◌, ◌∙◌, ℕ, List, length, ap, map, refl, sym, subst, arith}
 use Rattle.std.proofs.lemmas.List.{length-map}
-use Rattle.hc_records.specs.Line.{State, line_from}
+use Rattle.hc_records.specs.Boundaries.{recut}
+use Rattle.hc_records.specs.Line.{State, line, line_from}
 use Rattle.hc_registers.specs.Blocks.{LineBlock, moved_blocks}
 use Rattle.hc_places.specs.Table.{Table, table_of}
 use Rattle.hc_places.specs.Swap.{SaysWhatDiffers, changed_variables, swapped}
@@ -31,7 +32,7 @@ returns c =
     let moved = moved_blocks (line_from 1 old) (line_from 1 new) in
     let report : Report = record {
       epoch = c.new.inside.epoch;
-      recut = c.in_ok-recut.field-0;
+      recut = c.args.unsettled;
       moved = c.len.result;
       swap = c.in_ok-between.field-0;
       blocks = c.in_ok-blocks.blocks;
@@ -44,7 +45,9 @@ returns c =
     let change = c.in_ok-between.field-0.change in
     let tells : Tells (record { groups = old; epoch = c.old.inside.epoch }) c.args.edit.now (record { groups = new; epoch = c.new.inside.epoch }) report = record {
       epoch = refl;
-      recut = c.in_ok-recut.ensures;
+      recut = c.requires
+          ∙ ap (λ (s : State). recut (line s) (line c.args.new.now)) (sym c.old.view_is)
+          ∙ ap (λ (s : State). recut (line_from 1 old) (line s)) (sym c.new.view_is);
       moved = c.len.ensures ∙ count;
       blocks = is;
       named = c.in_ok-between.ensures.edit;
