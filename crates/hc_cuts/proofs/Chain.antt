@@ -149,12 +149,12 @@ follows-cut tree from holds =
       place = cut-holds (λ key. HasPlace tree.slaves key) rest (All-filter (λ area. is_within from area.0) (λ area. HasPlace tree.slaves area.0) list holds.places);
     }
 
-follows : (tree : Tree) (from next : Key) → HoldsTaskList tree → next ≡ next_boundary from tree.list → Follows tree from next
+pub follows : (tree : Tree) (from next : Key) → HoldsTaskList tree → next ≡ next_boundary from tree.list → Follows tree from next
 follows tree from next holds searched =
     subst (λ (key : Key). Follows tree from key) (sym (searched ∙ boundary-cut from tree.list holds.list)) (follows-cut tree from holds)
 
 -- from START on they are all areas
-all-areas : (list : List Keyed) → IsTaskList list → areas_from START list ≡ list
+pub all-areas : (list : List Keyed) → IsTaskList list → areas_from START list ≡ list
 all-areas list is =
     filter-keeps (λ area. is_within START area.0) list
     (All-weaker (λ area. is_before START area.0 ≡ true) (λ area. is_within START area.0 ≡ true) (λ area above. within-from_before START area.0 above) list is.between.above)

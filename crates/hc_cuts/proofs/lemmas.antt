@@ -2,3 +2,4 @@
 pub mod Found
 pub mod HullKeys
 pub mod Order
+pub mod Repairs

@@ -1,5 +1,6 @@
 pub mod Firsts
 pub mod Hulls
+pub mod Repair
 pub mod Spans
 pub mod Starts
 pub mod Walk

@@ -12,6 +12,7 @@ use crate::fold::TooManyDatagrams;
 use crate::hulls::Hulls;
 use crate::next::next_cut;
 use crate::packing::Placed;
+use crate::repair::repaired_starts;
 use crate::settled::{Reach, later};
 use crate::walk::add_span;
 use arrayvec::ArrayVec;
@@ -71,7 +72,7 @@ fn searched_starts<L: Ledger>(
 }
 
 /// The boundary behind one of those at which datagrams begin: the next of them, or `Key::END`.
-fn end_of(starts: &[Key], i: usize) -> Key
+pub(crate) fn end_of(starts: &[Key], i: usize) -> Key
     requires { i < length starts.now }
     ensures { result ≡ slice_index_or (starts.now ++ END ∷ []) (i + 1) END }
 {
@@ -88,6 +89,7 @@ impl Cuts {
     ghost use Rattle.hc_records.specs.Boundaries.{is_touched, unsettled_spans};
     ghost use Rattle.hc_bitsum.specs.Tree.{HasPlace, HoldsTaskList, with_width};
     ghost use Rattle.hc_cuts.specs.Hulls.{AreHulls};
+    ghost use Rattle.hc_cuts.specs.Repair.{AreOfBefore, unsettled_between};
     ghost use Rattle.hc_cuts.specs.Starts.{kept_empty};
 
     /// A task without areas of so many slaves, at most 2,048. `AllocError` where a growth was refused.
@@ -165,6 +167,35 @@ impl Cuts {
             inputs: hulls.inputs,
         };
         let count = reach.count_unsettled(later(&starts)) as u32;
+        self.starts = starts;
+        Ok(count)
+    }
+
+    /// Works out the boundaries after widths were set, and how many of the spans between them aren't
+    /// settled: those that don't begin at a boundary of before, or that meet a hull. The boundaries of
+    /// before are those of its areas then, whose widths differ from the present ones inside the hulls
+    /// alone. A settled span is kept; each other one is searched, in 1 to 104 steps. `TooManyDatagrams`
+    /// exactly where packing gives more than 16 datagrams; the boundaries stay as they were, and at most
+    /// 16 searches were made. It takes no memory.
+    pub fn repair<L: Ledger>(
+        &mut self,
+        hulls: &Hulls,
+        steps: &mut Steps<L>,
+    ) -> Result<u32, TooManyDatagrams>
+        requires { AreOfBefore self.old.starts hulls.now self.old.tree.list }
+        ensures areas { self.new.tree ≡ self.old.tree }
+        ensures starts { OnOk result (self.new.starts ++ END ∷ [] ≡ boundaries self.old.tree.list) }
+        ensures few { OnOk result (datagram_count (packed opening self.old.tree.list) ≤ MOST_DATAGRAMS) }
+        ensures refused { OnErr result (IsCrowded self.old.tree.list) }
+        ensures stay { OnErr result (self.new.starts ≡ self.old.starts) }
+        ensures least { IfOk result (λ count. steps.old + count ≤ steps.new) }
+        ensures most { IfOk result (λ count. steps.new ≤ steps.old + most_read * count) }
+        ensures bound { steps.new ≤ steps.old + most_read * MOST_DATAGRAMS }
+        ensures judged { IfOk result (λ count. count ≡ unsettled_between hulls.now self.old.starts self.new.starts) }
+        ensures count { IfOk result (λ count. (old : List Keyed) → self.old.starts ++ END ∷ [] ≡ boundaries old → AreHulls (is_touched old self.old.tree.list) hulls.now → count ≡ unsettled_spans old self.old.tree.list) }
+        ensures spans { IfOk result (λ count. count ≤ MOST_DATAGRAMS) }
+    {
+        let (starts, count) = repaired_starts(&self.tree, &self.starts, hulls, steps)?;
         self.starts = starts;
         Ok(count)
     }

@@ -1,6 +1,7 @@
 //! What follows from the definitions of this crate: each function does nothing, and its contract is a
 //! law. Nobody calls it.
 ghost use Rattle.hc_cuts.specs.Firsts.{CrowdedHasNoCut};
+ghost use Rattle.hc_cuts.specs.Repair.{HullsHoldTheTouched};
 ghost use Rattle.hc_cuts.specs.Starts.{NextBoundariesFollow};
 
 /// Where packing gives more than 16 datagrams, no other cut of the list in its order into at most 16
@@ -13,4 +14,10 @@ pub fn crowded_has_no_cut()
 /// themselves, is the one behind it in the list.
 pub fn next_boundaries_follow()
     ensures { NextBoundariesFollow }
+{}
+
+/// Where hulls are those of the keys whose widths differ, they hold each of them, and the spans that
+/// aren't settled by these hulls are those that the edit leaves so.
+pub fn hulls_hold_the_touched()
+    ensures { HullsHoldTheTouched }
 {}

@@ -7,5 +7,6 @@ pub mod hulls;
 pub mod laws;
 pub mod next;
 pub mod packing;
+mod repair;
 pub mod settled;
 mod walk;

@@ -126,7 +126,7 @@ fn hull(dir: Dir, old: &[(Key, u16)], new: &[(Key, u16)]) -> Option<(Key, Key)>
 }
 
 /// Whether a span has a key in common with a hull.
-fn meets_hull(hull: Option<(Key, Key)>, span: (Key, Key)) -> bool
+pub(crate) fn meets_hull(hull: Option<(Key, Key)>, span: (Key, Key)) -> bool
     ensures { result ≡ meets_hull hull span }
 {
     match hull {

@@ -18,4 +18,6 @@ mod projects;
 #[cfg(test)]
 mod registers;
 #[cfg(test)]
+mod repairs;
+#[cfg(test)]
 mod searches;

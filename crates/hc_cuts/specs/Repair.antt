@@ -1,0 +1,46 @@
+-- What a repair of a task's boundaries takes of the areas before, and what it counts.
+use Rattle.std.specs.Prelude.{◌≡◌, ℕ, ◌||◌, Bool, false, if◌then◌else◌, List, [], ◌∷◌, ◌++◌, drop, Option, Some, None, slice_index_or}
+use Rattle.hc_records.specs.declared.keys.Key.{Key}
+use Rattle.hc_records.specs.declared.keys.TheConstants.Key.{START, END}
+use Rattle.hc_records.specs.Keys.{same_key}
+use Rattle.hc_records.specs.TaskList.{Keyed}
+use Rattle.hc_records.specs.Boundaries.{Interval, boundaries, is_touched, meets_hull, unsettled_spans, width_in}
+use Rattle.hc_records.specs.SpanLaws.{IsTaskList}
+use Rattle.hc_cuts.specs.declared.hulls.Hulls.{Hulls}
+use Rattle.hc_cuts.specs.Hulls.{AreHulls}
+use Rattle.hc_cuts.specs.Spans.{unsettled_by}
+
+-- a span has a key in common with the hull of the outputs or with that of the inputs
+abbrev pub meets_either : Hulls → Interval → Bool
+meets_either hulls span = meets_hull hulls.outputs span || meets_hull hulls.inputs span
+
+-- two lists of a task give each key outside the hulls the same width
+abbrev pub DifferInside : Hulls → List Keyed → List Keyed → Type 0
+DifferInside hulls old new = (key : Key) → meets_either hulls (key, key) ≡ false → width_in old key ≡ width_in new key
+
+-- boundaries, without END, of a task's areas before, from which the present ones differ inside the hulls alone
+pub record AreOfBefore (starts : List Key) (hulls : Hulls) (present : List Keyed) : Type 0 where
+  pub before : List Keyed
+  pub list : IsTaskList before
+  pub keys : starts ++ END ∷ [] ≡ boundaries before
+  pub inside : DifferInside hulls before present
+
+-- the spans between new boundaries that aren't settled, by the old boundaries and by these hulls
+abbrev pub unsettled_between : Hulls → List Key → List Key → ℕ
+unsettled_between hulls old new = unsettled_by (drop 1 old) hulls.outputs hulls.inputs START (drop 1 new)
+
+-- the boundary behind a key, of those at which datagrams begin and END; none where no datagram begins at the key
+abbrev pub following : Key → List Key → Option Key
+following from [] = None
+following from (key ∷ keys) = if same_key from key then Some (slice_index_or keys 0 END) else following from keys
+
+-- the hulls of the keys whose widths differ between two lists: these differ inside them alone, and the spans that aren't settled by them are those that the edit leaves so
+pub record HoldTheTouched (hulls : Hulls) (old new : List Keyed) : Type 0 where
+  pub differ : DifferInside hulls old new
+  pub count :
+      (old_starts new_starts : List Key) → old_starts ++ END ∷ [] ≡ boundaries old → new_starts ++ END ∷ [] ≡ boundaries new
+      → unsettled_between hulls old_starts new_starts ≡ unsettled_spans old new
+
+abbrev pub HullsHoldTheTouched : Type 0
+HullsHoldTheTouched =
+    (hulls : Hulls) (old new : List Keyed) → AreHulls (is_touched old new) hulls → HoldTheTouched hulls old new

@@ -1,0 +1,104 @@
+-- Lists of a task that differ at some keys alone, and the hulls of these.
+use Rattle.std.specs.Prelude.{◌||◌, IsTrue}
+use Rattle.std.proofs.Common.{◌≡◌, ℕ, Bool, false, List, [], ◌∷◌, ◌++◌, refl, sym, ap, subst, ◌∙◌}
+use Rattle.std.proofs.lemmas.Bool.{cond-false, or_parts}
+use Rattle.std.proofs.lemmas.List.Elements.{All-nil}
+use Rattle.hc_records.specs.declared.keys.Key.{Key}
+use Rattle.hc_records.specs.declared.keys.TheConstants.Key.{START, END}
+use Rattle.hc_records.specs.Keys.{is_before, same_key}
+use Rattle.hc_records.specs.TaskList.{Keyed}
+use Rattle.hc_records.specs.Boundaries.{boundaries, width_in}
+use Rattle.hc_records.specs.Laws.{IsPackable}
+use Rattle.hc_records.proofs.lemmas.Lists.{AllPairs-nil}
+use Rattle.hc_records.specs.SpanLaws.{IsTaskList}
+use Rattle.hc_bitsum.specs.Tree.{HasPlace, HoldsTaskList, Tree, with_width}
+use Rattle.hc_bitsum.proofs.lemmas.Widths.{width-set}
+use Rattle.hc_cuts.specs.declared.hulls.Hulls.{Hulls}
+use Rattle.hc_cuts.specs.Hulls.{AreHulls, TakeIn, no_hulls}
+use Rattle.hc_cuts.specs.Repair.{AreOfBefore, DifferInside}
+use Rattle.hc_cuts.specs.Starts.{Kept, kept_empty}
+use Rattle.hc_cuts.proofs.lemmas.HullKeys.{hulls-none}
+use Rattle.hc_cuts.proofs.lemmas.Repairs.{differ-inside}
+
+-- a test that the keys pass at which the lists differ
+pub record Inside (before present : List Keyed) (hulls : Hulls) : Type 0 where
+  pub test : Key → Bool
+  pub are : AreHulls test hulls
+  pub same : (key : Key) → test key ≡ false → width_in before key ≡ width_in present key
+
+pub inside-begins : (list : List Keyed) (hulls : Hulls) → hulls ≡ no_hulls → Inside list list hulls
+inside-begins list hulls none = record {
+  test = λ key. false;
+  are = rw none (hulls-none (λ key. false) (λ key. refl));
+  same = λ key test. refl;
+}
+
+pub inside-more : (before present : List Keyed) (hulls wider : Hulls) (key : Key) (bits : ℕ) → IsTaskList present → TakeIn hulls wider (same_key key) → Inside before present hulls
+    → Inside before (with_width key bits present) wider
+inside-more before present hulls wider key bits is taken inside = record {
+  test = λ other. inside.test other || same_key key other;
+  are = taken inside.test inside.are;
+  same = λ other none.
+      let parts = or_parts (inside.test other) (same_key key other) none in
+      inside.same other parts.0 ∙ sym (width-set key other bits present is ∙ cond-false (same_key key other) bits (width_in present other) parts.1);
+}
+
+pub inside-differs : (before present : List Keyed) (hulls : Hulls) → Inside before present hulls → DifferInside hulls before present
+inside-differs before present hulls inside = differ-inside inside.test hulls before present inside.are inside.same
+
+-- a task without areas holds a task's list, and is cut
+
+empty-list : IsTaskList []
+empty-list = record {
+  packable = All-nil IsPackable;
+  ascends = AllPairs-nil (λ (a b : Keyed). IsTrue (is_before a.0 b.0));
+  between = record {
+    above = All-nil (λ (area : Keyed). IsTrue (is_before START area.0));
+    below = All-nil (λ (area : Keyed). IsTrue (is_before area.0 END));
+  };
+}
+
+-- a task of 20 slaves whose boundaries are those of its areas
+pub record IsCutTask (kept : Kept) : Type 0 where
+  pub slaves : kept.tree.slaves ≡ 20
+  pub holds : HoldsTaskList kept.tree
+  pub cut : kept.starts ++ END ∷ [] ≡ boundaries kept.tree.list
+
+pub begins : (kept : Kept) → kept ≡ kept_empty 20 → IsCutTask kept
+begins kept is =
+    subst (λ (k : Kept). IsCutTask k) (sym is)
+    (record { slaves = refl; holds = record { list = empty-list; places = All-nil (λ (area : Keyed). HasPlace 20 area.0) }; cut = refl })
+
+-- its boundaries are those of before once widths are set
+pub were : (old new : Kept) (hulls : Hulls) → IsTaskList old.tree.list → old.starts ++ END ∷ [] ≡ boundaries old.tree.list → new.starts ≡ old.starts
+    → DifferInside hulls old.tree.list new.tree.list → AreOfBefore new.starts hulls new.tree.list
+were old new hulls list cut starts inside = record {
+  before = old.tree.list;
+  list = list;
+  keys = ap (λ (keys : List Key). keys ++ END ∷ []) starts ∙ cut;
+  inside = inside;
+}
+
+-- widths of a task set so far, with the hulls of their keys
+abbrev pub IsSet : Kept → Kept → Hulls → Type 0
+IsSet first kept hulls = record {
+  slaves : kept.tree.slaves ≡ 20;
+  holds : HoldsTaskList kept.tree;
+  starts : kept.starts ≡ first.starts;
+  inside : Inside first.tree.list kept.tree.list hulls;
+}
+
+pub set-same : (first now kept : Kept) (held hulls : Hulls) → kept ≡ now → hulls ≡ held → IsSet first now held → IsSet first kept hulls
+set-same first now kept held hulls is are so_far =
+    subst (λ (k : Kept). IsSet first k hulls) (sym is) (subst (λ (h : Hulls). IsSet first now h) (sym are) so_far)
+
+pub set-more : (first now kept : Kept) (hulls held : Hulls) (key : Key) (bits : ℕ) → IsSet first now hulls → kept.tree ≡ record now.tree { list = with_width key bits now.tree.list }
+    → kept.starts ≡ now.starts → HoldsTaskList kept.tree → TakeIn hulls held (same_key key) → IsSet first kept held
+set-more first now kept hulls held key bits so_far tree starts holds taken = record {
+  slaves = ap (λ (t : Tree). t.slaves) tree ∙ so_far.slaves;
+  holds = holds;
+  starts = starts ∙ so_far.starts;
+  inside =
+      subst (λ (t : Tree). Inside first.tree.list t.list held) (sym tree)
+      (inside-more first.tree.list now.tree.list hulls held key bits so_far.holds.list taken so_far.inside);
+}
