@@ -1,10 +1,14 @@
 //! An axis that is opened, written to, posted to, sent, answered and read. Every byte was worked out by hand from
 //! the standard's tables (ETG.1000.4, 5.3 and 5.4) and from where the areas stand in the datagram of task 0: one
 //! byte of outputs, and behind it two of inputs. The slave counts 1 for reading and 2 for writing it.
+ghost use Rattle.std.specs.Prelude.{All};
+ghost use Rattle.hc_core.specs.Filled.{CanBeFilled};
+
 use crate::keeping::Core;
 use hc_events::answer::{Answer, Outcome};
 use hc_events::event::Event;
 use hc_events::faults::CoreFault;
+use hc_events::sending::Sending;
 use hc_records::items::Items;
 use hc_records::project::Project;
 use hc_records::records::{Area, Dir, Group, Pdo, Slave, VarId};
@@ -187,5 +191,59 @@ fn an_answer_is_read(rt: HostRuntime) -> Result<(), Fail> {
     let mut core = opened(rt.alloc())?;
     let _ = write_all(rt.alloc(), &mut core)?;
     assert!(rt; cycles(rt.alloc(), &mut core));
+    Ok(())
+}
+
+/// Whether the frame of task 0's one datagram is shown as this text.
+fn shows(alloc: Global, core: &Core, text: &[u8]) -> Result<bool, AllocError> {
+    let Some(frame) = core.preview(0, 0) else {
+        return Ok(false);
+    };
+    let mut out = Vec::from_elem(alloc, 0, frame.size())?;
+    core.fill(&frame, &mut out);
+    Ok(out.as_slice() == text)
+}
+
+/// Whether this is one frame, and filled with this text.
+fn is_filled(
+    alloc: Global,
+    core: &Core,
+    frames: &[Sending],
+    text: &[u8],
+) -> Result<bool, AllocError>
+    requires { All (CanBeFilled core.now.past) frames.now }
+{
+    let [frame] = frames else {
+        return Ok(false);
+    };
+    let mut out = Vec::from_elem(alloc, 0, frame.size())?;
+    core.fill(frame, &mut out);
+    Ok(out.as_slice() == text)
+}
+
+/// Whether one frame is proposed for task 0, and filled with this text; the proposal is then committed.
+fn sends_in_pieces(alloc: Global, core: &mut Core, text: &[u8]) -> Result<bool, CoreFault> {
+    let frames = core.propose(alloc, &[0])?;
+    let filled = is_filled(alloc, core, frames.as_slice(), text)?;
+    core.commit(frames.as_slice());
+    Ok(filled)
+}
+
+/// Whether a posted value is shown, sent in pieces, and answered.
+fn cycles_in_pieces(alloc: Global, core: &mut Core) -> Result<bool, CoreFault> {
+    Ok(
+        core.post(0, 0, &[0xa5]).is_ok()
+            && shows(alloc, core, &SENT)?
+            && sends_in_pieces(alloc, core, &SENT)?
+            && tells(alloc, core, &BACK, &[GOOD]),
+    )
+}
+
+/// In pieces the same frame is sent as by the event, and its answer is an answer.
+#[test]
+fn pieces_are_sent(rt: HostRuntime) -> Result<(), Fail> {
+    let mut core = opened(rt.alloc())?;
+    let _ = write_all(rt.alloc(), &mut core)?;
+    assert!(rt; matches!(cycles_in_pieces(rt.alloc(), &mut core), Ok(true)));
     Ok(())
 }
