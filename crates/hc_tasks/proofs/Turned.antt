@@ -22,6 +22,8 @@ use Rattle.hc_cuts.specs.Firsts.{IsCrowded}
 use Rattle.hc_cuts.specs.declared.hulls.Hulls.{Hulls}
 use Rattle.hc_cuts.specs.Hulls.{AreHulls, are_none}
 use Rattle.hc_cuts.specs.Starts.{Kept}
+use Rattle.hc_cuts.specs.Repair.{AreOfBefore, DifferInside}
+use Rattle.hc_cuts.proofs.lemmas.Repairs.{hulls-hold}
 use Rattle.hc_cuts.proofs.lemmas.HullKeys.{hulls-same, none-are, none-passes, untouched-none}
 use Rattle.hc_tasks.specs.Areas.{area_list, list_by, rank_list, width_at}
 use Rattle.hc_tasks.specs.Kept.{IsLine, is_crowded, kept_by, starts_by, tree_by}
@@ -176,6 +178,18 @@ recut-some task recut old new hulls before mid are some was starts is counted =
     counted (list_by task old) begun own
     ∙ ap (unsettled_spans (list_by task old)) list
     ∙ sym (cond-true (is_touched_by task old new) (unsettled_spans (list_by task old) (list_by task new)) 0 (some-touched task old new hulls are some))
+
+-- the boundaries of before are those of the one line's task, which differs inside these hulls alone
+pub are-of_before : (task : ℕ) (old new : List (List Area)) (hulls : Hulls) (before mid : Kept) → IsLine old → AreHulls (differs_at task old new) hulls
+    → before ≡ kept_by task old → mid.starts ≡ before.starts → mid.tree ≡ tree_by task new → AreOfBefore mid.starts hulls mid.tree.list
+are-of_before task old new hulls before mid line are was starts is = record {
+  before = list_by task old;
+  list = line.lists task;
+  keys = ap (λ (keys : List Key). keys ++ END ∷ []) (starts ∙ ap (λ (kept : Kept). kept.starts) was);
+  inside =
+      subst (λ (keyed : List Keyed). DifferInside hulls (list_by task old) keyed) (sym (ap (λ (tree : Tree). tree.list) is))
+      (hulls-hold hulls (list_by task old) (list_by task new) (touched-hulls task old new hulls are)).differ;
+}
 
 -- what follows of an answer
 

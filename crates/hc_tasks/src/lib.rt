@@ -1,5 +1,5 @@
 //! The areas of the eight tasks of a line, kept in trees of sums: an edit sets the widths that it changes,
-//! and each task that it touches is cut anew. The plan keeps them.
+//! and the boundaries of each task that it touches are repaired. The plan keeps them.
 #![tactic(auto)]
 
 pub mod areas;

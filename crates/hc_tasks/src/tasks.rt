@@ -69,8 +69,8 @@ impl LineCuts {
     /// Turns the tasks of a line into those of another line of the same declared slaves: their areas and
     /// their boundaries are then those of the new line, and the answer is how many spans of touched tasks
     /// aren't settled. Otherwise the lowest task that needs more than 16 datagrams, and all is as it was.
-    /// None of the old line's tasks needs more. A task that is turned takes no step where no width of its
-    /// keys differs, and at most 16 times 104 where one does. It takes no memory.
+    /// None of the old line's tasks needs more. Where it succeeds, each of these spans takes 1 to 104
+    /// steps and nothing else takes any, so a task in which no width differs takes none. It takes no memory.
     pub fn turn<L: Ledger>(
         &mut self,
         old: &[SlaveAreas],
@@ -88,6 +88,8 @@ impl LineCuts {
         ensures unchanged { OnErr result (self.new ≡ self.old) }
         ensures recut { IfOk result (λ recut. recut ≡ recut_from 8 0 old.now new.now) }
         ensures steps { OnOk result (steps.new ≤ steps.old + most_read * MOST_DATAGRAMS * touched_from 8 0 old.now new.now) }
+        ensures least { IfOk result (λ recut. steps.old + recut ≤ steps.new) }
+        ensures most { IfOk result (λ recut. steps.new ≤ steps.old + most_read * recut) }
     {
         let turned = turn_tasks(self.tasks.as_mut_slice(), 0, old, new, steps);
         match turned.crowded {

@@ -1,5 +1,5 @@
-//! The tasks of a line turned into those of another: widths that differ are set, and a task in which one
-//! does is cut anew.
+//! The tasks of a line turned into those of another: widths that differ are set, and the boundaries of a task
+//! in which one does are repaired.
 ghost use Rattle.std.specs.Prelude.{◌≡◌, ◌+◌, ◌*◌, ◌<◌, ◌≤◌, IfOk, None, OnErr, OnOk, false, length, map, true};
 ghost use Rattle.hc_records.specs.declared.limits.TheConstants.{MOST_DATAGRAMS};
 ghost use Rattle.hc_cuts.specs.Starts.{most_read};
@@ -15,7 +15,7 @@ use std::sync::ledger::Ledger;
 
 /// Turns a task, and answers how many of its spans aren't settled. `TooManyDatagrams` where it would need
 /// more than 16; then its widths are set, and its boundaries are as before. Where no width differs, no
-/// step is taken.
+/// step is taken, and otherwise 1 to 104 for each of these spans.
 fn turn_task<L: Ledger>(
     cuts: &mut Cuts,
     task: u8,
@@ -35,12 +35,14 @@ fn turn_task<L: Ledger>(
     ensures recut { IfOk result (λ recut. recut ≡ recut_by task old.now new.now) }
     ensures few { IfOk result (λ recut. recut ≤ MOST_DATAGRAMS) }
     ensures steps { steps.new ≤ steps.old + most_read * MOST_DATAGRAMS * touched_by task old.now new.now }
+    ensures least { IfOk result (λ recut. steps.old + recut ≤ steps.new) }
+    ensures most { IfOk result (λ recut. steps.new ≤ steps.old + most_read * recut) }
 {
     let hulls = set_widths(cuts, task, old, new);
     if hulls.are_none() {
         return Ok(0);
     }
-    cuts.recut(&hulls, steps)
+    cuts.repair(&hulls, steps)
 }
 
 /// Puts a task back that has the widths of another line, whatever its boundaries.
@@ -93,6 +95,8 @@ pub(crate) fn turn_tasks<L: Ledger>(
     ensures recut { result.crowded ≡ None → result.recut ≡ recut_from (length tasks.old) task old.now new.now }
     ensures few { result.recut ≤ MOST_DATAGRAMS * length tasks.old }
     ensures steps { steps.new ≤ steps.old + most_read * MOST_DATAGRAMS * touched_from (length tasks.old) task old.now new.now }
+    ensures least { result.crowded ≡ None → steps.old + result.recut ≤ steps.new }
+    ensures most { result.crowded ≡ None → steps.new ≤ steps.old + most_read * result.recut }
 {
     if tasks.is_empty() {
         return Turned {

@@ -1,7 +1,7 @@
 use Rattle.std.proofs.Common.{◌≡◌, ap, ◌∙◌, arith, sym}
 use Rattle.hc_cuts.specs.Starts.{Kept}
 use Rattle.hc_tasks.specs.Recut.{recut_by}
-use Rattle.hc_tasks.proofs.Turned.{crowds-by, cut-kept, fits-by, if-ok, lists-same, on-err, on-ok, one-touched, recut-none, recut-some, set-tree, some-touched, tree-holds, tree-widths, unturned, unturned-fits}
+use Rattle.hc_tasks.proofs.Turned.{are-of_before, crowds-by, cut-kept, fits-by, if-ok, lists-same, on-err, on-ok, one-touched, recut-none, recut-some, set-tree, some-touched, tree-holds, tree-widths, unturned, unturned-fits}
 use Rattle.hc_tasks.proofs.turning.turn_task.Goals as goal
 
 pub set_widths-hulls-requires-clause-holds : goal.set_widths-hulls-requires-clause-holds
@@ -35,35 +35,41 @@ returns-then-are_none-clause-recut g c =
 pub returns-clause-areas : goal.returns-clause-areas
 returns-clause-areas g c =
     let is = set-tree c.args.task c.args.old.now c.args.new.now c.args.cuts.now c.set_widths-hulls.new.cuts c.requires.new c.requires.same (ap (λ (kept : Kept). kept.tree) c.requires.was) c.set_widths-hulls.ensures.widths in
-    c.recut.ensures.areas ∙ is
+    c.repair.ensures.areas ∙ is
 
 pub returns-clause-turned : goal.returns-clause-turned
 returns-clause-turned g c =
     let is = set-tree c.args.task c.args.old.now c.args.new.now c.args.cuts.now c.set_widths-hulls.new.cuts c.requires.new c.requires.same (ap (λ (kept : Kept). kept.tree) c.requires.was) c.set_widths-hulls.ensures.widths in
-    on-ok c.recut.result _ _ (λ starts. cut-kept c.args.task c.args.new.now c.set_widths-hulls.new.cuts c.recut.new.self is c.recut.ensures.areas starts) c.recut.ensures.starts
+    on-ok c.repair.result _ _ (λ starts. cut-kept c.args.task c.args.new.now c.set_widths-hulls.new.cuts c.repair.new.self is c.repair.ensures.areas starts) c.repair.ensures.starts
 
 pub returns-clause-fits : goal.returns-clause-fits
 returns-clause-fits g c =
     let is = set-tree c.args.task c.args.old.now c.args.new.now c.args.cuts.now c.set_widths-hulls.new.cuts c.requires.new c.requires.same (ap (λ (kept : Kept). kept.tree) c.requires.was) c.set_widths-hulls.ensures.widths in
-    on-ok c.recut.result _ _ (λ few. fits-by c.args.task c.args.new.now c.set_widths-hulls.new.cuts.tree is few) c.recut.ensures.few
+    on-ok c.repair.result _ _ (λ few. fits-by c.args.task c.args.new.now c.set_widths-hulls.new.cuts.tree is few) c.repair.ensures.few
 
 pub returns-clause-refused : goal.returns-clause-refused
 returns-clause-refused g c =
     let is = set-tree c.args.task c.args.old.now c.args.new.now c.args.cuts.now c.set_widths-hulls.new.cuts c.requires.new c.requires.same (ap (λ (kept : Kept). kept.tree) c.requires.was) c.set_widths-hulls.ensures.widths in
-    on-err c.recut.result _ _ (λ many. crowds-by c.args.task c.args.new.now c.set_widths-hulls.new.cuts.tree is many) c.recut.ensures.refused
+    on-err c.repair.result _ _ (λ many. crowds-by c.args.task c.args.new.now c.set_widths-hulls.new.cuts.tree is many) c.repair.ensures.refused
 
 pub returns-clause-recut : goal.returns-clause-recut
 returns-clause-recut g c =
     let is = set-tree c.args.task c.args.old.now c.args.new.now c.args.cuts.now c.set_widths-hulls.new.cuts c.requires.new c.requires.same (ap (λ (kept : Kept). kept.tree) c.requires.was) c.set_widths-hulls.ensures.widths in
     let some = sym c.are_none.ensures ∙ c.if-are_none.false in
-    if-ok c.recut.result _ (λ recut. recut ≡ recut_by c.args.task c.args.old.now c.args.new.now)
+    if-ok c.repair.result _ (λ recut. recut ≡ recut_by c.args.task c.args.old.now c.args.new.now)
     (λ recut counted.
     recut-some c.args.task recut c.args.old.now c.args.new.now c.set_widths-hulls.result c.args.cuts.now c.set_widths-hulls.new.cuts c.set_widths-hulls.ensures.touched some
-    c.requires.was c.set_widths-hulls.ensures.widths.starts is counted) c.recut.ensures.count
+    c.requires.was c.set_widths-hulls.ensures.widths.starts is counted) c.repair.ensures.count
 
 pub returns-clause-steps : goal.returns-clause-steps
 returns-clause-steps g c =
     let some = some-touched c.args.task c.args.old.now c.args.new.now c.set_widths-hulls.result c.set_widths-hulls.ensures.touched (sym c.are_none.ensures ∙ c.if-are_none.false) in
     let one = one-touched c.args.task c.args.old.now c.args.new.now some in
-    let bound = c.recut.ensures.bound in
+    let bound = c.repair.ensures.bound in
     omega (arith, one, bound)
+
+pub repair-requires : goal.repair-requires
+repair-requires g c =
+    let is = set-tree c.args.task c.args.old.now c.args.new.now c.args.cuts.now c.set_widths-hulls.new.cuts c.requires.new c.requires.same (ap (λ (kept : Kept). kept.tree) c.requires.was) c.set_widths-hulls.ensures.widths in
+    are-of_before c.args.task c.args.old.now c.args.new.now c.set_widths-hulls.result c.args.cuts.now c.set_widths-hulls.new.cuts c.requires.old
+    c.set_widths-hulls.ensures.touched c.requires.was c.set_widths-hulls.ensures.widths.starts is
