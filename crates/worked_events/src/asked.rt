@@ -1,0 +1,227 @@
+//! Rows of events and of the answers that they are to have, as constant tables, and their judges.
+use crate::driven::Driven;
+use crate::record::Part;
+use crate::texts::text_of;
+use hc_events::answer::{Answer, Outcome};
+use hc_events::event::Event;
+use hc_events::faults::CoreFault;
+use hc_frames::Command;
+use hc_records::edit::Edit;
+use hc_records::items::Items;
+use std::alloc::{AllocError, Global};
+
+/// A datagram that comes back: its command, its address, its data and its working counter.
+pub type Back = (Command, u32, &'static [u8], u16);
+
+/// A frame: its serial, the number of bytes of its datagrams, the bytes behind its head, and how many zeros
+/// follow them.
+pub type Text = (u16, u8, &'static [u8], usize);
+
+/// An event of a row.
+#[derive(Clone, Copy)]
+pub enum Asked {
+    Connect(u16),
+    Disconnect(u16),
+    Remap(u16, u8, &'static [u16]),
+    Move(u16, u8, u8),
+    /// A task's post of an epoch.
+    Post(u8, u32, &'static [u8]),
+    Send(&'static [u8]),
+    Write,
+    /// These bytes arrive.
+    Arrive(&'static [u8]),
+    /// The frame with a serial arrives that carries these datagrams.
+    Comes(u64, &'static [Back]),
+    Read(u8),
+}
+
+/// What a row's event is to be answered.
+#[derive(Clone, Copy)]
+pub enum Wanted {
+    /// The epoch, the recut spans and the moved blocks.
+    Edited(u32, u32, u32),
+    Posted,
+    Sent(&'static [Text]),
+    WriteSent(Text),
+    Answered(&'static [Outcome]),
+    WriteDone,
+    WriteMissed,
+    Stale,
+    /// The epoch and the slots.
+    Image(u32, &'static [Option<&'static [u8]>]),
+    Refused(CoreFault),
+}
+
+/// An event, and what it is to be answered.
+pub type Row = (Asked, Wanted);
+
+/// The 16 bytes before a frame's datagrams: six of 0xff, the source with the serial, the EtherType, and the
+/// number of the datagrams' bytes with the type 1 in its highest four bits.
+fn head_of(serial: u16, size: u8) -> [u8; 16] {
+    let [low, high] = serial.to_le_bytes();
+    [
+        0xff, 0xff, 0xff, 0xff, 0xff, 0xff, 2, 0, 0, 0, high, low, 0x88, 0xa4, size, 0x10,
+    ]
+}
+
+/// Whether bytes are these ones and so many zeros behind them.
+fn are_padded(bytes: &[u8], front: &[u8], zeros: usize) -> bool {
+    if bytes.len() != front.len().saturating_add(zeros) {
+        return false;
+    }
+    let (own, behind) = bytes.split_at(front.len());
+    own == front && behind.iter().all(|byte| *byte == 0)
+}
+
+/// Whether bytes are a frame's.
+pub fn is_text(bytes: &[u8], text: &Text) -> bool {
+    if bytes.len() < 16 {
+        return false;
+    }
+    let (head, behind) = bytes.split_at(16);
+    head == head_of(text.0, text.1).as_slice() && are_padded(behind, text.2, text.3)
+}
+
+/// Whether frames are these.
+pub fn are_texts(frames: &[Items<u8>], texts: &[Text]) -> bool {
+    if frames.len() != texts.len() {
+        return false;
+    }
+    for (frame, text) in frames.iter().zip(texts) {
+        if !is_text(frame.as_slice(), text) {
+            return false;
+        }
+    }
+    true
+}
+
+/// Whether a slot has these bytes, or none.
+fn is_slot(slot: &Option<Items<u8>>, wanted: &Option<&'static [u8]>) -> bool {
+    match (slot, wanted) {
+        (Some(bytes), Some(other)) => bytes.as_slice() == *other,
+        (None, None) => true,
+        _ => false,
+    }
+}
+
+/// Whether slots are these.
+fn are_slots(slots: &[Option<Items<u8>>], wanted: &[Option<&'static [u8]>]) -> bool {
+    if slots.len() != wanted.len() {
+        return false;
+    }
+    for (slot, other) in slots.iter().zip(wanted) {
+        if !is_slot(slot, other) {
+            return false;
+        }
+    }
+    true
+}
+
+/// Whether an answer is that which a row wants.
+pub fn is_wanted(answer: &Answer, wanted: &Wanted) -> bool {
+    match (answer, wanted) {
+        (
+            Answer::Edited {
+                epoch,
+                recut,
+                moved,
+            },
+            Wanted::Edited(first, second, third),
+        ) => *epoch == *first && *recut == *second && *moved == *third,
+        (Answer::Posted, Wanted::Posted) => true,
+        (Answer::Sent(frames), Wanted::Sent(texts)) => are_texts(frames.as_slice(), *texts),
+        (Answer::WriteSent(frame), Wanted::WriteSent(text)) => is_text(frame.as_slice(), text),
+        (Answer::Answered(outcomes), Wanted::Answered(others)) => outcomes.as_slice() == *others,
+        (Answer::WriteDone, Wanted::WriteDone) => true,
+        (Answer::WriteMissed, Wanted::WriteMissed) => true,
+        (Answer::Stale, Wanted::Stale) => true,
+        (Answer::Image { epoch, slots }, Wanted::Image(number, others)) => {
+            *epoch == *number && are_slots(slots.as_slice(), *others)
+        }
+        (Answer::Refused(fault), Wanted::Refused(other)) => *fault == *other,
+        _ => false,
+    }
+}
+
+/// The frame with a serial of datagrams that come back.
+pub fn back(alloc: Global, serial: u64, datagrams: &[Back]) -> Result<Vec<u8>, AllocError> {
+    let mut parts = Vec::new(alloc);
+    for datagram in datagrams {
+        parts.push(Part {
+            command: datagram.0,
+            address: datagram.1,
+            bytes: Vec::from_slice(alloc, datagram.2)?,
+            counter: datagram.3,
+        })?;
+    }
+    text_of(alloc, serial, parts.as_slice())
+}
+
+/// The answer to an edit.
+fn edited<D: Driven>(driven: &mut D, alloc: Global, edit: Edit) -> Result<Answer, AllocError> {
+    driven.put(alloc, Event::Edit(&edit))
+}
+
+/// The answer to a row's event.
+pub fn answer<D: Driven>(
+    driven: &mut D,
+    alloc: Global,
+    asked: Asked,
+) -> Result<Answer, AllocError> {
+    match asked {
+        Asked::Connect(alias) => edited(driven, alloc, Edit::Connect(alias)),
+        Asked::Disconnect(alias) => edited(driven, alloc, Edit::Disconnect(alias)),
+        Asked::Remap(station, area, indexes) => {
+            let pdos = Items::of(Vec::from_slice(alloc, indexes)?);
+            edited(
+                driven,
+                alloc,
+                Edit::Remap {
+                    station,
+                    area,
+                    pdos,
+                },
+            )
+        }
+        Asked::Move(station, area, task) => edited(
+            driven,
+            alloc,
+            Edit::Move {
+                station,
+                area,
+                task,
+            },
+        ),
+        Asked::Post(task, epoch, bytes) => driven.put(alloc, Event::Post { task, epoch, bytes }),
+        Asked::Send(tasks) => driven.put(alloc, Event::SendTasks(tasks)),
+        Asked::Write => driven.put(alloc, Event::SendWrite),
+        Asked::Arrive(bytes) => driven.put(alloc, Event::Arrive(bytes)),
+        Asked::Comes(serial, datagrams) => {
+            let bytes = back(alloc, serial, datagrams)?;
+            driven.put(alloc, Event::Arrive(bytes.as_slice()))
+        }
+        Asked::Read(task) => driven.put(alloc, Event::Read(task)),
+    }
+}
+
+/// Whether an event is answered as its row wants.
+pub fn holds<D: Driven>(driven: &mut D, alloc: Global, row: &Row) -> Result<bool, AllocError> {
+    Ok(is_wanted(&answer(driven, alloc, row.0)?, &row.1))
+}
+
+/// The number, from 0, of the first row whose event has another answer than it wants, none where all have
+/// theirs.
+pub fn first_wrong<D: Driven>(
+    driven: &mut D,
+    alloc: Global,
+    rows: &[Row],
+) -> Result<Option<usize>, AllocError> {
+    let mut number = 0_usize;
+    for row in rows {
+        if !holds(driven, alloc, row)? {
+            return Ok(Some(number));
+        }
+        number = number.saturating_add(1);
+    }
+    Ok(None)
+}

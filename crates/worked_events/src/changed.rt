@@ -1,0 +1,412 @@
+//! Every cut of an answer, and every answer of which one byte has another value.
+use crate::answers::{ANSWERED, ARRIVAL, INDEX_ALONE, POSTED, THREE_EPOCHS};
+use crate::asked::Asked::{Post, Remap, Send};
+use crate::asked::{Row, Wanted, answer, first_wrong, holds, is_wanted};
+use crate::driven::Driven;
+use crate::lines::{opened_axis, write_all};
+use crate::stages::Stage::{Blocks, Rows};
+use crate::stages::{Stage, first_wrong_at};
+use hc_events::answer::{Answer, Outcome};
+use hc_events::event::Event;
+use hc_events::faults::CoreFault;
+use std::alloc::{AllocError, Global};
+use std::test::Fail;
+
+/// The bytes of the answer: 16 of the frame's head, 10 of the datagram's, 3 of data, and 2 of the counter.
+const SIZE: usize = 31;
+
+/// What a changed answer is.
+#[derive(Clone, Copy, PartialEq, Eq)]
+enum Meaning {
+    /// It can't be read.
+    Refused(CoreFault),
+    /// It answers no sending.
+    Stale,
+    /// It is the answer, with its data.
+    Inputs,
+    /// It is the answer, with this counter.
+    WrongCount(u16),
+}
+
+/// What the answer is where a byte has another value, by the fields of the frame: the destination, the source's first
+/// byte and the interrupt are anyone's; of the source's other bytes the last one is also the index, which has to be
+/// the same; a header of another length doesn't fit the bytes that came, unless its type is another one first; a
+/// command that there is, and an address, are another sending's; the length has a bit for a frame that circulates and
+/// one that promises more.
+fn told(at: usize, value: u8) -> Meaning {
+    match at {
+        0..=6 | 24 | 25 => Meaning::Inputs,
+        7..=10 | 18..=21 => Meaning::Stale,
+        11 | 17 => Meaning::Refused(CoreFault::IndexMismatch),
+        12 | 13 => Meaning::Refused(CoreFault::NotEtherCat),
+        15 if (0x11..=0x17).contains(&value) => Meaning::Refused(CoreFault::BadLength),
+        15 => Meaning::Refused(CoreFault::BadType),
+        16 if value == 1 || value == 2 || value == 5 => Meaning::Stale,
+        16 => Meaning::Refused(CoreFault::UnknownCommand),
+        23 if value == 0x40 || value == 0xc0 => Meaning::Refused(CoreFault::Circulating),
+        23 if value == 0x80 => Meaning::Refused(CoreFault::MoreFollows),
+        26..=28 => Meaning::Inputs,
+        29 => Meaning::WrongCount(u16::from(value)),
+        30 => Meaning::WrongCount(3 + 256 * u16::from(value)),
+        _ => Meaning::Refused(CoreFault::BadLength),
+    }
+}
+
+/// Whether a byte is one whose other values leave an answer.
+fn leaves_an_answer(at: usize) -> bool {
+    matches!(at, 0..=6 | 24..=30)
+}
+
+/// The task is posted as 2, and sent with the serial 4.
+const SENT: &[Row] = &[
+    (Post(0, 0, &[2]), Wanted::Posted),
+    (
+        Send(&[0]),
+        Wanted::Sent(&[(4, 0x0f, b"\x0c\x04\0\0\0\x01\x03\0\0\0\x02", 33)]),
+    ),
+];
+
+/// What leads to the awaited answer.
+const AWAITING: &[Stage] = &[Blocks(4), Rows(SENT)];
+
+/// Whether an answer is of one outcome.
+fn is_one(answer: &Answer, outcome: Outcome) -> bool {
+    match answer {
+        Answer::Answered(outcomes) => outcomes.as_slice() == [outcome].as_slice(),
+        _ => false,
+    }
+}
+
+/// Whether the answer to a frame is that which is told.
+fn is_told(answer: &Answer, told: Meaning) -> bool {
+    match told {
+        Meaning::Refused(fault) => matches!(answer, Answer::Refused(found) if *found == fault),
+        Meaning::Stale => matches!(answer, Answer::Stale),
+        Meaning::Inputs => is_wanted(answer, &ANSWERED),
+        Meaning::WrongCount(got) => is_one(answer, Outcome::WrongCount { expected: 3, got }),
+    }
+}
+
+/// Whether task 0 reads these data, or none.
+fn reads<D: Driven>(
+    driven: &mut D,
+    alloc: Global,
+    data: Option<&[u8]>,
+) -> Result<bool, AllocError> {
+    let Answer::Image { epoch: _, slots } = driven.put(alloc, Event::Read(0))? else {
+        return Ok(false);
+    };
+    let [slot] = slots.as_slice() else {
+        return Ok(false);
+    };
+    let found = match slot {
+        Some(bytes) => Some(bytes.as_slice()),
+        None => None,
+    };
+    Ok(found == data)
+}
+
+/// Whether nothing is read, nothing is owed, and the next serial is 5.
+fn awaits_still<D: Driven>(driven: &mut D, alloc: Global) -> Result<bool, AllocError> {
+    Ok(reads(driven, alloc, None)? && driven.count_owed() == 0 && driven.coming_serial() == 5)
+}
+
+/// Whether a frame that is no answer is answered as told, and leaves all as it was.
+fn is_left_out<D: Driven>(
+    driven: &mut D,
+    alloc: Global,
+    frame: &[u8],
+    told: Meaning,
+) -> Result<bool, AllocError> {
+    let answer = driven.put(alloc, Event::Arrive(frame))?;
+    Ok(is_told(&answer, told) && awaits_still(driven, alloc)?)
+}
+
+/// The answer to a serial, with another value of a byte. The serial's bytes are 10 and 11, the index is 17.
+fn changed(serial: u64, at: usize, value: u8) -> [u8; SIZE] {
+    let [low, high, _, _, _, _, _, _] = serial.to_le_bytes();
+    let mut frame = [0; SIZE];
+    let mut own = 0_usize;
+    for byte in ARRIVAL {
+        if own < SIZE {
+            frame[own] = *byte;
+        }
+        own = own.saturating_add(1);
+    }
+    frame[10] = high;
+    frame[11] = low;
+    frame[17] = low;
+    if at < SIZE {
+        frame[at] = value;
+    }
+    frame
+}
+
+/// Whether an epoch begins, in which nothing was read, and the task is sent in it.
+fn begins_anew<D: Driven>(driven: &mut D, alloc: Global) -> Result<bool, AllocError> {
+    let edited = answer(driven, alloc, Remap(1001, 1, &[0x1a00]))?;
+    let sent = driven.put(alloc, Event::SendTasks(&[0]))?;
+    Ok(
+        matches!(
+            edited,
+            Answer::Edited {
+                epoch: _,
+                recut: 0,
+                moved: 0
+            }
+        ) && matches!(sent, Answer::Sent(_)),
+    )
+}
+
+/// Whether a frame that is the answer is answered as told, and its data are read then where its counter is good.
+fn is_taken<D: Driven>(
+    driven: &mut D,
+    alloc: Global,
+    frame: &[u8],
+    told: Meaning,
+) -> Result<bool, AllocError> {
+    let answer = driven.put(alloc, Event::Arrive(frame))?;
+    let data = match told {
+        Meaning::Inputs => frame.get(26..29),
+        _ => None,
+    };
+    Ok(is_told(&answer, told) && reads(driven, alloc, data)?)
+}
+
+/// Whether the answer with another value of a byte is answered as told, and leaves what it should: one that answers
+/// nothing with the serial 4, one that answers with a serial and an epoch of its own.
+fn holds_of<D: Driven>(
+    driven: &mut D,
+    alloc: Global,
+    at: usize,
+    value: u8,
+) -> Result<bool, AllocError> {
+    if !leaves_an_answer(at) {
+        return is_left_out(driven, alloc, &changed(4, at, value), told(at, value));
+    }
+    let serial = driven.coming_serial();
+    Ok(
+        begins_anew(driven, alloc)?
+            && is_taken(driven, alloc, &changed(serial, at, value), told(at, value))?,
+    )
+}
+
+/// How many of a byte's other values hold.
+fn held<D: Driven>(driven: &mut D, alloc: Global, at: usize, old: u8) -> Result<u32, AllocError> {
+    let mut held = 0_u32;
+    for value in 0..=255_u8 {
+        if value != old && holds_of(driven, alloc, at, value)? {
+            held = held.saturating_add(1);
+        }
+    }
+    Ok(held)
+}
+
+/// Whether the unchanged frame is the answer, or came too late, since an epoch began.
+fn ends_well<D: Driven>(driven: &mut D, alloc: Global, at: usize) -> Result<bool, AllocError> {
+    let answer = driven.put(alloc, Event::Arrive(ARRIVAL))?;
+    Ok(if leaves_an_answer(at) {
+        matches!(answer, Answer::Stale)
+    } else {
+        is_wanted(&answer, &ANSWERED)
+    })
+}
+
+/// How many of a byte's other values hold on a line that awaits the answer; none where it doesn't, or the unchanged
+/// frame behind them all is something else than it should.
+fn held_of<D: Driven>(
+    driven: &mut D,
+    alloc: Global,
+    at: usize,
+    old: u8,
+) -> Result<u32, AllocError> {
+    if first_wrong_at(driven, alloc, AWAITING)?.is_some() {
+        return Ok(0);
+    }
+    let held = held(driven, alloc, at, old)?;
+    Ok(if ends_well(driven, alloc, at)? {
+        held
+    } else {
+        0
+    })
+}
+
+/// The same on an axis at its opening.
+fn held_at(alloc: Global, at: usize, old: u8) -> Result<u32, Fail> {
+    let mut driven = opened_axis(alloc)?;
+    Ok(held_of(&mut driven, alloc, at, old)?)
+}
+
+/// The first byte of which not each of 255 other values holds; none where all do.
+fn first_unheld(alloc: Global) -> Result<Option<usize>, Fail> {
+    let mut at = 0_usize;
+    for byte in ARRIVAL {
+        if held_at(alloc, at, *byte)? != 255 {
+            return Ok(Some(at));
+        }
+        at = at.saturating_add(1);
+    }
+    Ok(None)
+}
+
+/// 31 bytes with 255 other values each are 7,905 frames.
+#[test]
+fn every_changed_answer(rt: HostRuntime) -> Result<(), Fail> {
+    assert_eq!(rt; ARRIVAL.len(), SIZE);
+    assert_eq!(rt; first_unheld(rt.alloc())?, None);
+    Ok(())
+}
+
+/// Why an answer of which only so many bytes came can't be read: the least datagram ends with the byte 27.
+fn cut_fault(size: usize) -> CoreFault {
+    if size < 28 {
+        CoreFault::Short
+    } else {
+        CoreFault::BadLength
+    }
+}
+
+/// The first bytes of the answer.
+fn cut(size: usize) -> &'static [u8] {
+    ARRIVAL.split_at(size.min(ARRIVAL.len())).0
+}
+
+/// Whether each cut of the awaited answer is refused and leaves all as it was, and the whole one is answered.
+fn cuts_hold<D: Driven>(driven: &mut D, alloc: Global) -> Result<bool, AllocError> {
+    for size in 0..SIZE {
+        let told = Meaning::Refused(cut_fault(size));
+        if !is_left_out(driven, alloc, cut(size), told)? {
+            return Ok(false);
+        }
+    }
+    ends_well(driven, alloc, SIZE)
+}
+
+/// Whether they do on a line from its opening on.
+fn cuts_hold_of<D: Driven>(driven: &mut D, alloc: Global) -> Result<bool, AllocError> {
+    let wrong = first_wrong_at(driven, alloc, AWAITING)?;
+    Ok(wrong.is_none() && cuts_hold(driven, alloc)?)
+}
+
+/// Whether they do on an axis.
+fn cuts_hold_of_axis(alloc: Global) -> Result<bool, Fail> {
+    let mut driven = opened_axis(alloc)?;
+    Ok(cuts_hold_of(&mut driven, alloc)?)
+}
+
+#[test]
+fn every_cut_answer(rt: HostRuntime) -> Result<(), Fail> {
+    assert!(rt; cuts_hold_of_axis(rt.alloc())?);
+    Ok(())
+}
+
+/// Whether each cut of the answer is refused.
+fn refuses_cuts<D: Driven>(driven: &mut D, alloc: Global) -> Result<bool, AllocError> {
+    for size in 0..SIZE {
+        let answer = driven.put(alloc, Event::Arrive(cut(size)))?;
+        if !is_told(&answer, Meaning::Refused(cut_fault(size))) {
+            return Ok(false);
+        }
+    }
+    Ok(true)
+}
+
+/// Whether each answer with another value of a byte is refused that can't be read.
+fn refuses_at<D: Driven>(driven: &mut D, alloc: Global, at: usize) -> Result<bool, AllocError> {
+    for value in 0..=255_u8 {
+        let told = told(at, value);
+        let frame = changed(4, at, value);
+        if matches!(told, Meaning::Refused(_)) && frame.as_slice() != ARRIVAL {
+            if !is_told(&driven.put(alloc, Event::Arrive(&frame))?, told) {
+                return Ok(false);
+            }
+        }
+    }
+    Ok(true)
+}
+
+/// Whether every one of them is refused, and every cut.
+fn refuses_all<D: Driven>(driven: &mut D, alloc: Global) -> Result<bool, AllocError> {
+    for at in 0..SIZE {
+        if !refuses_at(driven, alloc, at)? {
+            return Ok(false);
+        }
+    }
+    refuses_cuts(driven, alloc)
+}
+
+/// The number of the first row that isn't answered as it wants, or before which one of the frames that can't be read
+/// isn't refused.
+fn first_disturbed<D: Driven>(
+    driven: &mut D,
+    alloc: Global,
+    rows: &[Row],
+) -> Result<Option<usize>, AllocError> {
+    let mut number = 0_usize;
+    for row in rows {
+        if !refuses_all(driven, alloc)? || !holds(driven, alloc, row)? {
+            return Ok(Some(number));
+        }
+        number = number.saturating_add(1);
+    }
+    Ok(None)
+}
+
+/// The same of a line with every block written.
+fn first_disturbed_written<D: Driven>(
+    driven: &mut D,
+    alloc: Global,
+    rows: &[Row],
+) -> Result<Option<usize>, AllocError> {
+    write_all(driven, alloc)?;
+    first_disturbed(driven, alloc, rows)
+}
+
+/// The same of an axis.
+fn first_disturbed_of(alloc: Global, rows: &[Row]) -> Result<Option<usize>, Fail> {
+    let mut driven = opened_axis(alloc)?;
+    Ok(first_disturbed_written(&mut driven, alloc, rows)?)
+}
+
+#[test]
+fn refused_frames_stand_between_answers(rt: HostRuntime) -> Result<(), Fail> {
+    assert_eq!(rt; first_disturbed_of(rt.alloc(), POSTED)?, None);
+    Ok(())
+}
+
+#[test]
+fn refused_frames_stand_between_edits(rt: HostRuntime) -> Result<(), Fail> {
+    assert_eq!(rt; first_disturbed_of(rt.alloc(), THREE_EPOCHS)?, None);
+    Ok(())
+}
+
+/// Whether 257 frames are sent with the frames that can't be read before each of them.
+fn sends_disturbed<D: Driven>(driven: &mut D, alloc: Global) -> Result<bool, AllocError> {
+    for _ in 0..257 {
+        let refused = refuses_all(driven, alloc)?;
+        let answer = driven.put(alloc, Event::SendTasks(&[0]))?;
+        if !refused || !matches!(answer, Answer::Sent(_)) {
+            return Ok(false);
+        }
+    }
+    Ok(true)
+}
+
+/// Whether they are on a line with every block written, and the last one alone is answered then.
+fn last_is_answered<D: Driven>(driven: &mut D, alloc: Global) -> Result<bool, AllocError> {
+    write_all(driven, alloc)?;
+    let sent = sends_disturbed(driven, alloc)?;
+    Ok(sent && first_wrong(driven, alloc, INDEX_ALONE)? == None)
+}
+
+/// The same of an axis.
+fn last_disturbed_is_answered(alloc: Global) -> Result<bool, Fail> {
+    let mut driven = opened_axis(alloc)?;
+    Ok(last_is_answered(&mut driven, alloc)?)
+}
+
+#[test]
+fn refused_frames_stand_between_sendings(rt: HostRuntime) -> Result<(), Fail> {
+    assert!(rt; last_disturbed_is_answered(rt.alloc())?);
+    Ok(())
+}

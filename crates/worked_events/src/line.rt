@@ -1,0 +1,119 @@
+//! The line that a list of edits leads to.
+use hc_places::recut::recut;
+use hc_places::table::Places;
+use hc_plan::plan::Plan;
+use hc_records::edit::Edit;
+use hc_records::faults::EditFault;
+use hc_records::items::{Copied, Items};
+use hc_records::project::Project;
+use hc_records::records::{Declared, Group, VarId};
+use std::alloc::{AllocError, Global};
+
+/// The declared groups after the edits so far, and a plan that is made anew of the present slaves, all of
+/// them mandatory: no edit has a part in it.
+#[derive(Drop)]
+pub struct Line {
+    declared: Plan,
+    anew: Plan,
+}
+
+/// The present slaves as one mandatory group.
+fn present(alloc: Global, declared: &[Declared]) -> Result<Items<Group>, AllocError> {
+    let mut slaves = Vec::new(alloc);
+    for one in declared {
+        if one.present {
+            let mut own = one.group.slaves.copied(alloc)?.into_vec();
+            slaves.append(&mut own)?;
+        }
+    }
+    let mut groups = Items::new(alloc);
+    groups.push(Group {
+        alias: 0,
+        slaves: Items::of(slaves),
+    })?;
+    Ok(groups)
+}
+
+/// The plan of the present slaves alone.
+fn plan_anew(alloc: Global, declared: &[Declared]) -> Result<Plan, EditFault> {
+    match Project::checked(alloc, present(alloc, declared)?) {
+        Ok(project) => Plan::new(alloc, project),
+        Err(_) => Err(EditFault::Memory),
+    }
+}
+
+impl Line {
+    /// The line of a project at its opening.
+    pub fn opened(alloc: Global, project: Project) -> Result<Line, EditFault> {
+        let declared = Plan::new(alloc, project)?;
+        let anew = plan_anew(alloc, declared.groups())?;
+        Ok(Line { declared, anew })
+    }
+
+    /// The line behind an edit, or the edit's fault.
+    pub fn edited(&self, alloc: Global, edit: &Edit) -> Result<Line, EditFault> {
+        let declared = self.declared.edited(alloc, edit)?;
+        let anew = plan_anew(alloc, declared.groups())?;
+        Ok(Line { declared, anew })
+    }
+
+    /// The plan of the present slaves.
+    pub fn plan(&self) -> &Plan {
+        &self.anew
+    }
+
+    /// The places of the present slaves.
+    pub fn places(&self) -> &Places {
+        self.anew.places()
+    }
+
+    /// Whether the slave with a station address is in the line.
+    pub fn has(&self, station: u16) -> bool {
+        self.anew.position(station).is_ok()
+    }
+
+    /// Whether a variable has a place.
+    pub fn has_place(&self, variable: VarId) -> bool {
+        self.places().place(variable).is_some()
+    }
+
+    /// Where a variable's first bit stands in the image of a task; none where the task hasn't the variable.
+    pub fn image_bit(&self, task: u8, variable: VarId) -> Option<usize> {
+        let place = self.places().place(variable)?;
+        if place.task != task {
+            return None;
+        }
+        let datagram = self.places().datagram(task, place.datagram)?;
+        Some(8 * usize::from(datagram.offset) + usize::from(place.bit))
+    }
+
+    /// Whether a block of a slave has these bytes at this register.
+    fn has_block(&self, station: u16, register: u16, bytes: &[u8]) -> bool {
+        for found in self.anew.line_blocks() {
+            if found.station == station
+                && found.block.register() == register
+                && found.block.bytes() == bytes
+            {
+                return true;
+            }
+        }
+        false
+    }
+
+    /// How many blocks of this line weren't blocks with the same bytes at the same register of the same slave
+    /// in an older one.
+    pub fn moved_from(&self, older: &Line) -> u32 {
+        let mut moved = 0_u32;
+        for found in self.anew.line_blocks() {
+            if !older.has_block(found.station, found.block.register(), found.block.bytes()) {
+                moved = moved.saturating_add(1);
+            }
+        }
+        moved
+    }
+
+    /// How many spans of this line's tasks aren't settled, where an older line became this one.
+    pub fn recut_from(&self, alloc: Global, older: &Line) -> Result<u32, AllocError> {
+        recut(alloc, older.declared.groups(), self.declared.groups())
+    }
+}

@@ -1,0 +1,243 @@
+//! The lines of the rows.
+use crate::driven::Driven;
+use crate::lookback::LookBack;
+use crate::twins::Twins;
+use hc_core::keeping::Core;
+use hc_events::answer::Answer;
+use hc_events::event::Event;
+use hc_project::read_project;
+use hc_records::faults::{EditFault, ProjectFault};
+use hc_records::items::{Copied, Items};
+use hc_records::project::Project;
+use hc_records::records::{Area, Dir, Entry, Group, Pdo, Slave, VarId};
+use std::alloc::{AllocError, Global};
+use std::test::Fail;
+use thiserror::Error;
+
+/// An axis with 2 output bits and 12 input bits in task 0, always in the line.
+pub const AXIS: &str = r#"
+slave = [
+  { station = 1001, area = [
+    { sm = 2, dir = "out", phys = 0x1100, task = 0, assigned = [0x1600], pdo = [
+      { index = 0x1600, entries = [[1, 2]] },
+    ] },
+    { sm = 3, dir = "in", phys = 0x1180, task = 0, assigned = [0x1a00], pdo = [
+      { index = 0x1a00, entries = [[2, 12]] },
+    ] },
+  ] },
+]
+"#;
+
+/// Why there is nothing to put events to.
+#[derive(Debug, Drop, Error)]
+pub enum Refused {
+    /// The project was refused.
+    #[error("{0}")]
+    Project(ProjectFault),
+    /// The opening was refused.
+    #[error("{0}")]
+    Opening(EditFault),
+}
+
+/// What the rows are put to.
+pub type Opened = Twins;
+
+/// Copies of a project's groups.
+fn groups_copied(alloc: Global, project: &Project) -> Result<Items<Group>, AllocError> {
+    let mut groups = Items::new(alloc);
+    for group in project.groups() {
+        groups.push(group.copied(alloc)?)?;
+    }
+    Ok(groups)
+}
+
+/// A copy of a project.
+fn project_copied(alloc: Global, project: &Project) -> Result<Project, ProjectFault> {
+    match groups_copied(alloc, project) {
+        Ok(groups) => Project::checked(alloc, groups),
+        Err(_) => Err(ProjectFault::Memory),
+    }
+}
+
+/// A project at its opening.
+pub fn opened_project(
+    alloc: Global,
+    project: Result<Project, ProjectFault>,
+) -> Result<Opened, Refused> {
+    let project = match project {
+        Ok(project) => project,
+        Err(fault) => return Err(Refused::Project(fault)),
+    };
+    let copy = match project_copied(alloc, &project) {
+        Ok(copy) => copy,
+        Err(fault) => return Err(Refused::Project(fault)),
+    };
+    let back = match LookBack::opened(alloc, copy) {
+        Ok(back) => back,
+        Err(fault) => return Err(Refused::Opening(fault)),
+    };
+    match Core::new(alloc, project) {
+        Ok(core) => Ok(Twins::of(core, back)),
+        Err(fault) => Err(Refused::Opening(fault)),
+    }
+}
+
+/// The project of a text at its opening.
+pub fn opened(alloc: Global, text: &str) -> Result<Opened, Refused> {
+    opened_project(alloc, read_project(alloc, text.as_bytes()))
+}
+
+/// An area of task 0 with one variable.
+fn area(
+    alloc: Global,
+    sm: u8,
+    dir: Dir,
+    index: u16,
+    variable: u32,
+    bits: u8,
+) -> Result<Area, AllocError> {
+    let mut entries = Items::new(alloc);
+    entries.push((VarId::new(variable), bits))?;
+    let mut offered = Items::new(alloc);
+    offered.push(Pdo { index, entries })?;
+    let mut assigned = Items::new(alloc);
+    assigned.push(index)?;
+    let phys = match dir {
+        Dir::Out => 0x1100,
+        Dir::In => 0x1180,
+    };
+    Ok(Area {
+        sm,
+        dir,
+        phys,
+        offered,
+        assigned,
+        task: 0,
+    })
+}
+
+/// The axis as it stands in the text above.
+fn axis(alloc: Global) -> Result<Items<Group>, AllocError> {
+    let mut areas = Items::new(alloc);
+    areas.push(area(alloc, 2, Dir::Out, 0x1600, 1, 2)?)?;
+    areas.push(area(alloc, 3, Dir::In, 0x1a00, 2, 12)?)?;
+    let mut slaves = Items::new(alloc);
+    slaves.push(Slave {
+        station: 1001,
+        areas,
+    })?;
+    let mut groups = Items::new(alloc);
+    groups.push(Group { alias: 0, slaves })?;
+    Ok(groups)
+}
+
+/// The axis at its opening, with no text to be read: for rows that need it often.
+pub fn opened_axis(alloc: Global) -> Result<Opened, Fail> {
+    let groups = axis(alloc)?;
+    Ok(opened_project(alloc, Project::checked(alloc, groups))?)
+}
+
+/// The core of it alone.
+pub fn core_of_axis(alloc: Global) -> Result<Core, Fail> {
+    let groups = axis(alloc)?;
+    Ok(Core::new(alloc, Project::checked(alloc, groups)?)?)
+}
+
+/// The bytes that a PDO of 64 entries holds.
+const PDO_BYTES: u16 = 512;
+
+/// Gaps that have so many bytes together.
+fn gaps(alloc: Global, bytes: u16) -> Result<Items<Entry>, AllocError> {
+    let mut entries = Items::new(alloc);
+    let mut left = bytes;
+    for _ in 0..bytes.div_ceil(8) {
+        let own = left.min(8);
+        left -= own;
+        entries.push((None, 8 * own as u8))?;
+    }
+    Ok(entries)
+}
+
+/// An output area of a task with so many bytes.
+fn wide_area(alloc: Global, task: u8, bytes: u16) -> Result<Area, AllocError> {
+    let mut offered = Items::new(alloc);
+    let mut assigned = Items::new(alloc);
+    let mut left = bytes;
+    for index in 0..bytes.div_ceil(PDO_BYTES) {
+        let own = left.min(PDO_BYTES);
+        left -= own;
+        let entries = gaps(alloc, own)?;
+        offered.push(Pdo { index, entries })?;
+        assigned.push(index)?;
+    }
+    Ok(Area {
+        sm: 0,
+        dir: Dir::Out,
+        phys: 0x1000,
+        offered,
+        assigned,
+        task,
+    })
+}
+
+/// The mandatory group of slaves with the stations from 1 on, each with an output area of a task with so
+/// many bytes.
+fn wide(alloc: Global, areas: &[(u8, u16)]) -> Result<Items<Group>, AllocError> {
+    let mut slaves = Items::new(alloc);
+    let mut station = 0_u16;
+    for (task, bytes) in areas {
+        station = station.saturating_add(1);
+        let mut own = Items::new(alloc);
+        own.push(wide_area(alloc, *task, *bytes)?)?;
+        slaves.push(Slave {
+            station,
+            areas: own,
+        })?;
+    }
+    let mut groups = Items::new(alloc);
+    groups.push(Group { alias: 0, slaves })?;
+    Ok(groups)
+}
+
+/// The line of these slaves at its opening.
+pub fn opened_wide(alloc: Global, areas: &[(u8, u16)]) -> Result<Opened, Fail> {
+    let groups = wide(alloc, areas)?;
+    Ok(opened_project(alloc, Project::checked(alloc, groups))?)
+}
+
+/// Sets the working counter of a register write's frame to 1: it stands behind the 16 bytes of the frame's
+/// head, the datagram's 10 and its data, whose number is the byte 22.
+fn answer_write(frame: &mut [u8]) {
+    if frame.len() > 26 {
+        let at = usize::from(frame[22]) + 26;
+        if at < frame.len() {
+            frame[at] = 1;
+        }
+    }
+}
+
+/// Writes the next owed block, and answers it; false where nothing is owed, or its answer isn't taken as the
+/// confirmation.
+fn write_one<D: Driven>(driven: &mut D, alloc: Global) -> Result<bool, AllocError> {
+    let sent = driven.put(alloc, Event::SendWrite)?;
+    let Answer::WriteSent(text) = sent else {
+        return Ok(false);
+    };
+    let mut frame = text.into_vec();
+    answer_write(frame.as_mut_slice());
+    let told = driven.put(alloc, Event::Arrive(frame.as_slice()))?;
+    Ok(matches!(told, Answer::WriteDone))
+}
+
+/// Writes the owed blocks one after another, each answered, and tells how many there were. Twice as many blocks
+/// as any row has are enough.
+pub fn write_all<D: Driven>(driven: &mut D, alloc: Global) -> Result<u32, AllocError> {
+    let mut written = 0_u32;
+    for _ in 0..200 {
+        if !write_one(driven, alloc)? {
+            return Ok(written);
+        }
+        written = written.saturating_add(1);
+    }
+    Ok(written)
+}

@@ -1,0 +1,361 @@
+//! The values of output variables as they are sent: what was posted, where the variables stand now.
+use crate::asked::Asked::{Comes, Connect, Disconnect, Move, Post, Read, Remap, Send, Write};
+use crate::asked::{Row, Wanted};
+use crate::lines::AXIS;
+use crate::stages::Stage::{Blocks, Rows};
+use crate::stages::{Stage, first_wrong_again, first_wrong_of, first_wrong_written};
+use hc_events::answer::Outcome::Inputs;
+use hc_events::faults::CoreFault;
+use hc_frames::Command::{Fpwr, Lrw};
+use std::test::Fail;
+
+/// The axis' outputs, posted as 2, move to task 1, whose first datagram has the logical address 0x0200_0000. Both
+/// tasks have other widths, so the one span of each is recut; both FMMUs' blocks have other bytes, since the
+/// inputs now begin their datagram. The value goes with the variable. It is 0 once the variable had no place in
+/// between, though the blocks, which weren't written meanwhile, are known as they were.
+const MOVED: &[Row] = &[
+    (Post(0, 0, &[2]), Wanted::Posted),
+    (Post(0, 0, &[2, 0]), Wanted::Refused(CoreFault::PostLength)),
+    (Post(8, 0, &[2]), Wanted::Refused(CoreFault::NoSuchTask)),
+    (
+        Send(&[0]),
+        Wanted::Sent(&[(4, 0x0f, b"\x0c\x04\0\0\0\x01\x03\0\0\0\x02", 33)]),
+    ),
+    (Move(1001, 0, 1), Wanted::Edited(1, 2, 2)),
+    (Post(1, 0, &[2]), Wanted::Refused(CoreFault::StalePost)),
+    (Post(1, 0, &[2, 0]), Wanted::Refused(CoreFault::StalePost)),
+    (Send(&[1]), Wanted::Refused(CoreFault::Unprogrammed(2))),
+    (
+        Write,
+        Wanted::WriteSent((
+            5,
+            0x1c,
+            b"\x05\x05\xe9\x03\0\x06\x10\0\0\0\0\0\0\x02\x01\0\0\x01\0\x11\0\x02\x01\0\0\0",
+            18,
+        )),
+    ),
+    (
+        Comes(5, &[(Fpwr, 0x0600_03e9, &[0; 16], 1)]),
+        Wanted::WriteDone,
+    ),
+    (
+        Write,
+        Wanted::WriteSent((
+            6,
+            0x1c,
+            b"\x05\x06\xe9\x03\x10\x06\x10\0\0\0\0\0\0\x01\x02\0\0\x03\x80\x11\0\x01\x01\0\0\0",
+            18,
+        )),
+    ),
+    (
+        Comes(6, &[(Fpwr, 0x0610_03e9, &[0; 16], 1)]),
+        Wanted::WriteDone,
+    ),
+    (
+        Send(&[1]),
+        Wanted::Sent(&[(7, 0x0d, b"\x0c\x07\0\0\0\x02\x01\0\0\0\x02", 33)]),
+    ),
+    (
+        Comes(7, &[(Lrw, 0x0200_0000, b"\x03", 2)]),
+        Wanted::Answered(&[Inputs {
+            task: 1,
+            datagram: 0,
+        }]),
+    ),
+    (Read(1), Wanted::Image(1, &[Some(b"\x03")])),
+    (Remap(1001, 0, &[]), Wanted::Edited(2, 1, 2)),
+    (Remap(1001, 0, &[0x1600]), Wanted::Edited(3, 1, 2)),
+    (
+        Send(&[1]),
+        Wanted::Sent(&[(8, 0x0d, b"\x0c\x08\0\0\0\x02\x01\0\0\0", 34)]),
+    ),
+];
+
+#[test]
+fn a_value_goes_with_its_variable(rt: HostRuntime) -> Result<(), Fail> {
+    assert_eq!(rt; first_wrong_written(rt.alloc(), AXIS, 4, MOVED)?, None);
+    Ok(())
+}
+
+const WRITTEN_AND_MOVED: &[Stage] = &[Blocks(4), Rows(MOVED)];
+
+/// The same where growths are refused to the core: an edit is refused as a whole, and what is sent behind it, once it
+/// is accepted, is as if it hadn't been refused.
+#[test]
+fn a_value_or_memory(rt: HostRuntime) -> Result<(), Fail> {
+    assert_eq!(rt; first_wrong_again(rt.alloc(), WRITTEN_AND_MOVED)?, None);
+    Ok(())
+}
+
+/// The value is moved before it was ever sent. A post of the epoch before is refused.
+const POSTED_AND_MOVED: &[Row] = &[
+    (Post(0, 0, &[2]), Wanted::Posted),
+    (Move(1001, 0, 1), Wanted::Edited(1, 2, 2)),
+    (Post(1, 0, &[2]), Wanted::Refused(CoreFault::StalePost)),
+    (Send(&[1]), Wanted::Refused(CoreFault::Unprogrammed(2))),
+];
+
+/// Task 1 sends the byte of outputs alone, and task 0 the two of inputs.
+const SENT_APART: &[Row] = &[
+    (
+        Send(&[1]),
+        Wanted::Sent(&[(6, 0x0d, b"\x0c\x06\0\0\0\x02\x01\0\0\0\x02", 33)]),
+    ),
+    (
+        Send(&[0]),
+        Wanted::Sent(&[(7, 0x0e, b"\x0c\x07\0\0\0\x01\x02\0\0\0", 34)]),
+    ),
+];
+
+const MOVED_UNSENT: &[Stage] = &[
+    Blocks(4),
+    Rows(POSTED_AND_MOVED),
+    Blocks(2),
+    Rows(SENT_APART),
+];
+
+#[test]
+fn a_value_is_moved_unsent(rt: HostRuntime) -> Result<(), Fail> {
+    assert_eq!(rt; first_wrong_of(rt.alloc(), AXIS, MOVED_UNSENT)?, None);
+    Ok(())
+}
+
+/// The axis in a group of its own.
+const TOOL: &str = r#"
+group = [
+  { alias = 100, slave = [
+    { station = 1001, area = [
+      { sm = 2, dir = "out", phys = 0x1100, task = 0, assigned = [0x1600], pdo = [
+        { index = 0x1600, entries = [[1, 2]] },
+      ] },
+      { sm = 3, dir = "in", phys = 0x1180, task = 0, assigned = [0x1a00], pdo = [
+        { index = 0x1a00, entries = [[2, 12]] },
+      ] },
+    ] },
+  ] },
+]
+"#;
+
+/// Without the tool no task has a datagram, and nothing is owed. It comes with four blocks.
+const COMES: &[Row] = &[
+    (Send(&[0]), Wanted::Sent(&[])),
+    (Read(0), Wanted::Image(0, &[])),
+    (Write, Wanted::Refused(CoreFault::NothingOwed)),
+    (Connect(7), Wanted::Refused(CoreFault::UnknownAlias)),
+    (Connect(0), Wanted::Refused(CoreFault::AlreadyPresent)),
+    (Disconnect(100), Wanted::Refused(CoreFault::NotPresent)),
+    (Connect(100), Wanted::Edited(1, 1, 4)),
+    (Connect(100), Wanted::Refused(CoreFault::AlreadyPresent)),
+    (Disconnect(0), Wanted::Refused(CoreFault::Mandatory)),
+];
+
+/// It goes, and what was read is gone; it comes again, and its four blocks are owed again.
+const COMES_AGAIN: &[Row] = &[
+    (Post(0, 1, &[2]), Wanted::Posted),
+    (
+        Send(&[0]),
+        Wanted::Sent(&[(4, 0x0f, b"\x0c\x04\0\0\0\x01\x03\0\0\0\x02", 33)]),
+    ),
+    (
+        Comes(4, &[(Lrw, 0x0100_0000, b"\x02\x34\x0a", 3)]),
+        Wanted::Answered(&[Inputs {
+            task: 0,
+            datagram: 0,
+        }]),
+    ),
+    (Disconnect(100), Wanted::Edited(2, 1, 0)),
+    (Read(0), Wanted::Image(2, &[])),
+    (Send(&[0]), Wanted::Sent(&[])),
+    (Post(0, 2, &[2]), Wanted::Refused(CoreFault::PostLength)),
+    (Post(0, 2, &[]), Wanted::Posted),
+    (Connect(100), Wanted::Edited(3, 1, 4)),
+    (Send(&[0]), Wanted::Refused(CoreFault::Unprogrammed(4))),
+    (Read(0), Wanted::Image(3, &[None])),
+];
+
+/// The value is 0 again.
+const ZERO_AGAIN: &[Row] = &[(
+    Send(&[0]),
+    Wanted::Sent(&[(9, 0x0f, b"\x0c\x09\0\0\0\x01\x03\0\0\0", 34)]),
+)];
+
+/// The whole of it: each time it comes four blocks are written.
+const IN_AND_OUT: &[Stage] = &[
+    Rows(COMES),
+    Blocks(4),
+    Rows(COMES_AGAIN),
+    Blocks(4),
+    Rows(ZERO_AGAIN),
+];
+
+#[test]
+fn a_tool_comes_again(rt: HostRuntime) -> Result<(), Fail> {
+    assert_eq!(rt; first_wrong_of(rt.alloc(), TOOL, IN_AND_OUT)?, None);
+    Ok(())
+}
+
+/// Two slaves with a byte of outputs each.
+const TWO_BYTES: &str = r#"
+slave = [
+  { station = 1001, area = [
+    { sm = 2, dir = "out", phys = 0x1100, task = 0, assigned = [0x1600], pdo = [
+      { index = 0x1600, entries = [[1, 8]] },
+    ] },
+  ] },
+  { station = 1002, area = [
+    { sm = 2, dir = "out", phys = 0x1100, task = 0, assigned = [0x1600], pdo = [
+      { index = 0x1600, entries = [[2, 8]] },
+    ] },
+  ] },
+]
+"#;
+
+/// The first slave's byte is in task 1 for a while, and then in task 0 again: the post of task 0 in between says
+/// nothing of it, that of task 1 does. Each move touches both tasks, of one span each, and moves both FMMUs: one
+/// to another task, the other by a byte.
+const THERE_AND_BACK: &[Row] = &[
+    (Post(0, 0, &[0x11, 0x22]), Wanted::Posted),
+    (Move(1001, 0, 1), Wanted::Edited(1, 2, 2)),
+    (Post(0, 1, &[0x33]), Wanted::Posted),
+    (Move(1001, 0, 0), Wanted::Edited(2, 2, 2)),
+    (
+        Send(&[0]),
+        Wanted::Sent(&[(4, 0x0e, b"\x0c\x04\0\0\0\x01\x02\0\0\0\x11\x33", 32)]),
+    ),
+    (Move(1001, 0, 1), Wanted::Edited(3, 2, 2)),
+    (Post(1, 3, &[0x44]), Wanted::Posted),
+    (Post(0, 3, &[0x55]), Wanted::Posted),
+    (Move(1001, 0, 0), Wanted::Edited(4, 2, 2)),
+    (
+        Send(&[0]),
+        Wanted::Sent(&[(5, 0x0e, b"\x0c\x05\0\0\0\x01\x02\0\0\0\x44\x55", 32)]),
+    ),
+];
+
+#[test]
+fn a_value_is_of_the_task_that_a_variable_then_had(rt: HostRuntime) -> Result<(), Fail> {
+    assert_eq!(rt;
+        first_wrong_written(rt.alloc(), TWO_BYTES, 4, THERE_AND_BACK)?,
+        None
+    );
+    Ok(())
+}
+
+/// A slave with two PDOs of 4 bits in its outputs.
+const TWO_PDOS: &str = r#"
+slave = [
+  { station = 1001, area = [
+    { sm = 2, dir = "out", phys = 0x1000, task = 0, assigned = [0x1600, 0x1601], pdo = [
+      { index = 0x1600, entries = [[1, 4]] },
+      { index = 0x1601, entries = [[3, 4]] },
+    ] },
+  ] },
+]
+"#;
+
+/// The values 1 and 2 change their places with the PDOs, which changes no block. Without the first PDO the area is
+/// narrower, so its span is recut and the last bit in the FMMU's block is another; the second one's value stays, and
+/// the first one's is 0 when it comes again.
+const EXCHANGED: &[Row] = &[
+    (Post(0, 0, &[0x21]), Wanted::Posted),
+    (
+        Send(&[0]),
+        Wanted::Sent(&[(2, 0x0d, b"\x0c\x02\0\0\0\x01\x01\0\0\0\x21", 33)]),
+    ),
+    (Remap(1001, 0, &[0x1601, 0x1600]), Wanted::Edited(1, 0, 0)),
+    (
+        Send(&[0]),
+        Wanted::Sent(&[(3, 0x0d, b"\x0c\x03\0\0\0\x01\x01\0\0\0\x12", 33)]),
+    ),
+    (Remap(1001, 0, &[0x1601]), Wanted::Edited(2, 1, 1)),
+    (
+        Write,
+        Wanted::WriteSent((
+            4,
+            0x1c,
+            b"\x05\x04\xe9\x03\0\x06\x10\0\0\0\0\0\0\x01\x01\0\0\x03\0\x10\0\x02\x01\0\0\0",
+            18,
+        )),
+    ),
+    (
+        Comes(4, &[(Fpwr, 0x0600_03e9, &[0; 16], 1)]),
+        Wanted::WriteDone,
+    ),
+    (
+        Send(&[0]),
+        Wanted::Sent(&[(5, 0x0d, b"\x0c\x05\0\0\0\x01\x01\0\0\0\x02", 33)]),
+    ),
+    (Remap(1001, 0, &[0x1600, 0x1601]), Wanted::Edited(3, 1, 1)),
+    (
+        Write,
+        Wanted::WriteSent((
+            6,
+            0x1c,
+            b"\x05\x06\xe9\x03\0\x06\x10\0\0\0\0\0\0\x01\x01\0\0\x07\0\x10\0\x02\x01\0\0\0",
+            18,
+        )),
+    ),
+    (
+        Comes(6, &[(Fpwr, 0x0600_03e9, &[0; 16], 1)]),
+        Wanted::WriteDone,
+    ),
+    (
+        Send(&[0]),
+        Wanted::Sent(&[(7, 0x0d, b"\x0c\x07\0\0\0\x01\x01\0\0\0\x20", 33)]),
+    ),
+];
+
+#[test]
+fn a_value_stays_where_its_variable_stays_placed(rt: HostRuntime) -> Result<(), Fail> {
+    assert_eq!(rt;
+        first_wrong_written(rt.alloc(), TWO_PDOS, 2, EXCHANGED)?,
+        None
+    );
+    Ok(())
+}
+
+/// Outputs of 3 bits and 11 bits with a gap of 2 bits between them, and a byte of inputs.
+const GAPS: &str = r#"
+slave = [
+  { station = 1001, area = [
+    { sm = 2, dir = "out", phys = 0x1100, task = 0, assigned = [0x1600], pdo = [
+      { index = 0x1600, entries = [[1, 3], [0, 2], [2, 11]] },
+    ] },
+    { sm = 3, dir = "in", phys = 0x1180, task = 0, assigned = [0x1a00], pdo = [
+      { index = 0x1a00, entries = [[9, 8]] },
+    ] },
+  ] },
+]
+"#;
+
+/// The gap is never sent as posted, and what comes back for the inputs isn't sent out again. The slave reads and
+/// writes: a counter of 3.
+const GAP: &[Row] = &[
+    (
+        Post(0, 0, &[0xff, 0xff, 0xff]),
+        Wanted::Refused(CoreFault::PostLength),
+    ),
+    (Post(0, 0, &[0xff, 0xff]), Wanted::Posted),
+    (
+        Send(&[0]),
+        Wanted::Sent(&[(4, 0x0f, b"\x0c\x04\0\0\0\x01\x03\0\0\0\xe7\xff", 32)]),
+    ),
+    (
+        Comes(4, &[(Lrw, 0x0100_0000, b"\xff\xff\xa5", 3)]),
+        Wanted::Answered(&[Inputs {
+            task: 0,
+            datagram: 0,
+        }]),
+    ),
+    (
+        Send(&[0]),
+        Wanted::Sent(&[(5, 0x0f, b"\x0c\x05\0\0\0\x01\x03\0\0\0\xe7\xff", 32)]),
+    ),
+    (Read(0), Wanted::Image(0, &[Some(b"\xff\xff\xa5")])),
+];
+
+#[test]
+fn gaps_and_inputs_are_sent_as_zeros(rt: HostRuntime) -> Result<(), Fail> {
+    assert_eq!(rt; first_wrong_written(rt.alloc(), GAPS, 4, GAP)?, None);
+    Ok(())
+}
