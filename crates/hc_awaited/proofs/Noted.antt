@@ -1,5 +1,5 @@
 -- The table of newest frames, datagram by datagram.
-use Rattle.std.proofs.Common.{◌≡◌, ◌≢◌, ℕ, ◌+◌, ◌*◌, ◌<◌, ◌==◌, Bool, true, false, cond, not, ◌&&◌, ◌||◌, List, length, take, get_or, set, refl, sym, ap, ◌∙◌, arith, Option, Some, None}
+use Rattle.std.proofs.Common.{◌≡◌, ◌≢◌, ℕ, ◌+◌, ◌*◌, ◌<◌, ◌==◌, Bool, true, false, cond, ◌&&◌, ◌||◌, List, length, take, get_or, set, refl, sym, ap, ◌∙◌, arith, Option, Some, None}
 use Rattle.std.specs.List.{list_any}
 use Rattle.std.proofs.lemmas.Bool.{and_parts}
 use Rattle.std.proofs.lemmas.Bool.Decides.{nat_tests}
@@ -9,7 +9,7 @@ use Rattle.std.proofs.lemmas.List.Folds.{list_any_more}
 use Rattle.hc_events.specs.Sendings.{Named}
 use Rattle.hc_events.proofs.lemmas.Awaited.{by_bool}
 use Rattle.hc_awaited.specs.Waiting.{IsNamed, is_named}
-use Rattle.hc_awaited.specs.Kept.{Newest, is_serial, newest_of, place_of, without}
+use Rattle.hc_awaited.specs.Kept.{Newest, newest_of, place_of}
 
 same_number : (m n : ℕ) → (m == n) ≡ true → m ≡ n
 same_number m n e = grind (arith, nat_tests)
@@ -63,19 +63,3 @@ noted-more newest before serial i ds named within own other low held =
 -- a place of a datagram that a task can have
 pub place-low : (d : Named) → IsNamed d → place_of d < 128
 place-low d named = let task = named.task in let number = named.number in omega (arith, task, number)
-
--- a frame is forgotten: no datagram has its serial
-
-pub forgotten : (serial other : ℕ) (found : Option ℕ)
-    → is_serial other (without serial found) ≡ (is_serial other found && not (other == serial))
-forgotten serial other None = refl
-forgotten serial other (Some n) =
-    by_bool (n == serial)
-    (λ t. by_bool (n == other)
-    (λ u. let one = same_number n serial t in let two = same_number n other u in
-    let same : (other == serial) ≡ true = grind (arith, nat_tests) in rw (t, u, same) refl)
-    (λ u. rw (t, u) refl))
-    (λ t. by_bool (n == other)
-    (λ u. let two = same_number n other u in
-    let apart : (other == serial) ≡ false = grind (arith, nat_tests) in rw (t, u, apart) refl)
-    (λ u. rw (t, u) refl))

@@ -1,17 +1,16 @@
 -- How awaited frames are kept: with a table that has, for each datagram, the serial of the newest frame that it was sent in. Contracts inside the crate cite it.
-use Rattle.std.specs.Prelude.{◌≡◌, ◌<◌, ℕ, ◌+◌, ◌*◌, ◌==◌, not, Bool, false, if◌then◌else◌, List, All, AllPairs, filter, fold, length, map, slice_index_or, Option, Some, None, option_and_then}
+use Rattle.std.specs.Prelude.{◌≡◌, ◌<◌, ℕ, ◌+◌, ◌*◌, ◌==◌, Bool, false, if◌then◌else◌, List, [], All, AllPairs, filter, fold, length, map, slice_index_or, Option, Some, None}
 use Rattle.std.specs.List.{list_any}
 use Rattle.std.specs.Option.{option_map_or}
 use Rattle.hc_records.specs.declared.limits.TheConstants.{MOST_DATAGRAMS, TASKS}
 use Rattle.hc_events.specs.Sendings.{Frame, Named}
-use Rattle.hc_events.specs.Answering.{only_if}
 use Rattle.hc_awaited.specs.Waiting.{AwaitedFrame, Carried, IsNamed, is_alive, is_named}
 
 -- the datagrams of the tasks one after another, sixteen a task
 abbrev pub place_of : Named → ℕ
 place_of named = MOST_DATAGRAMS * named.0 + named.1
 
--- the newest frame's serial of each; none where a datagram wasn't sent or its newest frame was answered
+-- the newest frame's serial of each; none where a datagram wasn't sent
 abbrev pub Newest : Type 0
 Newest = List (Option ℕ)
 
@@ -23,10 +22,6 @@ is_serial serial found = option_map_or (λ other. other == serial) found false
 
 abbrev pub is_newest : Newest → ℕ → Named → Bool
 is_newest newest serial named = is_serial serial (newest_of newest named)
-
--- without this one
-abbrev pub without : ℕ → Option ℕ → Option ℕ
-without serial found = option_and_then (only_if (λ other. not (other == serial))) found
 
 -- the newest frame of a datagram behind these frames
 abbrev pub newest_after : Named → Option ℕ → List Frame → Option ℕ
@@ -40,6 +35,10 @@ pub record Kept : Type 0 where
 
 abbrev pub kept_of : Frame → Kept
 kept_of frame = record { serial = frame.serial; datagrams = frame.datagrams }
+
+-- a frame with this serial, which was answered, has no datagrams any more
+abbrev pub emptied : ℕ → Kept → Kept
+emptied serial frame = if frame.serial == serial then record { serial = frame.serial; datagrams = [] } else frame
 
 -- what the table says of it
 abbrev pub carried_by : Newest → ℕ → Named → Carried

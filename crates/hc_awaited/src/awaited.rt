@@ -3,7 +3,7 @@ ghost use Rattle.std.specs.Prelude.{◌≡◌, ◌==◌, ◌<◌, ◌≤◌, [],
 ghost use Rattle.std.specs.List.Sorted.{IsPartitionPoint};
 ghost use Rattle.std.specs.Option.{option_map_or};
 ghost use Rattle.hc_events.specs.Sendings.{Named};
-ghost use Rattle.hc_awaited.specs.Kept.{awaited_frames, kept_of, newest_after, newest_of, frame_by};
+ghost use Rattle.hc_awaited.specs.Kept.{awaited_frames, emptied, kept_of, newest_after, newest_of, frame_by};
 ghost use Rattle.hc_awaited.specs.Waiting.{IsNamed, is_alive};
 
 use crate::kept::Kept;
@@ -137,6 +137,18 @@ pub(crate) fn find_frame<'a>(newest: &Newest, frames: &'a [Kept], serial: u64) -
     }
 }
 
+/// The frame with a serial, if it is kept, has no datagrams any more.
+fn empty(frames: &mut Vec<Kept>, serial: u64)
+    requires { AllPairs (λ a b. a.serial < b.serial) frames.old.items }
+    ensures frames { frames.new.items ≡ map (emptied serial) frames.old.items }
+    ensures room { vec_capacity frames.new ≡ vec_capacity frames.old }
+{
+    let place = count_below(frames.as_slice(), serial);
+    if place < frames.len() && frames[place].serial() == serial {
+        frames[place].clear();
+    }
+}
+
 impl Awaited {
     ghost use Rattle.std.specs.Prelude.{◌≡◌, ◌<◌, ◌≤◌, ◌*◌, All, IfOk, length};
     ghost use Rattle.hc_records.specs.declared.limits.TheConstants.{MOST_DATAGRAMS, TASKS};
@@ -171,7 +183,7 @@ impl Awaited {
         ensures sent { self.new ≡ all_sent self.old frames.now }
         ensures few { length self.new.frames ≤ TASKS * MOST_DATAGRAMS }
     {
-        // those that were answered go before their serials could come again
+        // those that were answered go, before their serials could come again
         keep_alive(&mut self.frames, &self.newest);
         note_all(&mut self.newest, frames);
         keep_alive(&mut self.frames, &self.newest);
@@ -196,7 +208,7 @@ impl Awaited {
     pub fn end(&mut self, serial: u64)
         ensures { self.new ≡ ended serial self.old }
     {
-        self.newest.forget(serial);
+        empty(&mut self.frames, serial);
         if has_serial(&self.write, serial) {
             self.write = None;
         }

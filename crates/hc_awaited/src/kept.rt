@@ -20,7 +20,7 @@ impl Model for Kept {
 }
 
 impl Kept {
-    ghost use Rattle.std.specs.Prelude.{◌≡◌};
+    ghost use Rattle.std.specs.Prelude.{◌≡◌, []};
     ghost use Rattle.hc_awaited.specs.Kept.{kept_of};
 
     /// What is kept of a frame.
@@ -35,6 +35,13 @@ impl Kept {
             serial: frame.serial(),
             datagrams,
         }
+    }
+
+    /// It was answered: nothing is awaited of it any more.
+    pub(crate) fn clear(&mut self)
+        ensures { self.new ≡ record self.old { datagrams = [] } }
+    {
+        self.datagrams.clear();
     }
 
     /// Its serial.

@@ -1,6 +1,6 @@
 //! In which frame each datagram was sent last.
-ghost use Rattle.std.specs.Prelude.{◌≡◌, ℕ, None, length, slice_index_or};
-ghost use Rattle.hc_awaited.specs.Kept.{place_of, without};
+ghost use Rattle.std.specs.Prelude.{◌≡◌};
+ghost use Rattle.hc_awaited.specs.Kept.{place_of};
 
 use hc_events::sending::Named;
 use hc_records::limits::{MOST_DATAGRAMS, TASKS};
@@ -11,7 +11,7 @@ use std::marker::Model;
 pub(crate) const PLACES: usize = TASKS as usize * MOST_DATAGRAMS;
 
 /// For each datagram that a task can have the serial of the newest frame that it was sent in; none where
-/// it wasn't sent, or that frame was answered.
+/// it wasn't sent.
 #[derive(Debug, Drop)]
 pub(crate) struct Newest {
     serials: Vec<Option<u64>>,
@@ -40,7 +40,7 @@ impl Newest {
     ghost use Rattle.std.specs.Prelude.{◌≡◌, All, IfOk, Some, length, if◌then◌else◌};
     ghost use Rattle.std.specs.List.{list_any};
     ghost use Rattle.hc_events.specs.Sendings.{Named};
-    ghost use Rattle.hc_awaited.specs.Kept.{is_newest, newest_of, without};
+    ghost use Rattle.hc_awaited.specs.Kept.{is_newest, newest_of};
     ghost use Rattle.hc_awaited.specs.Waiting.{IsNamed, is_named};
     ghost use Rattle.hc_awaited.specs.declared.newest.TheConstants.{PLACES};
 
@@ -78,26 +78,6 @@ impl Newest {
     {
         for datagram in datagrams {
             self.serials[place_of(*datagram)] = Some(serial);
-        }
-    }
-
-    /// The frame with this serial was answered.
-    pub(crate) fn forget(&mut self, serial: u64)
-        ensures places { length self.new ≡ length self.old }
-        ensures forgotten { (named : Named) → newest_of self.new named ≡ without serial (newest_of self.old named) }
-    {
-        forget(&mut self.serials, serial);
-    }
-}
-
-/// No datagram has this serial any more.
-fn forget(serials: &mut [Option<u64>], serial: u64)
-    ensures forgotten { (place : ℕ) → slice_index_or serials.new place None ≡ without serial (slice_index_or serials.old place None) }
-    ensures places { length serials.new ≡ length serials.old }
-{
-    for newest in serials {
-        if *newest == Some(serial) {
-            *newest = None;
         }
     }
 }
