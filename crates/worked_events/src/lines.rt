@@ -137,12 +137,6 @@ pub fn opened_axis(alloc: Global) -> Result<Opened, Fail> {
     Ok(opened_project(alloc, Project::checked(alloc, groups))?)
 }
 
-/// The core of it alone.
-pub fn core_of_axis(alloc: Global) -> Result<Core, Fail> {
-    let groups = axis(alloc)?;
-    Ok(Core::new(alloc, Project::checked(alloc, groups)?)?)
-}
-
 /// The bytes that a PDO of 64 entries holds.
 const PDO_BYTES: u16 = 512;
 
