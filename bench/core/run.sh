@@ -488,7 +488,7 @@ fn once(alloc: Global, core: &mut Core, timed: &Timed, frame: &mut [u8], indexes
         WRITE_AND_ARRIVE => write_and_take(alloc, core),
         POST_OUTPUTS => {
             let epoch = core.plan().epoch();
-            u64::from(matches!(post(alloc, core, timed.task, epoch, frame), Answer::Posted))
+            u64::from(core.post(timed.task, epoch, frame).is_ok())
         }
         EDIT => edit_twice(alloc, core, timed),
         _ => 0,
