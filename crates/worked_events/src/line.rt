@@ -42,6 +42,35 @@ fn plan_anew(alloc: Global, declared: &[Declared]) -> Result<Plan, EditFault> {
     }
 }
 
+/// Copies of the declared groups, present or not.
+fn groups_copied(alloc: Global, declared: &[Declared]) -> Result<Items<Group>, AllocError> {
+    let mut groups = Items::new(alloc);
+    for one in declared {
+        groups.push(one.group.copied(alloc)?)?;
+    }
+    Ok(groups)
+}
+
+/// Connects each present group that a plan didn't open with.
+fn connect_present(alloc: Global, plan: &mut Plan, declared: &[Declared]) -> Result<(), EditFault> {
+    for one in declared {
+        if one.present && one.group.alias != 0 {
+            plan.apply(alloc, &Edit::Connect(one.group.alias))?;
+        }
+    }
+    Ok(())
+}
+
+/// A plan made anew that has the same declared groups, the same of them present.
+fn plan_again(alloc: Global, declared: &[Declared]) -> Result<Plan, EditFault> {
+    let Ok(project) = Project::checked(alloc, groups_copied(alloc, declared)?) else {
+        return Err(EditFault::Memory);
+    };
+    let mut plan = Plan::new(alloc, project)?;
+    connect_present(alloc, &mut plan, declared)?;
+    Ok(plan)
+}
+
 impl Line {
     /// The line of a project at its opening.
     pub fn opened(alloc: Global, project: Project) -> Result<Line, EditFault> {
@@ -52,7 +81,8 @@ impl Line {
 
     /// The line behind an edit, or the edit's fault.
     pub fn edited(&self, alloc: Global, edit: &Edit) -> Result<Line, EditFault> {
-        let declared = self.declared.edited(alloc, edit)?;
+        let mut declared = plan_again(alloc, self.declared.groups())?;
+        declared.apply(alloc, edit)?;
         let anew = plan_anew(alloc, declared.groups())?;
         Ok(Line { declared, anew })
     }
