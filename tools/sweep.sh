@@ -87,9 +87,9 @@ expect_refusals() {
         run_unrefused "$scratch/lines" without
         count=$((count + 1))
         size=$(wc -c <"$scratch/front")
-        { cat "$scratch/front"; echo refused 14 Memory; tail -c +$((size + 1)) "$scratch/without"; } >"$scratch/alone.$count"
+        { cat "$scratch/front"; echo refused 28 Memory; tail -c +$((size + 1)) "$scratch/without"; } >"$scratch/alone.$count"
         cp "$scratch/without.status" "$scratch/alone.$count.status"
-        { cat "$scratch/front"; yes refused 14 Memory | head -n $((last - line + 1)); } >"$scratch/lasting.$count"
+        { cat "$scratch/front"; yes refused 28 Memory | head -n $((last - line + 1)); } >"$scratch/lasting.$count"
         echo 0 >"$scratch/lasting.$count.status"
     done
 }

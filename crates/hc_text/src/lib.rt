@@ -7,4 +7,5 @@ pub mod lines;
 pub mod numbers;
 pub mod output;
 pub mod printing;
+pub mod room;
 pub mod words;
