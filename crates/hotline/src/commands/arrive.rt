@@ -55,7 +55,7 @@ pub fn reply(
         Ok(arrival) => arrival.len(),
         Err(fault) => return push_refusal(CoreFault::from(fault), out),
     };
-    out.reserve(LONGEST_OUTCOME * datagrams.max(1))?;
+    out.reserve(room_of(datagrams.max(1))?)?;
     match core.step(alloc, Event::Arrive(bytes)) {
         Answer::Answered(outcomes) => add_outcomes(outcomes.as_slice(), out),
         Answer::WriteDone => add_text("write done\n", out),
@@ -65,6 +65,17 @@ pub fn reply(
         _ => unreachable!(),
     }
     Ok(())
+}
+
+/// The bytes of so many of the longest lines.
+/// `AllocError` where no memory has so many.
+fn room_of(lines: usize) -> Result<usize, AllocError>
+    ensures { IfOk result (λ room. room ≡ LONGEST_OUTCOME * lines) }
+{
+    match LONGEST_OUTCOME.checked_mul(lines) {
+        Some(room) => Ok(room),
+        None => Err(AllocError),
+    }
 }
 
 /// Adds the lines of what an arrival is for the datagrams that it answers, for which there is room.

@@ -52,7 +52,7 @@ fn has_repeat(tasks: &[u8]) -> bool
 }
 
 /// The tasks of one `send`, in order: 1 to 8, none twice. Whether there is such a task isn't judged yet.
-#[derive(Clone, Debug, Drop)]
+#[derive(Debug, Drop)]
 pub struct Together {
     tasks: ArrayVec<u8, 8>,
 }
