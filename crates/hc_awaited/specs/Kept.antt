@@ -45,12 +45,12 @@ kept_of frame = record { serial = frame.serial; datagrams = frame.datagrams }
 abbrev pub carried_by : Newest → ℕ → Named → Carried
 carried_by newest serial named = record { datagram = named; newest = is_newest newest serial named }
 
-abbrev pub told_by : Newest → Kept → AwaitedFrame
-told_by newest frame = record { serial = frame.serial; datagrams = map (carried_by newest frame.serial) frame.datagrams }
+abbrev pub frame_by : Newest → Kept → AwaitedFrame
+frame_by newest frame = record { serial = frame.serial; datagrams = map (carried_by newest frame.serial) frame.datagrams }
 
 -- those are awaited that are the newest of some datagram
 abbrev pub awaited_frames : Newest → List Kept → List AwaitedFrame
-awaited_frames newest frames = filter is_alive (map (told_by newest) frames)
+awaited_frames newest frames = filter is_alive (map (frame_by newest) frames)
 
 -- the table has a place for each datagram; serials ascend; datagrams have a place
 pub record AreKept (newest : Newest) (frames : List Kept) : Type 0 where

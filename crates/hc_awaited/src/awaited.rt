@@ -3,7 +3,7 @@ ghost use Rattle.std.specs.Prelude.{◌≡◌, ◌==◌, ◌<◌, ◌≤◌, [],
 ghost use Rattle.std.specs.List.Sorted.{IsPartitionPoint};
 ghost use Rattle.std.specs.Option.{option_map_or};
 ghost use Rattle.hc_events.specs.Sendings.{Named};
-ghost use Rattle.hc_awaited.specs.Kept.{awaited_frames, kept_of, newest_after, newest_of, told_by};
+ghost use Rattle.hc_awaited.specs.Kept.{awaited_frames, kept_of, newest_after, newest_of, frame_by};
 ghost use Rattle.hc_awaited.specs.Waiting.{IsNamed, is_alive};
 
 use crate::kept::Kept;
@@ -79,14 +79,14 @@ fn note_all(newest: &mut Newest, frames: &[Sending])
 
 /// Whether a frame is the newest of one of its datagrams at least.
 pub(crate) fn is_alive(newest: &Newest, frame: &Kept) -> bool
-    ensures { result ≡ is_alive (told_by newest.now frame.now) }
+    ensures { result ≡ is_alive (frame_by newest.now frame.now) }
 {
     newest.is_any(frame.serial(), frame.datagrams())
 }
 
 /// The frames stay that are the newest of a datagram.
 fn keep_alive(frames: &mut Vec<Kept>, newest: &Newest)
-    ensures frames { frames.new.items ≡ filter (λ frame. is_alive (told_by newest.now frame)) frames.old.items }
+    ensures frames { frames.new.items ≡ filter (λ frame. is_alive (frame_by newest.now frame)) frames.old.items }
     ensures room { vec_capacity frames.new ≡ vec_capacity frames.old }
 {
     frames.retain(|frame| is_alive(newest, frame));
@@ -94,8 +94,8 @@ fn keep_alive(frames: &mut Vec<Kept>, newest: &Newest)
 
 /// The frame comes behind the others where it is the newest of a datagram; then there is room for it.
 fn add_alive(frames: &mut Vec<Kept>, newest: &Newest, frame: Kept)
-    requires { is_alive (told_by newest.now frame) ≡ true → vec_len frames.old < vec_capacity frames.old }
-    ensures frames { frames.new.items ≡ frames.old.items ++ (if is_alive (told_by newest.now frame) then frame ∷ [] else []) }
+    requires { is_alive (frame_by newest.now frame) ≡ true → vec_len frames.old < vec_capacity frames.old }
+    ensures frames { frames.new.items ≡ frames.old.items ++ (if is_alive (frame_by newest.now frame) then frame ∷ [] else []) }
     ensures room { vec_capacity frames.new ≡ vec_capacity frames.old }
 {
     if is_alive(newest, &frame) {
@@ -105,8 +105,8 @@ fn add_alive(frames: &mut Vec<Kept>, newest: &Newest, frame: Kept)
 
 /// Those of the frames that are the newest of a datagram come behind the others; there is room for them.
 fn add_all(frames: &mut Vec<Kept>, newest: &Newest, more: &[Sending])
-    requires { length (frames.old.items ++ filter (λ frame. is_alive (told_by newest.now frame)) (map kept_of more.now)) ≤ vec_capacity frames.old }
-    ensures frames { frames.new.items ≡ frames.old.items ++ filter (λ frame. is_alive (told_by newest.now frame)) (map kept_of more.now) }
+    requires { length (frames.old.items ++ filter (λ frame. is_alive (frame_by newest.now frame)) (map kept_of more.now)) ≤ vec_capacity frames.old }
+    ensures frames { frames.new.items ≡ frames.old.items ++ filter (λ frame. is_alive (frame_by newest.now frame)) (map kept_of more.now) }
     ensures room { vec_capacity frames.new ≡ vec_capacity frames.old }
 {
     for frame in more {
@@ -125,8 +125,8 @@ fn count_below(frames: &[Kept], serial: u64) -> usize
 /// The frame with a serial, where it is the newest of a datagram.
 pub(crate) fn find_frame<'a>(newest: &Newest, frames: &'a [Kept], serial: u64) -> Option<&'a Kept>
     requires { AllPairs (λ a b. a.serial < b.serial) frames.now }
-    ensures found { option_map (λ frame. told_by newest.now frame.now) result ≡ find (λ frame. frame.serial == serial) (awaited_frames newest.now frames.now) }
-    ensures alive { IfSome result (λ frame. is_alive (told_by newest.now frame.now) ≡ true) }
+    ensures found { option_map (λ frame. frame_by newest.now frame.now) result ≡ find (λ frame. frame.serial == serial) (awaited_frames newest.now frames.now) }
+    ensures alive { IfSome result (λ frame. is_alive (frame_by newest.now frame.now) ≡ true) }
     ensures among { IfSome result (λ frame. Contains frames.now frame.now) }
 {
     let frame = frames.get(count_below(frames, serial))?;

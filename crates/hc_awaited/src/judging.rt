@@ -11,7 +11,7 @@ ghost use Rattle.hc_events.specs.Sendings.{Named};
 ghost use Rattle.hc_events.specs.Steps.{outcome_for, told_of, told_of_block};
 ghost use Rattle.hc_awaited.specs.Waiting.{IsNamed};
 ghost use Rattle.hc_awaited.specs.Judging.{frame_due, judge_due, judged_due, write_due};
-ghost use Rattle.hc_awaited.specs.Kept.{told_by};
+ghost use Rattle.hc_awaited.specs.Kept.{frame_by};
 ghost use Rattle.hc_awaited.specs.Walk.{head_of, outcomes_in};
 
 use crate::awaited::{Awaited, Write, find_frame, has_serial};
@@ -127,7 +127,7 @@ fn outcomes(
 ) -> Result<Option<Items<Outcome>>, AllocError>
     requires named { All IsNamed frame.now.datagrams }
     requires stands { All (StandsIn (line plan.now)) frame.now.datagrams }
-    ensures { IfOk result (λ told. told ≡ outcomes_in (frame_due (line plan.now) (told_by newest.now frame.now)) arrival.now.parts) }
+    ensures { IfOk result (λ told. told ≡ outcomes_in (frame_due (line plan.now) (frame_by newest.now frame.now)) arrival.now.parts) }
 {
     let mut outcomes = Vec::with_capacity(alloc, frame.datagrams().len())?;
     let mut parts = arrival.parts();

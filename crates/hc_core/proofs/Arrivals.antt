@@ -27,15 +27,14 @@ use Rattle.hc_events.proofs.lemmas.Slots.{AllSent, FitsFresh, fresh-fits}
 use Rattle.hc_sendings.proofs.lemmas.Listed.{standing-task}
 use Rattle.hc_events.proofs.lemmas.WithoutStale.{goods-of_news}
 use Rattle.hc_awaited.specs.Waiting.{ended}
+use Rattle.hc_awaited.proofs.lemmas.Sorts.{write-kept}
 use Rattle.hc_inputs.specs.Image.{Image, data_of}
 use Rattle.hc_owed.specs.Laws.{WritesAreRight, known_with}
 use Rattle.hc_owed.specs.Writes.{confirmed}
-use Rattle.hc_core.proofs.Awaits.{waits-stale}
-use Rattle.hc_core.proofs.Ended.{waits-ended}
+use Rattle.hc_core.proofs.Awaits.{waits-ended, waits-stale}
 use Rattle.hc_core.proofs.Posts.{values-came}
 use Rattle.hc_core.proofs.Known.{kept-alike, known-done, known-framed, known-missed}
 use Rattle.hc_core.proofs.News.{news-came, news-none}
-use Rattle.hc_core.proofs.Sorts.{write-kept}
 use Rattle.hc_core.proofs.Told.{TellsInputs, TellsWrite}
 use Rattle.hc_core.specs.Agreement.{Agree, Kept}
 use Rattle.hc_core.specs.Goods.{FitsImage, change_of, goods_in}
@@ -126,7 +125,7 @@ pub agree-done : WritesAreRight → (kept : Kept) (past taken : Record) (arrival
     → TellsWrite past arrival true → owed_blocks past ≡ block ∷ rest → slice_get (line_blocks (line_of past)) n ≡ Some block → Agree kept past taken
     → Agree (record kept { awaited = ended arrival.serial kept.awaited; owed = record kept.owed { blocks = confirmed n block.block.bytes kept.owed.blocks } }) (Came arrival ∷ past) taken
 agree-done right kept past taken arrival n block rest tells first at agree =
-    let write = write-kept past kept.awaited arrival.serial tells.sending agree.waits tells.there tells.writes in
+    let write = write-kept past kept.awaited arrival.serial tells.sending agree.waits.kept tells.there tells.writes in
     let way = agree.waits.written write.write write.there in
     let same : way.block ≡ block = heads_same way.block block way.rest rest (sym way.first ∙ first) in
     let known = known-done past arrival tells.sending way.block tells.there (write.heads ∙ ap (λ head. head ∷ []) way.head) (way.last ∙ ap (λ serial. Some (serial, way.block.block.bytes)) write.serial_is) tells.good_is in

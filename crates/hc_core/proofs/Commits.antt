@@ -27,6 +27,7 @@ use Rattle.hc_events.proofs.lemmas.Frames.{proposals-numbered}
 use Rattle.hc_sendings.proofs.lemmas.Listed.{standing-task}
 use Rattle.hc_awaited.specs.Waiting.{AwaitedFrame, ComeBehind, IsNamed, all_sent}
 use Rattle.hc_core.proofs.Sendings.{agree-sent}
+use Rattle.hc_core.proofs.SentAll.{first-number}
 use Rattle.hc_core.specs.Agreement.{Agree, Kept}
 use Rattle.hc_core.specs.Proposed.{IsProposal}
 
@@ -46,9 +47,6 @@ proposal-named kept past taken frames is agree =
     (proposal past is.tasks) (proposal-stands past is.tasks))
 
 -- serials of frames one after another
-
-pub first-number : (frame : Frame) (rest : List ℕ) (serial : ℕ) (more : List ℕ) → frame.serial ∷ rest ≡ serial ∷ more → (frame.serial ≡ serial) × (rest ≡ more)
-first-number frame rest serial more e = (cc, cc)
 
 abbrev pub numbers_of : List Frame → List ℕ
 numbers_of frames = map (λ frame. frame.serial) frames
@@ -91,7 +89,7 @@ proposal-behind kept past taken frames is agree =
           (λ frame less. All-weaker (λ (next : Frame). next_serial past ≤ next.serial) (λ (next : Frame). frame.serial < next.serial)
           (λ next low. not_above frame.serial (next_serial past) next.serial less low) (proposal past tasks)
           (from_number (proposal past tasks) (next_serial past) (next_serial past) (proposals-numbered past tasks) (itself_low (next_serial past))))
-          kept.awaited.frames agree.waits.below;
+          kept.awaited.frames agree.waits.kept.below;
     })
 
 -- nothing is owed, and the serials suffice

@@ -4,12 +4,14 @@ use Rattle.std.specs.Prelude.{Ok, Result}
 use Rattle.std.specs.Result.{result_unwrap_or}
 use Rattle.std.proofs.lemmas.List.{map-append}
 use Rattle.hc_records.specs.declared.edit.Edit.{Edit}
+use Rattle.hc_records.specs.declared.records.Declared.{Declared}
 use Rattle.hc_records.specs.declared.faults.EditFault.{EditFault}
 use Rattle.hc_records.specs.Boundaries.{recut}
 use Rattle.hc_records.specs.Edits.{changed as changed_state, crowded_task, edit_faults, edited, refused_by, state_after}
 use Rattle.hc_records.specs.Line.{State, groups_of, line}
 use Rattle.hc_records.specs.Lists.{lowest}
 use Rattle.hc_records.specs.Project.{lowest_fault}
+use Rattle.hc_edits.specs.Edits.{own_fault}
 use Rattle.hc_registers.specs.Blocks.{LineBlock, line_blocks}
 use Rattle.hc_places.specs.declared.swap.Swap.{Swap}
 use Rattle.hc_places.specs.Swap.{swapped}
@@ -37,6 +39,12 @@ use Rattle.hc_core.proofs.Awaits.{waits-edited}
 use Rattle.hc_core.proofs.Posts.{values-edited}
 use Rattle.hc_core.proofs.Known.{kept-alike, known-edited}
 use Rattle.hc_core.specs.Agreement.{Agree, Kept, TellNews}
+
+-- a fault of its own is that over the declared groups of the plan
+
+pub own-told : (kept : Kept) (past taken : Record) (edit : Edit) (groups : List Declared) → groups ≡ kept.plan.groups → Agree kept past taken → own_fault (state_of past).groups edit ≡ own_fault groups edit
+own-told kept past taken edit groups same agree =
+    ap (λ (state : State). own_fault state.groups edit) (sym agree.state) ∙ ap (λ (all : List Declared). own_fault all edit) (sym same)
 
 -- the state that an accepted edit leads to is that behind it
 

@@ -1,32 +1,36 @@
 -- Which frames can be filled, and what `fill` asks for.
-use Rattle.std.proofs.Common.{◌≡◌, ℕ, ◌+◌, ◌<◌, ◌≤◌, List, [], ◌∷◌, length, map, refl, sym, ap, ◌∙◌, arith, Option, None}
-use Rattle.std.specs.Prelude.{All, sum_by}
+use Rattle.std.proofs.Common.{◌≡◌, ℕ, ◌+◌, ◌<◌, ◌≤◌, ◌&&◌, nat_lt, Bool, true, false, cond, List, [], ◌∷◌, length, map, refl, sym, ap, ◌∙◌, subst, arith, Option, Some, None}
+use Rattle.std.specs.Prelude.{All, IfOk, IfSome, OnOk, Result, Ok, Err, sum_by}
 use Rattle.std.specs.List.{flat_map, range_with_len}
+use Rattle.std.proofs.lemmas.Bool.{ltb-false, ltb-true, not-true}
 use Rattle.std.proofs.lemmas.List.Elements.{All-cons, All-head, All-nil, All-tail, All-weaker}
 use Rattle.std.proofs.lemmas.List.Sums.{sum_by-cons}
 use Rattle.hc_records.specs.declared.limits.TheConstants.{TASKS}
 use Rattle.hc_records.specs.Edits.{crowded_task}
+use Rattle.hc_records.specs.Image.{datagram_count, task_places}
 use Rattle.hc_records.specs.Line.{groups_of}
 use Rattle.hc_records.specs.Lists.{lowest}
 use Rattle.hc_records.specs.Project.{lowest_fault}
 use Rattle.hc_frames.specs.declared.limits.TheConstants.{SETUP_SERIAL}
 use Rattle.hc_events.specs.Accepted.{StandsIn}
+use Rattle.hc_events.specs.Calls.{preview}
 use Rattle.hc_events.specs.Entries.{Record}
 use Rattle.hc_events.specs.Points.{line_of, next_serial, state_of}
-use Rattle.hc_events.specs.Sendings.{Frame, Named, length_of, task_datagrams}
+use Rattle.hc_events.specs.Sendings.{Frame, Named, alone, length_of, task_datagrams}
 use Rattle.hc_events.specs.declared.answer.Answer.TheVariants as answer
 use Rattle.hc_events.specs.declared.faults.CoreFault.{CoreFault}
-use Rattle.hc_events.specs.Steps.{kept_if, proposal, sent_text, task_faults, unless, with_sent}
+use Rattle.hc_events.specs.Steps.{has_serials, kept_if, proposal, sent_text, task_faults, unless, with_sent}
 use Rattle.hc_events.proofs.lemmas.Accepted.{proposal-stands}
 use Rattle.hc_events.proofs.lemmas.Frames.{frames-counted, proposals-numbered}
 use Rattle.hc_events.proofs.lemmas.SentBits.{sent-data}
 use Rattle.hc_outputs.specs.Packed.{Packed, sent_bytes}
 use Rattle.hc_sendings.specs.Texts.{carried_bytes}
 use Rattle.hc_sendings.proofs.lemmas.Listed.{standing-task}
-use Rattle.hc_core.proofs.Commits.{allowed, first-number, numbers_of}
+use Rattle.hc_core.proofs.Commits.{allowed, numbers_of}
+use Rattle.hc_core.proofs.SentAll.{first-number}
 use Rattle.hc_core.proofs.Values.{data-sent}
 use Rattle.hc_core.specs.Filled.{CanBeFilled}
-use Rattle.hc_core.specs.Laws.{PiecesAreTheEvent}
+use Rattle.hc_core.specs.Laws.{PiecesAreTheEvent, PreviewsCanBeFilled}
 use Rattle.hc_core.specs.Values.{HoldsValues}
 
 abbrev HasTask : Named → Type 0
@@ -67,10 +71,51 @@ proposal-filled past tasks none =
     let serials = below_number frames (next_serial past) SETUP_SERIAL (proposals-numbered past tasks) (allowed past tasks none).left in
     λ i d within. record { stands = stands i d within; counted = counted i d within; serial = serials i d within }
 
+pub few-frames : (serial count most : ℕ) → serial + count ≤ most → count ≤ most
+few-frames serial count most left = omega (arith, left)
+
+pub proposal-few : (past : Record) (tasks : List ℕ) → lowest (task_faults past tasks) ≡ None → length (proposal past tasks) ≤ SETUP_SERIAL
+proposal-few past tasks none = few-frames (next_serial past) (length (proposal past tasks)) SETUP_SERIAL (allowed past tasks none).left
+
+pub if-proposed : {X E : Type 0} (P : X → Type 0) (Q : Type 0) (R : X → Type 0) (result : Result X E) → ((x : X) → P x → Q → R x) → IfOk result P → OnOk result Q → IfOk result R
+if-proposed P Q R (Ok x) next is on = next x is on
+if-proposed P Q R (Err e) next is on = tt
+
+-- a preview
+
+one_left : (n most : ℕ) → nat_lt most (n + 1) ≡ false → n < most
+one_left n most left = let low = ltb-false most (n + 1) left in omega (arith, low)
+
+alone_counted : (n : ℕ) → n ≡ 0 + n
+alone_counted n = omega arith
+
+shown_filled : (past : Record) (task d : ℕ) (frame : Frame) (there left : Bool) → nat_lt d (datagram_count (task_places task (line_of past))) ≡ there → has_serials past 1 ≡ left
+    → cond (there && left) (Some (alone (next_serial past) (task, d) (length_of (line_of past) (task, d)))) None ≡ Some frame → CanBeFilled past frame
+shown_filled past task d frame false left stands serials e = cc
+shown_filled past task d frame true false stands serials e = cc
+shown_filled past task d frame true true stands serials e =
+    let one = alone (next_serial past) (task, d) (length_of (line_of past) (task, d)) in
+    let can : CanBeFilled past one = record {
+      stands = All-cons (StandsIn (line_of past)) (task, d) [] (ltb-true d (datagram_count (task_places task (line_of past))) stands) (All-nil (StandsIn (line_of past)));
+      counted = alone_counted (12 + length_of (line_of past) (task, d));
+      serial = one_left (next_serial past) SETUP_SERIAL (not-true (nat_lt SETUP_SERIAL (next_serial past + 1)) serials);
+    } in
+    let same : one ≡ frame = cc in
+    subst (CanBeFilled past) same can
+
+pub previews : PreviewsCanBeFilled
+previews past task d frame e = shown_filled past task d frame (nat_lt d (datagram_count (task_places task (line_of past)))) (has_serials past 1) refl refl e
+
+pub preview-filled : (past : Record) (task d : ℕ) (found : Option Frame) → found ≡ preview past task d → IfSome found (CanBeFilled past)
+preview-filled past task d None e = tt
+preview-filled past task d (Some frame) e = previews past task d frame (sym e)
+
 -- proposed, filled and committed they are the event
 
 pub pieces : PiecesAreTheEvent
 pieces past frames is = record {
+  filled = subst (All (CanBeFilled past)) (sym is.whole) (proposal-filled past is.tasks is.accepted);
+  few = subst (λ (all : List Frame). length all ≤ SETUP_SERIAL) (sym is.whole) (proposal-few past is.tasks is.accepted);
   answer =
       ap (λ (refused : Option CoreFault). unless refused (answer.Sent (map (sent_text past) (proposal past is.tasks)))) is.accepted
       ∙ ap (λ (all : List Frame). answer.Sent (map (sent_text past) all)) (sym is.whole);

@@ -2,7 +2,6 @@ pub mod Arrivals
 pub mod Awaits
 pub mod Commits
 pub mod Edits
-pub mod Ended
 pub mod Firsts
 pub mod GoodsSteps
 pub mod Known
@@ -11,7 +10,6 @@ pub mod News
 pub mod Sendings
 pub mod SentAll
 pub mod Shown
-pub mod Sorts
 pub mod Told
 pub mod BlockSizes
 pub mod Opens

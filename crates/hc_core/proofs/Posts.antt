@@ -1,6 +1,6 @@
 -- Output values behind each entry, and what is kept behind a post.
-use Rattle.std.proofs.Common.{◌≡◌, ℕ, ◌+◌, ◌*◌, ◌==◌, Bool, true, false, cond, ◌||◌, List, [], ◌∷◌, refl, sym, ap, ◌∙◌, subst, Option, Some, None}
-use Rattle.std.specs.Prelude.{filter, is_some, option_and_then, option_map}
+use Rattle.std.proofs.Common.{◌≡◌, ℕ, ◌+◌, ◌*◌, ◌==◌, cond, List, [], ◌∷◌, sym, ap, ◌∙◌, subst, Option, None}
+use Rattle.std.specs.Prelude.{is_some}
 use Rattle.std.specs.Option.{option_map_or}
 use Rattle.hc_bits.specs.Bits.{bit_of}
 use Rattle.hc_records.specs.declared.edit.Edit.{Edit}
@@ -13,8 +13,6 @@ use Rattle.hc_records.proofs.lemmas.VariablePlaces.{variables-lie}
 use Rattle.hc_registers.specs.Blocks.{LineBlock}
 use Rattle.hc_places.specs.Table.{table_of}
 use Rattle.hc_events.specs.Accepted.{AreAccepted, just_opened}
-use Rattle.hc_events.specs.Answering.{Sending, followed_by, sending_of}
-use Rattle.hc_events.specs.Awaited.{alive, all_sent_again, is_ended, is_no_arrival}
 use Rattle.hc_events.specs.Arrivals.{Arrival}
 use Rattle.hc_events.specs.Entries.{Record, Edited, Posted, Sent, Wrote, Came}
 use Rattle.hc_events.specs.Outputs.{posted_bit, value_bit}
@@ -22,15 +20,13 @@ use Rattle.hc_events.specs.Points.{line_of, state_of}
 use Rattle.hc_events.specs.Sendings.{Frame, Named}
 use Rattle.hc_events.specs.Steps.{Posts, kept_if, post_faults, with_sent}
 use Rattle.hc_events.proofs.lemmas.Accepted.{accepted-more, kept-after}
-use Rattle.hc_awaited.specs.Waiting.{AwaitedWrite, Waiting}
 use Rattle.hc_outputs.specs.Packed.{Holds, Packed}
 use Rattle.hc_outputs.specs.Values.{image_bit, kept, posted}
 use Rattle.hc_outputs.proofs.lemmas.Bits.{AreAlike, holds-alike}
 use Rattle.hc_outputs.proofs.lemmas.LaidOut.{offset-of_line, place-of_line}
+use Rattle.hc_core.proofs.Awaits.{waits-posted}
 use Rattle.hc_core.specs.Agreement.{Agree, Kept}
 use Rattle.hc_core.specs.Values.{HoldsValues}
-use Rattle.hc_core.specs.Waits.{IsUnderWay, Waits}
-use Rattle.hc_awaited.specs.Record.{due_by, dues_of}
 
 -- at the opening each value is 0
 
@@ -84,40 +80,6 @@ pub values-edited : (past : Record) (edit : Edit) (packed : Packed) → Holds (t
 values-edited past edit packed holds =
     holds-alike (table_of (line_of (Edited edit ∷ past))) (kept (table_of (line_of past)) (value_bit past)) (value_bit (Edited edit ∷ past)) packed
     (λ variable k place is low. kept_same past edit variable k) holds
-
--- what is awaited is awaited as before behind a post
-
-alive_alike : (over : Bool) (a b : Sending) → dues_of a ≡ dues_of b → option_map dues_of (cond over None (Some a)) ≡ option_map dues_of (cond over None (Some b))
-alive_alike true a b same = refl
-alive_alike false a b same = ap Some same
-
-alive_posted : (task serial : ℕ) (bytes : List ℕ) (sending : Sending)
-    → option_map dues_of (alive serial (followed_by (Posted task bytes) sending)) ≡ option_map dues_of (alive serial sending)
-alive_posted task serial bytes sending =
-    let since = filter is_no_arrival sending.since in
-    alive_alike (is_ended serial sending || all_sent_again sending.since sending.heads)
-    (record { heads = sending.heads; since = Posted task bytes ∷ since }) (record { heads = sending.heads; since = since }) refl
-
-due_found : (task serial : ℕ) (bytes : List ℕ) (past : Record) (found : Option Sending) → sending_of past serial ≡ found → due_by (Posted task bytes ∷ past) serial ≡ due_by past serial
-due_found task serial bytes past None e = ap (λ f. option_map dues_of (option_and_then (alive serial) (option_map (followed_by (Posted task bytes)) f))) e ∙ sym (ap (λ f. option_map dues_of (option_and_then (alive serial) f)) e)
-due_found task serial bytes past (Some sending) e =
-    ap (λ f. option_map dues_of (option_and_then (alive serial) (option_map (followed_by (Posted task bytes)) f))) e
-    ∙ alive_posted task serial bytes sending
-    ∙ sym (ap (λ f. option_map dues_of (option_and_then (alive serial) f)) e)
-
-way_posted : (past : Record) (task : ℕ) (bytes : List ℕ) (write : AwaitedWrite) → IsUnderWay past write → IsUnderWay (Posted task bytes ∷ past) write
-way_posted past task bytes write way = record { block = way.block; head = way.head; last = way.last; rest = way.rest; first = way.first }
-
-pub waits-posted : (past : Record) (waiting : Waiting) (task : ℕ) (bytes : List ℕ) → Waits past waiting → Waits (Posted task bytes ∷ past) waiting
-waits-posted past waiting task bytes waits = record {
-  due = λ serial. waits.due serial ∙ sym (due_found task serial bytes past (sending_of past serial) refl);
-  ascend = waits.ascend;
-  below = waits.below;
-  alive = waits.alive;
-  stands = waits.stands;
-  written = λ write e. way_posted past task bytes write (waits.written write e);
-  apart = waits.apart;
-}
 
 -- all that is kept
 

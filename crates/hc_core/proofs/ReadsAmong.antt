@@ -44,7 +44,7 @@ shows-among past next (step ∷ steps) (first ∷ answers) all zero task told lo
     record { point = past; reached = refl; shows = shows_one past all.0 task told low one }
 shows-among past next (step ∷ steps) (first ∷ answers) all (suc n) task told low at got =
     let later = shows-among all.0 next steps answers all.2 n task told low at got in
-    record { point = later.point; reached = (all.0, all.1, later.reached); shows = later.shows }
+    record { point = later.point; reached = (all.0, all.1, later.reached, all.3); shows = later.shows }
 
 -- a stale arrival
 

@@ -55,14 +55,15 @@ pub agree-sent : (kept : Kept) (past taken : Record) (tasks : List ℕ) → lowe
 agree-sent kept past taken tasks none owed left agree =
     let frames = proposal past tasks in
     let same : state_of (with_sent past frames) ≡ state_of past = sent_alike state_of (λ before frame. refl) frames past in
+    let accepted = accepted_sent past tasks none agree.accepted in
     record {
-      accepted = accepted_sent past tasks none agree.accepted;
+      accepted = accepted;
       state = agree.state ∙ sym same;
       project = ap (λ state. lowest_fault (groups_of state.groups)) same ∙ agree.project;
       uncrowded = ap (λ state. crowded_task (line state)) same ∙ agree.uncrowded;
       serial = ap (λ n. n + length frames) agree.serial ∙ sym (serial_sent frames past);
       left = left;
-      waits = waits-all_sent past kept.awaited tasks owed agree.waits;
+      waits = waits-all_sent past kept.awaited tasks owed accepted agree.waits;
       slots = λ task d below. agree.slots task d below ∙ sym (sent_alike (λ before. slot_of before task d) (λ before frame. refl) frames past);
       values = values-sent frames past kept.outputs agree.values;
       known = record {

@@ -1,6 +1,6 @@
 -- What a core's calls answer is what the event may be answered.
 use Rattle.std.proofs.Common.{◌≡◌, ◌≢◌, ℕ, List, [], ◌∷◌, ◌++◌, refl, sym, ap, ◌∙◌, subst, true, inl, inr, Option, Some, None}
-use Rattle.std.specs.Prelude.{IfErr, IfOk, OnErr, OnOk, Result, Ok, Err, ◌⊎◌, option_map}
+use Rattle.std.specs.Prelude.{IfErr, IfOk, IfSome, OnErr, OnOk, Result, Ok, Err, ◌⊎◌, option_map}
 use Rattle.hc_records.specs.declared.edit.Edit.{Edit}
 use Rattle.hc_records.specs.declared.faults.EditFault.{EditFault}
 use Rattle.hc_records.specs.declared.faults.EditFault.TheVariants as edit
@@ -17,7 +17,8 @@ use Rattle.hc_events.specs.Faults.{edit_refusal}
 use Rattle.hc_events.specs.Owed.{owed_blocks}
 use Rattle.hc_events.specs.Points.{state_of}
 use Rattle.hc_events.specs.Steps.{Step, Edits, Posts, SendsTasks, SendsWrite, Reads, answer_to, edit_refused, entries_after, kept_if, post_faults, proposal, task_faults, told_of_edit, unless, with_sent, with_write, write_faults}
-use Rattle.hc_core.specs.Serving.{MayAnswerAll, told_by, told_by_edit, told_by_post, told_or_memory}
+use Rattle.hc_core.specs.Early.{TellsEarly}
+use Rattle.hc_core.specs.Serving.{MayAnswerAll, answer_of, answer_of_edit, answer_of_post, answer_or_memory}
 use Rattle.hc_core.specs.State.{CoreState}
 
 wanting : (past : Record) (step : Step) (next : Record) → takes_memory step ≡ true → next ≡ past → MayAnswer past step (answer.Refused fault.Memory) next
@@ -26,7 +27,7 @@ wanting past step next takes same = inr (record { takes = takes; answer = refl; 
 -- an answer that is the event's, or want of memory
 
 pub answer-served : {E : Type 0} (old new : Record) (step : Step) (result : Result Answer E) → takes_memory step ≡ true → IfOk result (λ told. told ≡ answer_to old step) → OnOk result (new ≡ entries_after old step) → OnErr result (new ≡ old)
-    → MayAnswer old step (told_or_memory result) new
+    → MayAnswer old step (answer_or_memory result) new
 answer-served old new step (Ok told) takes answers entries same = inl (record { answer = answers; entries = entries })
 answer-served old new step (Err error) takes answers entries same = wanting old step new takes same
 
@@ -76,16 +77,35 @@ refused_or old new step found told next refused takes answers entries names same
 -- a register write, and tasks
 
 pub write-served : (old new : Record) (result : Result Answer CoreFault) → IfOk result (λ told. told ≡ answer_to old SendsWrite)
-    → IfErr result (λ found. found ≢ fault.Memory → lowest (write_faults old (owed_blocks old)) ≡ Some found) → OnOk result (new ≡ entries_after old SendsWrite) → OnErr result (new ≡ old) → MayAnswer old SendsWrite (told_by result) new
+    → IfErr result (λ found. found ≢ fault.Memory → lowest (write_faults old (owed_blocks old)) ≡ Some found) → OnOk result (new ≡ entries_after old SendsWrite) → OnErr result (new ≡ old) → MayAnswer old SendsWrite (answer_of result) new
 write-served old new (Ok told) answers names entries same = inl (record { answer = answers; entries = entries })
 write-served old new (Err found) answers names entries same =
     refused_or old new SendsWrite found _ (with_write old (owed_blocks old)) (lowest (write_faults old (owed_blocks old))) refl refl refl names same (is_memory found)
 
 pub tasks-served : (old new : Record) (tasks : List ℕ) (result : Result Answer CoreFault) → IfOk result (λ told. told ≡ answer_to old (SendsTasks tasks))
-    → IfErr result (λ found. found ≢ fault.Memory → lowest (task_faults old tasks) ≡ Some found) → OnOk result (new ≡ entries_after old (SendsTasks tasks)) → OnErr result (new ≡ old) → MayAnswer old (SendsTasks tasks) (told_by result) new
+    → IfErr result (λ found. found ≢ fault.Memory → lowest (task_faults old tasks) ≡ Some found) → OnOk result (new ≡ entries_after old (SendsTasks tasks)) → OnErr result (new ≡ old) → MayAnswer old (SendsTasks tasks) (answer_of result) new
 tasks-served old new tasks (Ok told) answers names entries same = inl (record { answer = answers; entries = entries })
 tasks-served old new tasks (Err found) answers names entries same =
     refused_or old new (SendsTasks tasks) found _ (with_sent old (proposal old tasks)) (lowest (task_faults old tasks)) refl refl refl names same (is_memory found)
+
+-- what is told whatever memory does
+
+pub if-some : {X : Type 0} (P Q : X → Type 0) (found : Option X) → ((x : X) → P x → Q x) → IfSome found P → IfSome found Q
+if-some P Q None next is = tt
+if-some P Q (Some x) next is = next x is
+
+pub if-mapped : {X Y : Type 0} (f : X → Y) (Q : Y → Type 0) (found : Option X) → IfSome found (λ x. Q (f x)) → IfSome (option_map f found) Q
+if-mapped f Q None is = tt
+if-mapped f Q (Some x) is = is
+
+pub early-passed : {X Y E : Type 0} (P : Result Y E → Type 0) (found : Option E) (x : X) → IfSome found (λ fault. Ok x ≡ Err fault) → IfSome found (λ fault. P (Err fault))
+early-passed P None x is = tt
+early-passed P (Some fault) x is = cc
+
+pub post-early : {X : Type 0} (found : Option CoreFault) (result : Result X CoreFault) → OnOk result (found ≡ None) → IfErr result (λ fault. found ≡ Some fault)
+    → IfSome found (λ fault. answer_of_post result ≡ answer.Refused fault)
+post-early found (Ok done) accepted names = subst (λ (one : Option CoreFault). IfSome one (λ fault. answer.Posted ≡ answer.Refused fault)) (sym accepted) tt
+post-early found (Err other) accepted names = subst (λ (one : Option CoreFault). IfSome one (λ fault. answer.Refused other ≡ answer.Refused fault)) (sym names) refl
 
 -- an edit
 
@@ -129,7 +149,7 @@ edit_or old new change found names same (inr other) =
 
 pub edit-served : (old new : Record) (change : Edit) (result : Result Answer EditFault) → IfOk result (λ told. told ≡ told_of_edit (state_of old) (state_after (state_of old) change))
     → OnOk result (edited (state_of old) change ≡ Ok (state_after (state_of old) change)) → IfErr result (λ found. found ≢ edit.Memory → edited (state_of old) change ≡ Err found)
-    → OnOk result (new ≡ Edited change ∷ old) → OnErr result (new ≡ old) → MayAnswer old (Edits change) (told_by_edit result) new
+    → OnOk result (new ≡ Edited change ∷ old) → OnErr result (new ≡ old) → MayAnswer old (Edits change) (answer_of_edit result) new
 edit-served old new change (Ok told) answers accepted names entries same =
     let none = accepted_edit (lowest (edit_faults (state_of old) change)) (changed (state_of old) change) (state_after (state_of old) change) accepted in
     let is : edit_refused old change ≡ None = ap (option_map edit_refusal) none in
@@ -141,13 +161,14 @@ edit-served old new change (Err found) answers accepted names entries same = edi
 
 -- one more event behind others
 
-pub all-answered : (past between next : Record) (steps : List Step) (answers : List Answer) (step : Step) (told : Answer) → MayAnswerAll past steps answers between → MayAnswer between step told next
+pub all-answered : (past between next : Record) (steps : List Step) (answers : List Answer) (step : Step) (told : Answer) → MayAnswerAll past steps answers between → MayAnswer between step told next → TellsEarly between step told
     → MayAnswerAll past (steps ++ step ∷ []) (answers ++ told ∷ []) next
-all-answered past between next [] [] step told all one = (next, subst (λ (before : Record). MayAnswer before step told next) all one, refl)
-all-answered past between next [] (other ∷ answers) step told all one = absurd all
-all-answered past between next (first ∷ steps) [] step told all one = absurd all
-all-answered past between next (first ∷ steps) (other ∷ answers) step told all one =
-    (all.0, all.1, all-answered all.0 between next steps answers step told all.2 one)
+all-answered past between next [] [] step told all one early =
+    (next, subst (λ (before : Record). MayAnswer before step told next) all one, refl, subst (λ (before : Record). TellsEarly before step told) all early)
+all-answered past between next [] (other ∷ answers) step told all one early = absurd all
+all-answered past between next (first ∷ steps) [] step told all one early = absurd all
+all-answered past between next (first ∷ steps) (other ∷ answers) step told all one early =
+    (all.0, all.1, all-answered all.0 between next steps answers step told all.2 one early, all.3)
 
 -- what a call's result says of the record alone
 
@@ -163,14 +184,14 @@ pub taken-same : {X E : Type 0} (result : Result X E) (old new : CoreState) (nex
 taken-same (Ok told) old new next entries same = ap (λ (state : CoreState). state.taken) entries
 taken-same (Err error) old new next entries same = ap (λ (state : CoreState). state.taken) same
 
-pub read-served : {E : Type 0} (past : Record) (task : ℕ) (result : Result Answer E) → IfOk result (λ told. told ≡ answer_to past (Reads task)) → MayAnswer past (Reads task) (told_or_memory result) past
+pub read-served : {E : Type 0} (past : Record) (task : ℕ) (result : Result Answer E) → IfOk result (λ told. told ≡ answer_to past (Reads task)) → MayAnswer past (Reads task) (answer_or_memory result) past
 read-served past task (Ok told) answers = inl (record { answer = answers; entries = refl })
 read-served past task (Err error) answers = wanting past (Reads task) past refl refl
 
 -- a post takes no memory
 
 pub post-served : {X : Type 0} (old new : Record) (task epoch : ℕ) (bytes : List ℕ) (result : Result X CoreFault) → OnOk result (lowest (post_faults old task epoch bytes) ≡ None) → IfErr result (λ found. lowest (post_faults old task epoch bytes) ≡ Some found)
-    → OnOk result (new ≡ Posted task bytes ∷ old) → OnErr result (new ≡ old) → MayAnswer old (Posts task epoch bytes) (told_by_post result) new
+    → OnOk result (new ≡ Posted task bytes ∷ old) → OnErr result (new ≡ old) → MayAnswer old (Posts task epoch bytes) (answer_of_post result) new
 post-served old new task epoch bytes (Ok done) accepted names entries same =
     inl (record {
       answer = sym (ap (λ (one : Option CoreFault). unless one answer.Posted) accepted);

@@ -1,4 +1,4 @@
--- What a task reads, said of the record alone: which arrivals were good answers of a datagram, and which of these was the last one.
+-- What a task reads, said of the record alone: which arrivals were good answers of a datagram, and which of these was the last one (this project's profile).
 use Rattle.std.specs.Prelude.{◌≡◌, ℕ, ◌<◌, ◌⊎◌, All, Bool, true, false, List, ◌∷◌, ◌++◌, length, slice_get, take, Option, Some, None}
 use Rattle.std.specs.List.{list_any, zip}
 use Rattle.hc_records.specs.declared.limits.TheConstants.{TASKS}

@@ -1,22 +1,30 @@
 -- What holds of the pieces and the parts of a sending. Each law is the contract of a function of `laws`.
-use Rattle.std.specs.Prelude.{◌≡◌, ℕ, List, map}
+use Rattle.std.specs.Prelude.{◌≡◌, ◌≤◌, ℕ, All, List, length, map, Some}
 use Rattle.std.specs.List.{flat_map}
+use Rattle.hc_frames.specs.declared.limits.TheConstants.{SETUP_SERIAL}
 use Rattle.hc_events.specs.declared.answer.Answer.TheVariants as answer
-use Rattle.hc_events.specs.Calls.{AreSentTogether}
+use Rattle.hc_events.specs.Calls.{AreSentTogether, preview}
 use Rattle.hc_events.specs.Entries.{Record}
 use Rattle.hc_events.specs.Outputs.{sent_data}
 use Rattle.hc_events.specs.Sendings.{Frame}
 use Rattle.hc_events.specs.Steps.{SendsTasks, answer_to, entries_after, proposal, sent_text, with_sent}
 use Rattle.hc_sendings.specs.PartTexts.{part_text}
+use Rattle.hc_core.specs.Filled.{CanBeFilled}
 use Rattle.hc_core.specs.Proposed.{IsProposal}
 
--- proposed, filled and committed with no event between
+-- proposed, filled and committed with no event between: each frame can be filled, they are no more than there are serials, and they are what the event answers and leaves
 pub record IsSending (past : Record) (frames : List Frame) (is : IsProposal past frames) : Type 0 where
+  pub filled : All (CanBeFilled past) frames
+  pub few : length frames ≤ SETUP_SERIAL
   pub answer : answer_to past (SendsTasks is.tasks) ≡ answer.Sent (map (sent_text past) frames)
   pub entries : entries_after past (SendsTasks is.tasks) ≡ with_sent past frames
 
 abbrev pub PiecesAreTheEvent : Type 0
 PiecesAreTheEvent = (past : Record) (frames : List Frame) (is : IsProposal past frames) → IsSending past frames is
+
+-- a preview is made to be filled
+abbrev pub PreviewsCanBeFilled : Type 0
+PreviewsCanBeFilled = (past : Record) (task d : ℕ) (frame : Frame) → preview past task d ≡ Some frame → CanBeFilled past frame
 
 -- the parts of tasks that are sent together, joined in their order, are the frames that are proposed for them, one after another
 abbrev pub PartsAreTheProposal : Type 0

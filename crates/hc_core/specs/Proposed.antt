@@ -1,4 +1,4 @@
--- The present proposal of some tasks.
+-- The present proposal of some tasks (this project's profile).
 use Rattle.std.specs.Prelude.{◌≡◌, ℕ, List, None}
 use Rattle.hc_records.specs.Lists.{lowest}
 use Rattle.hc_events.specs.Calls.{AreSentTogether}

@@ -1,4 +1,4 @@
--- What a core is asked, and what a list of events is answered.
+-- What a core may be asked, and what a list of events is answered (this project's profile).
 use Rattle.std.specs.Prelude.{◌≡◌, List, [], ◌∷◌, Result, Ok, Err}
 use Rattle.hc_records.specs.declared.faults.EditFault.{EditFault}
 use Rattle.hc_events.specs.declared.answer.Answer.{Answer}
@@ -9,32 +9,33 @@ use Rattle.hc_events.specs.Calls.{AreSentTogether, MayAnswer}
 use Rattle.hc_events.specs.Entries.{Record}
 use Rattle.hc_events.specs.Faults.{edit_refusal}
 use Rattle.hc_events.specs.Steps.{Step, SendsTasks}
+use Rattle.hc_core.specs.Early.{TellsEarly}
 
--- tasks that are sent together are at least one, at most eight, and none twice
+-- what the caller keeps to: tasks that are sent together are at least one, at most eight, and none twice; of any other event nothing
 abbrev pub IsAsked : Step → Type 0
 IsAsked (SendsTasks tasks) = AreSentTogether tasks
 IsAsked step = Unit {0}
 
--- an answer, or a refusal
-abbrev pub told_by : Result Answer CoreFault → Answer
-told_by (Ok told) = told
-told_by (Err fault) = answer.Refused fault
+-- what an event is answered, by what the call that serves it gave: its answer, or a refusal
+abbrev pub answer_of : Result Answer CoreFault → Answer
+answer_of (Ok told) = told
+answer_of (Err fault) = answer.Refused fault
 
-abbrev pub told_by_post : {X : Type 0} → Result X CoreFault → Answer
-told_by_post (Ok done) = answer.Posted
-told_by_post (Err fault) = answer.Refused fault
+abbrev pub answer_of_post : {X : Type 0} → Result X CoreFault → Answer
+answer_of_post (Ok done) = answer.Posted
+answer_of_post (Err fault) = answer.Refused fault
 
-abbrev pub told_by_edit : Result Answer EditFault → Answer
-told_by_edit (Ok told) = told
-told_by_edit (Err fault) = answer.Refused (edit_refusal fault)
+abbrev pub answer_of_edit : Result Answer EditFault → Answer
+answer_of_edit (Ok told) = told
+answer_of_edit (Err fault) = answer.Refused (edit_refusal fault)
 
-abbrev pub told_or_memory : {E : Type 0} → Result Answer E → Answer
-told_or_memory (Ok told) = told
-told_or_memory (Err error) = answer.Refused Memory
+abbrev pub answer_or_memory : {E : Type 0} → Result Answer E → Answer
+answer_or_memory (Ok told) = told
+answer_or_memory (Err error) = answer.Refused Memory
 
--- events one after another, each with its answer, and the record that they leave
+-- events one after another, each with its answer, and the record that they leave; a fault that is judged before memory is taken is told
 abbrev pub MayAnswerAll : Record → List Step → List Answer → Record → Type 0
 MayAnswerAll past [] [] next = next ≡ past
 MayAnswerAll past [] (told ∷ answers) next = ⊥
 MayAnswerAll past (step ∷ steps) [] next = ⊥
-MayAnswerAll past (step ∷ steps) (told ∷ answers) next = (between : Record) × MayAnswer past step told between × MayAnswerAll between steps answers next
+MayAnswerAll past (step ∷ steps) (told ∷ answers) next = (between : Record) × MayAnswer past step told between × MayAnswerAll between steps answers next × TellsEarly past step told

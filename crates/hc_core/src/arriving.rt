@@ -1,9 +1,11 @@
 //! What an arrival is, and what it changes.
-ghost use Rattle.std.specs.Prelude.{◌≡◌, ◌∷◌, IfOk, Ok, OnErr, OnOk};
+ghost use Rattle.std.specs.Prelude.{◌≡◌, ◌∷◌, IfOk, IfSome, Ok, OnErr, OnOk};
+ghost use Rattle.hc_frames.specs.Arrived.{fault_in};
 ghost use Rattle.hc_events.specs.declared.answer.Answer.TheVariants as answer;
 ghost use Rattle.hc_events.specs.Answering.{judged_by};
 ghost use Rattle.hc_events.specs.Arrivals.{arrival_in};
 ghost use Rattle.hc_events.specs.Entries.{Came};
+ghost use Rattle.hc_events.specs.Faults.{frame_refusal};
 ghost use Rattle.hc_events.specs.Steps.{Arrives, answer_to, entries_after, told_of};
 ghost use Rattle.hc_core.specs.Firsts.{IsFirstOwed};
 
@@ -99,11 +101,12 @@ impl Core {
         Ok(())
     }
 
-    /// An arrival, any bytes: a frame that can't be read is refused, and nothing changes; else it is recorded,
-    /// and is for each datagram of what it answers as its answer tells. `AllocError` where a growth was
-    /// refused, and nothing changed.
+    /// An arrival, any bytes. One that can't be read as a frame is refused, whatever memory does, and nothing
+    /// changes. Else it is recorded, and its answer tells datagram by datagram what it is. `AllocError` where a
+    /// growth was refused, and nothing changed.
     pub(crate) fn arrive(&mut self, alloc: Global, bytes: &[u8]) -> Result<Answer, AllocError>
         ensures answer { IfOk result (λ told. told ≡ answer_to self.old.past (Arrives bytes.now)) }
+        ensures early { IfSome (fault_in bytes.now) (λ fault. result ≡ Ok (answer.Refused (frame_refusal fault))) }
         ensures entries { OnOk result (self.new ≡ record self.old { past = entries_after self.old.past (Arrives bytes.now) }) }
         ensures unchanged { OnErr result (self.new ≡ self.old) }
     {

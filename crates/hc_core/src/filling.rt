@@ -45,8 +45,8 @@ fn write_values(out: &mut [u8], frame: &Sending, outputs: &Outputs)
 
 impl Core {
     /// Writes a frame of datagrams of the present line into a slice of its exact size: each datagram carries
-    /// the values of its output variables, and zeros at every other bit. So it does with each frame of a
-    /// present proposal or preview. It takes no memory.
+    /// the values of its output variables, and zeros at every other bit. Such are the frames that `propose`
+    /// gives, as long as they are the present proposal, and a present `preview`. It takes no memory.
     pub fn fill(&self, frame: &Sending, out: &mut [u8])
         requires frame { CanBeFilled self.now.past frame.now }
         requires exact { length out.old ≡ size_of frame.now }

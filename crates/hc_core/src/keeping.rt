@@ -10,8 +10,8 @@ use std::marker::Model;
 use std::snapshot::Snapshot;
 
 /// The line, the next serial, what is awaited, the input image, the output values, the known and the owed
-/// register blocks, and the changes that nobody took. Contracts see the record of what was accepted, and that record as it was
-/// when the changes were taken last.
+/// register blocks, and the changes that nobody took. Contracts see the record of what was accepted, and that
+/// record as it was when the changes were taken last.
 #[derive(Drop)]
 pub struct Core {
     pub(crate) plan: Plan,

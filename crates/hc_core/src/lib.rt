@@ -1,4 +1,5 @@
-//! The core: what the master accepts of edits, sendings, register writes and arrivals, and what it answers.
+//! The core: what the master accepts of edits, posts, sendings, register writes and arrivals, and what it
+//! answers to these and to reads. What an event means is this project's profile, over frames of ETG.1000.4.
 #![tactic(auto)]
 
 mod arriving;

@@ -20,8 +20,8 @@ use std::snapshot::Snapshot;
 impl Core {
     /// The core of a project at its opening: the mandatory group alone is present, the epoch and the next
     /// serial are 0, nothing is awaited, no datagram has data, every output value is 0, every register block is
-    /// owed, and there is no change. Otherwise `TooManyDatagrams` with the lowest task that needs more than 16, or `Memory` where a
-    /// growth was refused; the project is then dropped.
+    /// owed, and there is no change. Otherwise `TooManyDatagrams` with the lowest task that needs more than 16,
+    /// or `Memory` where a growth was refused; the project is then dropped.
     pub fn new(alloc: Global, project: Project) -> Result<Core, EditFault>
         ensures opened { IfOk result (λ core. core ≡ record { past = just_opened project; taken = just_opened project }) }
         ensures accepted { OnOk result (crowded_task (line (opened project)) ≡ None) }

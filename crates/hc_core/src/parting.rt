@@ -26,9 +26,10 @@ fn write_part(out: &mut [u8], frames: &[Sending], task: u8, outputs: &Outputs)
 }
 
 impl Core {
-    /// The bytes of a task's part of frames of the present line, such as a proposal: its
-    /// datagrams, the 16 bytes before those of a frame whose first one is the task's, and the zeros behind
-    /// those of a frame whose last one is; 0 where it has none. It takes no memory.
+    /// The bytes of a task's part of frames of the present line, such as a present proposal: its datagrams, the
+    /// 16 bytes before those of a frame whose first one is the task's, and the zeros behind those of a frame
+    /// whose last one is; 0 where it has none. So many frames as there are serials have bytes that a `usize`
+    /// counts; a proposal has no more. It takes no memory.
     pub fn part_size(&self, frames: &[Sending], task: u8) -> usize
         requires frames { All (CanBeFilled self.now.past) frames.now }
         requires few { length frames.now ≤ SETUP_SERIAL }

@@ -9,7 +9,7 @@ use hc_events::faults::CoreFault;
 use hc_records::limits::TASKS;
 
 impl Core {
-    /// A post of a task, 0 to 7, that was made for an epoch: as many bytes as the task has outputs in it. Each
+    /// A post of a task, 0 to 7, that was made for an epoch: as many bytes as the task has output bytes in it. Each
     /// output variable of the task has its bits in them as its value from now on. `NoSuchTask` where the
     /// number is over 7; `StalePost` where another epoch has begun; `PostLength` where there are more or fewer
     /// bytes; and of several the first of these. Then nothing changed. It takes no memory.

@@ -1,9 +1,11 @@
 //! What a core tells of itself and to tasks.
-ghost use Rattle.std.specs.Prelude.{◌≡◌, ◌<◌, IfOk, length};
+ghost use Rattle.std.specs.Prelude.{◌≡◌, ◌<◌, IfOk, IfSome, Ok, length};
 ghost use Rattle.hc_records.specs.declared.limits.TheConstants.{TASKS};
+ghost use Rattle.hc_records.specs.Lists.{lowest};
+ghost use Rattle.hc_events.specs.declared.answer.Answer.TheVariants as answer;
 ghost use Rattle.hc_events.specs.Owed.{owed_blocks};
 ghost use Rattle.hc_events.specs.Points.{next_serial, state_of};
-ghost use Rattle.hc_events.specs.Steps.{Reads, answer_to};
+ghost use Rattle.hc_events.specs.Steps.{Reads, answer_to, read_faults};
 ghost use Rattle.hc_core.specs.LastData.{ShowsLastData};
 
 use crate::keeping::Core;
@@ -28,7 +30,7 @@ impl Core {
         self.serial
     }
 
-    /// How many register blocks of the present line are owed. It takes no memory, and no time.
+    /// How many register blocks of the present line are owed. It takes no memory, and walks over nothing.
     pub fn owed(&self) -> u32
         ensures { result ≡ length (owed_blocks self.now.past) }
     {
@@ -37,7 +39,8 @@ impl Core {
 
     /// The image of a task as it is kept.
     fn image(&self, alloc: Global, task: u8) -> Result<Answer, AllocError>
-        ensures { IfOk result (λ told. told ≡ answer_to self.now.past (Reads task)) }
+        ensures answer { IfOk result (λ told. told ≡ answer_to self.now.past (Reads task)) }
+        ensures early { IfSome (lowest (read_faults task)) (λ fault. result ≡ Ok (answer.Refused fault)) }
     {
         if task >= TASKS {
             return Ok(Answer::Refused(CoreFault::NoSuchTask));
@@ -47,11 +50,13 @@ impl Core {
         let epoch = self.plan.epoch();
         Ok(Answer::Image { epoch, slots })
     }
+
     /// What a task reads: the present epoch, and of each datagram that the task has in the present line the
     /// data of its last good answer in this epoch, or none where it had none. A task over 7 is refused with
-    /// `NoSuchTask`. `AllocError` where a growth was refused.
+    /// `NoSuchTask`, whatever memory does. `AllocError` where a growth was refused.
     pub fn read(&self, alloc: Global, task: u8) -> Result<Answer, AllocError>
         ensures answer { IfOk result (λ told. told ≡ answer_to self.now.past (Reads task)) }
+        ensures early { IfSome (lowest (read_faults task)) (λ fault. result ≡ Ok (answer.Refused fault)) }
         ensures shows { IfOk result (λ told. task < TASKS → ShowsLastData self.now.past task told) }
     {
         self.image(alloc, task)

@@ -2,9 +2,10 @@
 ghost use Rattle.std.specs.Prelude.{◌≡◌, All, IfOk, OnErr, map};
 ghost use Rattle.hc_events.specs.Calls.{AreSentTogether, MayAnswer};
 ghost use Rattle.hc_events.specs.Steps.{Arrives, Edits, Posts, Reads, SendsTasks, SendsWrite, step_of};
+ghost use Rattle.hc_core.specs.Early.{TellsEarly};
 ghost use Rattle.hc_core.specs.Lines.{IsLineAfter};
 ghost use Rattle.hc_core.specs.LastData.{IsAsWithoutStale, ReadsShowLastData, StaleLeavesNothing, TasksReadLastData};
-ghost use Rattle.hc_core.specs.Serving.{IsAsked, MayAnswerAll, told_by, told_by_edit, told_by_post, told_or_memory};
+ghost use Rattle.hc_core.specs.Serving.{IsAsked, MayAnswerAll, answer_of, answer_of_edit, answer_of_post, answer_or_memory};
 
 use crate::keeping::Core;
 use hc_events::answer::Answer;
@@ -16,7 +17,7 @@ use std::alloc::{AllocError, Global};
 
 /// The answer, or that the event was refused.
 fn answer_of(told: Result<Answer, CoreFault>) -> Answer
-    ensures { result ≡ told_by told }
+    ensures { result ≡ answer_of told }
 {
     match told {
         Ok(told) => told,
@@ -26,7 +27,7 @@ fn answer_of(told: Result<Answer, CoreFault>) -> Answer
 
 /// The same of a post.
 fn answer_of_post(told: Result<(), CoreFault>) -> Answer
-    ensures { result ≡ told_by_post told }
+    ensures { result ≡ answer_of_post told }
 {
     match told {
         Ok(()) => Answer::Posted,
@@ -36,7 +37,7 @@ fn answer_of_post(told: Result<(), CoreFault>) -> Answer
 
 /// The same of an edit.
 fn answer_of_edit(told: Result<Answer, EditFault>) -> Answer
-    ensures { result ≡ told_by_edit told }
+    ensures { result ≡ answer_of_edit told }
 {
     match told {
         Ok(told) => told,
@@ -46,7 +47,7 @@ fn answer_of_edit(told: Result<Answer, EditFault>) -> Answer
 
 /// The answer, or want of memory.
 fn answer_or_memory(told: Result<Answer, AllocError>) -> Answer
-    ensures { result ≡ told_or_memory told }
+    ensures { result ≡ answer_or_memory told }
 {
     match told {
         Ok(told) => told,
@@ -58,6 +59,7 @@ impl Core {
     /// Serves an edit.
     fn serve_edit(&mut self, alloc: Global, edit: &Edit) -> Answer
         ensures answer { MayAnswer self.old.past (Edits edit.now) result self.new.past }
+        ensures early { TellsEarly self.old.past (Edits edit.now) result }
         ensures taken { self.new.taken ≡ self.old.taken }
     {
         answer_of_edit(self.edit(alloc, edit))
@@ -66,6 +68,7 @@ impl Core {
     /// Serves a post.
     fn serve_post(&mut self, task: u8, epoch: u32, bytes: &[u8]) -> Answer
         ensures answer { MayAnswer self.old.past (Posts task epoch bytes.now) result self.new.past }
+        ensures early { TellsEarly self.old.past (Posts task epoch bytes.now) result }
         ensures taken { self.new.taken ≡ self.old.taken }
     {
         answer_of_post(self.post(task, epoch, bytes))
@@ -75,6 +78,7 @@ impl Core {
     fn serve_tasks(&mut self, alloc: Global, tasks: &[u8]) -> Answer
         requires { AreSentTogether tasks.now }
         ensures answer { MayAnswer self.old.past (SendsTasks tasks.now) result self.new.past }
+        ensures early { TellsEarly self.old.past (SendsTasks tasks.now) result }
         ensures taken { self.new.taken ≡ self.old.taken }
     {
         answer_of(self.send(alloc, tasks))
@@ -83,6 +87,7 @@ impl Core {
     /// Serves a register write.
     fn serve_write(&mut self, alloc: Global) -> Answer
         ensures answer { MayAnswer self.old.past SendsWrite result self.new.past }
+        ensures early { TellsEarly self.old.past SendsWrite result }
         ensures taken { self.new.taken ≡ self.old.taken }
     {
         answer_of(self.write(alloc))
@@ -91,6 +96,7 @@ impl Core {
     /// Serves an arrival.
     fn serve_arrival(&mut self, alloc: Global, bytes: &[u8]) -> Answer
         ensures answer { MayAnswer self.old.past (Arrives bytes.now) result self.new.past }
+        ensures early { TellsEarly self.old.past (Arrives bytes.now) result }
         ensures taken { self.new.taken ≡ self.old.taken }
     {
         answer_or_memory(self.arrive(alloc, bytes))
@@ -98,7 +104,8 @@ impl Core {
 
     /// Serves a read.
     fn serve_read(&self, alloc: Global, task: u8) -> Answer
-        ensures { MayAnswer self.now.past (Reads task) result self.now.past }
+        ensures answer { MayAnswer self.now.past (Reads task) result self.now.past }
+        ensures early { TellsEarly self.now.past (Reads task) result }
     {
         answer_or_memory(self.read(alloc, task))
     }
@@ -107,6 +114,7 @@ impl Core {
     fn serve(&mut self, alloc: Global, event: Event<'_>) -> Answer
         requires { IsAsked (step_of event) }
         ensures answer { MayAnswer self.old.past (step_of event.entry) result self.new.past }
+        ensures early { TellsEarly self.old.past (step_of event.entry) result }
         ensures taken { self.new.taken ≡ self.old.taken }
     {
         match event {
@@ -119,13 +127,17 @@ impl Core {
         }
     }
 
-    /// Serves an event: the answer is that of `specs/Steps` of the events for the record of what was accepted,
+    /// Serves an event: the answer is that of the definition (`answer_to`) for the record of what was accepted,
     /// and what it accepts is recorded; or want of memory, where the event takes some, and nothing changed.
-    /// Tasks that are sent together are 1 to 8, and none twice. An arrival that is told to be stale leaves
-    /// nothing: whatever comes behind it is answered as if it hadn't come, what tasks read too.
+    /// A fault that is judged before memory is taken is told whatever memory does (`early_fault`): a fault that
+    /// an edit has by itself, of the faults 1 to 11; of tasks to be sent that there is no such task, or that
+    /// blocks are owed; every fault of a write, a read, a post and a frame that can't be read. Tasks that are
+    /// sent together are 1 to 8, and none twice. An arrival that is told to be stale leaves nothing: whatever
+    /// comes behind it is answered as if it hadn't come, what tasks read too.
     pub fn step(&mut self, alloc: Global, event: Event<'_>) -> Answer
         requires { IsAsked (step_of event) }
         ensures answer { MayAnswer self.old.past (step_of event.entry) result self.new.past }
+        ensures early { TellsEarly self.old.past (step_of event.entry) result }
         ensures stale { StaleLeavesNothing self.old.past result self.new.past }
         ensures taken { self.new.taken ≡ self.old.taken }
     {

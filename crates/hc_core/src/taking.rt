@@ -13,7 +13,7 @@ use std::snapshot::Snapshot;
 impl Core {
     /// The changes since they were taken last, or since the opening, in order: what was news since then, and
     /// swaps that lead from the line as it was then to the present one. They are no longer kept, and the
-    /// record stays. It takes no memory.
+    /// record stays. It takes no memory: `alloc` is for the empty list that is kept from now on.
     pub fn take_changes(&mut self, alloc: Global) -> Vec<Change>
         ensures told { news_of self.old.past ≡ news_of self.old.taken ++ map told_by result.items }
         ensures lead { SwapsLeadFrom (state_of self.old.taken) result.items }

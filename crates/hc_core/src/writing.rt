@@ -1,5 +1,5 @@
 //! Register writes: the first owed block is sent.
-ghost use Rattle.std.specs.Prelude.{◌≡◌, ◌≢◌, ◌^◌, ◌<◌, IfErr, IfOk, None, OnErr, OnOk, Some, length};
+ghost use Rattle.std.specs.Prelude.{◌≡◌, ◌≢◌, ◌^◌, ◌<◌, Err, IfErr, IfOk, IfSome, None, OnErr, OnOk, Some, length};
 ghost use Rattle.hc_records.specs.Lists.{lowest};
 ghost use Rattle.hc_frames.specs.Builds.{Builds};
 ghost use Rattle.hc_frames.specs.Sizes.{frame_size};
@@ -67,12 +67,13 @@ impl Core {
     }
 
     /// The first owed block is sent, with the next serial. `NothingOwed` where no block is owed;
-    /// `SerialsSpent` where no serial is left; and of both the first. `Memory` where a growth was refused.
-    /// Where it is refused, nothing changed.
+    /// `SerialsSpent` where no serial is left; and of both the first. `Memory` where a growth was refused, and
+    /// only behind these. Where it is refused, nothing changed.
     pub(crate) fn write(&mut self, alloc: Global) -> Result<Answer, CoreFault>
         ensures answer { IfOk result (λ told. told ≡ answer_to self.old.past SendsWrite) }
         ensures entries { OnOk result (self.new ≡ record self.old { past = entries_after self.old.past SendsWrite }) }
         ensures refused { IfErr result (λ fault. fault ≢ Memory → lowest (write_faults self.old.past (owed_blocks self.old.past)) ≡ Some fault) }
+        ensures early { IfSome (lowest (write_faults self.old.past (owed_blocks self.old.past))) (λ fault. result ≡ Err fault) }
         ensures unchanged { OnErr result (self.new ≡ self.old) }
     {
         let found = self.next_write()?;

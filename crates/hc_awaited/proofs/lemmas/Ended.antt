@@ -106,9 +106,10 @@ left_over : (n : ℕ) (found : Option AwaitedWrite) (write : AwaitedWrite) → o
 left_over n found write e =
     let kept = only-if_some found (λ w. not (w.serial == n)) write e in (kept.0, not-true (write.serial == n) kept.1)
 
-no_write : (past : Record) (waiting : Waiting) (arrival : Arrival) → AreAccepted past → KeepsAwaited past waiting → IsAwaited past arrival → (write : AwaitedWrite)
+-- where a register write is awaited nothing else is, so behind an arrival that is news none is kept
+pub no-write : (past : Record) (waiting : Waiting) (arrival : Arrival) → AreAccepted past → KeepsAwaited past waiting → IsAwaited past arrival → (write : AwaitedWrite)
     → (ended arrival.serial waiting).write ≡ Some write → ⊥
-no_write past waiting arrival all waits news write e =
+no-write past waiting arrival all waits news write e =
     let kept = left_over arrival.serial waiting.write write e in
     let one = write-awaited past waiting write waits kept.0 in
     let alone : arrival.serial ≡ write.serial = ((all-alone past all).writes write.serial one.sending one.there one.writes).alone arrival.serial news.sending news.there in
@@ -125,5 +126,5 @@ waits-ended past waiting arrival all waits news =
       ascend = AllPairs-filter (λ (a b : AwaitedFrame). a.serial < b.serial) keep waiting.frames waits.ascend;
       below = All-filter keep (λ (frame : AwaitedFrame). frame.serial < next_serial past) waiting.frames waits.below;
       stands = All-filter keep (λ (frame : AwaitedFrame). All (λ carried. StandsIn (line_of past) carried.datagram) frame.datagrams) waiting.frames waits.stands;
-      apart = λ write e. absurd (no_write past waiting arrival all waits for write e);
+      apart = λ write e. absurd (no-write past waiting arrival all waits for write e);
     }

@@ -106,9 +106,9 @@ first_behind line frame (datagram ∷ datagrams) some =
     some
     (first_behind line (alone (frame.serial + 1) datagram length) datagrams (record { first = datagram; others = []; some = refl }))
 
-frames_first : (line : List Member) (serial : ℕ) (datagrams : List Named) → AllFirst (framed line serial datagrams)
-frames_first line serial [] = All-nil HasFirst
-frames_first line serial (datagram ∷ datagrams) =
+pub frames-first : (line : List Member) (serial : ℕ) (datagrams : List Named) → AllFirst (framed line serial datagrams)
+frames-first line serial [] = All-nil HasFirst
+frames-first line serial (datagram ∷ datagrams) =
     first_behind line (alone serial datagram (length_of line datagram)) datagrams (record { first = datagram; others = []; some = refl })
 
 -- and so does each that is accepted
@@ -120,5 +120,5 @@ accepted-first past datagrams is =
     let names = flat_map (task_datagrams (line_of past)) is.tasks in
     All-contains HasSome (frames_of (line_of past) is.serial is.tasks) datagrams
     (All-map HasSome (λ (frame : Frame). frame.datagrams) (framed (line_of past) is.serial names)
-    (All-weaker HasFirst (λ (frame : Frame). HasSome frame.datagrams) has_first (framed (line_of past) is.serial names) (frames_first (line_of past) is.serial names)))
+    (All-weaker HasFirst (λ (frame : Frame). HasSome frame.datagrams) has_first (framed (line_of past) is.serial names) (frames-first (line_of past) is.serial names)))
     is.one

@@ -17,8 +17,8 @@ use Rattle.hc_core.proofs.Shown.{is-task, slots-shown}
 use Rattle.hc_core.specs.State.{CoreState}
 use Rattle.hc_core.proofs.keeping.Core.image.Goals as goal
 
-pub returns : goal.returns
-returns c =
+pub returns-clause-answer : goal.returns-clause-answer
+returns-clause-answer c =
     let kept = c.self.invariant in
     let past = record_of c.self.inside.past in
     let task = c.args.task in

@@ -6,10 +6,10 @@ use Rattle.hc_core.proofs.ReadsAmong.{if-ok, read-shows}
 use Rattle.hc_core.proofs.keeping.Core.read.Goals as goal
 
 pub returns-clause-answer : goal.returns-clause-answer
-returns-clause-answer c = c.image.ensures
+returns-clause-answer c = c.image.ensures.answer
 
 pub returns-clause-shows : goal.returns-clause-shows
 returns-clause-shows c =
     let past = c.args.self.now.past in
     let task = c.args.task in
-    if-ok (λ told. told ≡ answer_to past (Reads task)) (λ told. task < TASKS → ShowsLastData past task told) c.image.result (read-shows past task) c.image.ensures
+    if-ok (λ told. told ≡ answer_to past (Reads task)) (λ told. task < TASKS → ShowsLastData past task told) c.image.result (read-shows past task) c.image.ensures.answer

@@ -16,7 +16,7 @@ loop-event-preserved c =
     let next = c.step-answer.new.self.past in
     let longer = length-append answers (answer ∷ []) in
     let steps = map step_of (take i c.args.events.now) in
-    let more = all-answered past c.loop-event.self.past next steps answers (step_of c.event-item.result) answer c.loop-event.invariant.answers c.step-answer.ensures.answer in
+    let more = all-answered past c.loop-event.self.past next steps answers (step_of c.event-item.result) answer c.loop-event.invariant.answers c.step-answer.ensures.answer c.step-answer.ensures.early in
     let grown = map_more step_of c.args.events.now i c.event-item.result c.loop-event-test.true ∙ ap (λ event. steps ++ step_of event ∷ []) (sym c.event-item.is) in
     record {
       answers =

@@ -1,8 +1,16 @@
-use Rattle.std.proofs.Common.{refl, sym, subst}
+use Rattle.std.proofs.Common.{◌≡◌, ap, refl, sym, subst}
+use Rattle.std.specs.Prelude.{Ok}
+use Rattle.hc_frames.specs.declared.reading.faults.FrameFault.{FrameFault}
+use Rattle.hc_frames.specs.Arrived.{fault_in}
 use Rattle.hc_events.specs.declared.answer.Answer.{Answer}
+use Rattle.hc_events.specs.declared.answer.Answer.TheVariants as answer
+use Rattle.hc_events.specs.declared.faults.CoreFault.{CoreFault}
 use Rattle.hc_events.specs.Calls.{MayAnswer}
+use Rattle.hc_events.specs.Faults.{frame_refusal}
 use Rattle.hc_events.specs.Steps.{Arrives, entries_after}
-use Rattle.hc_core.proofs.Serves.{answer-served, past-behind, past-same, taken-same}
+use Rattle.hc_core.proofs.Serves.{answer-served, if-mapped, if-some, past-behind, past-same, taken-same}
+use Rattle.hc_core.specs.Early.{TellsEarly}
+use Rattle.hc_core.specs.Serving.{answer_or_memory}
 use Rattle.hc_core.proofs.keeping.Core.serve_arrival.Goals as goal
 
 pub returns-clause-answer : goal.returns-clause-answer
@@ -16,3 +24,12 @@ returns-clause-answer c =
 pub returns-clause-taken : goal.returns-clause-taken
 returns-clause-taken c =
     taken-same c.arrive.result c.args.self.now c.arrive.new.self (entries_after c.args.self.now.past (Arrives c.args.bytes.now)) c.arrive.ensures.entries c.arrive.ensures.unchanged
+
+pub returns-clause-early : goal.returns-clause-early
+returns-clause-early c =
+    let past = c.args.self.now.past in
+    let bytes = c.args.bytes.now in
+    subst (TellsEarly past (Arrives bytes)) (sym c.answer_or_memory.ensures)
+    (if-mapped frame_refusal (λ (fault : CoreFault). answer_or_memory c.arrive.result ≡ answer.Refused fault) (fault_in bytes)
+    (if-some (λ (fault : FrameFault). c.arrive.result ≡ Ok (answer.Refused (frame_refusal fault))) (λ (fault : FrameFault). answer_or_memory c.arrive.result ≡ answer.Refused (frame_refusal fault))
+    (fault_in bytes) (λ fault is. ap answer_or_memory is) c.arrive.ensures.early))

@@ -1,9 +1,18 @@
-use Rattle.std.proofs.Common.{◌∷◌, sym, subst}
+use Rattle.std.proofs.Common.{◌≡◌, ◌∷◌, ap, sym, subst}
+use Rattle.std.specs.Prelude.{Err}
+use Rattle.hc_records.specs.declared.faults.EditFault.{EditFault}
+use Rattle.hc_edits.specs.Edits.{own_fault}
 use Rattle.hc_events.specs.declared.answer.Answer.{Answer}
+use Rattle.hc_events.specs.declared.answer.Answer.TheVariants as answer
+use Rattle.hc_events.specs.declared.faults.CoreFault.{CoreFault}
 use Rattle.hc_events.specs.Calls.{MayAnswer}
 use Rattle.hc_events.specs.Entries.{Edited}
+use Rattle.hc_events.specs.Faults.{edit_refusal}
+use Rattle.hc_events.specs.Points.{state_of}
 use Rattle.hc_events.specs.Steps.{Edits}
-use Rattle.hc_core.proofs.Serves.{edit-served, past-behind, past-same, taken-same}
+use Rattle.hc_core.proofs.Serves.{edit-served, if-mapped, if-some, past-behind, past-same, taken-same}
+use Rattle.hc_core.specs.Early.{TellsEarly}
+use Rattle.hc_core.specs.Serving.{answer_of_edit}
 use Rattle.hc_core.proofs.keeping.Core.serve_edit.Goals as goal
 
 pub returns-clause-answer : goal.returns-clause-answer
@@ -17,3 +26,13 @@ returns-clause-answer c =
 pub returns-clause-taken : goal.returns-clause-taken
 returns-clause-taken c =
     taken-same c.edit.result c.args.self.now c.edit.new.self (Edited c.args.edit.now ∷ c.args.self.now.past) c.edit.ensures.entries c.edit.ensures.unchanged
+
+pub returns-clause-early : goal.returns-clause-early
+returns-clause-early c =
+    let past = c.args.self.now.past in
+    let edit = c.args.edit.now in
+    let own = own_fault (state_of past).groups edit in
+    subst (TellsEarly past (Edits edit)) (sym c.answer_of_edit.ensures)
+    (if-mapped edit_refusal (λ (fault : CoreFault). answer_of_edit c.edit.result ≡ answer.Refused fault) own
+    (if-some (λ (fault : EditFault). c.edit.result ≡ Err fault) (λ (fault : EditFault). answer_of_edit c.edit.result ≡ answer.Refused (edit_refusal fault)) own
+    (λ fault is. ap answer_of_edit is) c.edit.ensures.own))

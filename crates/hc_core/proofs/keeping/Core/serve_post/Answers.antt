@@ -1,9 +1,11 @@
 use Rattle.std.proofs.Common.{◌∷◌, sym, subst}
+use Rattle.hc_records.specs.Lists.{lowest}
 use Rattle.hc_events.specs.declared.answer.Answer.{Answer}
 use Rattle.hc_events.specs.Calls.{MayAnswer}
 use Rattle.hc_events.specs.Entries.{Posted}
-use Rattle.hc_events.specs.Steps.{Posts}
-use Rattle.hc_core.proofs.Serves.{past-behind, past-same, post-served, taken-same}
+use Rattle.hc_events.specs.Steps.{Posts, post_faults}
+use Rattle.hc_core.proofs.Serves.{past-behind, past-same, post-early, post-served, taken-same}
+use Rattle.hc_core.specs.Early.{TellsEarly}
 use Rattle.hc_core.proofs.keeping.Core.serve_post.Goals as goal
 
 pub returns-clause-answer : goal.returns-clause-answer
@@ -18,3 +20,10 @@ returns-clause-answer c =
 pub returns-clause-taken : goal.returns-clause-taken
 returns-clause-taken c =
     taken-same c.post.result c.args.self.now c.post.new.self (Posted c.args.task c.args.bytes.now ∷ c.args.self.now.past) c.post.ensures.entries c.post.ensures.unchanged
+
+pub returns-clause-early : goal.returns-clause-early
+returns-clause-early c =
+    let past = c.args.self.now.past in
+    let bytes = c.args.bytes.now in
+    subst (TellsEarly past (Posts c.args.task c.args.epoch bytes)) (sym c.answer_of_post.ensures)
+    (post-early (lowest (post_faults past c.args.task c.args.epoch bytes)) c.post.result c.post.ensures.accepted c.post.ensures.refused)

@@ -1,8 +1,15 @@
-use Rattle.std.proofs.Common.{sym, subst}
+use Rattle.std.proofs.Common.{◌≡◌, ap, sym, subst}
+use Rattle.std.specs.Prelude.{Err}
+use Rattle.hc_records.specs.Lists.{lowest}
 use Rattle.hc_events.specs.declared.answer.Answer.{Answer}
+use Rattle.hc_events.specs.declared.answer.Answer.TheVariants as answer
+use Rattle.hc_events.specs.declared.faults.CoreFault.{CoreFault}
 use Rattle.hc_events.specs.Calls.{MayAnswer}
-use Rattle.hc_events.specs.Steps.{SendsWrite, entries_after}
-use Rattle.hc_core.proofs.Serves.{write-served, past-behind, past-same, taken-same}
+use Rattle.hc_events.specs.Owed.{owed_blocks}
+use Rattle.hc_events.specs.Steps.{SendsWrite, entries_after, write_faults}
+use Rattle.hc_core.proofs.Serves.{if-some, write-served, past-behind, past-same, taken-same}
+use Rattle.hc_core.specs.Early.{TellsEarly}
+use Rattle.hc_core.specs.Serving.{answer_of}
 use Rattle.hc_core.proofs.keeping.Core.serve_write.Goals as goal
 
 pub returns-clause-answer : goal.returns-clause-answer
@@ -16,3 +23,10 @@ returns-clause-answer c =
 pub returns-clause-taken : goal.returns-clause-taken
 returns-clause-taken c =
     taken-same c.write.result c.args.self.now c.write.new.self (entries_after c.args.self.now.past SendsWrite) c.write.ensures.entries c.write.ensures.unchanged
+
+pub returns-clause-early : goal.returns-clause-early
+returns-clause-early c =
+    let past = c.args.self.now.past in
+    subst (TellsEarly past SendsWrite) (sym c.answer_of.ensures)
+    (if-some (λ (fault : CoreFault). c.write.result ≡ Err fault) (λ (fault : CoreFault). answer_of c.write.result ≡ answer.Refused fault)
+    (lowest (write_faults past (owed_blocks past))) (λ fault is. ap answer_of is) c.write.ensures.early)

@@ -1,0 +1,27 @@
+-- What is refused whatever memory does (this project's profile).
+use Rattle.std.specs.Prelude.{◌≡◌, IfSome, Option, length, option_map}
+use Rattle.hc_records.specs.Lists.{lowest}
+use Rattle.hc_frames.specs.Arrived.{fault_in}
+use Rattle.hc_edits.specs.Edits.{own_fault}
+use Rattle.hc_events.specs.declared.answer.Answer.{Answer}
+use Rattle.hc_events.specs.declared.answer.Answer.TheVariants as answer
+use Rattle.hc_events.specs.declared.faults.CoreFault.{CoreFault}
+use Rattle.hc_events.specs.Entries.{Record}
+use Rattle.hc_events.specs.Faults.{edit_refusal, frame_refusal}
+use Rattle.hc_events.specs.Owed.{owed_blocks}
+use Rattle.hc_events.specs.Points.{state_of}
+use Rattle.hc_events.specs.Steps.{Step, Edits, Posts, SendsTasks, SendsWrite, Arrives, Reads, post_faults, read_faults, write_faults}
+use Rattle.hc_sendings.specs.Refusals.{early_faults}
+
+-- the fault of an event that is judged before memory is taken: of an edit the one that it has by itself, of tasks that there is no such task or that blocks are owed, of any other event each that it has
+abbrev pub early_fault : Record → Step → Option CoreFault
+early_fault past (Edits edit) = option_map edit_refusal (own_fault (state_of past).groups edit)
+early_fault past (Posts task epoch bytes) = lowest (post_faults past task epoch bytes)
+early_fault past (SendsTasks tasks) = lowest (early_faults (length (owed_blocks past)) tasks)
+early_fault past SendsWrite = lowest (write_faults past (owed_blocks past))
+early_fault past (Arrives bytes) = option_map frame_refusal (fault_in bytes)
+early_fault past (Reads task) = lowest (read_faults task)
+
+-- it is told
+abbrev pub TellsEarly : Record → Step → Answer → Type 0
+TellsEarly past step told = IfSome (early_fault past step) (λ fault. told ≡ answer.Refused fault)
