@@ -8,3 +8,7 @@ pub mod Grown
 pub mod VariablePlaces
 pub mod EditArguments
 pub mod Served
+pub mod Proposed
+pub mod WriteSizes
+pub mod Written
+pub mod Together
