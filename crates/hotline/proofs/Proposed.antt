@@ -1,5 +1,6 @@
 -- Frames that are proposed: as they are printed by their own serials, and as the answer prints them.
-use Rattle.std.proofs.Common.{◌≡◌, ℕ, ◌+◌, List, [], ◌∷◌, ◌++◌, map, length, refl, sym, ap, subst, ◌∙◌, Option, Some, None}
+use Rattle.std.proofs.Common.{◌≡◌, ◌≢◌, ℕ, ◌+◌, List, [], ◌∷◌, ◌++◌, map, length, refl, sym, ap, ◌∙◌, Some, None}
+use Rattle.std.specs.Prelude.{codes}
 use Rattle.std.specs.List.{flat_map, range_with_len}
 use Rattle.hc_records.specs.Lists.{lowest}
 use Rattle.hc_events.specs.declared.answer.Answer.TheVariants as answer
@@ -48,3 +49,12 @@ refused_told past tasks fault refused =
 
 pub refused_left : (past : Record) (tasks : List ℕ) (fault : CoreFault) → lowest (task_faults past tasks) ≡ Some fault → past ≡ entries_after past (SendsTasks tasks)
 refused_left past tasks fault refused = sym (ap (λ found. kept_if found past (with_sent past (proposal past tasks))) refused)
+
+-- whether there is a frame
+pub none_told : (past : Record) (frames : List Frame) → length frames ≡ 0 → proposed_text past frames ≡ codes "no frame\n"
+none_told past [] none = refl
+none_told past (frame ∷ frames) none = cc
+
+pub some_told : (past : Record) (frames : List Frame) → length frames ≢ 0 → proposed_text past frames ≡ flat_map (proposed_line past) frames
+some_told past [] some = absurd (some refl)
+some_told past (frame ∷ frames) some = refl

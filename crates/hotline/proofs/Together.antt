@@ -35,7 +35,6 @@ other_count words (inl none) = none_together (numbers_in 255 words) (λ numbers 
 other_count words (inr many) =
     none_together (numbers_in 255 words) (λ numbers is. let count = numbers_count words numbers is in few_or_many numbers (inr (omega (arith, count, many))))
 
-
 repeat_parts : (some few : Bool) (numbers : List ℕ) → has_repeat numbers ≡ true → (some && few && not (has_repeat numbers)) ≡ false
 repeat_parts true true numbers twice = ap not twice
 repeat_parts true false numbers twice = refl

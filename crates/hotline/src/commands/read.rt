@@ -52,8 +52,10 @@ fn push_image(epoch: u32, slots: &[Option<Items<u8>>], out: &mut String) -> Resu
 fn push_slots(slots: &[Option<Items<u8>>], out: &mut String) -> Result<(), AllocError>
     ensures { OnOk result (string_bytes out.new ≡ string_bytes out.old ++ slots_text 0 slots.now) }
 {
-    for (number, slot) in slots.iter().enumerate() {
+    let mut number = 0usize;
+    for slot in slots {
         push_slot(number, slot, out)?;
+        number += 1;
     }
     Ok(())
 }
