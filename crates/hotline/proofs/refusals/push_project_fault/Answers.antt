@@ -1,8 +1,3 @@
-use Rattle.hotline.proofs.Served.{printed_as}
-use Rattle.hotline.proofs.Proposed.{proposed_told}
-use Rattle.hotline.proofs.WriteSizes.{write_has_room}
-use Rattle.hotline.proofs.Written.{written_told}
-use Rattle.hotline.proofs.Together.{together}
 use Rattle.std.specs.Prelude.{codes}
 use Rattle.hotline.specs.Refusals.{project_fault_words}
 use Rattle.hotline.proofs.Grown.{grown_ok}
