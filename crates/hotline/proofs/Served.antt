@@ -96,6 +96,19 @@ pub of_edit : (past next : Record) (edit : Edit) (given : Answer) → MayAnswer 
 of_edit past next edit given (inl is) = subst IsOfEdit (sym is.answer) (edit_given (edit_refused past edit) (state_of past) (state_after (state_of past) edit))
 of_edit past next edit given (inr wanting) = subst IsOfEdit (sym wanting.answer) tt
 
+-- it is one of these
+pub one_of_edit : (given : Answer) → IsOfEdit given → ((epoch recut moved : ℕ) → given ≡ answer.Edited epoch recut moved → ⊥) → ((fault : CoreFault) → given ≡ answer.Refused fault → ⊥) → ⊥
+one_of_edit (answer.Edited epoch recut moved) is edited refused = edited epoch recut moved refl
+one_of_edit (answer.Refused fault) is edited refused = refused fault refl
+one_of_edit answer.Posted is edited refused = is
+one_of_edit (answer.Sent frames) is edited refused = is
+one_of_edit (answer.WriteSent frame) is edited refused = is
+one_of_edit (answer.Answered outcomes) is edited refused = is
+one_of_edit answer.WriteDone is edited refused = is
+one_of_edit answer.WriteMissed is edited refused = is
+one_of_edit answer.Stale is edited refused = is
+one_of_edit (answer.Image epoch slots) is edited refused = is
+
 abbrev pub IsOfArrival : Answer → Type 0
 IsOfArrival (answer.Answered outcomes) = Unit {0}
 IsOfArrival answer.WriteDone = Unit {0}

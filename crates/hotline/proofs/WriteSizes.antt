@@ -18,7 +18,7 @@ use Rattle.hc_events.specs.Points.{line_of}
 use Rattle.hc_events.specs.Owed.{is_owed, owed_blocks}
 use Rattle.hc_events.specs.Steps.{write_faults}
 
-IsShort : RegisterBlock → Type 0
+abbrev IsShort : RegisterBlock → Type 0
 IsShort block = length block.bytes ≤ 16
 
 sync_short : (area : Area) → IsShort (sync_manager_block area)
@@ -41,7 +41,7 @@ slave_short : (line : List Member) (member : Member) → All IsShort (slave_bloc
 slave_short line member =
     All-flat_map IsShort (area_blocks line member.rank) (enumerate_from 0 member.slave.areas) (λ i d within. area_short line member.rank (get_or (enumerate_from 0 member.slave.areas) i d))
 
-Short : LineBlock → Type 0
+abbrev Short : LineBlock → Type 0
 Short found = IsShort found.block
 
 member_short : (line : List Member) (member : Member) → All Short (member_blocks line member)

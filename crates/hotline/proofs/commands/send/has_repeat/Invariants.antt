@@ -4,7 +4,7 @@ use Rattle.hotline.proofs.commands.send.has_repeat.Given as goal
 
 -- no task passed stands among those behind it
 abbrev pub invariant-loop-rest : goal.invariant-loop-rest
-invariant-loop-rest l = has_repeat l.rest.now ≡ has_repeat l.fn.tasks.now
+invariant-loop-rest l = has_repeat l.rest ≡ has_repeat l.fn.tasks
 
 abbrev pub decreases-loop-rest : goal.decreases-loop-rest
-decreases-loop-rest l = length l.rest.now
+decreases-loop-rest l = length l.rest
