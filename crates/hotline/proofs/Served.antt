@@ -68,8 +68,9 @@ either false one other a b = b
 told_plainly : (all : List Judged) → is_refusal (told_of all) ≡ false
 told_plainly [] = refl
 told_plainly (d ∷ ds) =
-    either (is_block d.head.item) (told_of_block d.verdict) _ (block_told d.verdict)
-    (either (list_any is_news (d ∷ ds)) _ answer.Stale refl refl)
+    let news = answer.Answered (map outcome_for (d ∷ ds)) in
+    either (is_block d.head.item) (told_of_block d.verdict) (cond (list_any is_news (d ∷ ds)) news answer.Stale) (block_told d.verdict)
+    (either (list_any is_news (d ∷ ds)) news answer.Stale refl refl)
 
 arrival_stays : (past : Record) (found : Result Arrival FrameFault) (fault : CoreFault) → told_of_arrival past found ≡ answer.Refused fault → with_arrival past found ≡ past
 arrival_stays past (Err found) fault e = refl
@@ -109,12 +110,13 @@ one_of_edit answer.WriteMissed is edited refused = is
 one_of_edit answer.Stale is edited refused = is
 one_of_edit (answer.Image epoch slots) is edited refused = is
 
+-- the answers to an arrival that can be read: refused only in want of memory
 abbrev pub IsOfArrival : Answer → Type 0
 IsOfArrival (answer.Answered outcomes) = Unit {0}
 IsOfArrival answer.WriteDone = Unit {0}
 IsOfArrival answer.WriteMissed = Unit {0}
 IsOfArrival answer.Stale = Unit {0}
-IsOfArrival (answer.Refused fault) = Unit {0}
+IsOfArrival (answer.Refused fault) = fault ≡ Memory
 IsOfArrival _ = ⊥
 
 block_given : (verdict : Verdict) → IsOfArrival (told_of_block verdict)
@@ -129,16 +131,27 @@ either_given false one other a b = b
 told_given : (all : List Judged) → IsOfArrival (told_of all)
 told_given [] = tt
 told_given (d ∷ ds) =
-    either_given (is_block d.head.item) (told_of_block d.verdict) _ (block_given d.verdict)
-    (either_given (list_any is_news (d ∷ ds)) _ answer.Stale tt tt)
+    let news = answer.Answered (map outcome_for (d ∷ ds)) in
+    either_given (is_block d.head.item) (told_of_block d.verdict) (cond (list_any is_news (d ∷ ds)) news answer.Stale) (block_given d.verdict)
+    (either_given (list_any is_news (d ∷ ds)) news answer.Stale tt tt)
 
-arrival_given : (past : Record) (found : Result Arrival FrameFault) → IsOfArrival (told_of_arrival past found)
-arrival_given past (Err fault) = tt
-arrival_given past (Ok arrival) = told_given (judged_by past arrival)
+pub of_arrival : (past next : Record) (bytes : List ℕ) (arrival : Arrival) (given : Answer) → arrival_in bytes ≡ Ok arrival → MayAnswer past (Arrives bytes) given next → IsOfArrival given
+of_arrival past next bytes arrival given reads (inl is) = subst IsOfArrival (sym (is.answer ∙ ap (told_of_arrival past) reads)) (told_given (judged_by past arrival))
+of_arrival past next bytes arrival given reads (inr wanting) = subst IsOfArrival (sym wanting.answer) refl
 
-pub of_arrival : (past next : Record) (bytes : List ℕ) (given : Answer) → MayAnswer past (Arrives bytes) given next → IsOfArrival given
-of_arrival past next bytes given (inl is) = subst IsOfArrival (sym is.answer) (arrival_given past (arrival_in bytes))
-of_arrival past next bytes given (inr wanting) = subst IsOfArrival (sym wanting.answer) tt
+-- it is one of these
+pub one_of_arrival : (given : Answer) → IsOfArrival given → ((outcomes : List Outcome) → given ≡ answer.Answered outcomes → ⊥) → (given ≡ answer.WriteDone → ⊥) → (given ≡ answer.WriteMissed → ⊥)
+    → (given ≡ answer.Stale → ⊥) → ((fault : CoreFault) → given ≡ answer.Refused fault → ⊥) → ⊥
+one_of_arrival (answer.Answered outcomes) is answered done missed stale refused = answered outcomes refl
+one_of_arrival answer.WriteDone is answered done missed stale refused = done refl
+one_of_arrival answer.WriteMissed is answered done missed stale refused = missed refl
+one_of_arrival answer.Stale is answered done missed stale refused = stale refl
+one_of_arrival (answer.Refused fault) is answered done missed stale refused = refused fault refl
+one_of_arrival (answer.Edited epoch recut moved) is answered done missed stale refused = is
+one_of_arrival answer.Posted is answered done missed stale refused = is
+one_of_arrival (answer.Sent frames) is answered done missed stale refused = is
+one_of_arrival (answer.WriteSent frame) is answered done missed stale refused = is
+one_of_arrival (answer.Image epoch slots) is answered done missed stale refused = is
 
 -- an arrival is something for no more datagrams than it has
 
