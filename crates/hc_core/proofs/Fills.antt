@@ -1,22 +1,25 @@
 -- Which frames can be filled, and what `fill` asks for.
-use Rattle.std.proofs.Common.{◌≡◌, ℕ, ◌+◌, ◌<◌, ◌≤◌, List, [], ◌∷◌, length, map, refl, sym, ap, ◌∙◌, arith, Option, None}
-use Rattle.std.specs.Prelude.{All, sum_by}
+use Rattle.std.proofs.Common.{◌≡◌, ℕ, ◌+◌, ◌<◌, ◌≤◌, Bool, true, false, not, nat_lt, ◌&&◌, if◌then◌else◌, List, [], ◌∷◌, length, map, refl, sym, ap, ◌∙◌, arith, Option, Some, None}
+use Rattle.std.specs.Prelude.{All, IfOk, IfSome, Result, Ok, Err, sum_by}
 use Rattle.std.specs.List.{flat_map, range_with_len}
+use Rattle.std.proofs.lemmas.Bool.{ltb-false, ltb-true}
 use Rattle.std.proofs.lemmas.List.Elements.{All-cons, All-head, All-nil, All-tail, All-weaker}
 use Rattle.std.proofs.lemmas.List.Sums.{sum_by-cons}
 use Rattle.hc_records.specs.declared.limits.TheConstants.{TASKS}
 use Rattle.hc_records.specs.Edits.{crowded_task}
+use Rattle.hc_records.specs.Image.{datagram_count, task_places}
 use Rattle.hc_records.specs.Line.{groups_of}
 use Rattle.hc_records.specs.Lists.{lowest}
 use Rattle.hc_records.specs.Project.{lowest_fault}
 use Rattle.hc_frames.specs.declared.limits.TheConstants.{SETUP_SERIAL}
 use Rattle.hc_events.specs.Accepted.{StandsIn}
+use Rattle.hc_events.specs.Calls.{preview}
 use Rattle.hc_events.specs.Entries.{Record}
 use Rattle.hc_events.specs.Points.{line_of, next_serial, state_of}
-use Rattle.hc_events.specs.Sendings.{Frame, Named, length_of, task_datagrams}
+use Rattle.hc_events.specs.Sendings.{Frame, Named, alone, length_of, task_datagrams}
 use Rattle.hc_events.specs.declared.answer.Answer.TheVariants as answer
 use Rattle.hc_events.specs.declared.faults.CoreFault.{CoreFault}
-use Rattle.hc_events.specs.Steps.{kept_if, proposal, sent_text, task_faults, unless, with_sent}
+use Rattle.hc_events.specs.Steps.{has_serials, kept_if, proposal, sent_text, task_faults, unless, with_sent}
 use Rattle.hc_events.proofs.lemmas.Accepted.{proposal-stands}
 use Rattle.hc_events.proofs.lemmas.Frames.{frames-counted, proposals-numbered}
 use Rattle.hc_events.proofs.lemmas.SentBits.{sent-data}
@@ -66,6 +69,35 @@ proposal-filled past tasks none =
     let counted = frames-counted (line_of past) (next_serial past) (flat_map (task_datagrams (line_of past)) tasks) in
     let serials = below_number frames (next_serial past) SETUP_SERIAL (proposals-numbered past tasks) (allowed past tasks none).left in
     λ i d within. record { stands = stands i d within; counted = counted i d within; serial = serials i d within }
+
+pub if-both : {X E : Type 0} (P Q R : X → Type 0) (result : Result X E) → ((x : X) → P x → Q x → R x) → IfOk result P → IfOk result Q → IfOk result R
+if-both P Q R (Ok x) both first second = both x first second
+if-both P Q R (Err error) both first second = tt
+
+-- the frame of one datagram alone
+
+is_left : (b : Bool) → not b ≡ true → b ≡ false
+is_left true e = sym e
+is_left false e = refl
+
+alone_filled : (past : Record) (task d : ℕ) (there left : Bool) → (there ≡ true → d < datagram_count (task_places task (line_of past))) → (left ≡ true → next_serial past < SETUP_SERIAL)
+    → IfSome (if there && left then Some (alone (next_serial past) (task, d) (length_of (line_of past) (task, d))) else None) (CanBeFilled past)
+alone_filled past task d true true stands low =
+    let size : ℕ = length_of (line_of past) (task, d) in
+    let counted : 12 + size ≡ 0 + (12 + size) = omega arith in
+    record {
+      stands = All-cons (StandsIn (line_of past)) (task, d) [] (stands refl) (All-nil (StandsIn (line_of past)));
+      counted = counted;
+      serial = low refl;
+    }
+alone_filled past task d true false stands low = tt
+alone_filled past task d false left stands low = tt
+
+pub preview-filled : (past : Record) (task d : ℕ) → IfSome (preview past task d) (CanBeFilled past)
+preview-filled past task d =
+    let count = datagram_count (task_places task (line_of past)) in
+    alone_filled past task d (nat_lt d count) (has_serials past 1) (ltb-true d count)
+    (λ e. let left = ltb-false SETUP_SERIAL (next_serial past + 1) (is_left (nat_lt SETUP_SERIAL (next_serial past + 1)) e) in omega (arith, left))
 
 -- proposed, filled and committed they are the event
 

@@ -1,5 +1,5 @@
 //! What is sent: frames of tasks and register writes.
-ghost use Rattle.std.specs.Prelude.{◌≡◌, ◌≢◌, ◌<◌, ◌∷◌, IfErr, IfOk, None, OnErr, OnOk, Some};
+ghost use Rattle.std.specs.Prelude.{◌≡◌, ◌≢◌, ◌<◌, ◌∷◌, All, IfErr, IfOk, IfSome, None, OnErr, OnOk, Some};
 ghost use Rattle.hc_records.specs.Lists.{lowest};
 ghost use Rattle.hc_frames.specs.declared.limits.TheConstants.{SETUP_SERIAL};
 ghost use Rattle.hc_events.specs.declared.faults.CoreFault.TheVariants.{Memory};
@@ -7,6 +7,7 @@ ghost use Rattle.hc_events.specs.Calls.{AreSentTogether, preview};
 ghost use Rattle.hc_events.specs.Entries.{Wrote};
 ghost use Rattle.hc_events.specs.Steps.{SendsTasks, answer_to, entries_after, proposal, task_faults, with_sent};
 ghost use Rattle.hc_events.specs.Points.{next_serial};
+ghost use Rattle.hc_core.specs.Filled.{CanBeFilled};
 ghost use Rattle.hc_core.specs.Firsts.{IsFirstOwed};
 ghost use Rattle.hc_core.specs.Proposed.{IsProposal};
 
@@ -20,12 +21,13 @@ use std::alloc::Global;
 
 impl Core {
     /// The frames in which 1 to 8 distinct tasks would be sent next, in their order, with the next serials; none
-    /// where the tasks have no datagram. Nothing is sent by it. `NoSuchTask` where a number is over 7;
+    /// where the tasks have no datagram. Nothing is sent by it, and `fill` takes each. `NoSuchTask` where a number is over 7;
     /// `Unprogrammed` where register blocks are owed, with their number; `SerialsSpent` where too few serials
     /// are left; and of several the first of these. `Memory` where a growth was refused.
     pub fn propose(&self, alloc: Global, tasks: &[u8]) -> Result<Vec<Sending>, CoreFault>
         requires { AreSentTogether tasks.now }
         ensures frames { IfOk result (λ frames. frames.items ≡ proposal self.now.past tasks.now) }
+        ensures filled { IfOk result (λ frames. All (CanBeFilled self.now.past) frames.items) }
         ensures accepted { OnOk result (lowest (task_faults self.now.past tasks.now) ≡ None) }
         ensures refused { IfErr result (λ fault. fault ≢ Memory → lowest (task_faults self.now.past tasks.now) ≡ Some fault) }
     {
@@ -34,10 +36,11 @@ impl Core {
     }
 
     /// The frame of one datagram of a task alone, as it would be sent next, whether or not blocks are owed; none
-    /// where the task has no such datagram, there is no such task, or no serial is left. Nothing is sent by it.
-    /// It takes no memory.
+    /// where the task has no such datagram, there is no such task, or no serial is left. Nothing is sent by it,
+    /// and `fill` takes it. It takes no memory.
     pub fn preview(&self, task: u8, number: u8) -> Option<Sending>
-        ensures { result ≡ preview self.now.past task number }
+        ensures frame { result ≡ preview self.now.past task number }
+        ensures filled { IfSome result (CanBeFilled self.now.past) }
     {
         preview(&self.plan, self.serial, task, number)
     }
