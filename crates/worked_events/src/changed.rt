@@ -5,10 +5,11 @@ use crate::asked::{Row, Wanted, answer, first_wrong, holds, is_wanted};
 use crate::driven::Driven;
 use crate::lines::{opened_axis, write_all};
 use crate::stages::Stage::{Blocks, Rows};
-use crate::stages::{Stage, first_wrong_at};
+use crate::stages::{Stage, first_wrong_at, is_sent};
 use hc_events::answer::{Answer, Outcome};
 use hc_events::event::Event;
 use hc_events::faults::CoreFault;
+use hc_records::items::Items;
 use std::alloc::{AllocError, Global};
 use std::test::Fail;
 
@@ -87,23 +88,43 @@ fn is_told(answer: &Answer, told: Meaning) -> bool {
     }
 }
 
+/// Whether a slot has these data, or none.
+fn has(slot: &Option<Items<u8>>, data: Option<&[u8]>) -> bool {
+    match (slot, data) {
+        (Some(bytes), Some(data)) => bytes.as_slice() == data,
+        (None, None) => true,
+        _ => false,
+    }
+}
+
+/// Whether an answer is an image of one slot with these data, or none.
+fn shows(answer: &Answer, data: Option<&[u8]>) -> bool {
+    match answer {
+        Answer::Image { epoch: _, slots } => match slots.as_slice() {
+            [slot] => has(slot, data),
+            _ => false,
+        },
+        _ => false,
+    }
+}
+
 /// Whether task 0 reads these data, or none.
 fn reads<D: Driven>(
     driven: &mut D,
     alloc: Global,
     data: Option<&[u8]>,
 ) -> Result<bool, AllocError> {
-    let Answer::Image { epoch: _, slots } = driven.put(alloc, Event::Read(0))? else {
-        return Ok(false);
-    };
-    let [slot] = slots.as_slice() else {
-        return Ok(false);
-    };
-    let found = match slot {
-        Some(bytes) => Some(bytes.as_slice()),
-        None => None,
-    };
-    Ok(found == data)
+    Ok(shows(&driven.put(alloc, Event::Read(0))?, data))
+}
+
+/// Whether the answer to a frame that arrives is that which is told.
+fn is_answered<D: Driven>(
+    driven: &mut D,
+    alloc: Global,
+    frame: &[u8],
+    told: Meaning,
+) -> Result<bool, AllocError> {
+    Ok(is_told(&driven.put(alloc, Event::Arrive(frame))?, told))
 }
 
 /// Whether nothing is read, nothing is owed, and the next serial is 5.
@@ -118,8 +139,7 @@ fn is_left_out<D: Driven>(
     frame: &[u8],
     told: Meaning,
 ) -> Result<bool, AllocError> {
-    let answer = driven.put(alloc, Event::Arrive(frame))?;
-    Ok(is_told(&answer, told) && awaits_still(driven, alloc)?)
+    Ok(is_answered(driven, alloc, frame, told)? && awaits_still(driven, alloc)?)
 }
 
 /// The answer to a serial, with another value of a byte. The serial's bytes are 10 and 11, the index is 17.
@@ -142,20 +162,22 @@ fn changed(serial: u64, at: usize, value: u8) -> [u8; SIZE] {
     frame
 }
 
+/// Whether an epoch begins by a remap that changes nothing.
+fn is_edited<D: Driven>(driven: &mut D, alloc: Global) -> Result<bool, AllocError> {
+    let edited = answer(driven, alloc, Remap(1001, 1, &[0x1a00]))?;
+    Ok(matches!(
+        edited,
+        Answer::Edited {
+            epoch: _,
+            recut: 0,
+            moved: 0
+        }
+    ))
+}
+
 /// Whether an epoch begins, in which nothing was read, and the task is sent in it.
 fn begins_anew<D: Driven>(driven: &mut D, alloc: Global) -> Result<bool, AllocError> {
-    let edited = answer(driven, alloc, Remap(1001, 1, &[0x1a00]))?;
-    let sent = driven.put(alloc, Event::SendTasks(&[0]))?;
-    Ok(
-        matches!(
-            edited,
-            Answer::Edited {
-                epoch: _,
-                recut: 0,
-                moved: 0
-            }
-        ) && matches!(sent, Answer::Sent(_)),
-    )
+    Ok(is_edited(driven, alloc)? && is_sent(driven, alloc)?)
 }
 
 /// Whether a frame that is the answer is answered as told, and its data are read then where its counter is good.
@@ -165,12 +187,11 @@ fn is_taken<D: Driven>(
     frame: &[u8],
     told: Meaning,
 ) -> Result<bool, AllocError> {
-    let answer = driven.put(alloc, Event::Arrive(frame))?;
     let data = match told {
         Meaning::Inputs => frame.get(26..29),
         _ => None,
     };
-    Ok(is_told(&answer, told) && reads(driven, alloc, data)?)
+    Ok(is_answered(driven, alloc, frame, told)? && reads(driven, alloc, data)?)
 }
 
 /// Whether the answer with another value of a byte is answered as told, and leaves what it should: one that answers
@@ -204,12 +225,12 @@ fn held<D: Driven>(driven: &mut D, alloc: Global, at: usize, old: u8) -> Result<
 
 /// Whether the unchanged frame is the answer, or came too late, since an epoch began.
 fn ends_well<D: Driven>(driven: &mut D, alloc: Global, at: usize) -> Result<bool, AllocError> {
-    let answer = driven.put(alloc, Event::Arrive(ARRIVAL))?;
-    Ok(if leaves_an_answer(at) {
-        matches!(answer, Answer::Stale)
+    let told = if leaves_an_answer(at) {
+        Meaning::Stale
     } else {
-        is_wanted(&answer, &ANSWERED)
-    })
+        Meaning::Inputs
+    };
+    is_answered(driven, alloc, ARRIVAL, told)
 }
 
 /// How many of a byte's other values hold on a line that awaits the answer; none where it doesn't, or the unchanged
@@ -303,8 +324,8 @@ fn every_cut_answer(rt: HostRuntime) -> Result<(), Fail> {
 /// Whether each cut of the answer is refused.
 fn refuses_cuts<D: Driven>(driven: &mut D, alloc: Global) -> Result<bool, AllocError> {
     for size in 0..SIZE {
-        let answer = driven.put(alloc, Event::Arrive(cut(size)))?;
-        if !is_told(&answer, Meaning::Refused(cut_fault(size))) {
+        let told = Meaning::Refused(cut_fault(size));
+        if !is_answered(driven, alloc, cut(size), told)? {
             return Ok(false);
         }
     }
@@ -317,7 +338,7 @@ fn refuses_at<D: Driven>(driven: &mut D, alloc: Global, at: usize) -> Result<boo
         let told = told(at, value);
         let frame = changed(4, at, value);
         if matches!(told, Meaning::Refused(_)) && frame.as_slice() != ARRIVAL {
-            if !is_told(&driven.put(alloc, Event::Arrive(&frame))?, told) {
+            if !is_answered(driven, alloc, &frame, told)? {
                 return Ok(false);
             }
         }
@@ -383,9 +404,7 @@ fn refused_frames_stand_between_edits(rt: HostRuntime) -> Result<(), Fail> {
 /// Whether 257 frames are sent with the frames that can't be read before each of them.
 fn sends_disturbed<D: Driven>(driven: &mut D, alloc: Global) -> Result<bool, AllocError> {
     for _ in 0..257 {
-        let refused = refuses_all(driven, alloc)?;
-        let answer = driven.put(alloc, Event::SendTasks(&[0]))?;
-        if !refused || !matches!(answer, Answer::Sent(_)) {
+        if !refuses_all(driven, alloc)? || !is_sent(driven, alloc)? {
             return Ok(false);
         }
     }

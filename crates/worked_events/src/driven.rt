@@ -1,7 +1,11 @@
 //! What answers events: the program that looks back, or the core.
+ghost use Rattle.hc_events.specs.Steps.{step_of};
+ghost use Rattle.hc_core.specs.Serving.{IsAsked};
+
 use crate::asking::is_asked;
 use hc_core::keeping::Core;
 use hc_events::answer::Answer;
+use hc_events::change::Change;
 use hc_events::event::Event;
 use hc_events::faults::CoreFault;
 use std::alloc::{AllocError, Global};
@@ -18,20 +22,46 @@ pub trait Driven: Drop {
     fn coming_serial(&self) -> u64;
 }
 
-impl Driven for Core {
+/// A core by itself. Its drop is written out: a derived one is opened, with all that a core keeps, on each path of each
+/// function that lets one go.
+pub struct Alone {
+    pub core: Core,
+}
+
+impl Drop for Alone {
+    fn drop(self) {
+        let Alone { core: _ } = self;
+    }
+}
+
+impl Alone {
+    /// The changes since they were taken last.
+    pub fn changes(&mut self, alloc: Global) -> Vec<Change> {
+        self.core.take_changes(alloc)
+    }
+}
+
+/// What a core answers; of it and of the core nothing more is known here.
+fn served(core: &mut Core, alloc: Global, event: Event<'_>) -> Answer
+    requires { IsAsked (step_of event) }
+{
+    core.step(alloc, event)
+}
+
+impl Driven for Alone {
     /// The core's answer alone; want of memory to an event that may not be asked of it.
     fn put(&mut self, alloc: Global, event: Event<'_>) -> Result<Answer, AllocError> {
         if !is_asked(event) {
             return Ok(Answer::Refused(CoreFault::Memory));
         }
-        Ok(self.step(alloc, event))
+        Ok(served(&mut self.core, alloc, event))
     }
 
     fn count_owed(&self) -> u32 {
-        self.owed()
+        self.core.owed()
     }
 
     fn coming_serial(&self) -> u64 {
-        self.next_serial()
+        self.core.next_serial()
     }
 }

@@ -10,11 +10,19 @@ use hc_records::records::{Declared, Group, VarId};
 use std::alloc::{AllocError, Global};
 
 /// The declared groups after the edits so far, and a plan that is made anew of the present slaves, all of
-/// them mandatory: no edit has a part in it.
-#[derive(Drop)]
+/// them mandatory: no edit has a part in it. Its drop is written out, so that no other function opens the plans.
 pub struct Line {
     declared: Plan,
     anew: Plan,
+}
+
+impl Drop for Line {
+    fn drop(self) {
+        let Line {
+            declared: _,
+            anew: _,
+        } = self;
+    }
 }
 
 /// The present slaves as one mandatory group.
@@ -72,19 +80,22 @@ fn plan_again(alloc: Global, declared: &[Declared]) -> Result<Plan, EditFault> {
 }
 
 impl Line {
-    /// The line of a project at its opening.
-    pub fn opened(alloc: Global, project: Project) -> Result<Line, EditFault> {
-        let declared = Plan::new(alloc, project)?;
+    /// The line of a plan's declared groups.
+    fn of(alloc: Global, declared: Plan) -> Result<Line, EditFault> {
         let anew = plan_anew(alloc, declared.groups())?;
         Ok(Line { declared, anew })
+    }
+
+    /// The line of a project at its opening.
+    pub fn opened(alloc: Global, project: Project) -> Result<Line, EditFault> {
+        Line::of(alloc, Plan::new(alloc, project)?)
     }
 
     /// The line behind an edit, or the edit's fault.
     pub fn edited(&self, alloc: Global, edit: &Edit) -> Result<Line, EditFault> {
         let mut declared = plan_again(alloc, self.declared.groups())?;
         declared.apply(alloc, edit)?;
-        let anew = plan_anew(alloc, declared.groups())?;
-        Ok(Line { declared, anew })
+        Line::of(alloc, declared)
     }
 
     /// The plan of the present slaves.

@@ -59,26 +59,37 @@ fn project_copied(alloc: Global, project: &Project) -> Result<Project, ProjectFa
     }
 }
 
+/// The program that looks back over a project's opening.
+fn looking_back(alloc: Global, project: &Project) -> Result<LookBack, Refused> {
+    let copy = match project_copied(alloc, project) {
+        Ok(copy) => copy,
+        Err(fault) => return Err(Refused::Project(fault)),
+    };
+    match LookBack::opened(alloc, copy) {
+        Ok(back) => Ok(back),
+        Err(fault) => Err(Refused::Opening(fault)),
+    }
+}
+
+/// The core of a project beside it.
+fn beside(alloc: Global, project: Project, back: LookBack) -> Result<Opened, Refused> {
+    match Core::new(alloc, project) {
+        Ok(core) => Ok(Twins::of(core, back)),
+        Err(fault) => Err(Refused::Opening(fault)),
+    }
+}
+
 /// A project at its opening.
 pub fn opened_project(
     alloc: Global,
     project: Result<Project, ProjectFault>,
 ) -> Result<Opened, Refused> {
-    let project = match project {
-        Ok(project) => project,
-        Err(fault) => return Err(Refused::Project(fault)),
-    };
-    let copy = match project_copied(alloc, &project) {
-        Ok(copy) => copy,
-        Err(fault) => return Err(Refused::Project(fault)),
-    };
-    let back = match LookBack::opened(alloc, copy) {
-        Ok(back) => back,
-        Err(fault) => return Err(Refused::Opening(fault)),
-    };
-    match Core::new(alloc, project) {
-        Ok(core) => Ok(Twins::of(core, back)),
-        Err(fault) => Err(Refused::Opening(fault)),
+    match project {
+        Ok(project) => {
+            let back = looking_back(alloc, &project)?;
+            beside(alloc, project, back)
+        }
+        Err(fault) => Err(Refused::Project(fault)),
     }
 }
 

@@ -15,8 +15,8 @@ use hc_records::project::Project;
 use std::alloc::{AllocError, Global};
 use std::mem;
 
-/// The list of what was accepted, the oldest first, with the line of each epoch.
-#[derive(Drop)]
+/// The list of what was accepted, the oldest first, with the line of each epoch. Its drop is written out, so that no
+/// other function opens the list.
 pub struct LookBack {
     /// The lines of the epochs before the present one.
     pub(crate) older: Vec<Line>,
@@ -27,6 +27,17 @@ pub struct LookBack {
     /// The owed blocks, in line and block order, by station address and number, as looking back told them when the
     /// last entry came that can change them.
     owed: Vec<(u16, u8)>,
+}
+
+impl Drop for LookBack {
+    fn drop(self) {
+        let LookBack {
+            older: _,
+            line: _,
+            entries: _,
+            owed: _,
+        } = self;
+    }
 }
 
 impl LookBack {

@@ -22,11 +22,16 @@ pub enum Stage {
 /// The number of a stage and that of a row in it, from 0.
 pub type At = (usize, usize);
 
+/// Sends task 0, and tells whether that was accepted.
+pub fn is_sent<D: Driven>(driven: &mut D, alloc: Global) -> Result<bool, AllocError> {
+    let answer = driven.put(alloc, Event::SendTasks(&[0]))?;
+    Ok(matches!(answer, Answer::Sent(_)))
+}
+
 /// Sends task 0 so many times, and tells whether each was accepted.
 fn send_times<D: Driven>(driven: &mut D, alloc: Global, times: u32) -> Result<bool, AllocError> {
     for _ in 0..times {
-        let answer = driven.put(alloc, Event::SendTasks(&[0]))?;
-        if !matches!(answer, Answer::Sent(_)) {
+        if !is_sent(driven, alloc)? {
             return Ok(false);
         }
     }

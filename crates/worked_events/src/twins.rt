@@ -1,5 +1,5 @@
 //! The core beside the program that looks back: each event is put to both.
-use crate::driven::Driven;
+use crate::driven::{Alone, Driven};
 use crate::lookback::LookBack;
 use crate::same::{is_same, tells};
 use hc_core::keeping::Core;
@@ -11,7 +11,7 @@ use std::alloc::{AllocError, Global};
 /// A core, and the program that looks back over the same events.
 #[derive(Drop)]
 pub struct Twins {
-    core: Core,
+    core: Alone,
     back: LookBack,
     /// How often the core wanted memory, and was left as it was.
     wants: u32,
@@ -21,7 +21,7 @@ impl Twins {
     /// Both at a project's opening.
     pub fn of(core: Core, back: LookBack) -> Twins {
         Twins {
-            core,
+            core: Alone { core },
             back,
             wants: 0,
         }
@@ -40,10 +40,10 @@ impl Twins {
     /// Whether the changes since they were taken last tell what was accepted behind so many entries, and both owe as
     /// many blocks and have the same next serial.
     fn is_told(&mut self, alloc: Global, entries: usize) -> bool {
-        let changes = self.core.take_changes(alloc);
+        let changes = self.core.changes(alloc);
         tells(changes.as_slice(), &self.back, entries)
-            && self.core.owed() == self.back.count_owed()
-            && self.core.next_serial() == self.back.coming_serial()
+            && self.core.count_owed() == self.back.count_owed()
+            && self.core.coming_serial() == self.back.coming_serial()
     }
 
     /// The core's answer, where the other one's is the same and what it leaves as well; else want of memory, which no
@@ -88,11 +88,11 @@ impl Driven for Twins {
     }
 
     fn count_owed(&self) -> u32 {
-        self.core.owed()
+        self.core.count_owed()
     }
 
     fn coming_serial(&self) -> u64 {
-        self.core.next_serial()
+        self.core.coming_serial()
     }
 }
 
