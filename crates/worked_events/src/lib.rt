@@ -26,6 +26,8 @@ mod lines;
 #[cfg(test)]
 mod lookback;
 #[cfg(test)]
+mod pieces;
+#[cfg(test)]
 mod readers;
 #[cfg(test)]
 mod record;

@@ -1,5 +1,5 @@
 //! The lines of the rows.
-use crate::driven::Driven;
+use crate::driven::{Alone, Driven};
 use crate::lookback::LookBack;
 use crate::twins::Twins;
 use hc_core::keeping::Core;
@@ -146,6 +146,14 @@ fn axis(alloc: Global) -> Result<Items<Group>, AllocError> {
 pub fn opened_axis(alloc: Global) -> Result<Opened, Fail> {
     let groups = axis(alloc)?;
     Ok(opened_project(alloc, Project::checked(alloc, groups))?)
+}
+
+/// The core of it alone.
+pub fn core_of_axis(alloc: Global) -> Result<Alone, Fail> {
+    let groups = axis(alloc)?;
+    Ok(Alone {
+        core: Core::new(alloc, Project::checked(alloc, groups)?)?,
+    })
 }
 
 /// The bytes that a PDO of 64 entries holds.
