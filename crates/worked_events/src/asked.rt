@@ -64,13 +64,23 @@ fn head_of(serial: u16, size: u8) -> [u8; 16] {
     ]
 }
 
+/// Whether bytes are zeros.
+fn are_zeros(bytes: &[u8]) -> bool {
+    for byte in bytes {
+        if *byte != 0 {
+            return false;
+        }
+    }
+    true
+}
+
 /// Whether bytes are these ones and so many zeros behind them.
 fn are_padded(bytes: &[u8], front: &[u8], zeros: usize) -> bool {
     if bytes.len() != front.len().saturating_add(zeros) {
         return false;
     }
     let (own, behind) = bytes.split_at(front.len());
-    own == front && behind.iter().all(|byte| *byte == 0)
+    own == front && are_zeros(behind)
 }
 
 /// Whether bytes are a frame's.

@@ -93,9 +93,9 @@ fn first_differing(
 }
 
 /// The first of some kinds of which there was no answer; none where there was one of each.
-fn first_missing(met: &Met, kinds: &[usize]) -> Option<usize> {
+fn first_missing(met: &[u32], kinds: &[usize]) -> Option<usize> {
     for kind in kinds {
-        if met.get(*kind) == Some(&0) {
+        if let Some(0) = met.get(*kind) {
             return Some(*kind);
         }
     }

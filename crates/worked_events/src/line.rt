@@ -59,11 +59,17 @@ fn groups_copied(alloc: Global, declared: &[Declared]) -> Result<Items<Group>, A
     Ok(groups)
 }
 
+/// A plan behind an edit, of which nothing more is known here.
+fn apply(alloc: Global, plan: &mut Plan, edit: &Edit) -> Result<(), EditFault> {
+    plan.apply(alloc, edit)?;
+    Ok(())
+}
+
 /// Connects each present group that a plan didn't open with.
 fn connect_present(alloc: Global, plan: &mut Plan, declared: &[Declared]) -> Result<(), EditFault> {
     for one in declared {
         if one.present && one.group.alias != 0 {
-            plan.apply(alloc, &Edit::Connect(one.group.alias))?;
+            apply(alloc, plan, &Edit::Connect(one.group.alias))?;
         }
     }
     Ok(())
@@ -94,7 +100,7 @@ impl Line {
     /// The line behind an edit, or the edit's fault.
     pub fn edited(&self, alloc: Global, edit: &Edit) -> Result<Line, EditFault> {
         let mut declared = plan_again(alloc, self.declared.groups())?;
-        declared.apply(alloc, edit)?;
+        apply(alloc, &mut declared, edit)?;
         Line::of(alloc, declared)
     }
 
