@@ -3,6 +3,9 @@
 mod breaks;
 mod devices;
 mod edits;
+mod event_words;
+mod frames;
+mod long_frames;
 mod refusals;
 mod runs;
 mod wide_lines;
@@ -79,7 +82,7 @@ impl Printed {
 /// Whether a text has a line of a command for which a growth was refused.
 fn has_memory_line(text: &[u8]) -> bool {
     text.windows(18)
-        .any(|part| part == b"refused 14 Memory\n".as_slice())
+        .any(|part| part == b"refused 28 Memory\n".as_slice())
 }
 
 /// Runs an input over memory.
