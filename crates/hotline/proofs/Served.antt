@@ -36,10 +36,10 @@ printed_as past next step given may other = sym (ap (answer_text (next_serial pa
 pub left_as : (past next : Record) (step : Step) (given : Answer) → MayAnswer past step given next → given ≢ answer.Refused Memory → next ≡ entries_after past step
 left_as past next step given may other = (answered past next step given may other).entries
 
--- behind want of memory the record is as it was, where a refusal leaves it so
-pub wanting_stays : (past next : Record) (step : Step) → (answer_to past step ≡ answer.Refused Memory → entries_after past step ≡ past) → MayAnswer past step (answer.Refused Memory) next → next ≡ past
-wanting_stays past next step stays (inl is) = is.entries ∙ stays (sym is.answer)
-wanting_stays past next step stays (inr wanting) = wanting.entries
+-- a refused event leaves the record, whether its own fault refuses it or want of memory
+pub refused_stays : (past next : Record) (step : Step) (fault : CoreFault) → (answer_to past step ≡ answer.Refused fault → entries_after past step ≡ past) → MayAnswer past step (answer.Refused fault) next → next ≡ past
+refused_stays past next step fault stays (inl is) = is.entries ∙ stays (sym is.answer)
+refused_stays past next step fault stays (inr wanting) = wanting.entries
 
 abbrev pub is_refusal : Answer → Bool
 is_refusal (answer.Refused fault) = true

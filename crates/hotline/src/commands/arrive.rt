@@ -61,7 +61,8 @@ pub fn reply(
         Answer::WriteDone => add_text("write done\n", out),
         Answer::WriteMissed => add_text("write missed\n", out),
         Answer::Stale => add_text("stale\n", out),
-        Answer::Refused(CoreFault::Memory) => return Err(AllocError),
+        // what can be read is refused in want of memory alone
+        Answer::Refused(_) => return Err(AllocError),
         _ => unreachable!(),
     }
     Ok(())

@@ -42,7 +42,7 @@ returns-in-Some-end-clause-unstarved g c unstarved =
     let left = ap (λ o. run past (lines_after number (option_copied o))) c.in-Some.is ∙ run_cut past number c.in-Some.text.now c.split_line.result.0.now rest c.split_line.ensures.line in
     let (before, now) = or_parts _ _ unstarved in
     let turn = subst (λ end. Takes (g.W.Write.contents c.loop-rest.output) (g.W.Write.contents c.take_turn-turn.new.output) c.take_turn-turn.new.core.past end (reply_to past number c.split_line.result.0.now)) c.in-Some-end.is (c.take_turn-turn.ensures.answered now) in
-    ends _ _ _ _ _ (run (reply_to past number c.split_line.result.0.now).state (lines_after (number + 1) rest)) (reply_to past number c.split_line.result.0.now) _ (c.loop-rest.invariant.runs before) left turn
+    ends _ _ _ _ _ (run (reply_to past number c.split_line.result.0.now).past (lines_after (number + 1) rest)) (reply_to past number c.split_line.result.0.now) _ (c.loop-rest.invariant.runs before) left turn
 
 pub returns-in-Some-end-clause-starved : goal.returns-in-Some-end-clause-starved
 returns-in-Some-end-clause-starved g c starved =

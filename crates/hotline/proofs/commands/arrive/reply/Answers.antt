@@ -1,14 +1,10 @@
-use Rattle.std.proofs.Common.{◌≡◌, arith, ◌++◌, ◌∙◌, Ok, ap, sym, subst, string_bytes}
+use Rattle.std.proofs.Common.{◌≡◌, arith, ◌++◌, ◌∙◌, Ok, ap, sym, string_bytes}
 use Rattle.std.specs.Prelude.{codes}
 use Rattle.hc_events.specs.declared.answer.Answer.TheVariants as answer
-use Rattle.hc_events.specs.declared.faults.CoreFault.{CoreFault}
-use Rattle.hc_events.specs.declared.faults.CoreFault.TheVariants.{Memory}
-use Rattle.hc_events.specs.Calls.{MayAnswer}
 use Rattle.hc_events.specs.Steps.{Arrives}
 use Rattle.hc_frames.specs.Arrived.{reading_of}
 use Rattle.hc_events.specs.Arrivals.{read_unless}
-use Rattle.hotline.proofs.Served.{IsOfArrival, bytes_stay, of_arrival, one_of_arrival, outcomes_few, printed_as, wanting_stays}
-use Rattle.hotline.proofs.commands.arrive.reply.Goals.{in_default-via-in-Refused+in_default, in_default-via-in_default}
+use Rattle.hotline.proofs.Served.{bytes_stay, of_arrival, one_of_arrival, outcomes_few, printed_as, refused_stays}
 use Rattle.hotline.proofs.commands.arrive.reply.Goals as goal
 
 pub add_outcomes-requires : goal.add_outcomes-requires
@@ -21,22 +17,17 @@ add_outcomes-requires c =
     let has = c.in_ok-reserve.ensures.capacity in
     grind (arith, few, lines, most, room, has, c.as_slice.ensures)
 
-pub returns-in-Refused-Memory-clause-unchanged : goal.returns-in-Refused-Memory-clause-unchanged
-returns-in-Refused-Memory-clause-unchanged c =
+pub returns-in-Refused-clause-unchanged : goal.returns-in-Refused-clause-unchanged
+returns-in-Refused-clause-unchanged c =
     let past = c.args.core.now.past in
-    let next = c.step.new.self.past in
     let bytes = c.args.bytes.now in
-    wanting_stays past next (Arrives bytes) (bytes_stay past bytes Memory)
-    (subst (λ (fault : CoreFault). MayAnswer past (Arrives bytes) (answer.Refused fault) next) c.in-Refused-Memory.field-0-is c.in-Refused-Memory.ensures.answer)
+    refused_stays past c.step.new.self.past (Arrives bytes) c.in-Refused.field-0 (bytes_stay past bytes c.in-Refused.field-0) c.in-Refused.ensures.answer
 
 pub unreachable-requires : goal.unreachable-requires
 unreachable-requires c =
     let read = ap (λ fault. read_unless fault (reading_of c.args.bytes.now)) c.in-Ok.ensures.0 ∙ ap Ok (sym c.in-Ok.ensures.1) in
     let is = of_arrival c.args.core.now.past c.step.new.self.past c.args.bytes.now c.in-Ok.arrival c.step.result read c.step.ensures.answer in
-    elim c.in_default.branch [
-      in_default-via-in-Refused+in_default w ↦ ?
-    | in_default-via-in_default w ↦ one_of_arrival c.step.result is w.in_default.not-Answered w.in_default.not-WriteDone w.in_default.not-WriteMissed w.in_default.not-Stale w.in_default.not-Refused
-    ]
+    one_of_arrival c.step.result is c.in_default.not-Answered c.in_default.not-WriteDone c.in_default.not-WriteMissed c.in_default.not-Stale c.in_default.not-Refused
 
 pub returns-in-WriteDone-clause-text : goal.returns-in-WriteDone-clause-text
 returns-in-WriteDone-clause-text c =

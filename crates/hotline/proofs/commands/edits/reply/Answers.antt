@@ -4,7 +4,7 @@ use Rattle.hc_events.specs.declared.faults.CoreFault.{CoreFault}
 use Rattle.hc_events.specs.declared.faults.CoreFault.TheVariants.{Memory}
 use Rattle.hc_events.specs.Calls.{MayAnswer}
 use Rattle.hc_events.specs.Steps.{Edits}
-use Rattle.hotline.proofs.Served.{edit_stays, of_edit, one_of_edit, wanting_stays}
+use Rattle.hotline.proofs.Served.{edit_stays, of_edit, one_of_edit, refused_stays}
 use Rattle.hotline.proofs.commands.edits.reply.Goals as goal
 
 pub unreachable-requires : goal.unreachable-requires
@@ -16,7 +16,7 @@ returns-in-Refused-Memory-clause-unchanged c =
     let past = c.args.core.now.past in
     let next = c.step.new.self.past in
     let edit = c.args.edit.now in
-    wanting_stays past next (Edits edit) (edit_stays past edit Memory)
+    refused_stays past next (Edits edit) Memory (edit_stays past edit Memory)
     (subst (λ (fault : CoreFault). MayAnswer past (Edits edit) (answer.Refused fault) next) c.in-Refused-Memory.field-0-is c.in-Refused-Memory.ensures.answer)
 
 pub returns-in-Refused : goal.returns-in-Refused
