@@ -9,6 +9,5 @@ pub mod VariablePlaces
 pub mod EditArguments
 pub mod Served
 pub mod Proposed
-pub mod WriteSizes
 pub mod Written
 pub mod Together

@@ -28,6 +28,9 @@ pub answered : (past next : Record) (step : Step) (given : Answer) → MayAnswer
 answered past next step given (inl is) other = is
 answered past next step given (inr wanting) other = absurd (other wanting.answer)
 
+pub other_fault : (fault : CoreFault) → fault ≢ Memory → answer.Refused fault ≢ answer.Refused Memory
+other_fault fault other e = let same : fault ≡ Memory = cc in other same
+
 -- so it is printed, and so the record is left
 pub printed_as : (past next : Record) (step : Step) (given : Answer) → MayAnswer past step given next → given ≢ answer.Refused Memory → told past step ≡ answer_text (next_serial past) given
 unfolding told

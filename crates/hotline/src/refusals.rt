@@ -1,5 +1,5 @@
 //! Faults as they are printed.
-ghost use Rattle.std.specs.Prelude.{◌≡◌, ◌++◌, OnOk, string_bytes};
+ghost use Rattle.std.specs.Prelude.{◌≡◌, ◌≢◌, ◌++◌, OnOk, string_bytes};
 ghost use Rattle.hc_events.specs.declared.faults.CoreFault.TheVariants.{Memory};
 ghost use Rattle.hotline.specs.Refusals.{bad_command_text, core_fault_name, project_fault_name, project_fault_text, project_fault_words, refusal_text};
 
@@ -90,6 +90,17 @@ pub fn push_refusal(fault: CoreFault, out: &mut String) -> Result<(), AllocError
     write!(out, "refused {number} ")?;
     push_core_fault_name(fault, out)?;
     out.push_str("\n")
+}
+
+/// The same of a fault that may be want of memory, which is no line of its own but `AllocError`.
+pub fn tell_refusal(fault: CoreFault, out: &mut String) -> Result<(), AllocError>
+    ensures text { OnOk result (string_bytes out.new ≡ string_bytes out.old ++ refusal_text fault) }
+    ensures other { OnOk result (fault ≢ Memory) }
+{
+    if let CoreFault::Memory = fault {
+        return Err(AllocError);
+    }
+    push_refusal(fault, out)
 }
 
 /// The line of a command for which a growth was refused: it is there without another growth.

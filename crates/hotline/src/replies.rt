@@ -17,8 +17,8 @@ pub struct Reply {
     pub goes_on: bool,
 }
 
-/// The reply to the text of a line with a number; the plan is then in the state that the line leaves.
-/// `AllocError` where a growth was refused; nothing was then accepted.
+/// The reply to the text of a line with a number; the core has then accepted what the line asks, unless it
+/// is refused. `AllocError` where a growth was refused; nothing was then accepted.
 #[tactic(auto, unfolding(crate::specs::Runs::reply_to))]
 pub fn answer(alloc: Global, line: &[u8], number: u32, core: &mut Core) -> Result<Reply, AllocError>
     ensures text { IfOk result (λ reply. string_bytes reply.text ≡ (reply_to core.old.past number line.now).text) }

@@ -8,11 +8,10 @@ ghost use Rattle.hc_text.specs.Numbers.{numbers_in};
 ghost use Rattle.hotline.specs.EditWords.{alias_in, edit_in, move_in, remap_in};
 
 use super::Command;
-use crate::refusals::push_refusal;
+use crate::refusals::tell_refusal;
 use hc_core::keeping::Core;
 use hc_events::answer::Answer;
 use hc_events::event::Event;
-use hc_events::faults::CoreFault;
 use hc_records::edit::Edit;
 use hc_records::items::Items;
 use hc_text::numbers::{byte_in, double_byte_in};
@@ -59,8 +58,7 @@ pub fn reply(
             add_report(epoch, recut, moved, out);
             Ok(())
         }
-        Answer::Refused(CoreFault::Memory) => Err(AllocError),
-        Answer::Refused(fault) => push_refusal(fault, out),
+        Answer::Refused(fault) => tell_refusal(fault, out),
         _ => unreachable!(),
     }
 }

@@ -12,10 +12,9 @@ ghost use Rattle.hotline.specs.Frames.{proposed_line, proposed_text};
 
 use super::Command;
 use crate::frames::push_frame;
-use crate::refusals::push_refusal;
+use crate::refusals::tell_refusal;
 use arrayvec::ArrayVec;
 use hc_core::keeping::Core;
-use hc_events::faults::CoreFault;
 use hc_events::sending::Sending;
 use hc_records::limits::TASKS;
 use hc_text::numbers::byte_in;
@@ -123,8 +122,7 @@ pub fn reply(
 {
     let frames = match core.propose(alloc, tasks.as_slice()) {
         Ok(frames) => frames,
-        Err(CoreFault::Memory) => return Err(AllocError),
-        Err(fault) => return push_refusal(fault, out),
+        Err(fault) => return tell_refusal(fault, out),
     };
     push_frames(core, &frames, out)?;
     core.commit(&frames);

@@ -10,8 +10,8 @@ returns-then-is_empty c =
     let words = map (λ (word : Bor (List ℕ)). word.now) c.args.words.now in
     let count = length-map c.args.words.now (λ (word : Bor (List ℕ)). word.now) in
     elim c.then-is_empty.branch [
-      then-is_empty-via-then-is_empty w ↦ sym (other_count words (inl (grind (arith, c.is_empty.ensures, w.if-is_empty, count))))
-    | then-is_empty-via-else-is_empty+then-words-from w ↦ sym (other_count words (inr (grind (arith, w.from.ensures, w.if-words-from, count))))
+      | then-is_empty-via-then-is_empty w ↦ sym (other_count words (inl (grind (arith, c.is_empty.ensures, w.if-is_empty, count))))
+      | then-is_empty-via-else-is_empty+then-words-from w ↦ sym (other_count words (inr (grind (arith, w.from.ensures, w.if-words-from, count))))
     ]
 
 pub invariant_of-result : goal.invariant_of-result
