@@ -111,6 +111,31 @@ fn joined(alloc: Global, project: &str, commands: &str) -> Result<String, AllocE
     Ok(input)
 }
 
+/// Whether a project text with commands behind it ends with a status and a text.
+fn prints(
+    alloc: Global,
+    project: &str,
+    commands: &str,
+    status: u8,
+    text: &str,
+) -> Result<bool, AllocError> {
+    let input = joined(alloc, project, commands)?;
+    ends_as(alloc, input.as_bytes(), status, text)
+}
+
+/// How many of the lines, from the first on, are no command behind one that is.
+fn no_commands(alloc: Global, lines: &[&str]) -> Result<usize, AllocError> {
+    let mut count = 0;
+    for line in lines {
+        let text = "epoch 0\nline 4: bad command\n";
+        if !prints(alloc, "%%\nlayout\n\n", *line, 2, text)? {
+            return Ok(count);
+        }
+        count = count.saturating_add(1);
+    }
+    Ok(count)
+}
+
 /// An output area of task 0, without its PDOs.
 const OUTPUTS: &str = "sm = 0\ndir = 'out'\nphys = 0x1000\ntask = 0\n";
 

@@ -1,6 +1,5 @@
 //! Words of the commands that write, send, take what arrives, and read.
-use super::{ends_as, joined};
-use std::alloc::{AllocError, Global};
+use super::{ends_as, no_commands};
 use std::test::Fail;
 
 /// Lines that begin with the name of such a command and are none.
@@ -63,17 +62,9 @@ epoch 0
 refused 8 NoSuchTask
 ";
 
-/// Whether a line behind an empty project is no command.
-fn is_no_command(alloc: Global, line: &str) -> Result<bool, AllocError> {
-    let input = joined(alloc, "%%\n\n", line)?;
-    ends_as(alloc, input.as_bytes(), 2, "line 3: bad command\n")
-}
-
 #[test]
 fn malformed_words_end_the_run(rt: HostRuntime) -> Result<(), Fail> {
-    for line in NO_EVENTS {
-        assert!(rt; is_no_command(rt.alloc(), line)?);
-    }
+    assert!(rt; no_commands(rt.alloc(), &NO_EVENTS)? == NO_EVENTS.len());
     Ok(())
 }
 
