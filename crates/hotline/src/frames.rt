@@ -24,6 +24,7 @@ pub fn push_frame(
     requires { CanBeFilled core.now.past frame.now }
     ensures { OnOk result (string_bytes out.new ≡ string_bytes out.old ++ frame_line word.now frame.now.serial (sent_text core.now.past frame.now)) }
 {
+    // its datagrams fit a frame, so that its size is at most that of the largest
     let _ = frame.datagrams();
     let mut bytes = [0u8; LARGEST_FRAME];
     let bytes = &mut bytes[..frame.size()];

@@ -92,7 +92,8 @@ pub fn push_refusal(fault: CoreFault, out: &mut String) -> Result<(), AllocError
     out.push_str("\n")
 }
 
-/// The same of a fault that may be want of memory, which is no line of its own but `AllocError`.
+/// The same of a fault that may be `Memory`: that one is answered as `AllocError`, and its line is the run's to
+/// write (`memory_refusal`).
 pub fn tell_refusal(fault: CoreFault, out: &mut String) -> Result<(), AllocError>
     ensures text { OnOk result (string_bytes out.new ≡ string_bytes out.old ++ refusal_text fault) }
     ensures other { OnOk result (fault ≢ Memory) }

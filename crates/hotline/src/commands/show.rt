@@ -27,8 +27,8 @@ pub fn parse(arguments: &[&[u8]]) -> Option<Command>
     }
 }
 
-/// Adds the frame of a datagram as it would be sent next, `none` where the task has no such datagram, or
-/// the refusal of a task over 7. `AllocError` where a growth was refused; `out` may then have a front of
+/// Adds the frame of a datagram as it would be sent next, `none` where the task has no such datagram or no
+/// serial is left, or the refusal of a task over 7. `AllocError` where a growth was refused; `out` may then have a front of
 /// the line.
 #[tactic(auto, unfolding(crate::specs::Show::show_text, crate::specs::Show::frame_or_none))]
 pub fn reply(core: &Core, task: u8, number: u8, out: &mut String) -> Result<(), AllocError>
