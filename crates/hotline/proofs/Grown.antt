@@ -16,7 +16,8 @@ told_ok (Err e) old now new text told same is grown = tt
 
 -- the same where what is told follows from what the call says of its own success
 pub told_when : {A E : Type 0} (result : Result A E) (old now new text told : List ℕ) (P : Type 0) → now ≡ old → (P → told ≡ text) → OnOk result P → OnOk result (new ≡ now ++ text) → OnOk result (new ≡ old ++ told)
-told_when (Ok x) old now new text told P same is holds grown = told_ok (Ok x) old now new text told same (is holds) grown
+told_when (Ok x) old now new text told P same is holds grown =
+    grown ∙ ap (λ front. front ++ text) same ∙ ap (λ back. old ++ back) (sym (is holds))
 told_when (Err e) old now new text told P same is holds grown = tt
 
 pub when_ok : {A E : Type 0} (result : Result A E) (P Q : Type 0) → (P → Q) → OnOk result P → OnOk result Q

@@ -1,4 +1,4 @@
-use Rattle.std.proofs.Common.{◌≡◌, ◌++◌, ◌∙◌, ℕ, ap, sym, string_bytes}
+use Rattle.std.proofs.Common.{◌++◌, ◌∙◌, ℕ, ap, sym, string_bytes}
 use Rattle.std.specs.Prelude.{codes}
 use Rattle.hc_events.specs.declared.answer.Outcome.{Outcome}
 use Rattle.hotline.specs.Answers.{outcome_text, pair_text}

@@ -1,4 +1,4 @@
-use Rattle.std.proofs.Common.{◌≡◌, arith, ◌++◌, ◌∙◌, Ok, ap, sym, string_bytes}
+use Rattle.std.proofs.Common.{arith, ◌++◌, ◌∙◌, Ok, ap, sym, string_bytes}
 use Rattle.std.specs.Prelude.{codes}
 use Rattle.hc_events.specs.declared.answer.Answer.TheVariants as answer
 use Rattle.hc_events.specs.Steps.{Arrives}

@@ -1,4 +1,4 @@
-use Rattle.std.proofs.Common.{◌≡◌, ◌≢◌, ◌++◌, string_bytes}
+use Rattle.std.proofs.Common.{◌≡◌, ◌≢◌, string_bytes}
 use Rattle.hc_events.specs.declared.answer.Answer.TheVariants as answer
 use Rattle.hc_events.specs.declared.faults.CoreFault.TheVariants.{Memory}
 use Rattle.hc_events.specs.Steps.{Edits, entries_after}

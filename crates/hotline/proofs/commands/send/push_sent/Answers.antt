@@ -1,4 +1,4 @@
-use Rattle.std.proofs.Common.{◌≡◌, ◌++◌, ◌∙◌, ap, string_bytes}
+use Rattle.std.proofs.Common.{◌++◌, ◌∙◌, ap, string_bytes}
 use Rattle.hc_events.specs.Sendings.{Frame}
 use Rattle.hotline.specs.Frames.{proposed_line}
 use Rattle.hotline.proofs.Numbered.{next_text}

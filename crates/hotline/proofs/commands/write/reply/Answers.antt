@@ -1,4 +1,4 @@
-use Rattle.std.proofs.Common.{◌≡◌, ◌∙◌, ap, sym}
+use Rattle.std.proofs.Common.{◌∙◌, ap, sym}
 use Rattle.hc_core.proofs.lemmas.BlockSizes.{write-has-room}
 use Rattle.hc_core.specs.State.{CoreState}
 use Rattle.hotline.proofs.Grown.{any_ok, told_ok}

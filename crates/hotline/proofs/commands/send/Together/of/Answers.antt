@@ -1,4 +1,4 @@
-use Rattle.std.proofs.Common.{◌≡◌, ◌∙◌, ℕ, List, ap, sym, inl, inr, length, map, arith, Bor, Some, option_map}
+use Rattle.std.proofs.Common.{◌∙◌, ℕ, List, ap, sym, inl, inr, map, arith, Bor, option_map}
 use Rattle.std.proofs.lemmas.List.{length-map}
 use Rattle.hc_records.specs.Lists.{has_repeat}
 use Rattle.hotline.proofs.Together.{count_of, other_count, together}
