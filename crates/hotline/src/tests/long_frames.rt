@@ -52,8 +52,9 @@ fn push_write(
     block: &str,
     counter: &str,
 ) -> Result<(), AllocError> {
-    let size = (block.len() / 2) as u32;
-    push_head(text, serial, size.saturating_add(12))?;
+    // a block has at most 16 bytes
+    let size = (block.len() / 2).min(16) as u32;
+    push_head(text, serial, size + 12)?;
     write!(
         text,
         "05{serial:02x}{address}{size:02x}000000{block}{counter}00"
