@@ -87,9 +87,9 @@ expect_refusals() {
         run_unrefused "$scratch/lines" without
         count=$((count + 1))
         size=$(wc -c <"$scratch/front")
-        { cat "$scratch/front"; echo refused 14 Memory; tail -c +$((size + 1)) "$scratch/without"; } >"$scratch/alone.$count"
+        { cat "$scratch/front"; echo refused 28 Memory; tail -c +$((size + 1)) "$scratch/without"; } >"$scratch/alone.$count"
         cp "$scratch/without.status" "$scratch/alone.$count.status"
-        { cat "$scratch/front"; yes refused 14 Memory | head -n $((last - line + 1)); } >"$scratch/lasting.$count"
+        { cat "$scratch/front"; yes refused 28 Memory | head -n $((last - line + 1)); } >"$scratch/lasting.$count"
         echo 0 >"$scratch/lasting.$count.status"
     done
 }
@@ -147,6 +147,7 @@ sweep_test hc_owed tests::writes_are_owed_until_confirmed
 sweep_test hotline tests::edits::a_group_comes_and_goes
 sweep_program "alone lasting" "its first run" crates/hotline/stdin crates/hotline/stdout 0
 sweep_program "alone lasting" "every command" tools/commands.in tools/commands.out 2
+sweep_program "alone lasting" "frames" tools/frames.in tools/frames.out 0
 sweep_program alone "two groups" examples/two_groups.in examples/two_groups.out 0
 echo "$passed passed, $failed failed"
 [ "$failed" -eq 0 ]

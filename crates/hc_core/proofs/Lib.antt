@@ -11,7 +11,7 @@ pub mod Sendings
 pub mod SentAll
 pub mod Shown
 pub mod Told
-pub mod BlockSizes
+pub mod lemmas
 pub mod Opens
 pub mod Serves
 pub mod Writes

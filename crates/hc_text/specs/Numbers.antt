@@ -1,6 +1,8 @@
 -- How commands spell numbers.
-use Rattle.std.specs.Prelude.{ℕ, ◌+◌, ◌-◌, ◌*◌, ◌==◌, nat_lt, nat_le, ◌&&◌, Bool, true, List, [], ◌∷◌, length, take, drop, if◌then◌else◌, Option, Some, None, codes}
+use Rattle.std.specs.Prelude.{ℕ, ◌+◌, ◌-◌, ◌*◌, ◌==◌, nat_lt, nat_le, ◌&&◌, Bool, true, List, [], ◌∷◌, length, take, drop, if◌then◌else◌, Option, Some, None, option_and_then, option_map, codes}
+use Rattle.std.specs.Result.{result_ok}
 use Rattle.std.specs.Str.{bytes_eq}
+use Rattle.hex.specs.Hex.{decode_of}
 
 -- what a digit of either case stands for, and 16 where a byte is none
 abbrev pub digit_of : ℕ → ℕ
@@ -31,3 +33,13 @@ digits_number base most digits = if length digits == 0 then None else spelt_with
 abbrev pub number_in : ℕ → List ℕ → Option ℕ
 number_in most word =
     if bytes_eq (take 2 word) (codes "0x") then digits_number 16 most (drop 2 word) else digits_number 10 most word
+
+-- the number of each word, where each is one of at most `most`
+abbrev pub numbers_in : ℕ → List (List ℕ) → Option (List ℕ)
+numbers_in most [] = Some []
+numbers_in most (word ∷ words) =
+    option_and_then (λ number. option_map (λ numbers. number ∷ numbers) (numbers_in most words)) (number_in most word)
+
+-- bytes: two hexadecimal digits of either case for each, and at least one byte
+abbrev pub bytes_in : List ℕ → Option (List ℕ)
+bytes_in word = if length word == 0 then None else result_ok (decode_of word)

@@ -1,6 +1,10 @@
-//! Numbers as commands spell them: decimal digits, or `0x` and hexadecimal digits of either case.
-ghost use Rattle.std.specs.Prelude.{◌≡◌, ◌+◌, ◌*◌, ◌≤◌, nat_le, if◌then◌else◌, IfSome};
-ghost use Rattle.hc_text.specs.Numbers.{digit_of, digits_number, number_in};
+//! Numbers as commands spell them: decimal digits, or `0x` and hexadecimal digits of either case; and bytes,
+//! two hexadecimal digits each.
+ghost use Rattle.std.specs.Prelude.{◌≡◌, ◌+◌, ◌*◌, ◌≤◌, nat_le, if◌then◌else◌, IfOk, option_map};
+ghost use Rattle.hc_text.specs.Numbers.{bytes_in, digit_of, digits_number, number_in};
+
+use hex::FromHexError;
+use std::alloc::{AllocError, Global};
 
 /// What a digit of either case stands for, and 16 where a byte is none.
 fn digit_of(byte: u8) -> u8
@@ -83,5 +87,20 @@ pub fn quadruple_byte_in(word: &[u8]) -> Option<u32>
     match number_in(word, u64::from(u32::MAX)) {
         Some(number) => Some(number as u32),
         None => None,
+    }
+}
+
+/// The bytes that a word spells, two hexadecimal digits of either case for each, at least one byte; none
+/// where it has another character, or an odd number of them. `AllocError` where a growth was refused.
+pub fn bytes_in(alloc: Global, word: &[u8]) -> Result<Option<Vec<u8>>, AllocError>
+    ensures { IfOk result (λ found. option_map (λ bytes. bytes.items) found ≡ bytes_in word.now) }
+{
+    if word.is_empty() {
+        return Ok(None);
+    }
+    match hex::decode(alloc, word) {
+        Ok(bytes) => Ok(Some(bytes)),
+        Err(FromHexError::OutOfMemory) => Err(AllocError),
+        Err(_) => Ok(None),
     }
 }

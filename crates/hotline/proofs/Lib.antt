@@ -1,6 +1,5 @@
 pub mod Numbered
 pub mod Arguments
-pub mod Lengths
 pub mod Turns
 pub mod Openings
 pub mod Outcomes
@@ -8,3 +7,7 @@ pub mod Starved
 pub mod Grown
 pub mod VariablePlaces
 pub mod EditArguments
+pub mod Served
+pub mod Proposed
+pub mod Written
+pub mod Together

@@ -7,6 +7,7 @@ use Rattle.hc_records.specs.declared.faults.ProjectFault.{ProjectFault}
 use Rattle.hc_records.specs.declared.faults.ProjectFault.TheVariants.{Memory}
 use Rattle.hc_records.specs.Edits.{crowded_task}
 use Rattle.hc_records.specs.Line.{line, opened}
+use Rattle.hc_events.specs.Accepted.{just_opened}
 use Rattle.hotline.specs.declared.opening.Unopened.{Unopened}
 use Rattle.hotline.specs.declared.opening.Unopened.TheVariants as unopened
 use Rattle.hotline.specs.Opening.{crowded_at_opening, in_want, is_memory, is_project_memory, opened_unless}
@@ -29,7 +30,7 @@ pub crowded_named : (groups : List Group) (task : ℕ) → option_map edit.TooMa
 unfolding crowded_at_opening
 crowded_named groups task e = named (crowded_task (line (opened groups))) groups task e
 
-pub crowded_none : (groups : List Group) → crowded_task (line (opened groups)) ≡ None → opened_unless (crowded_at_opening groups) groups ≡ Ok (opened groups)
+pub crowded_none : (groups : List Group) → crowded_task (line (opened groups)) ≡ None → opened_unless (crowded_at_opening groups) groups ≡ Ok (just_opened groups)
 unfolding crowded_at_opening
 crowded_none groups e = ap (λ crowded. opened_unless crowded groups) e
 

@@ -2,7 +2,7 @@
 use Rattle.std.proofs.Common.{◌≡◌, ℕ, ◌≤◌, List, [], length, cond, false, ap, subst, ◌∙◌, Ok, Err, Some, None}
 use Rattle.std.specs.Prelude.{nat_lt, IfSome, Option}
 use Rattle.std.proofs.lemmas.Bool.{le-ltb}
-use Rattle.hc_records.specs.Line.{State}
+use Rattle.hc_events.specs.Entries.{Record}
 use Rattle.hc_text.specs.declared.input.TheConstants.{MOST_INPUT}
 use Rattle.hotline.specs.declared.opening.Unopened.{Unopened}
 use Rattle.hc_text.specs.Lines.{command_lines, lines_of, project_text}
@@ -18,10 +18,10 @@ unfolding outcome_of
 lines_outcome input within =
     ap (λ b. cond b (record { text = []; status = 4 }) (outcome_of_lines (lines_of input))) (not_long (length input) MOST_INPUT within)
 
-pub opened_outcome : (input : List ℕ) (state : State) → length input ≤ MOST_INPUT → opening_of (project_text (lines_of input)) ≡ Ok state
-    → outcome_of input ≡ run state (command_lines (lines_of input))
+pub opened_outcome : (input : List ℕ) (past : Record) → length input ≤ MOST_INPUT → opening_of (project_text (lines_of input)) ≡ Ok past
+    → outcome_of input ≡ run past (command_lines (lines_of input))
 unfolding outcome_of_lines
-opened_outcome input state within opens = lines_outcome input within ∙ ap (λ opening. run_opened opening (command_lines (lines_of input))) opens
+opened_outcome input past within opens = lines_outcome input within ∙ ap (λ opening. run_opened opening (command_lines (lines_of input))) opens
 
 pub unopened_outcome : (input : List ℕ) (fault : Unopened) → length input ≤ MOST_INPUT → opening_of (project_text (lines_of input)) ≡ Err fault
     → outcome_of input ≡ unopened fault

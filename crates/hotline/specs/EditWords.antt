@@ -1,15 +1,9 @@
 -- The words of the four edits.
-use Rattle.std.specs.Prelude.{ℕ, if◌then◌else◌, List, [], ◌∷◌, Option, Some, None, option_and_then, option_map, codes}
+use Rattle.std.specs.Prelude.{ℕ, if◌then◌else◌, List, [], ◌∷◌, Option, None, option_and_then, option_map, codes}
 use Rattle.std.specs.Str.{bytes_eq}
 use Rattle.hc_records.specs.declared.edit.Edit.{Edit}
 use Rattle.hc_records.specs.declared.edit.Edit.TheVariants.{Connect, Disconnect, Remap, Move}
-use Rattle.hc_text.specs.Numbers.{number_in}
-
--- the number of each word, where each is one of at most 65,535
-abbrev pub indexes_in : List (List ℕ) → Option (List ℕ)
-indexes_in [] = Some []
-indexes_in (word ∷ words) =
-    option_and_then (λ index. option_map (λ indexes. index ∷ indexes) (indexes_in words)) (number_in 65535 word)
+use Rattle.hc_text.specs.Numbers.{number_in, numbers_in}
 
 -- `connect` and `disconnect` have an alias
 abbrev pub alias_in : List (List ℕ) → Option ℕ
@@ -22,7 +16,7 @@ abbrev pub remap_in : List (List ℕ) → Option Edit
 remap_in [] = None
 remap_in (station ∷ []) = None
 remap_in (station ∷ area ∷ pdos) =
-    option_and_then (λ s. option_and_then (λ a. option_map (λ indexes. Remap s a indexes) (indexes_in pdos)) (number_in 255 area))
+    option_and_then (λ s. option_and_then (λ a. option_map (λ indexes. Remap s a indexes) (numbers_in 65535 pdos)) (number_in 255 area))
     (number_in 65535 station)
 
 -- `move` has a station address, an area of that slave, and a task

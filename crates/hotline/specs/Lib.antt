@@ -1,10 +1,12 @@
 pub mod Refusals
+pub mod Frames
 pub mod Layout
 pub mod Regs
 pub mod Show
 pub mod Place
 pub mod EditWords
-pub mod Edits
+pub mod EventWords
+pub mod Answers
 pub mod Commands
 pub mod Runs
 pub mod Opening

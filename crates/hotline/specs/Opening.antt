@@ -5,8 +5,10 @@ use Rattle.hc_records.specs.declared.records.Group.{Group}
 use Rattle.hc_records.specs.declared.faults.ProjectFault.{ProjectFault}
 use Rattle.hc_records.specs.declared.faults.ProjectFault.TheVariants as fault
 use Rattle.hc_records.specs.Edits.{crowded_task}
-use Rattle.hc_records.specs.Line.{State, line, opened}
+use Rattle.hc_records.specs.Line.{line, opened}
 use Rattle.hc_project.specs.Text.{project_in}
+use Rattle.hc_events.specs.Accepted.{just_opened}
+use Rattle.hc_events.specs.Entries.{Record}
 use Rattle.hotline.specs.declared.opening.Unopened.{Unopened}
 use Rattle.hotline.specs.declared.opening.Unopened.TheVariants.{Project, TooManyDatagrams, Memory}
 use Rattle.hotline.specs.Refusals.{project_fault_text}
@@ -15,16 +17,16 @@ use Rattle.hotline.specs.Refusals.{project_fault_text}
 unfoldable pub crowded_at_opening : List Group → Option ℕ
 crowded_at_opening groups = crowded_task (line (opened groups))
 
-abbrev pub opened_unless : Option ℕ → List Group → Result State Unopened
-opened_unless None groups = Ok (opened groups)
+abbrev pub opened_unless : Option ℕ → List Group → Result Record Unopened
+opened_unless None groups = Ok (just_opened groups)
 opened_unless (Some task) groups = Err (TooManyDatagrams task)
 
-abbrev pub opened_project : Result (List Group) ProjectFault → Result State Unopened
+abbrev pub opened_project : Result (List Group) ProjectFault → Result Record Unopened
 opened_project (Ok groups) = opened_unless (crowded_at_opening groups) groups
 opened_project (Err refused) = Err (Project refused)
 
--- the state in which the project of a text opens, or why there is none
-unfoldable pub opening_of : List ℕ → Result State Unopened
+-- the record of a core that opens the project of a text, or why there is none
+unfoldable pub opening_of : List ℕ → Result Record Unopened
 opening_of text = opened_project (project_in text)
 
 unfoldable pub unopened_text : Unopened → List ℕ

@@ -1,11 +1,11 @@
 -- How faults are printed.
 use Rattle.std.specs.Prelude.{ℕ, List, ◌++◌, codes}
 use Rattle.std.specs.Fmt.{decimal}
-use Rattle.hc_records.specs.declared.faults.EditFault.{EditFault}
-use Rattle.hc_records.specs.declared.faults.EditFault.TheVariants as edit
+use Rattle.hc_events.specs.declared.faults.CoreFault.{CoreFault}
+use Rattle.hc_events.specs.declared.faults.CoreFault.TheVariants as core
+use Rattle.hc_events.specs.Faults.{core_fault_number}
 use Rattle.hc_records.specs.declared.faults.ProjectFault.{ProjectFault}
 use Rattle.hc_records.specs.declared.faults.ProjectFault.TheVariants as project
-use Rattle.hc_records.specs.EditFault.{edit_fault_number}
 use Rattle.hc_records.specs.ProjectFault.{project_fault_number}
 
 abbrev pub project_fault_name : ProjectFault → List ℕ
@@ -28,27 +28,41 @@ project_fault_words fault = decimal (project_fault_number fault) ++ codes " " ++
 abbrev pub project_fault_text : ProjectFault → List ℕ
 project_fault_text fault = codes "project fault " ++ project_fault_words fault
 
--- a fault that names a task is followed by it
-abbrev pub edit_fault_name : EditFault → List ℕ
-edit_fault_name edit.UnknownAlias = codes "UnknownAlias"
-edit_fault_name edit.AlreadyPresent = codes "AlreadyPresent"
-edit_fault_name edit.NotPresent = codes "NotPresent"
-edit_fault_name edit.Mandatory = codes "Mandatory"
-edit_fault_name edit.UnknownStation = codes "UnknownStation"
-edit_fault_name edit.Absent = codes "Absent"
-edit_fault_name edit.NoSuchArea = codes "NoSuchArea"
-edit_fault_name edit.NoSuchTask = codes "NoSuchTask"
-edit_fault_name edit.UnknownPdo = codes "UnknownPdo"
-edit_fault_name edit.RepeatedPdo = codes "RepeatedPdo"
-edit_fault_name edit.AreaTooBig = codes "AreaTooBig"
-edit_fault_name (edit.TooManyDatagrams task) = codes "TooManyDatagrams " ++ decimal task
-edit_fault_name edit.EpochsSpent = codes "EpochsSpent"
-edit_fault_name edit.Memory = codes "Memory"
+-- a fault that names a task or a number is followed by it
+abbrev pub core_fault_name : CoreFault → List ℕ
+core_fault_name core.UnknownAlias = codes "UnknownAlias"
+core_fault_name core.AlreadyPresent = codes "AlreadyPresent"
+core_fault_name core.NotPresent = codes "NotPresent"
+core_fault_name core.Mandatory = codes "Mandatory"
+core_fault_name core.UnknownStation = codes "UnknownStation"
+core_fault_name core.Absent = codes "Absent"
+core_fault_name core.NoSuchArea = codes "NoSuchArea"
+core_fault_name core.NoSuchTask = codes "NoSuchTask"
+core_fault_name core.UnknownPdo = codes "UnknownPdo"
+core_fault_name core.RepeatedPdo = codes "RepeatedPdo"
+core_fault_name core.AreaTooBig = codes "AreaTooBig"
+core_fault_name (core.TooManyDatagrams task) = codes "TooManyDatagrams " ++ decimal task
+core_fault_name core.EpochsSpent = codes "EpochsSpent"
+core_fault_name core.StalePost = codes "StalePost"
+core_fault_name core.PostLength = codes "PostLength"
+core_fault_name (core.Unprogrammed owed) = codes "Unprogrammed " ++ decimal owed
+core_fault_name core.NothingOwed = codes "NothingOwed"
+core_fault_name core.SerialsSpent = codes "SerialsSpent"
+core_fault_name core.Short = codes "Short"
+core_fault_name core.NotEtherCat = codes "NotEtherCat"
+core_fault_name core.BadType = codes "BadType"
+core_fault_name core.BadLength = codes "BadLength"
+core_fault_name core.Circulating = codes "Circulating"
+core_fault_name core.MoreFollows = codes "MoreFollows"
+core_fault_name core.UnknownCommand = codes "UnknownCommand"
+core_fault_name core.IndexMismatch = codes "IndexMismatch"
+core_fault_name core.Memory = codes "Memory"
+core_fault_name (core.Room needed) = codes "Room " ++ decimal needed
 
 -- what a refused command prints
-unfoldable pub refusal_text : EditFault → List ℕ
+unfoldable pub refusal_text : CoreFault → List ℕ
 refusal_text fault =
-    codes "refused " ++ decimal (edit_fault_number fault) ++ codes " " ++ edit_fault_name fault ++ codes "\n"
+    codes "refused " ++ decimal (core_fault_number fault) ++ codes " " ++ core_fault_name fault ++ codes "\n"
 
 -- what a line that is no command prints
 unfoldable pub bad_command_text : ℕ → List ℕ

@@ -9,6 +9,7 @@ use Rattle.hc_records.specs.Line.{Member, State, line}
 use Rattle.hc_registers.specs.Blocks.{RegisterBlock}
 use Rattle.hc_registers.specs.declared.registers.TheConstants.{FMMU_BLOCKS, FMMU_BLOCK_BYTES, SYNC_MANAGER_BLOCKS, SYNC_MANAGER_BLOCK_BYTES}
 use Rattle.hc_plan.specs.Configuration.{block_at, position_of}
+use Rattle.hc_events.specs.Faults.{edit_refusal}
 use Rattle.hc_text.specs.Numbers.{number_in}
 use Rattle.hc_text.specs.Printing.{hex_register, spaced_bytes}
 use Rattle.hotline.specs.Refusals.{refusal_text}
@@ -47,7 +48,7 @@ blocks_text line station = flat_map (numbered_block_text line station) (range_wi
 
 abbrev pub blocks_or_refusal : List Member → ℕ → Result ℕ EditFault → List ℕ
 blocks_or_refusal line station (Ok position) = blocks_text line station
-blocks_or_refusal line station (Err fault) = refusal_text fault
+blocks_or_refusal line station (Err fault) = refusal_text (edit_refusal fault)
 
 -- the blocks of the slave of the line with the station address, or why there is none
 unfoldable pub regs_text : State → ℕ → List ℕ

@@ -1,8 +1,8 @@
 -- What a run may leave in which memory was refused.
 use Rattle.std.specs.Prelude.{◌≡◌, ◌≤◌, ◌⊎◌, ℕ, true, List, [], ◌∷◌, length, Option, Ok, IsOk}
-use Rattle.hc_records.specs.declared.faults.EditFault.TheVariants as edit
+use Rattle.hc_events.specs.declared.faults.CoreFault.TheVariants as core
 use Rattle.hc_records.specs.declared.faults.ProjectFault.TheVariants as project
-use Rattle.hc_records.specs.Line.{State}
+use Rattle.hc_events.specs.Entries.{Record}
 use Rattle.hc_text.specs.declared.input.TheConstants.{MOST_INPUT}
 use Rattle.hc_text.specs.Lines.{Line, command_lines, lines_of, project_text}
 use Rattle.hc_project.specs.Text.{project_in}
@@ -13,34 +13,34 @@ use Rattle.hotline.specs.Runs.{Outcome, Reply, behind, reply_to}
 use Rattle.hotline.specs.Text.{EndsAs, unopened}
 
 -- a line for which memory is refused prints the refusal Memory and changes nothing, and the run goes on
-abbrev pub memory_reply : State → Reply
-memory_reply state = record { text = refusal_text edit.Memory; state = state; goes_on = true }
+abbrev pub memory_reply : Record → Reply
+memory_reply past = record { text = refusal_text core.Memory; past = past; goes_on = true }
 
 -- a reply, and behind it what `Rest` allows
 abbrev pub GivesFirst : Reply → (Outcome → Type 0) → Outcome → Type 0
 GivesFirst reply Rest outcome = (rest : Outcome) × Rest rest × (outcome ≡ behind reply rest)
 
 -- a run of lines each of which gives its reply, or the refusal Memory
-unfoldable pub RunsInWant : State → List Line → Outcome → Type 0
-RunsInWant state [] outcome = outcome ≡ record { text = []; status = 0 }
-RunsInWant state (line ∷ lines) outcome =
-    GivesFirst (reply_to state line.number line.text) (RunsInWant (reply_to state line.number line.text).state lines) outcome
-    ⊎ GivesFirst (memory_reply state) (RunsInWant state lines) outcome
+unfoldable pub RunsInWant : Record → List Line → Outcome → Type 0
+RunsInWant past [] outcome = outcome ≡ record { text = []; status = 0 }
+RunsInWant past (line ∷ lines) outcome =
+    GivesFirst (reply_to past line.number line.text) (RunsInWant (reply_to past line.number line.text).past lines) outcome
+    ⊎ GivesFirst (memory_reply past) (RunsInWant past lines) outcome
 
 -- such a run, one at least of whose lines gives the refusal Memory: a later one, which the run reaches, or the first
-unfoldable pub StarvedRun : State → List Line → Outcome → Type 0
-StarvedRun state [] outcome = ⊥
-StarvedRun state (line ∷ lines) outcome =
-    ((reply_to state line.number line.text).goes_on ≡ true)
-    × GivesFirst (reply_to state line.number line.text) (StarvedRun (reply_to state line.number line.text).state lines) outcome
-    ⊎ GivesFirst (memory_reply state) (RunsInWant state lines) outcome
+unfoldable pub StarvedRun : Record → List Line → Outcome → Type 0
+StarvedRun past [] outcome = ⊥
+StarvedRun past (line ∷ lines) outcome =
+    ((reply_to past line.number line.text).goes_on ≡ true)
+    × GivesFirst (reply_to past line.number line.text) (StarvedRun (reply_to past line.number line.text).past lines) outcome
+    ⊎ GivesFirst (memory_reply past) (RunsInWant past lines) outcome
 
 -- memory was refused while the project was read or its fault told, while the plan of the project was made or its fault told, or for a line
 abbrev pub StarvedSections : List ℕ → List Line → Outcome → Type 0
 StarvedSections text lines outcome =
     (outcome ≡ unopened (Project project.Memory))
     ⊎ IsOk (project_in text) × (outcome ≡ unopened Memory)
-    ⊎ ((state : State) × (opening_of text ≡ Ok state) × StarvedRun state lines outcome)
+    ⊎ ((past : Record) × (opening_of text ≡ Ok past) × StarvedRun past lines outcome)
 
 -- memory was refused while the input was read, which prints nothing, or behind that
 abbrev pub StarvedOutcome : List ℕ → Outcome → Type 0

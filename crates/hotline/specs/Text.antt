@@ -1,7 +1,7 @@
 -- What the program prints for an input, and its exit status.
 use Rattle.std.specs.Prelude.{◌≡◌, ◌≢◌, ℕ, nat_lt, if◌then◌else◌, List, [], length, take, Option, Result, Ok, Err}
 use Rattle.std.specs.Io.KnownBytes.{Appends}
-use Rattle.hc_records.specs.Line.{State}
+use Rattle.hc_events.specs.Entries.{Record}
 use Rattle.hc_text.specs.declared.input.TheConstants.{MOST_INPUT}
 use Rattle.hotline.specs.declared.opening.Unopened.{Unopened}
 use Rattle.hc_text.specs.Lines.{Line, command_lines, lines_of, project_text}
@@ -11,8 +11,8 @@ use Rattle.hotline.specs.Runs.{Outcome, run}
 abbrev pub unopened : Unopened → Outcome
 unopened fault = record { text = unopened_text fault; status = 3 }
 
-abbrev pub run_opened : Result State Unopened → List Line → Outcome
-run_opened (Ok state) lines = run state lines
+abbrev pub run_opened : Result Record Unopened → List Line → Outcome
+run_opened (Ok past) lines = run past lines
 run_opened (Err fault) lines = unopened fault
 
 -- the project before the mark is opened, then the command lines behind the mark are run

@@ -1,15 +1,15 @@
 -- One turn of a run: a line is answered, and its reply is written.
 use Rattle.std.specs.Prelude.{◌≡◌, ◌≢◌, ℕ, true, false, List, ◌++◌, take, Option, Some, None}
 use Rattle.std.specs.Io.KnownBytes.{Appends}
-use Rattle.hc_records.specs.declared.faults.EditFault.TheVariants.{Memory}
-use Rattle.hc_records.specs.Line.{State}
+use Rattle.hc_events.specs.declared.faults.CoreFault.TheVariants.{Memory}
+use Rattle.hc_events.specs.Entries.{Record}
 use Rattle.hotline.specs.Refusals.{refusal_text}
 use Rattle.hotline.specs.Runs.{Outcome, Reply}
 
--- the run goes on behind the reply, in the state that it leaves
-pub record GoesOn (old new : Option (List ℕ)) (state : State) (reply : Reply) : Type 0 where
+-- the run goes on behind the reply, with the record that it leaves
+pub record GoesOn (old new : Option (List ℕ)) (past : Record) (reply : Reply) : Type 0 where
   pub written : Appends old new reply.text
-  pub state_kept : state ≡ reply.state
+  pub past_kept : past ≡ reply.past
   pub on : reply.goes_on ≡ true
 
 -- the run ends here: behind the whole reply, which ends it, or with status 4 behind a front of the reply
@@ -17,9 +17,9 @@ pub record Ends (old new : Option (List ℕ)) (status : ℕ) (reply : Reply) : T
   pub whole : status ≢ 4 → Appends old new reply.text × (status ≡ 2) × (reply.goes_on ≡ false)
   pub front : (n : ℕ) × Appends old new (take n reply.text)
 
-abbrev pub Takes : Option (List ℕ) → Option (List ℕ) → State → Option ℕ → Reply → Type 0
-Takes old new state None reply = GoesOn old new state reply
-Takes old new state (Some status) reply = Ends old new status reply
+abbrev pub Takes : Option (List ℕ) → Option (List ℕ) → Record → Option ℕ → Reply → Type 0
+Takes old new past None reply = GoesOn old new past reply
+Takes old new past (Some status) reply = Ends old new status reply
 
 -- a growth was refused for the line: its refusal is written and the run goes on, or the run ends with status 4 behind a front of the refusal
 abbrev pub Starves : Option (List ℕ) → Option (List ℕ) → Option ℕ → Type 0

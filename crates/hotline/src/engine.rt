@@ -10,10 +10,10 @@ ghost use Rattle.hotline.specs.Text.{EndsAs, outcome_of, unopened};
 ghost use Rattle.hotline.specs.Turns.{Starves, Takes};
 ghost use Rattle.hc_text.specs.declared.input.TheConstants.{MOST_INPUT};
 
-use crate::opening::{Unopened, memory_text, open_plan, push_unopened};
+use crate::opening::{Unopened, memory_text, open_core, push_unopened};
 use crate::refusals::memory_refusal;
 use crate::replies::answer;
-use hc_plan::plan::Plan;
+use hc_core::keeping::Core;
 use hc_text::input::{Unread, read_all};
 use hc_text::lines::{split_line, split_sections};
 use hc_text::output::write_text;
@@ -51,20 +51,23 @@ struct Turn {
     starved: bool,
 }
 
-/// Answers a line and writes its reply, or the refusal `Memory` where a growth was refused.
+/// Answers a line and writes its reply, or the refusal `Memory` where a growth was refused. The changes that
+/// the line made of what tasks read are dropped: nobody follows them here.
 fn take_turn<W: Write>(
     alloc: Global,
     line: &[u8],
     number: u32,
-    plan: &mut Plan,
+    core: &mut Core,
     output: &mut W,
 ) -> Turn
     ensures answered { result.starved ≡ false
-        → Takes (W.contents output.old) (W.contents output.new) plan.new result.end (reply_to plan.old number line.now) }
+        → Takes (W.contents output.old) (W.contents output.new) core.new.past result.end (reply_to core.old.past number line.now) }
     ensures refused { result.starved ≡ true → Starves (W.contents output.old) (W.contents output.new) result.end }
-    ensures unchanged { result.starved ≡ true → plan.new ≡ plan.old }
+    ensures unchanged { result.starved ≡ true → core.new.past ≡ core.old.past }
 {
-    let Ok(reply) = answer(alloc, line, number, plan) else {
+    let answered = answer(alloc, line, number, core);
+    drop(core.take_changes(alloc));
+    let Ok(reply) = answered else {
         let end = match write_text(output, memory_refusal()) {
             Ok(()) => None,
             Err(_) => Some(BROKEN),
@@ -92,24 +95,24 @@ fn take_turn<W: Write>(
 /// Runs the command lines that follow, the first of which has a number.
 fn run_commands<W: Write>(
     alloc: Global,
-    opened: Plan,
+    opened: Core,
     lines: Option<&[u8]>,
     first: u32,
     output: &mut W,
 ) -> RunEnd
     requires { first + left_in (option_copied lines) ≤ MOST_INPUT + 2 }
     ensures unstarved { result.starved ≡ false
-        → EndsAs (W.contents output.old) (W.contents output.new) result.status (run opened (lines_after first (option_copied lines.entry))) }
+        → EndsAs (W.contents output.old) (W.contents output.new) result.status (run opened.past (lines_after first (option_copied lines.entry))) }
     ensures starved { result.starved ≡ true
-        → EndsAsOne (W.contents output.old) (W.contents output.new) result.status (StarvedRun opened (lines_after first (option_copied lines.entry))) }
+        → EndsAsOne (W.contents output.old) (W.contents output.new) result.status (StarvedRun opened.past (lines_after first (option_copied lines.entry))) }
 {
-    let mut plan = opened;
+    let mut core = opened;
     let mut starved = false;
     let mut number = first;
     let mut rest = lines;
     while let Some(text) = rest {
         let (line, more) = split_line(text);
-        let turn = take_turn(alloc, line, number, &mut plan, output);
+        let turn = take_turn(alloc, line, number, &mut core, output);
         starved |= turn.starved;
         if let Some(status) = turn.end {
             return RunEnd { status, starved };
@@ -160,8 +163,8 @@ fn run_input<W: Write>(alloc: Global, input: &[u8], output: &mut W) -> RunEnd
         → EndsAsOne (W.contents output.old) (W.contents output.new) result.status (StarvedOutcome input.now) }
 {
     let sections = split_sections(input);
-    match open_plan(alloc, sections.project) {
-        Ok(plan) => run_commands(alloc, plan, sections.commands, sections.first, output),
+    match open_core(alloc, sections.project) {
+        Ok(core) => run_commands(alloc, core, sections.commands, sections.first, output),
         Err(fault) => end_unopened(alloc, fault, output),
     }
 }
@@ -172,7 +175,7 @@ fn run_input<W: Write>(alloc: Global, input: &[u8], output: &mut W) -> RunEnd
 ///
 /// The same holds of a starved end and one of the texts that a refused growth allows: nothing and status 4
 /// where the input isn't read, `project fault 11 Memory` or `open fault 2 Memory` and status 3 where the
-/// project isn't opened, else the text of the commands, one or more of which gave `refused 14 Memory` and
+/// project isn't opened, else the text of the commands, one or more of which gave `refused 28 Memory` and
 /// changed nothing.
 ///
 /// Faults are found in the order input, project, opening, commands. Status 4 comes where the input is

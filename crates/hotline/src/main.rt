@@ -3,6 +3,7 @@
 
 pub mod commands;
 pub mod engine;
+pub mod frames;
 pub mod opening;
 pub mod refusals;
 pub mod replies;

@@ -5,7 +5,7 @@ ghost use Rattle.hotline.specs.declared.opening.Unopened.TheVariants.{Memory};
 ghost use Rattle.hotline.specs.Opening.{crowded_at_opening, in_want, is_memory, is_project_memory, opened_unless, opening_of, unopened_text};
 
 use crate::refusals::push_project_fault;
-use hc_plan::plan::Plan;
+use hc_core::keeping::Core;
 use hc_project::read_project;
 use hc_records::faults::{EditFault, ProjectFault};
 use hc_records::project::Project;
@@ -21,7 +21,7 @@ pub enum Unopened {
     /// A task of the opening line needs more than 16 datagrams: the lowest such task.
     #[error("task {0} needs too many datagrams")]
     TooManyDatagrams(u8),
-    /// A growth was refused while the plan was made.
+    /// A growth was refused while the core was made.
     #[error("out of memory")]
     Memory,
 }
@@ -48,23 +48,23 @@ fn is_project_memory(fault: ProjectFault) -> bool
     fault == ProjectFault::Memory
 }
 
-/// The plan of a project at its opening.
-fn open_project(alloc: Global, project: Project) -> Result<Plan, Unopened>
-    ensures opened { IfOk result (λ plan. opened_unless (crowded_at_opening project) project ≡ Ok plan) }
+/// The core of a project at its opening.
+fn open_project(alloc: Global, project: Project) -> Result<Core, Unopened>
+    ensures opened { IfOk result (λ core. opened_unless (crowded_at_opening project) project ≡ Ok core.past) }
     ensures refused { IfErr result (λ fault. is_memory fault ≡ false → opened_unless (crowded_at_opening project) project ≡ Err fault) }
 {
-    match Plan::new(alloc, project) {
-        Ok(plan) => Ok(plan),
+    match Core::new(alloc, project) {
+        Ok(core) => Ok(core),
         Err(EditFault::TooManyDatagrams(task)) => Err(Unopened::TooManyDatagrams(task)),
         Err(_) => Err(Unopened::Memory),
     }
 }
 
-/// The plan of the project of a text at its opening, or why it isn't opened. `Unopened::Memory` comes only
+/// The core of the project of a text at its opening, or why it isn't opened. `Unopened::Memory` comes only
 /// where the text is a project.
 #[tactic(auto, unfolding(crate::specs::Opening::opening_of))]
-pub fn open_plan(alloc: Global, text: &[u8]) -> Result<Plan, Unopened>
-    ensures opened { IfOk result (λ plan. opening_of text.now ≡ Ok plan) }
+pub fn open_core(alloc: Global, text: &[u8]) -> Result<Core, Unopened>
+    ensures opened { IfOk result (λ core. opening_of text.now ≡ Ok core.past) }
     ensures refused { IfErr result (λ fault. is_memory fault ≡ false → opening_of text.now ≡ Err fault) }
     ensures memory { IfErr result (λ fault. fault ≡ Memory → IsOk (project_in text.now)) }
 {

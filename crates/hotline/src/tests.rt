@@ -3,6 +3,9 @@
 mod breaks;
 mod devices;
 mod edits;
+mod event_words;
+mod frames;
+mod long_frames;
 mod refusals;
 mod runs;
 mod wide_lines;
@@ -79,7 +82,7 @@ impl Printed {
 /// Whether a text has a line of a command for which a growth was refused.
 fn has_memory_line(text: &[u8]) -> bool {
     text.windows(18)
-        .any(|part| part == b"refused 14 Memory\n".as_slice())
+        .any(|part| part == b"refused 28 Memory\n".as_slice())
 }
 
 /// Runs an input over memory.
@@ -106,6 +109,31 @@ fn joined(alloc: Global, project: &str, commands: &str) -> Result<String, AllocE
     input.push_str(project)?;
     input.push_str(commands)?;
     Ok(input)
+}
+
+/// Whether a project text with commands behind it ends with a status and a text.
+fn prints(
+    alloc: Global,
+    project: &str,
+    commands: &str,
+    status: u8,
+    text: &str,
+) -> Result<bool, AllocError> {
+    let input = joined(alloc, project, commands)?;
+    ends_as(alloc, input.as_bytes(), status, text)
+}
+
+/// How many of the lines, from the first on, are no command behind one that is.
+fn no_commands(alloc: Global, lines: &[&str]) -> Result<usize, AllocError> {
+    let mut count = 0;
+    for line in lines {
+        let text = "epoch 0\nline 4: bad command\n";
+        if !prints(alloc, "%%\nlayout\n\n", *line, 2, text)? {
+            return Ok(count);
+        }
+        count = count.saturating_add(1);
+    }
+    Ok(count)
 }
 
 /// An output area of task 0, without its PDOs.

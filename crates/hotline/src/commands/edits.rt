@@ -1,17 +1,18 @@
 //! The four edits: `connect A`, `disconnect A`, `remap S A P..` and `move S A T`.
 ghost use Rattle.std.specs.Prelude.{◌≡◌, ◌≤◌, ◌+◌, ◌++◌, IfOk, map, option_map, OnErr, OnOk, string_bytes};
 ghost use Rattle.std.specs.String.{string_capacity, string_len};
-ghost use Rattle.hc_records.specs.Edits.{state_after};
+ghost use Rattle.hc_events.specs.Steps.{Edits, entries_after};
 ghost use Rattle.hotline.specs.declared.commands.Command.TheVariants as command;
-ghost use Rattle.hotline.specs.Edits.{edit_text, report_text};
-ghost use Rattle.hotline.specs.EditWords.{alias_in, edit_in, indexes_in, move_in, remap_in};
+ghost use Rattle.hotline.specs.Answers.{report_text, told};
+ghost use Rattle.hc_text.specs.Numbers.{numbers_in};
+ghost use Rattle.hotline.specs.EditWords.{alias_in, edit_in, move_in, remap_in};
 
 use super::Command;
-use crate::refusals::push_refusal;
-use hc_plan::plan::Plan;
-use hc_plan::report::Report;
+use crate::refusals::tell_refusal;
+use hc_core::keeping::Core;
+use hc_events::answer::Answer;
+use hc_events::event::Event;
 use hc_records::edit::Edit;
-use hc_records::faults::EditFault;
 use hc_records::items::Items;
 use hc_text::numbers::{byte_in, double_byte_in};
 use hc_text::room::{MOST_DIGITS, add_number, add_text};
@@ -33,44 +34,47 @@ pub fn parse(alloc: Global, name: &[u8], arguments: &[&[u8]]) -> Result<Option<C
     }
 }
 
-/// Carries an edit out and adds what became different, or why it is refused: the plan is then in the
-/// state that the edit leaves. `AllocError` where a growth was refused; the plan is then as it was, and
-/// `out` may have a front of the line. Room for the line is taken before the edit is carried out, so a
-/// growth refused for it leaves the plan, too.
-#[tactic(auto, unfolding(crate::specs::Edits::edit_text))]
+/// Carries an edit out and adds what became different, or why it is refused: the core is then as the edit
+/// leaves it. `AllocError` where a growth was refused; nothing was then accepted, and `out` may have a
+/// front of the line. Room for the line is taken before the edit is carried out.
+#[tactic(auto, unfolding(crate::specs::Answers::told))]
 pub fn reply(
     alloc: Global,
     edit: &Edit,
-    plan: &mut Plan,
+    core: &mut Core,
     out: &mut String,
 ) -> Result<(), AllocError>
-    ensures text { OnOk result (string_bytes out.new ≡ string_bytes out.old ++ edit_text plan.old edit.now) }
-    ensures state { OnOk result (plan.new ≡ state_after plan.old edit.now) }
-    ensures unchanged { OnErr result (plan.new ≡ plan.old) }
+    ensures text { OnOk result (string_bytes out.new ≡ string_bytes out.old ++ told core.old.past (Edits edit.now)) }
+    ensures past { OnOk result (core.new.past ≡ entries_after core.old.past (Edits edit.now)) }
+    ensures unchanged { OnErr result (core.new.past ≡ core.old.past) }
 {
     out.reserve(LONGEST_REPORT)?;
-    match plan.apply(alloc, edit) {
-        Ok(report) => {
-            add_report(&report, out);
+    match core.step(alloc, Event::Edit(edit)) {
+        Answer::Edited {
+            epoch,
+            recut,
+            moved,
+        } => {
+            add_report(epoch, recut, moved, out);
             Ok(())
         }
-        Err(EditFault::Memory) => Err(AllocError),
-        Err(fault) => push_refusal(fault, out),
+        Answer::Refused(fault) => tell_refusal(fault, out),
+        _ => unreachable!(),
     }
 }
 
 /// Adds the line of an accepted edit, as `epoch 1 recut 1 moved 4`, for which there is room.
-#[tactic(auto, unfolding(crate::specs::Edits::report_text))]
-fn add_report(report: &Report, out: &mut String)
+#[tactic(auto, unfolding(crate::specs::Answers::report_text))]
+fn add_report(epoch: u32, recut: u32, moved: u32, out: &mut String)
     requires { string_len out.old + LONGEST_REPORT ≤ string_capacity out.old }
-    ensures { string_bytes out.new ≡ string_bytes out.old ++ report_text report.now.epoch report.now.recut report.now.moved }
+    ensures { string_bytes out.new ≡ string_bytes out.old ++ report_text epoch recut moved }
 {
     add_text("epoch ", out);
-    add_number(report.epoch, out);
+    add_number(u64::from(epoch), out);
     add_text(" recut ", out);
-    add_number(report.recut, out);
+    add_number(u64::from(recut), out);
     add_text(" moved ", out);
-    add_number(report.moved, out);
+    add_number(u64::from(moved), out);
     add_text("\n", out);
 }
 
@@ -123,7 +127,7 @@ fn remap_of(alloc: Global, arguments: &[&[u8]]) -> Result<Option<Edit>, AllocErr
 
 /// The number of each word, where each is one of at most 65,535.
 fn indexes_of(alloc: Global, words: &[&[u8]]) -> Result<Option<Items<u16>>, AllocError>
-    ensures { IfOk result (λ indexes. indexes ≡ indexes_in (map (λ word. word.now) words.now)) }
+    ensures { IfOk result (λ indexes. indexes ≡ numbers_in 65535 (map (λ word. word.now) words.now)) }
 {
     let mut indexes = Vec::with_capacity(alloc, words.len())?;
     for word in words {

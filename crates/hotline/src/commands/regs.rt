@@ -5,6 +5,7 @@ ghost use Rattle.hotline.specs.Regs.{block_name, block_text, blocks_text, number
 
 use super::Command;
 use crate::refusals::push_refusal;
+use hc_events::faults::CoreFault;
 use hc_plan::plan::Plan;
 use hc_records::limits::MOST_AREAS;
 use hc_registers::blocks::Block;
@@ -41,7 +42,7 @@ pub fn reply(plan: &Plan, station: u16, out: &mut String) -> Result<(), AllocErr
 {
     match plan.position(station) {
         Ok(_) => push_blocks(plan, station, out),
-        Err(fault) => push_refusal(fault, out),
+        Err(fault) => push_refusal(CoreFault::from(fault), out),
     }
 }
 

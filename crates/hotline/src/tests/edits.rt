@@ -1,5 +1,8 @@
 //! Runs that edit the line.
-use super::{INPUTS, ONE_SLAVE, OUTPUTS, ends_as, joined, push_area, push_slave, push_wide_slave};
+use super::{
+    INPUTS, ONE_SLAVE, OUTPUTS, ends_as, no_commands, prints, push_area, push_slave,
+    push_wide_slave,
+};
 use std::test::Fail;
 
 /// No mandatory slave, and one slave with an output and an input area in a group.
@@ -91,8 +94,7 @@ refused 4 Mandatory
 refused 2 AlreadyPresent
 refused 1 UnknownAlias
 ";
-    let input = joined(rt.alloc(), ONE_GROUP, commands)?;
-    assert!(rt; ends_as(rt.alloc(), input.as_bytes(), 0, text)?);
+    assert!(rt; prints(rt.alloc(), ONE_GROUP, commands, 0, text)?);
     Ok(())
 }
 
@@ -108,8 +110,7 @@ epoch 1
 task 0 parts 1 0
 datagram 0 address 0x01000000 length 1 expected 2
 ";
-    let input = joined(rt.alloc(), ONE_SLAVE, commands)?;
-    assert!(rt; ends_as(rt.alloc(), input.as_bytes(), 0, text)?);
+    assert!(rt; prints(rt.alloc(), ONE_SLAVE, commands, 0, text)?);
     Ok(())
 }
 
@@ -123,8 +124,7 @@ datagram 0 address 0x01000000 length 2 expected 1
 task 1 parts 1 0
 datagram 0 address 0x02000000 length 1 expected 2
 ";
-    let input = joined(rt.alloc(), ONE_SLAVE, commands)?;
-    assert!(rt; ends_as(rt.alloc(), input.as_bytes(), 0, text)?);
+    assert!(rt; prints(rt.alloc(), ONE_SLAVE, commands, 0, text)?);
     Ok(())
 }
 
@@ -132,8 +132,7 @@ datagram 0 address 0x02000000 length 1 expected 2
 fn the_same_pdos_begin_an_epoch_alone(rt: HostRuntime) -> Result<(), Fail> {
     let commands = "%%\nremap 1001 1 0x1a00\nremap 1001 1 0x1a00\nremap 1001 1 6656\n";
     let text = "epoch 1 recut 0 moved 0\nepoch 2 recut 0 moved 0\nepoch 3 recut 0 moved 0\n";
-    let input = joined(rt.alloc(), ONE_SLAVE, commands)?;
-    assert!(rt; ends_as(rt.alloc(), input.as_bytes(), 0, text)?);
+    assert!(rt; prints(rt.alloc(), ONE_SLAVE, commands, 0, text)?);
     Ok(())
 }
 
@@ -145,8 +144,7 @@ epoch 1 recut 0 moved 0
 var 3 task 0 datagram 0 bit 0 bits 4 dir in
 var 2 task 0 datagram 0 bit 4 bits 4 dir in
 ";
-    let input = joined(rt.alloc(), TWO_PDOS, commands)?;
-    assert!(rt; ends_as(rt.alloc(), input.as_bytes(), 0, text)?);
+    assert!(rt; prints(rt.alloc(), TWO_PDOS, commands, 0, text)?);
     Ok(())
 }
 
@@ -182,8 +180,7 @@ epoch 0
 task 0 parts 1 2
 datagram 0 address 0x01000000 length 3 expected 3
 ";
-    let input = joined(rt.alloc(), ONE_SLAVE, commands)?;
-    assert!(rt; ends_as(rt.alloc(), input.as_bytes(), 0, text)?);
+    assert!(rt; prints(rt.alloc(), ONE_SLAVE, commands, 0, text)?);
     Ok(())
 }
 
@@ -191,8 +188,7 @@ datagram 0 address 0x01000000 length 3 expected 3
 fn an_absent_slave_is_not_edited(rt: HostRuntime) -> Result<(), Fail> {
     let commands = "%%\nremap 1001 0\nmove 1001 0 1\nlayout\n";
     let text = "refused 6 Absent\nrefused 6 Absent\nepoch 0\n";
-    let input = joined(rt.alloc(), ONE_GROUP, commands)?;
-    assert!(rt; ends_as(rt.alloc(), input.as_bytes(), 0, text)?);
+    assert!(rt; prints(rt.alloc(), ONE_GROUP, commands, 0, text)?);
     Ok(())
 }
 
@@ -211,17 +207,6 @@ fn a_seventeenth_datagram_is_refused(rt: HostRuntime) -> Result<(), Fail> {
 
 #[test]
 fn words_that_spell_no_edit(rt: HostRuntime) -> Result<(), Fail> {
-    for line in NO_EDITS {
-        let input = joined(rt.alloc(), "%%\nlayout\n\n", line)?;
-        assert!(rt;
-            ends_as(
-                rt.alloc(),
-                input.as_bytes(),
-                2,
-                "epoch 0\nline 4: bad command\n"
-            )?,
-            "{line}"
-        );
-    }
+    assert!(rt; no_commands(rt.alloc(), &NO_EDITS)? == NO_EDITS.len());
     Ok(())
 }

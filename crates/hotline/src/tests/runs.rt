@@ -1,6 +1,6 @@
 //! Runs that print what their commands ask for.
-use super::{FIRST_COMMANDS, FIRST_TEXT, ONE_SLAVE, ends_as, joined, push_wide_slave};
-use std::alloc::AllocError;
+use super::{FIRST_COMMANDS, FIRST_TEXT, ONE_SLAVE, ends_as, joined, prints, push_wide_slave};
+use std::alloc::{AllocError, Global};
 use std::test::Fail;
 
 /// Two slaves whose areas of 3 bits share bytes.
@@ -92,8 +92,7 @@ pdo = [{ index = 7, entries = [[24, 1]] }]
 
 #[test]
 fn the_first_run(rt: HostRuntime) -> Result<(), Fail> {
-    let input = joined(rt.alloc(), ONE_SLAVE, FIRST_COMMANDS)?;
-    assert!(rt; ends_as(rt.alloc(), input.as_bytes(), 0, FIRST_TEXT)?);
+    assert!(rt; prints(rt.alloc(), ONE_SLAVE, FIRST_COMMANDS, 0, FIRST_TEXT)?);
     Ok(())
 }
 
@@ -121,21 +120,28 @@ fn an_empty_project_has_no_datagrams(rt: HostRuntime) -> Result<(), Fail> {
     Ok(())
 }
 
+/// Inputs without a mark, with their status and their text.
+const UNMARKED: [(&[u8], u8, &str); 3] = [
+    (b"", 0, ""),
+    (b"slave = []", 0, ""),
+    (b"# %%\n %%\nx = 1\n", 3, "project fault 1 NotToml\n"),
+];
+
+/// How many of the inputs, from the first on, end as they are to.
+fn ended_so(alloc: Global, rows: &[(&[u8], u8, &str)]) -> Result<usize, AllocError> {
+    let mut count = 0;
+    for (input, status, text) in rows {
+        if !ends_as(alloc, *input, *status, *text)? {
+            return Ok(count);
+        }
+        count = count.saturating_add(1);
+    }
+    Ok(count)
+}
+
 #[test]
 fn without_a_mark_nothing_is_printed(rt: HostRuntime) -> Result<(), Fail> {
-    for input in [
-        b"".as_slice(),
-        b"slave = []".as_slice(),
-        b"# %%\n %%\nx = 1\n".as_slice(),
-    ] {
-        let is_text = input != b"# %%\n %%\nx = 1\n".as_slice();
-        let (status, text) = if is_text {
-            (0, "")
-        } else {
-            (3, "project fault 1 NotToml\n")
-        };
-        assert!(rt; ends_as(rt.alloc(), input, status, text)?);
-    }
+    assert!(rt; ended_so(rt.alloc(), &UNMARKED)? == 3);
     Ok(())
 }
 
@@ -147,14 +153,19 @@ fn push_zeros(text: &mut String, bytes: u32) -> Result<(), AllocError> {
     Ok(())
 }
 
-#[test]
-fn a_full_datagram_and_one_more(rt: HostRuntime) -> Result<(), Fail> {
-    let mut input = String::new(rt.alloc());
+/// Three slaves with outputs of 1,485 bytes, one byte and one bit, and commands that print their frames.
+fn one_bit_more(alloc: Global) -> Result<String, AllocError> {
+    let mut input = String::new(alloc);
     push_wide_slave(&mut input, 1, 8 * 1485)?;
     push_wide_slave(&mut input, 2, 8)?;
     push_wide_slave(&mut input, 3, 1)?;
     input.push_str("%%\nlayout\nshow 0 0\nshow 0 1\n")?;
-    let mut text = String::new(rt.alloc());
+    Ok(input)
+}
+
+/// What they print.
+fn two_frames(alloc: Global) -> Result<String, AllocError> {
+    let mut text = String::new(alloc);
     text.push_str("epoch 0\ntask 0 parts 1487 0\n")?;
     text.push_str("datagram 0 address 0x01000000 length 1486 expected 4\n")?;
     text.push_str("datagram 1 address 0x01000800 length 1 expected 2\n")?;
@@ -163,6 +174,13 @@ fn a_full_datagram_and_one_more(rt: HostRuntime) -> Result<(), Fail> {
     text.push_str("\nframe 0: ffffffffffff02000000000088a40d100c00000800010100")?;
     push_zeros(&mut text, 36)?;
     text.push_str("\n")?;
+    Ok(text)
+}
+
+#[test]
+fn a_full_datagram_and_one_more(rt: HostRuntime) -> Result<(), Fail> {
+    let input = one_bit_more(rt.alloc())?;
+    let text = two_frames(rt.alloc())?;
     assert!(rt; ends_as(rt.alloc(), input.as_bytes(), 0, text.as_str())?);
     Ok(())
 }
@@ -171,7 +189,6 @@ fn a_full_datagram_and_one_more(rt: HostRuntime) -> Result<(), Fail> {
 fn refused_commands_go_on(rt: HostRuntime) -> Result<(), Fail> {
     let commands =
         "%%\nregs 5\nregs 6\nregs 7\nregs 0\nshow 8 0\nshow 255 255\nshow 7 15\nshow 0 16\nlayout\n";
-    let input = joined(rt.alloc(), ABSENT_GROUP, commands)?;
     let text = "refused 6 Absent
 refused 5 UnknownStation
 refused 5 UnknownStation
@@ -181,63 +198,63 @@ none
 none
 epoch 0
 ";
-    assert!(rt; ends_as(rt.alloc(), input.as_bytes(), 0, text)?);
+    assert!(rt; prints(rt.alloc(), ABSENT_GROUP, commands, 0, text)?);
     Ok(())
 }
 
 #[test]
 fn variables_stand_in_their_areas(rt: HostRuntime) -> Result<(), Fail> {
     let commands = "%%\nplace 1\nplace 0x2\nplace 3\nplace 0\nplace 4294967295\n";
-    let input = joined(rt.alloc(), ONE_SLAVE, commands)?;
     let text = "var 1 task 0 datagram 0 bit 0 bits 2 dir out
 var 2 task 0 datagram 0 bit 8 bits 12 dir in
 none
 none
 none
 ";
-    assert!(rt; ends_as(rt.alloc(), input.as_bytes(), 0, text)?);
+    assert!(rt; prints(rt.alloc(), ONE_SLAVE, commands, 0, text)?);
     Ok(())
 }
 
 #[test]
 fn variables_stand_behind_earlier_bits(rt: HostRuntime) -> Result<(), Fail> {
     let commands = "%%\nplace 21\nplace 22\nplace 23\nplace 24\n";
-    let input = joined(rt.alloc(), SOME_ASSIGNED, commands)?;
     let text = "var 21 task 3 datagram 0 bit 5 bits 64 dir out
 none
 var 23 task 3 datagram 0 bit 0 bits 1 dir out
 none
 ";
-    assert!(rt; ends_as(rt.alloc(), input.as_bytes(), 0, text)?);
+    assert!(rt; prints(rt.alloc(), SOME_ASSIGNED, commands, 0, text)?);
     Ok(())
 }
 
+/// Four answers to `layout`.
+const FOUR: &str = "epoch 0\nepoch 0\nepoch 0\nepoch 0\n";
+
+/// Inputs whose lines and words are parted in every way, with their status and their text.
+const LINES: [(&[u8], u8, &str); 7] = [
+    (b"%%\r\nlayout\r\nlayout\r\nlayout\nlayout", 0, FOUR),
+    (
+        b"%%\n  layout\nlayout   \n\n   \n\r\n layout \nlayout\n",
+        0,
+        FOUR,
+    ),
+    (
+        b"%%\nshow  00  0x0\nshow 0X0 0\n",
+        2,
+        "none\nline 3: bad command\n",
+    ),
+    (
+        b"%%\nshow 000000000000000000000000008 0xfF\n",
+        0,
+        "refused 8 NoSuchTask\n",
+    ),
+    (b"%%", 0, ""),
+    (b"%%\n", 0, ""),
+    (b"%%\r\n\r\n", 0, ""),
+];
+
 #[test]
 fn lines_and_words(rt: HostRuntime) -> Result<(), Fail> {
-    let four = "epoch 0\nepoch 0\nepoch 0\nepoch 0\n";
-    for (commands, text) in [
-        ("%%\r\nlayout\r\nlayout\r\nlayout\nlayout", four),
-        (
-            "%%\n  layout\nlayout   \n\n   \n\r\n layout \nlayout\n",
-            four,
-        ),
-        (
-            "%%\nshow  00  0x0\nshow 0X0 0\n",
-            "none\nline 3: bad command\n",
-        ),
-        (
-            "%%\nshow 000000000000000000000000008 0xfF\n",
-            "refused 8 NoSuchTask\n",
-        ),
-        ("%%", ""),
-        ("%%\n", ""),
-        ("%%\r\n\r\n", ""),
-    ] {
-        let status = if text.ends_with("command\n") { 2 } else { 0 };
-        assert!(rt;
-            ends_as(rt.alloc(), commands.as_bytes(), status, text)?,
-            "{commands}"
-        );
-    }
+    assert!(rt; ended_so(rt.alloc(), &LINES)? == 7);
     Ok(())
 }

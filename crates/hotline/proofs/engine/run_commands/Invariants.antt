@@ -14,8 +14,8 @@ invariant-loop-rest g l =
     record {
       few : l.number + left_in (option_copied l.rest) ≤ MOST_INPUT + 2;
       runs : l.starved ≡ false
-          → Continues (contents l.fn.output) (contents l.output) (run l.plan (lines_after l.number (option_copied l.rest))) (run l.fn.opened (lines_after l.first (option_copied l.fn.lines)));
-      starves : Leads (contents l.fn.output) (contents l.output) (Left l.starved l.plan (lines_after l.number (option_copied l.rest))) (StarvedRun l.fn.opened (lines_after l.first (option_copied l.fn.lines)));
+          → Continues (contents l.fn.output) (contents l.output) (run l.core.past (lines_after l.number (option_copied l.rest))) (run l.fn.opened.past (lines_after l.first (option_copied l.fn.lines)));
+      starves : Leads (contents l.fn.output) (contents l.output) (Left l.starved l.core.past (lines_after l.number (option_copied l.rest))) (StarvedRun l.fn.opened.past (lines_after l.first (option_copied l.fn.lines)));
     }
 
 abbrev pub decreases-loop-rest : goal.decreases-loop-rest

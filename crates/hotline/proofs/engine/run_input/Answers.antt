@@ -11,13 +11,13 @@ use Rattle.hotline.proofs.engine.run_input.Goals as goal
 pub returns-in-Ok-clause-unstarved : goal.returns-in-Ok-clause-unstarved
 returns-in-Ok-clause-unstarved g c unstarved =
     let opens = ap opening_of (sym c.split_sections-sections.ensures.project) ∙ c.in-Ok.ensures.opened in
-    let all = opened_outcome c.args.input.now c.in-Ok.plan c.requires opens ∙ ap (run c.in-Ok.plan) (sym c.split_sections-sections.ensures.commands) in
+    let all = opened_outcome c.args.input.now c.in-Ok.core.past c.requires opens ∙ ap (run c.in-Ok.core.past) (sym c.split_sections-sections.ensures.commands) in
     subst (EndsAs _ _ _) (sym all) (c.run_commands.ensures.unstarved unstarved)
 
 pub returns-in-Ok-clause-starved : goal.returns-in-Ok-clause-starved
 returns-in-Ok-clause-starved g c starved =
     let opens = ap opening_of (sym c.split_sections-sections.ensures.project) ∙ c.in-Ok.ensures.opened in
-    starved_lines _ _ _ c.args.input.now c.in-Ok.plan _ c.requires opens c.split_sections-sections.ensures.commands (c.run_commands.ensures.starved starved)
+    starved_lines _ _ _ c.args.input.now c.in-Ok.core.past _ c.requires opens c.split_sections-sections.ensures.commands (c.run_commands.ensures.starved starved)
 
 pub returns-in-Err-clause-unstarved : goal.returns-in-Err-clause-unstarved
 returns-in-Err-clause-unstarved g c unstarved =

@@ -1,9 +1,10 @@
 use Rattle.std.proofs.Common.{ap, sym, ◌∙◌, Ok}
+use Rattle.hc_core.specs.State.{CoreState}
 use Rattle.hotline.proofs.Openings.{crowded_named, crowded_none}
 use Rattle.hotline.proofs.opening.open_project.Goals as goal
 
 pub returns-in-Ok-clause-opened : goal.returns-in-Ok-clause-opened
-returns-in-Ok-clause-opened c = crowded_none c.args.project c.in-Ok.ensures.accepted ∙ ap Ok (sym c.in-Ok.ensures.state)
+returns-in-Ok-clause-opened c = crowded_none c.args.project c.in-Ok.ensures.accepted ∙ ap (λ (state : CoreState). Ok state.past) (sym c.in-Ok.ensures.opened)
 
 pub returns-in-Err-TooManyDatagrams-clause-refused : goal.returns-in-Err-TooManyDatagrams-clause-refused
 returns-in-Err-TooManyDatagrams-clause-refused c _ =

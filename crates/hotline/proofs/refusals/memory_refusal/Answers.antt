@@ -5,9 +5,9 @@ use Rattle.std.proofs.lemmas.Fmt.{decimal-digits_of}
 use Rattle.hotline.specs.Refusals.{refusal_text}
 use Rattle.hotline.proofs.refusals.memory_refusal.Goals as goal
 
-fourteen : decimal 14 ≡ codes "14"
-fourteen = decimal-digits_of 14 (lit< tt) (lit< tt)
+twenty_eight : decimal 28 ≡ codes "28"
+twenty_eight = decimal-digits_of 28 (lit< tt) (lit< tt)
 
 pub returns : goal.returns
 unfolding refusal_text
-returns c = ap (λ number. codes "refused " ++ (number ++ codes " " ++ codes "Memory" ++ codes "\n")) (sym fourteen)
+returns c = ap (λ number. codes "refused " ++ (number ++ codes " " ++ codes "Memory" ++ codes "\n")) (sym twenty_eight)

@@ -1,4 +1,4 @@
-use Rattle.hc_core.proofs.BlockSizes.{first-bytes}
+use Rattle.hc_core.proofs.lemmas.BlockSizes.{first-bytes}
 use Rattle.hc_core.proofs.keeping.Core.next_write.Goals as goal
 
 pub returns-clause-bytes : goal.returns-clause-bytes

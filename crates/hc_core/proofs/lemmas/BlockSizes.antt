@@ -1,16 +1,22 @@
--- A register block has 8 or 16 bytes.
-use Rattle.std.proofs.Common.{◌≡◌, ℕ, List, [], ◌∷◌, length, refl, subst, arith, get_or, Option, Some, None}
-use Rattle.std.specs.Prelude.{All}
+-- A register block has 8 or 16 bytes, so that the frame that writes it has 60: zeros fill it up.
+use Rattle.std.proofs.Common.{◌≡◌, ◌≤◌, ◌+◌, ℕ, Bool, true, false, cond, List, [], ◌∷◌, length, refl, ap, subst, arith, get_or, Option, Some, None}
+use Rattle.std.specs.Prelude.{All, nat_lt}
 use Rattle.std.specs.List.{enumerate_from}
-use Rattle.std.proofs.lemmas.List.Elements.{All-cons, All-map, All-nil}
+use Rattle.std.proofs.lemmas.Bool.{le-ltb}
+use Rattle.std.proofs.lemmas.List.Elements.{All-cons, All-filter, All-head, All-map, All-nil}
 use Rattle.std.proofs.lemmas.Option.{get_or_from_slice_get, slice_get_within}
 use Rattle.hc_records.specs.declared.records.Area.{Area}
 use Rattle.hc_records.specs.Line.{Member}
+use Rattle.hc_records.specs.Lists.{lowest}
 use Rattle.hc_records.proofs.lemmas.Lists.{All-enumerate_from, All-flat_map}
 use Rattle.hc_registers.specs.declared.fmmu.Mapping.{Mapping}
 use Rattle.hc_registers.specs.Blocks.{LineBlock, RegisterBlock, area_blocks, fmmu_block, fmmu_bytes, line_blocks, mapping_of, member_blocks, slave_blocks, sync_manager_block, sync_manager_bytes}
+use Rattle.hc_events.specs.Calls.{room_faults, write_into_faults, write_size}
+use Rattle.hc_events.specs.declared.faults.CoreFault.TheVariants.{NothingOwed, Room, SerialsSpent}
 use Rattle.hc_events.specs.Entries.{Record}
+use Rattle.hc_events.specs.Owed.{is_owed, owed_blocks}
 use Rattle.hc_events.specs.Points.{line_of}
+use Rattle.hc_events.specs.Steps.{write_faults}
 use Rattle.hc_core.specs.Firsts.{HasBytes, IsFirstOwed}
 
 sync_length : (area : Area) → length (sync_manager_bytes area) ≡ 8
@@ -53,3 +59,23 @@ pub first-bytes : (past : Record) (n : ℕ) (block : LineBlock) → IsFirstOwed 
 first-bytes past n block first =
     let blocks = line_blocks (line_of past) in
     subst Has (get_or_from_slice_get blocks n block block first.at) (line_has (line_of past) n block (slice_get_within blocks n block first.at))
+
+first-size : (blocks : List LineBlock) → All Has blocks → write_size blocks ≤ 60
+first-size [] all = omega arith
+first-size (block ∷ blocks) all =
+    let has : HasBytes block.block = All-head Has block blocks all in
+    let most = has.most in
+    omega (arith, most)
+
+write-fits : (past : Record) → write_size (owed_blocks past) ≤ 60
+write-fits past = first-size (owed_blocks past) (All-filter (is_owed past) Has (line_blocks (line_of past)) (line_has (line_of past)))
+
+same-fault : (none spent room : Bool) (needed : ℕ) → room ≡ false
+    → lowest ((none, NothingOwed) ∷ (spent, SerialsSpent) ∷ (room, Room needed) ∷ []) ≡ lowest ((none, NothingOwed) ∷ (spent, SerialsSpent) ∷ [])
+same-fault true spent room needed fits = refl
+same-fault false true room needed fits = refl
+same-fault false false room needed fits = ap (λ b. cond b (Some (Room needed)) None) fits
+
+-- a slice of 60 bytes is never too short: the write is refused as the event is
+pub write-has-room : (past : Record) → lowest (write_into_faults past 60) ≡ lowest (write_faults past (owed_blocks past))
+write-has-room past = same-fault _ _ (nat_lt 60 (write_size (owed_blocks past))) (write_size (owed_blocks past)) (le-ltb 60 (write_size (owed_blocks past)) (write-fits past))

@@ -1,0 +1,27 @@
+-- How a frame is printed.
+use Rattle.std.specs.Prelude.{ℕ, List, [], ◌∷◌, ◌++◌, codes}
+use Rattle.std.specs.List.{flat_map}
+use Rattle.std.specs.Fmt.{decimal}
+use Rattle.hc_text.specs.Printing.{hex_bytes}
+use Rattle.hc_events.specs.Entries.{Record}
+use Rattle.hc_events.specs.Sendings.{Frame}
+use Rattle.hc_events.specs.Steps.{sent_text}
+
+-- the line of a frame: a word, its serial, and all its bytes
+unfoldable pub frame_line : List ℕ → ℕ → List ℕ → List ℕ
+frame_line word serial frame = word ++ decimal serial ++ codes ": " ++ hex_bytes frame ++ codes "\n"
+
+-- a frame that would be sent next, and one that is sent
+abbrev pub shown_line : ℕ → List ℕ → List ℕ
+shown_line serial frame = frame_line (codes "frame ") serial frame
+
+abbrev pub sent_line : ℕ → List ℕ → List ℕ
+sent_line serial frame = frame_line (codes "sent ") serial frame
+
+-- frames that are proposed, each with its own serial
+abbrev pub proposed_line : Record → Frame → List ℕ
+proposed_line past frame = sent_line frame.serial (sent_text past frame)
+
+abbrev pub proposed_text : Record → List Frame → List ℕ
+proposed_text past [] = codes "no frame\n"
+proposed_text past (frame ∷ frames) = flat_map (proposed_line past) (frame ∷ frames)
