@@ -1,19 +1,19 @@
 -- The addresses of the declared slaves, and the slaves of the line among them.
-use Rattle.std.proofs.Common.{◌≡◌, ◌≢◌, ℕ, ◌+◌, ◌<◌, ◌≤◌, ◌==◌, ◌||◌, Bool, true, false, List, [], ◌∷◌, ◌++◌, length, get_or, refl, sym, ap, subst, ◌∙◌, arith, length-append, if◌then◌else◌}
+use Rattle.std.proofs.Common.{◌≡◌, ◌≢◌, ℕ, ◌+◌, ◌<◌, ◌==◌, ◌||◌, Bool, true, false, List, [], ◌∷◌, ◌++◌, length, refl, sym, ap, subst, ◌∙◌, length-append, if◌then◌else◌}
 use Rattle.std.specs.Prelude.{All, AllPairs, Contains, None, map, sum_by}
-use Rattle.std.specs.List.{enumerate_from, list_any}
+use Rattle.std.specs.List.{list_any}
 use Rattle.std.proofs.lemmas.List.{length-map, map-append}
-use Rattle.std.proofs.lemmas.List.Elements.{All-nil, All-cons, All-append, All-weaker, Contains-append_left, Contains-append_right, Contains-get_or}
+use Rattle.std.proofs.lemmas.List.Elements.{All-nil, All-append, All-weaker, Contains-append_left, Contains-append_right}
 use Rattle.std.proofs.lemmas.List.Sums.{sum_by-cons}
 use Rattle.std.proofs.lemmas.List.Folds.{list_any-append}
 use Rattle.hc_records.specs.declared.records.Declared.{Declared}
 use Rattle.hc_records.specs.declared.records.Slave.{Slave}
 use Rattle.hc_records.specs.Edits.{has_station}
-use Rattle.hc_records.specs.Line.{IsCounted, Member, groups_of, has_address, line_from, members_from, present_slaves}
-use Rattle.hc_records.specs.Project.{lowest_fault, slaves_of}
+use Rattle.hc_records.specs.Line.{Member, groups_of, line_from, members_from, present_slaves}
+use Rattle.hc_records.specs.Project.{lowest_fault}
 use Rattle.hc_records.proofs.lemmas.Limits.{project-inside}
-use Rattle.hc_records.proofs.lemmas.Lines.{RanksBelow, declared_slaves, line-ascends, line-pairs}
-use Rattle.hc_records.proofs.lemmas.Lists.{AllPairs-map, AllPairs-weaker}
+use Rattle.hc_records.proofs.lemmas.Lines.{declared_slaves, line-ascends, line-pairs}
+use Rattle.hc_records.proofs.lemmas.Lists.{AllPairs-map}
 use Rattle.hc_records.proofs.lemmas.Walks.{length-members_from}
 use Rattle.hc_index.specs.declared.addresses.Address.{Address}
 use Rattle.hc_index.proofs.Found.{contains-map}

@@ -1,10 +1,10 @@
 -- Each seat of a line tells where its slave stands among the declared groups, the slave's rank, and the blocks in front of it.
 use Rattle.std.proofs.Common.{◌≡◌, ◌≢◌, ℕ, zero, suc, ◌+◌, ◌<◌, ◌≤◌, Bool, true, false, List, [], ◌∷◌, ◌++◌, length, drop, get_or, take, refl, sym, ap, subst, ◌∙◌, arith, append_assoc, if◌then◌else◌}
-use Rattle.std.specs.Prelude.{All, AllPairs, Option, Some, None, map, option_and_then, slice_get, sum_by}
+use Rattle.std.specs.Prelude.{All, AllPairs, Some, map, option_and_then, slice_get, sum_by}
 use Rattle.std.proofs.lemmas.List.{drop_more, length_push}
 use Rattle.std.proofs.lemmas.List.Elements.{All-nil, All-cons, All-head, All-tail, All-weaker}
 use Rattle.std.proofs.lemmas.List.Kept.{AllPairs-cons}
-use Rattle.std.proofs.lemmas.List.Sums.{sum_by-cons, sum_by-append}
+use Rattle.std.proofs.lemmas.List.Sums.{sum_by-cons}
 use Rattle.hc_records.specs.declared.records.Declared.{Declared}
 use Rattle.hc_records.specs.declared.records.Slave.{Slave}
 use Rattle.hc_records.specs.Line.{Member, line_from, members_from, present_slaves}
@@ -189,6 +189,10 @@ blocks-next groups blocks (first ∷ next ∷ seats) (one ∷ other ∷ members)
     let sum = sum_by-cons member_blocks one (other ∷ members) in
     let more : suc (position + 1) ≡ suc position + 1 = omega arith in
     (λ low. ap (λ (k : ℕ). (get_or (first ∷ next ∷ seats) k d).blocks) (sym more) ∙ rest.0 (omega arith), λ last. let end = rest.1 (omega arith) in omega (arith, sum, end))
+
+pub seats-length : (group place rank blocks : ℕ) (slaves : List Slave) → length (seats_of group place rank blocks slaves) ≡ length slaves
+seats-length group place rank blocks [] = refl
+seats-length group place rank blocks (slave ∷ slaves) = ap suc (seats-length group (place + 1) (rank + 1) (blocks + blocks_of slave) slaves)
 
 -- a walk over the groups goes on with the one behind
 

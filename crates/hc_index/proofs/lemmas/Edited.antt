@@ -1,6 +1,6 @@
 -- Edits leave the station addresses and the number of each slave's areas as they are.
 use Rattle.std.proofs.Common.{◌≡◌, ℕ, zero, suc, ◌+◌, ◌*◌, ◌==◌, Bool, true, false, List, [], ◌∷◌, ◌++◌, length, refl, sym, ap, subst, ◌∙◌, if◌then◌else◌}
-use Rattle.std.specs.Prelude.{None, map, sum_by}
+use Rattle.std.specs.Prelude.{None, map}
 use Rattle.std.specs.List.Sorted.{IsPermutation}
 use Rattle.std.proofs.lemmas.List.{length-map}
 use Rattle.std.proofs.lemmas.List.Sums.{sum_by-cons}
@@ -11,12 +11,12 @@ use Rattle.hc_records.specs.declared.records.Declared.{Declared}
 use Rattle.hc_records.specs.declared.records.Group.{Group}
 use Rattle.hc_records.specs.declared.records.Slave.{Slave}
 use Rattle.hc_records.specs.Edits.{groups_after, with_area, with_presence, with_slaves}
-use Rattle.hc_records.specs.Line.{groups_of, members_from, present_slaves}
+use Rattle.hc_records.specs.Line.{groups_of, present_slaves}
 use Rattle.hc_records.specs.Lists.{changed_at}
 use Rattle.hc_records.specs.Project.{lowest_fault}
 use Rattle.hc_index.specs.declared.addresses.Address.{Address}
 use Rattle.hc_index.specs.declared.seats.Seat.{Seat}
-use Rattle.hc_index.specs.Index.{Index, IsIndexOf, IsIndexOfSlaves, addresses, block_sum, blocks_of, line_seats, present_blocks, seats_of}
+use Rattle.hc_index.specs.Index.{Index, IsIndexOf, addresses, block_sum, blocks_of, line_seats, present_blocks, seats_of}
 use Rattle.hc_index.specs.Laws.{EditsKeepAddresses, MovesKeepIndexes, RemapsKeepIndexes}
 use Rattle.hc_index.proofs.Declaring.{addresses-group, addresses_from, own_addresses}
 

@@ -1,4 +1,4 @@
-use Rattle.std.proofs.Common.{◌≡◌, ◌+◌, ◌++◌, drop, length, map}
+use Rattle.std.proofs.Common.{◌≡◌, ◌+◌, ◌++◌, drop, map}
 use Rattle.hc_records.specs.Line.{members_from}
 use Rattle.hc_index.specs.Index.{address_of}
 use Rattle.hc_index.proofs.addresses.add_addresses.Given as goal

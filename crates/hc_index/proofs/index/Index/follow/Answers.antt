@@ -6,7 +6,7 @@ use Rattle.hc_index.proofs.index.Index.follow.Goals as goal
 
 pub seat_line-self-inside-requires-clause-room : goal.seat_line-self-inside-requires-clause-room
 seat_line-self-inside-requires-clause-room c =
-    let many = room-for c.args.groups.now c.args.self.old c.requires in
+    let many = room-for c.args.groups.now c.args.self.now c.requires in
     let same = ap (λ (i : Index). length i.addresses) c.self.view_is in
     let room = c.self.invariant.1 in
     omega (arith, many, same, room, c.clear.ensures.capacity)

@@ -20,8 +20,8 @@ returns-then-n-self c =
 pub count_begun-requires : goal.count_begun-requires
 count_begun-requires c = fronts-rise c.self.inside.groups.now _ c.self.invariant.0
 
-pub overflow_sub-get : goal.overflow_sub-get
-overflow_sub-get c =
+pub overflow_sub-count_begun : goal.overflow_sub-count_begun
+overflow_sub-count_begun c =
     let index : Index = record { addresses = c.self.inside.addresses.now; seats = c.self.inside.seats.now; blocks = c.self.inside.blocks } in
     let is = subst (λ (g : List Declared). IsIndexOf g index) c.self.view_is c.self.invariant.0 in
     let own = owning c.args.self.now index c.args.n c.count_begun.result is c.if-n-self.false c.count_begun.ensures.parted c.count_begun.ensures.bound in
@@ -43,7 +43,8 @@ returns-in_err-slave c =
     let own = owning c.args.self.now index c.args.n c.count_begun.result is c.if-n-self.false c.count_begun.ensures.parted c.count_begun.ensures.bound in
     let seat = c.in_ok-seat.field-0.now in
     let owner = owner-of c.args.self.now index.seats c.args.n c.count_begun.result seat own (grind (arith, common_steps, gets)) in
-    let found = c.slave_of.ensures ∙ owner.found in
+    let made = c.slave_of.ensures in
+    let found = owner.found in
     let none = c.in_err-slave.was in
     cc
 
@@ -73,6 +74,7 @@ returns c =
     let own = owning c.args.self.now index c.args.n c.count_begun.result is c.if-n-self.false c.count_begun.ensures.parted c.count_begun.ensures.bound in
     let seat = c.in_ok-seat.field-0.now in
     let owner = owner-of c.args.self.now index.seats c.args.n c.count_begun.result seat own (grind (arith, common_steps, gets)) in
-    let found = c.in_ok-slave.ensures ∙ owner.found in
+    let made = c.in_ok-slave.ensures in
+    let found = owner.found in
     let same : c.in_ok-slave.slave ≡ owner.member = cc in
     ap (λ (m : Member). Some (m, c.args.n - seat.blocks)) same ∙ sym owner.owned

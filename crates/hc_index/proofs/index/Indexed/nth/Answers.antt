@@ -1,4 +1,4 @@
-use Rattle.std.proofs.Common.{◌≡◌, ◌∙◌, List, sym, ap, subst, arith}
+use Rattle.std.proofs.Common.{◌∙◌, List, sym, subst, arith}
 use Rattle.hc_records.specs.declared.records.Declared.{Declared}
 use Rattle.hc_index.specs.Index.{Index, IsIndexOf}
 use Rattle.std.proofs.lemmas.Grind.{common_steps}
