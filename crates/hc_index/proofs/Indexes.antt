@@ -20,7 +20,7 @@ use Rattle.hc_records.proofs.lemmas.Slaves.{line-inside, line-stations, project-
 use Rattle.hc_records.proofs.lemmas.Walks.{length-line}
 use Rattle.hc_index.specs.declared.addresses.Address.{Address}
 use Rattle.hc_index.specs.declared.seats.Seat.{Seat}
-use Rattle.hc_index.specs.Index.{Index, IsIndexOf, IsIndexOfSlaves, address_of, addresses, member_blocks, owned_by, present_blocks, slave_in}
+use Rattle.hc_index.specs.Index.{Index, IsIndexOf, IsIndexOfSlaves, address_of, addresses, own_blocks, owned_by, present_blocks, slave_in}
 use Rattle.hc_index.proofs.Declaring.{addresses-distinct, addresses-length, addresses-ranked, any-station, line-among}
 use Rattle.hc_index.proofs.Found.{any-none, any-some, only-one, past-end, position-at, position-none}
 use Rattle.hc_index.proofs.Owners.{few-blocks, line-sum, owned-at}
@@ -221,17 +221,17 @@ owning groups index n (suc place) is few parts most =
     let seat = get_or index.seats place nowhere in
     let at = slice_get-get_or index.seats place nowhere (omega arith) in
     let of : SeatOf groups line place 0 seat = seat-at groups 0 index.seats line place seat (is-seated groups index is) at in
-    let own = member_blocks of.member in
+    let own = own_blocks of.member in
     let front = parts.0 place nowhere (omega arith) (omega arith) in
     let sum = line-sum 1 groups in
     let total = is.blocks in
     let next = blocks-next groups 0 index.seats line place seat of.member (is-seated groups index is) at of.at nowhere in
     let more : place + 1 ≡ suc place = omega arith in
-    let behind = subst (λ (k : ℕ). (k < length index.seats → (get_or index.seats k nowhere).blocks ≡ seat.blocks + own) × (k ≡ length index.seats → 0 + sum_by member_blocks line ≡ seat.blocks + own)) more next in
-    let fits = own-fits index.seats n (suc place) seat.blocks own (sum_by member_blocks line) (nat_lt (suc place) (length index.seats)) refl parts most (omega (arith, sum, total)) front behind in
+    let behind = subst (λ (k : ℕ). (k < length index.seats → (get_or index.seats k nowhere).blocks ≡ seat.blocks + own) × (k ≡ length index.seats → 0 + sum_by own_blocks line ≡ seat.blocks + own)) more next in
+    let fits = own-fits index.seats n (suc place) seat.blocks own (sum_by own_blocks line) (nat_lt (suc place) (length index.seats)) refl parts most (omega (arith, sum, total)) front behind in
     let most_own = all-get (λ (m : Member). length m.slave.areas ≤ MOST_AREAS) line place of.member (λ k d within. (line-inside groups none k d within).few) of.at in
-    let before : seat.blocks ≡ 0 + sum_by member_blocks (take place line) = of.stands.front in
-    let whole : sum_by member_blocks (take place line) + (n - seat.blocks) ≡ n = omega (arith, before, front) in
+    let before : seat.blocks ≡ 0 + sum_by own_blocks (take place line) = of.stands.front in
+    let whole : sum_by own_blocks (take place line) + (n - seat.blocks) ≡ n = omega (arith, before, front) in
     let back : place ≡ suc place - 1 = omega arith in
     record {
       some = omega arith;

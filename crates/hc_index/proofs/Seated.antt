@@ -11,7 +11,7 @@ use Rattle.hc_records.specs.Line.{Member, line_from, members_from, present_slave
 use Rattle.hc_records.proofs.lemmas.Lists.{AllPairs-map, AllPairs-nil, AllPairs-unmap}
 use Rattle.hc_records.proofs.lemmas.Lines.{RanksBelow}
 use Rattle.hc_index.specs.declared.seats.Seat.{Seat}
-use Rattle.hc_index.specs.Index.{block_sum, blocks_of, line_seats, member_blocks, seats_of, slave_in}
+use Rattle.hc_index.specs.Index.{block_sum, blocks_of, line_seats, own_blocks, seats_of, slave_in}
 
 pub record StandsFor (groups : List Declared) (blocks : ℕ) (seat : Seat) (member : Member) : Type 0 where
   pub rank : seat.rank ≡ member.rank
@@ -22,7 +22,7 @@ abbrev pub IsSeated : List Declared → ℕ → List Seat → List Member → Ty
 IsSeated groups blocks [] [] = Unit {0}
 IsSeated groups blocks [] (member ∷ members) = ⊥
 IsSeated groups blocks (seat ∷ seats) [] = ⊥
-IsSeated groups blocks (seat ∷ seats) (member ∷ members) = StandsFor groups blocks seat member × IsSeated groups (blocks + member_blocks member) seats members
+IsSeated groups blocks (seat ∷ seats) (member ∷ members) = StandsFor groups blocks seat member × IsSeated groups (blocks + own_blocks member) seats members
 
 -- an element behind so many others
 get-behind : {X : Type 0} (front : List X) (x : X) (rest : List X) (n : ℕ) → length front ≡ n → slice_get (front ++ x ∷ rest) n ≡ Some x
@@ -78,7 +78,7 @@ pub seated-length : (groups : List Declared) (blocks : ℕ) (seats : List Seat) 
 seated-length groups blocks [] [] seated = refl
 seated-length groups blocks [] (member ∷ members) seated = absurd seated
 seated-length groups blocks (seat ∷ seats) [] seated = absurd seated
-seated-length groups blocks (seat ∷ seats) (member ∷ members) seated = ap suc (seated-length groups (blocks + member_blocks member) seats members seated.1)
+seated-length groups blocks (seat ∷ seats) (member ∷ members) seated = ap suc (seated-length groups (blocks + own_blocks member) seats members seated.1)
 
 abbrev seat_rank : Seat → ℕ
 seat_rank seat = seat.rank
@@ -92,7 +92,7 @@ seated-ranks groups blocks [] (member ∷ members) seated = absurd seated
 seated-ranks groups blocks (seat ∷ seats) [] seated = absurd seated
 seated-ranks groups blocks (seat ∷ seats) (member ∷ members) seated =
     ap (λ (rank : ℕ). rank ∷ map member_rank members) (sym seated.0.rank)
-    ∙ ap (λ (ranks : List ℕ). seat.rank ∷ ranks) (seated-ranks groups (blocks + member_blocks member) seats members seated.1)
+    ∙ ap (λ (ranks : List ℕ). seat.rank ∷ ranks) (seated-ranks groups (blocks + own_blocks member) seats members seated.1)
 
 pub ranks-rise : (groups : List Declared) (blocks : ℕ) (seats : List Seat) (members : List Member) → IsSeated groups blocks seats members → AllPairs RanksBelow members
     → AllPairs (λ a b. a.rank ≤ b.rank) seats
@@ -109,8 +109,8 @@ blocks-from groups blocks (seat ∷ seats) [] seated = absurd seated
 blocks-from groups blocks (seat ∷ seats) (member ∷ members) seated =
     let here = seated.0.front in
     All-cons (λ (s : Seat). blocks ≤ s.blocks) seat seats (omega (arith, here))
-    (All-weaker (λ (s : Seat). blocks + member_blocks member ≤ s.blocks) (λ s. blocks ≤ s.blocks) (λ s more. omega arith) seats
-    (blocks-from groups (blocks + member_blocks member) seats members seated.1))
+    (All-weaker (λ (s : Seat). blocks + own_blocks member ≤ s.blocks) (λ s. blocks ≤ s.blocks) (λ s more. omega arith) seats
+    (blocks-from groups (blocks + own_blocks member) seats members seated.1))
 
 pub blocks-rise : (groups : List Declared) (blocks : ℕ) (seats : List Seat) (members : List Member) → IsSeated groups blocks seats members → AllPairs (λ a b. a.blocks ≤ b.blocks) seats
 blocks-rise groups blocks [] [] seated = AllPairs-nil (λ (a b : Seat). a.blocks ≤ b.blocks)
@@ -119,15 +119,15 @@ blocks-rise groups blocks (seat ∷ seats) [] seated = absurd seated
 blocks-rise groups blocks (seat ∷ seats) (member ∷ members) seated =
     let here = seated.0.front in
     AllPairs-cons (λ (a b : Seat). a.blocks ≤ b.blocks) seat seats
-    (All-weaker (λ (s : Seat). blocks + member_blocks member ≤ s.blocks) (λ s. seat.blocks ≤ s.blocks) (λ s more. omega (arith, here)) seats
-    (blocks-from groups (blocks + member_blocks member) seats members seated.1))
-    (blocks-rise groups (blocks + member_blocks member) seats members seated.1)
+    (All-weaker (λ (s : Seat). blocks + own_blocks member ≤ s.blocks) (λ s. seat.blocks ≤ s.blocks) (λ s more. omega (arith, here)) seats
+    (blocks-from groups (blocks + own_blocks member) seats members seated.1))
+    (blocks-rise groups (blocks + own_blocks member) seats members seated.1)
 
 -- the slave that a seat is of
 pub record SeatOf (groups : List Declared) (members : List Member) (position blocks : ℕ) (seat : Seat) : Type 0 where
   pub member : Member
   pub at : slice_get members position ≡ Some member
-  pub stands : StandsFor groups (blocks + sum_by member_blocks (take position members)) seat member
+  pub stands : StandsFor groups (blocks + sum_by own_blocks (take position members)) seat member
 
 pub seat-at : (groups : List Declared) (blocks : ℕ) (seats : List Seat) (members : List Member) (position : ℕ) (seat : Seat) → IsSeated groups blocks seats members
     → slice_get seats position ≡ Some seat → SeatOf groups members position blocks seat
@@ -137,8 +137,8 @@ seat-at groups blocks (first ∷ seats) (member ∷ members) zero seat seated at
     let same : first ≡ seat = cc in
     record { member = member; at = refl; stands = subst (λ (s : Seat). StandsFor groups (blocks + 0) s member) same (subst (λ (n : ℕ). StandsFor groups n first member) (omega arith) seated.0) }
 seat-at groups blocks (first ∷ seats) (member ∷ members) (suc position) seat seated at =
-    let rest = seat-at groups (blocks + member_blocks member) seats members position seat seated.1 at in
-    let sum = sum_by-cons member_blocks member (take position members) in
+    let rest = seat-at groups (blocks + own_blocks member) seats members position seat seated.1 at in
+    let sum = sum_by-cons own_blocks member (take position members) in
     record {
       member = rest.member;
       at = rest.at;
@@ -154,23 +154,23 @@ ranks-absent groups blocks rank (seat ∷ seats) [] seated none = absurd seated
 ranks-absent groups blocks rank (seat ∷ seats) (member ∷ members) seated none =
     All-cons (λ (m : Member). m.rank ≢ rank) member members
     (λ same. All-head (λ (s : Seat). s.rank ≢ rank) seat seats none (seated.0.rank ∙ same))
-    (ranks-absent groups (blocks + member_blocks member) rank seats members seated.1 (All-tail (λ (s : Seat). s.rank ≢ rank) seat seats none))
+    (ranks-absent groups (blocks + own_blocks member) rank seats members seated.1 (All-tail (λ (s : Seat). s.rank ≢ rank) seat seats none))
 
 -- the blocks in front of the seat behind one, or those of the line where it is the last
 pub blocks-next : (groups : List Declared) (blocks : ℕ) (seats : List Seat) (members : List Member) (position : ℕ) (seat : Seat) (member : Member) → IsSeated groups blocks seats members
     → slice_get seats position ≡ Some seat → slice_get members position ≡ Some member → (d : Seat)
-    → (position + 1 < length seats → (get_or seats (position + 1) d).blocks ≡ seat.blocks + member_blocks member)
-    × (position + 1 ≡ length seats → blocks + sum_by member_blocks members ≡ seat.blocks + member_blocks member)
+    → (position + 1 < length seats → (get_or seats (position + 1) d).blocks ≡ seat.blocks + own_blocks member)
+    × (position + 1 ≡ length seats → blocks + sum_by own_blocks members ≡ seat.blocks + own_blocks member)
 blocks-next groups blocks [] members position seat member seated at is d = cc
 blocks-next groups blocks (first ∷ seats) [] position seat member seated at is d = absurd seated
 blocks-next groups blocks (first ∷ []) (one ∷ []) zero seat member seated at is d =
     let same : first ≡ seat = cc in
     let also : one ≡ member = cc in
     let front : first.blocks ≡ blocks = seated.0.front in
-    let sum = sum_by-cons member_blocks one [] in (
+    let sum = sum_by-cons own_blocks one [] in (
       λ low. absurd (omega arith),
-      λ last. subst (λ (s : Seat). blocks + sum_by member_blocks (one ∷ []) ≡ s.blocks + member_blocks member) same
-          (subst (λ (m : Member). blocks + sum_by member_blocks (one ∷ []) ≡ first.blocks + member_blocks m) also (omega (arith, front, sum))),
+      λ last. subst (λ (s : Seat). blocks + sum_by own_blocks (one ∷ []) ≡ s.blocks + own_blocks member) same
+          (subst (λ (m : Member). blocks + sum_by own_blocks (one ∷ []) ≡ first.blocks + own_blocks m) also (omega (arith, front, sum))),
     )
 blocks-next groups blocks (first ∷ []) (one ∷ other ∷ members) position seat member seated at is d = absurd seated.1
 blocks-next groups blocks (first ∷ next ∷ seats) (one ∷ []) position seat member seated at is d = absurd seated.1
@@ -179,14 +179,14 @@ blocks-next groups blocks (first ∷ next ∷ seats) (one ∷ other ∷ members)
     let same : first ≡ seat = cc in
     let also : one ≡ member = cc in
     let front : first.blocks ≡ blocks = seated.0.front in
-    let behind : next.blocks ≡ blocks + member_blocks one = seated.1.0.front in (
-      λ low. subst (λ (s : Seat). next.blocks ≡ s.blocks + member_blocks member) same
-          (subst (λ (m : Member). next.blocks ≡ first.blocks + member_blocks m) also (omega (arith, front, behind))),
+    let behind : next.blocks ≡ blocks + own_blocks one = seated.1.0.front in (
+      λ low. subst (λ (s : Seat). next.blocks ≡ s.blocks + own_blocks member) same
+          (subst (λ (m : Member). next.blocks ≡ first.blocks + own_blocks m) also (omega (arith, front, behind))),
       λ last. absurd (omega arith),
     )
 blocks-next groups blocks (first ∷ next ∷ seats) (one ∷ other ∷ members) (suc position) seat member seated at is d =
-    let rest = blocks-next groups (blocks + member_blocks one) (next ∷ seats) (other ∷ members) position seat member seated.1 at is d in
-    let sum = sum_by-cons member_blocks one (other ∷ members) in
+    let rest = blocks-next groups (blocks + own_blocks one) (next ∷ seats) (other ∷ members) position seat member seated.1 at is d in
+    let sum = sum_by-cons own_blocks one (other ∷ members) in
     let more : suc (position + 1) ≡ suc position + 1 = omega arith in
     (λ low. ap (λ (k : ℕ). (get_or (first ∷ next ∷ seats) k d).blocks) (sym more) ∙ rest.0 (omega arith), λ last. let end = rest.1 (omega arith) in omega (arith, sum, end))
 

@@ -27,8 +27,8 @@ blocks_of slave = 2 * length slave.areas
 abbrev pub block_sum : List Slave → ℕ
 block_sum slaves = sum_by blocks_of slaves
 
-abbrev pub member_blocks : Member → ℕ
-member_blocks member = blocks_of member.slave
+abbrev pub own_blocks : Member → ℕ
+own_blocks member = blocks_of member.slave
 
 -- those of the slaves of present groups
 abbrev pub present_blocks : List Declared → ℕ
@@ -73,4 +73,4 @@ pub record IsIndexOf (groups : List Declared) (index : Index) : Type 0 where
 abbrev pub owned_by : List Member → ℕ → Option (Member × ℕ)
 owned_by [] n = None
 owned_by (member ∷ members) n =
-    if nat_lt n (member_blocks member) then Some (member, n) else owned_by members (n - member_blocks member)
+    if nat_lt n (own_blocks member) then Some (member, n) else owned_by members (n - own_blocks member)

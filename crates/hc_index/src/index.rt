@@ -133,7 +133,7 @@ impl<'a> Indexed<'a> {
     ghost use Rattle.std.specs.List.{list_any};
     ghost use Rattle.hc_records.specs.Edits.{has_station};
     ghost use Rattle.hc_records.specs.Line.{is_at, line_from};
-    ghost use Rattle.hc_index.specs.Index.{member_blocks, owned_by, slave_in};
+    ghost use Rattle.hc_index.specs.Index.{own_blocks, owned_by, slave_in};
 
     /// How many slaves the line has.
     pub fn slaves(&self) -> usize
@@ -145,7 +145,7 @@ impl<'a> Indexed<'a> {
 
     /// How many register blocks the slaves of the line have.
     pub fn blocks(&self) -> u32
-        ensures { result ≡ sum_by member_blocks (line_from 1 self.now) }
+        ensures { result ≡ sum_by own_blocks (line_from 1 self.now) }
     {
         self.blocks
     }
