@@ -1,6 +1,6 @@
 -- The areas from one place up to another, or between two keys, and how far they fill a datagram.
-use Rattle.std.specs.Prelude.{All, filter, not, nat_lt}
-use Rattle.std.proofs.Common.{◌≡◌, ℕ, zero, suc, ◌+◌, ◌-◌, ◌*◌, ◌<◌, ◌≤◌, ◌&&◌, ◌==◌, Bool, true, false, List, [], ◌∷◌, ◌++◌, length, drop, take, refl, sym, ap, subst, ◌∙◌, arith, if◌then◌else◌}
+use Rattle.std.specs.Prelude.{All, filter, nat_lt}
+use Rattle.std.proofs.Common.{◌≡◌, ℕ, zero, suc, ◌+◌, ◌-◌, ◌*◌, ◌<◌, ◌≤◌, ◌&&◌, ◌==◌, Bool, true, false, List, [], ◌∷◌, ◌++◌, length, drop, take, refl, sym, ap, ◌∙◌, arith, if◌then◌else◌}
 use Rattle.std.proofs.Math.Seq.{drop-append-add, take-add, take-append_seam}
 use Rattle.std.proofs.lemmas.Bool.Decides.{nat_tests}
 use Rattle.std.proofs.lemmas.List.Elements.{All-filter, filter-append}
@@ -135,6 +135,16 @@ part-stretch branch first end is low high =
     ∙ ap (λ n. take n (own ++ back)) many
     ∙ take-append_seam own back)
 
+-- a datagram that is filled up to some rows, and then by these
+pub rows-filled : (branch : Branch) (filled head : Filled) (first row end : ℕ) → IsBranch branch → first ≤ 8 * row → row ≤ end → end ≤ length branch.rows.items
+    → head ≡ with_areas filled (stretch first (8 * row) (slots_of branch).areas)
+    → with_areas head (part branch.dir branch.rows.items row (end - row)) ≡ with_areas filled (stretch first (8 * end) (slots_of branch).areas)
+rows-filled branch filled head first row end is low order within before =
+    let areas = (slots_of branch).areas in
+    ap (λ (f : Filled). with_areas f (part branch.dir branch.rows.items row (end - row))) before
+    ∙ ap (with_areas (with_areas filled (stretch first (8 * row) areas))) (part-stretch branch row end is order within)
+    ∙ filled-on filled first (8 * row) (8 * end) areas low (omega arith)
+
 -- areas between two keys
 
 one-between : (within before : Bool) (from until : Key) (area : Keyed) (areas : List Keyed) → is_within from area.0 ≡ within → is_before area.0 until ≡ before
@@ -185,6 +195,19 @@ between-stretch dir place first end from until (area ∷ areas) stand low high =
     (ap (λ (key : Key). is_before key from) stand.0 ∙ low place (omega arith))
     (ap (λ (key : Key). is_before key until) stand.0 ∙ high place (omega arith))
     (between-stretch dir (place + 1) first end from until areas stand.1 (λ p h. low p (omega arith)) (λ p h. high p (omega arith)))
+
+-- of a branch
+pub branch-between : (branch : Branch) (rows first end : ℕ) (from until : Key) → IsBranch branch → rows ≡ length branch.rows.items
+    → ((p : ℕ) → p < 8 * rows → is_before (key_at branch.dir p) from ≡ nat_lt p first)
+    → ((p : ℕ) → p < 8 * rows → is_before (key_at branch.dir p) until ≡ nat_lt p end)
+    → areas_between from until (slots_of branch).areas ≡ stretch first end (slots_of branch).areas
+branch-between branch rows first end from until is many low high =
+    let areas = (slots_of branch).areas in
+    let size = branch-size branch is in
+    let skip : first - 0 ≡ first = omega arith in
+    let most : end - 0 ≡ end = omega arith in
+    between-stretch branch.dir 0 first end from until areas (branch-keys branch is) (λ p h. low p (omega arith)) (λ p h. high p (omega arith))
+    ∙ ap (λ n. stretch n (end - 0) areas) skip ∙ ap (λ n. stretch first n areas) most
 
 -- in both directions, of the areas with a width
 

@@ -1,5 +1,5 @@
 -- A walk over rows by the nodes that stand for them.
-use Rattle.std.proofs.Common.{◌≡◌, ℕ, suc, ◌+◌, ◌-◌, ◌*◌, ◌/◌, ◌%◌, ◌^◌, ◌<◌, ◌≤◌, ◌++◌, length, get_or, sym, ap, ◌∙◌, arith}
+use Rattle.std.proofs.Common.{◌≡◌, ℕ, ◌+◌, ◌-◌, ◌*◌, ◌/◌, ◌%◌, ◌^◌, ◌<◌, ◌≤◌, ◌++◌, length, get_or, sym, ap, ◌∙◌, arith}
 use Rattle.std.proofs.Math.Nat.{le_of_mul-le-mul_right, two-pow-succ}
 use Rattle.std.proofs.Math.Pow.{pow_mono}
 use Rattle.hc_bitsum.specs.declared.branch.Branch.{Branch}

@@ -1,5 +1,5 @@
 //! A tree of sums over the areas of a task: those with a width, in key order.
-ghost use Rattle.std.specs.Prelude.{◌≡◌, ◌+◌, ◌*◌, ◌^◌, ◌<◌, ◌≤◌, ◌++◌, drop, length};
+ghost use Rattle.std.specs.Prelude.{◌≡◌, ◌+◌, ◌*◌, ◌^◌, ◌<◌, ◌≤◌, ◌++◌, IsTrue, drop, length};
 ghost use Rattle.hc_records.specs.declared.limits.TheConstants.{MOST_SLAVES};
 ghost use Rattle.hc_bitsum.specs.Tree.{CanBegin, HasPlace, HoldsTaskList};
 ghost use Rattle.hc_bitsum.specs.Branch.{IsBranch, slots_of};
@@ -51,6 +51,14 @@ fn levels_of(slaves: u16) -> u32
         }
     }
     11
+}
+
+/// Whether a key has a place among those of so many slaves.
+fn has_place(slaves: u16, key: Key) -> bool
+    ensures yes { IsTrue result → HasPlace slaves key }
+    ensures no { HasPlace slaves key → IsTrue result }
+{
+    1 <= key.rank && key.rank <= slaves && usize::from(key.area) < MOST_AREAS
 }
 
 /// The place of a key in its direction.
@@ -149,7 +157,7 @@ impl SumTree {
         ensures yes { IsTrue result → HasPlace self.now.slaves key }
         ensures no { HasPlace self.now.slaves key → IsTrue result }
     {
-        1 <= key.rank && key.rank <= self.slaves && usize::from(key.area) < MOST_AREAS
+        has_place(self.slaves, key)
     }
 
     /// The width in bits of the area with a key, at most 11,888; 0 where it takes no place. The key may
@@ -158,7 +166,7 @@ impl SumTree {
         ensures width { result ≡ width_in self.now.list key }
         ensures narrow { result ≤ MOST_AREA_BITS }
     {
-        if !self.has_place(key) {
+        if !has_place(self.slaves, key) {
             return 0;
         }
         let place = place_of(key);

@@ -1,8 +1,7 @@
-use Rattle.std.proofs.Common.{◌≡◌, ◌+◌, ◌-◌, ◌^◌, ◌<◌, ◌≤◌, length, sym, ap, subst, ◌∙◌, arith}
+use Rattle.std.proofs.Common.{◌≡◌, ◌+◌, ◌-◌, ◌^◌, ◌<◌, ap, ◌∙◌, arith}
 use Rattle.hc_bitsum.specs.declared.filled.Filled.{Filled}
 use Rattle.hc_bitsum.specs.Filling.{with_areas}
 use Rattle.hc_bitsum.specs.Rows.{part}
-use Rattle.hc_bitsum.specs.Strides.{StandsAt}
 use Rattle.hc_bitsum.proofs.Nodes.{node-index, read-low}
 use Rattle.hc_bitsum.proofs.Strides.{rows-low, stands-down, stands-next, stands-node, stands-small, taken, wider}
 use Rattle.hc_bitsum.proofs.branch.Branch.descend.Goals as goal
