@@ -1,20 +1,12 @@
-use Rattle.hc_tasks.proofs.Turned.{crowds-by, cut-kept, set-tree, tree-holds, tree-widths}
+use Rattle.std.proofs.Common.{rules, ◌≡◌, ◌+◌, ◌*◌, ◌≤◌, IfErr, IfOk, List, None, OnErr, OnOk, Some, false, length, true, ℕ, ◌-◌, ◌<◌, ◌/◌, ◌%◌, Bool, nat_eq, nat_lt, [], ◌∷◌, ◌++◌, slice_index_or, slice_set, bit_and, bit_or, Fits, w8, w32, w64, Bor, MutBor}
+use Rattle.hc_records.specs.declared.limits.TheConstants.{MOST_DATAGRAMS}
+use Rattle.hc_records.specs.declared.records.Area.{Area}
+use Rattle.hc_cuts.specs.Starts.{most_read}
+use Rattle.hc_tasks.specs.Kept.{crowded_from, is_crowded, kept_by, kept_from, starts_by, tree_by}
+use Rattle.hc_tasks.specs.Recut.{recut_by, recut_from, touched_by, touched_from}
+use Rattle.hc_tasks.specs.Turn.{AreLines, HasTaskTurn, HasTree, HasTurn, IsTaskTurn, IsTurn}
 use Rattle.hc_tasks.proofs.turning.put_task.Goals as goal
 
-pub set_widths-requires-clause-holds : goal.set_widths-requires-clause-holds
-set_widths-requires-clause-holds g c = tree-holds c.args.task c.args.from.now c.args.cuts.now.tree c.requires.from c.requires.was
-
-pub set_widths-requires-clause-was : goal.set_widths-requires-clause-was
-set_widths-requires-clause-was g c key = tree-widths c.args.task c.args.from.now c.args.cuts.now.tree c.requires.was key
-
-pub unreachable-requires : goal.unreachable-requires
-unreachable-requires g c =
-    let is = set-tree c.args.task c.args.from.now c.args.to.now c.args.cuts.now c.set_widths.new.cuts c.requires.to c.requires.same c.requires.was c.set_widths.ensures.widths in
-    let crowded = crowds-by c.args.task c.args.to.now c.set_widths.new.cuts.tree is c.in_default.ensures.refused in
-    let fits = c.requires.fits in
-    cc
-
+-- src/turning.rt:57:1
 pub returns : goal.returns
-returns g c =
-    let is = set-tree c.args.task c.args.from.now c.args.to.now c.args.cuts.now c.set_widths.new.cuts c.requires.to c.requires.same c.requires.was c.set_widths.ensures.widths in
-    cut-kept c.args.task c.args.to.now c.set_widths.new.cuts c.cut.new.self is c.cut.ensures.areas c.in-Ok.ensures.starts
+returns c = ?
