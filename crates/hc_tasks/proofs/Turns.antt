@@ -51,11 +51,11 @@ fits-first : (crowded : Bool) (task : ℕ) (rest : Option ℕ) → (if crowded t
 fits-first true task rest is = cc
 fits-first false task rest is = (refl, is)
 
-head-of : (a b : Kept) (as bs : List Kept) → a ∷ as ≡ b ∷ bs → a ≡ b
-head-of a b as bs is = ap (λ (xs : List Kept). slice_index_or xs 0 a) is
+head-of : (a b : Kept) (these those : List Kept) → a ∷ these ≡ b ∷ those → a ≡ b
+head-of a b these those is = ap (λ (xs : List Kept). slice_index_or xs 0 a) is
 
-tail-of : (a b : Kept) (as bs : List Kept) → a ∷ as ≡ b ∷ bs → as ≡ bs
-tail-of a b as bs is = ap (λ (xs : List Kept). drop 1 xs) is
+tail-of : (a b : Kept) (these those : List Kept) → a ∷ these ≡ b ∷ those → these ≡ those
+tail-of a b these those is = ap (λ (xs : List Kept). drop 1 xs) is
 
 -- so a turn of them is one of the first and one of the rest
 pub first-turn : (count task : ℕ) (kept : Kept) (rest : List Kept) (first : ℕ) (before after old new : List (List Area))
