@@ -1,19 +1,19 @@
 //! A swap carried out on a table: the memory that it needs is taken first, then nothing can be
 //! refused.
-ghost use Rattle.std.specs.Prelude.{◌≡◌, ◌+◌, ◌≤◌, ◌<◌, ◌++◌, [], ◌↔◌, All, IfOk, IsSome, IsTrue, find, length, option_map, option_to_list, vec_capacity};
-ghost use Rattle.std.specs.Option.{is_some};
+ghost use Rattle.std.specs.Prelude.{◌≡◌, ◌+◌, ◌≤◌, ◌<◌, ◌++◌, [], All, IfSome, length, option_to_list, vec_capacity};
+ghost use Rattle.std.specs.Option.{MatchOption};
 ghost use Rattle.hc_places.specs.Swap.{ChangesAscend, merged, new_row, replaced};
 ghost use Rattle.hc_places.specs.Table.{RowsAscend};
 ghost use Rattle.hc_places.specs.Walk.{merges, walked};
 
 use crate::swap::{ChangedRow, ChangedTask, Swap};
-use crate::table::{Places, Row, TaskTable, count_below, find_place};
+use crate::table::{Places, Row, TaskTable};
 use hc_records::items::Items;
 use std::alloc::{AllocError, Global};
 use std::marker::Model;
 
-/// The memory that carrying a swap out on a table takes: none where each changed variable keeps a
-/// row, whose place is then overwritten; else that of the new rows.
+/// The memory that carrying a swap out on a table takes: none where no variable changes, else that of
+/// the new rows.
 #[derive(Debug, Drop)]
 pub struct Room {
     rows: Option<Vec<Row>>,
@@ -36,32 +36,6 @@ fn replace_tasks(tasks: &mut Items<TaskTable>, changed: &[ChangedTask])
 {
     for change in changed {
         *tasks.item_mut(usize::from(change.0)) = change.1.duplicate();
-    }
-}
-
-/// Whether a changed variable has a row among these, and keeps one.
-fn keeps_row(rows: &[Row], change: &ChangedRow) -> bool
-    requires { RowsAscend rows.now }
-    ensures { IsTrue result ↔ (IsSome change.now.1 × IsSome (find (λ row. row.0 == change.now.0) rows.now)) }
-{
-    change.1.is_some() && find_place(rows, change.0).is_some()
-}
-
-/// Puts the new place of each changed variable into its row.
-fn overwrite(rows: &mut Vec<Row>, changed: &[ChangedRow])
-    requires ascends { RowsAscend rows.old.items }
-    requires changes { ChangesAscend changed.now }
-    requires stand { All (λ change. IsSome change.1 × IsSome (find (λ row. row.0 == change.0) rows.old.items)) changed.now }
-    ensures { rows.new.items ≡ merged changed.now rows.old.items }
-{
-    let mut left = changed.len();
-    while left > 0 {
-        left -= 1;
-        let (variable, place) = changed[left];
-        if let Some(place) = place {
-            let below = count_below(rows.as_slice(), variable);
-            rows[below] = (variable, place);
-        }
     }
 }
 
@@ -118,42 +92,47 @@ fn merge(into: Vec<Row>, changed: &[ChangedRow], old: &[Row]) -> Vec<Row>
     rows
 }
 
-/// How many rows are gone over in the time in which one is searched, or a few less.
-const SEARCHED: usize = 16;
+/// Makes a table's rows those with changes, in memory that has the room.
+fn change_rows(rows: &mut Vec<Row>, changed: &[ChangedRow], room: Option<Vec<Row>>)
+    requires ascends { RowsAscend rows.old.items }
+    requires changes { ChangesAscend changed.now }
+    requires empty { IfSome room (λ into. into.items ≡ []) }
+    requires room { MatchOption room (changed.now ≡ []) (λ into. length (merged changed.now rows.old.items) ≤ vec_capacity into) }
+    ensures { rows.new.items ≡ merged changed.now rows.old.items }
+{
+    if let Some(into) = room {
+        *rows = merge(into, changed, rows.as_slice());
+    }
+}
 
 impl Places {
     ghost use Rattle.std.specs.Prelude.{◌≡◌, IfOk, OnErr, OnOk};
     ghost use Rattle.hc_places.specs.Room.{IsRoomFor};
     ghost use Rattle.hc_places.specs.Swap.{swapped};
 
-    /// The memory that `carry_out` will take for a swap of this table. Few changes of variables that
-    /// keep their rows need none. `AllocError` where a growth was refused.
+    /// The memory that `carry_out` will take for a swap of this table: none where no variable changes.
+    /// `AllocError` where a growth was refused.
     pub fn room_for(&self, alloc: Global, swap: &Swap) -> Result<Room, AllocError>
         ensures { IfOk result (IsRoomFor swap.now.change self.now) }
     {
         let changed = swap.changes();
-        let rows = self.variables();
-        let few = changed.len() <= rows.len() / SEARCHED;
-        if few && changed.iter().all(|change| keeps_row(rows, change)) {
+        if changed.is_empty() {
             return Ok(Room { rows: None });
         }
-        Ok(Room {
-            rows: Some(Vec::with_capacity(alloc, rows.len() + changed.len())?),
-        })
+        let rows = self.variables();
+        let room = Vec::with_capacity(alloc, rows.len() + changed.len())?;
+        Ok(Room { rows: Some(room) })
     }
 
     /// Becomes the table that a swap leads to, in memory that was taken before: nothing can be refused.
-    /// The rows are gone over once; where the room is none, each changed one is searched and
-    /// overwritten instead.
+    /// The rows are gone over once, and not at all where no variable changes.
     pub fn carry_out(&mut self, swap: &Swap, room: Room)
         requires { IsRoomFor swap.now.change self.old room }
         ensures { self.new ≡ swapped swap.now.change self.old }
     {
+        let Room { rows } = room;
+        change_rows(&mut self.variables, swap.rows.as_slice(), rows);
         replace_tasks(&mut self.tasks, swap.tasks.as_slice());
-        match room.rows {
-            None => overwrite(&mut self.variables, swap.rows.as_slice()),
-            Some(rows) => self.variables = merge(rows, swap.rows.as_slice(), self.variables.as_slice()),
-        }
     }
 
     /// Becomes the table that a swap leads to, or `AllocError` where a growth was refused; then this

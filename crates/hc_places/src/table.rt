@@ -172,7 +172,7 @@ fn sort_rows(rows: &mut Vec<Row>) -> Result<(), AllocError>
 }
 
 /// How many rows have a lower number than a variable.
-pub(crate) fn count_below(rows: &[Row], variable: VarId) -> usize
+fn count_below(rows: &[Row], variable: VarId) -> usize
     requires { IsNonDecreasingBy (λ row. row.0) rows.now }
     ensures { IsPartitionPoint (λ row. nat_lt row.0 variable ≡ true) (λ row. nat_lt row.0 variable ≡ false) rows.now result }
 {
@@ -180,7 +180,7 @@ pub(crate) fn count_below(rows: &[Row], variable: VarId) -> usize
 }
 
 /// The place of a variable among rows in the order of their numbers.
-pub(crate) fn find_place(rows: &[Row], variable: VarId) -> Option<Place>
+fn find_place(rows: &[Row], variable: VarId) -> Option<Place>
     requires { IsNonDecreasingBy (λ row. row.0) rows.now }
     ensures { result ≡ option_map (λ row. row.1) (find (λ row. row.0 == variable) rows.now) }
 {
