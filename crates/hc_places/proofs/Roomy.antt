@@ -1,9 +1,9 @@
--- Rows that are merged into memory of their number find room.
-use Rattle.std.proofs.Common.{◌≡◌, ◌∙◌, ap, ℕ, suc, ◌+◌, ◌<◌, ◌≤◌, Bool, true, false, cond, List, [], ◌∷◌, ◌++◌, length, length-append, refl, sym, arith, suc-le-suc, zero-le}
-use Rattle.std.specs.Prelude.{Option, Some, None, nat_lt, option_to_list, ◌==◌}
+-- Rows that are merged into memory of their number find room; tasks that are replaced are as many.
+use Rattle.std.proofs.Common.{◌≡◌, ◌∙◌, ap, ℕ, suc, ◌+◌, ◌<◌, ◌≤◌, Bool, true, false, cond, List, [], ◌∷◌, ◌++◌, length, length-append, length-set, refl, sym, arith, suc-le-suc, zero-le}
+use Rattle.std.specs.Prelude.{Option, Some, None, nat_lt, option_to_list, set, ◌==◌}
 use Rattle.hc_records.specs.Image.{VariablePlace}
-use Rattle.hc_places.specs.Table.{Row}
-use Rattle.hc_places.specs.Swap.{ChangedRow, merged, new_row, with_changed}
+use Rattle.hc_places.specs.Table.{Row, TaskTable}
+use Rattle.hc_places.specs.Swap.{ChangedRow, ChangedTask, merged, new_row, replaced, with_changed}
 
 -- a row that is still to come has room
 pub room-left : (rows rest all more : List Row) (found : Option Row) (row : Row) (room : ℕ) → found ≡ Some row → option_to_list found ++ more ≡ rest → rows ++ rest ≡ all → length all ≤ room
@@ -43,3 +43,8 @@ merged-few (changed ∷ others) rows =
     let last = with-few changed (merged others rows) in
     let rest = merged-few others rows in
     omega (arith, last, rest)
+
+-- no task comes or goes
+pub replaced-length : (changed : List ChangedTask) (tasks : List TaskTable) → length (replaced changed tasks) ≡ length tasks
+replaced-length [] tasks = refl
+replaced-length (c ∷ others) tasks = replaced-length others (set tasks c.0 c.1) ∙ length-set tasks c.0 c.1
