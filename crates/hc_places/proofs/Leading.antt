@@ -58,7 +58,7 @@ none-said task (c ∷ others) above =
 said-by : (here : Bool) (c : ChangedTask) (found : Option ChangedTask) (old : Option TaskTable)
     → (here ≡ true → option_map (λ (c : ChangedTask). c.1) found ≡ None)
     → option_map (λ old. unwrap_or (option_map (λ (c : ChangedTask). c.1) found) old) (cond here (option_map (λ _. c.1) old) old)
-      ≡ option_map (λ old. unwrap_or (option_map (λ (c : ChangedTask). c.1) (cond here (Some c) found)) old) old
+    ≡ option_map (λ old. unwrap_or (option_map (λ (c : ChangedTask). c.1) (cond here (Some c) found)) old) old
 said-by true c found None none = refl
 said-by true c found (Some old) none = rw (none refl) refl
 said-by false c found old none = refl
