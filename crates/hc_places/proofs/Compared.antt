@@ -1,11 +1,11 @@
 -- The tasks of two tables compared in their order: what is said of those so far.
 use Rattle.std.proofs.Common.{◌≡◌, ◌∙◌, ap, ℕ, ◌+◌, ◌<◌, ◌≤◌, Bool, true, false, cond, List, [], ◌∷◌, ◌++◌, length, refl, subst, sym, arith}
-use Rattle.std.specs.Prelude.{All, AllPairs, Option, Some, None, find, nat_lt, option_map, slice_get, ◌==◌, ◌≢◌}
+use Rattle.std.specs.Prelude.{All, Option, Some, None, find, nat_lt, option_map, slice_get, ◌==◌, ◌≢◌}
 use Rattle.std.proofs.lemmas.Bool.{eq-eqb, ltb-true, ltb-false}
 use Rattle.std.proofs.lemmas.Bool.Decides.{nat_tests}
 use Rattle.std.proofs.lemmas.List.Elements.{All-append, All-cons, All-head, All-nil, All-tail, All-weaker}
 use Rattle.std.proofs.lemmas.Option.{slice_get_past}
-use Rattle.hc_records.proofs.lemmas.Lists.{AllPairs-append, AllPairs-nil}
+use Rattle.hc_records.proofs.lemmas.Lists.{AllPairs-append}
 use Rattle.hc_places.specs.Table.{TaskTable}
 use Rattle.hc_places.specs.Swap.{ChangedTask, ChangesAscend, IsNewTask}
 

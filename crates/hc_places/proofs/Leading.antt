@@ -1,6 +1,6 @@
 -- A change that says what differs between two tables leads from the one to the other, and says as much as there is to say.
 use Rattle.std.proofs.Common.{◌≡◌, ◌∙◌, ap, ℕ, zero, suc, ◌<◌, Bool, true, false, cond, List, [], ◌∷◌, length, refl, sym, subst, arith}
-use Rattle.std.specs.Prelude.{All, AllPairs, Option, Some, None, find, map, not, option_map, set, slice_get, unwrap_or, ◌==◌, ◌≢◌, ◌||◌}
+use Rattle.std.specs.Prelude.{Option, Some, None, find, not, option_map, set, slice_get, unwrap_or, ◌==◌, ◌||◌}
 use Rattle.std.specs.Option.{option_map_or}
 use Rattle.std.proofs.lemmas.Bool.{eqb-true}
 use Rattle.std.proofs.lemmas.Bool.Decides.{nat_tests}
@@ -8,8 +8,8 @@ use Rattle.std.proofs.lemmas.List.Elements.{All-head, All-tail}
 use Rattle.std.proofs.lemmas.List.{length-map}
 use Rattle.hc_records.specs.declared.edit.Edit.{Edit}
 use Rattle.hc_records.specs.Image.{VariablePlace}
-use Rattle.hc_places.specs.Table.{IsTable, Row, Table, TaskTable}
-use Rattle.hc_places.specs.Swap.{Change, ChangedRow, ChangedTask, ChangesAscend, IsNewTask, LeadsAsSaid, SaysWhatDiffers, changed_variables, merged, new_place, replaced, same_found, swapped}
+use Rattle.hc_places.specs.Table.{IsTable, Table, TaskTable}
+use Rattle.hc_places.specs.Swap.{Change, ChangedRow, ChangedTask, ChangesAscend, IsNewTask, LeadsAsSaid, SaysWhatDiffers, changed_variables, merged, replaced, same_found, swapped}
 use Rattle.hc_places.proofs.Changed.{different-among, different-once, numbers, numbers-once, place_of}
 use Rattle.hc_places.proofs.Members.{among, as-long}
 use Rattle.hc_places.specs.Walk.{changes, walked}

@@ -1,5 +1,5 @@
 -- The memory that carrying a swap out takes.
-use Rattle.std.specs.Prelude.{ℕ, ◌≡◌, ◌≤◌, List, [], Option, None, Some, length}
+use Rattle.std.specs.Prelude.{ℕ, ◌≡◌, ◌≤◌, [], Option, None, Some, length}
 use Rattle.hc_places.specs.Swap.{Change, swapped}
 use Rattle.hc_places.specs.Table.{Table}
 

@@ -1,7 +1,6 @@
-use Rattle.std.proofs.Common.{◌≡◌, ◌∙◌, ap, get_or, sym, arith, true, false}
+use Rattle.std.proofs.Common.{◌≡◌, ◌∙◌, ap, get_or, sym, arith}
 use Rattle.std.specs.Prelude.{Some, slice_get, ◌≢◌}
 use Rattle.std.proofs.lemmas.Option.{slice_get_read}
-use Rattle.hc_places.specs.Table.{TaskTable}
 use Rattle.hc_places.proofs.Compared.{all-told, next-new, next-same}
 use Rattle.hc_places.proofs.comparing.tasks_between.Goals as goal
 use Rattle.hc_places.proofs.comparing.tasks_between.Goals.{then-not-is_same+in_ok-push, else-not-is_same}

@@ -1,5 +1,4 @@
-use Rattle.std.proofs.Common.{◌≡◌, ◌<◌, drop, length}
-use Rattle.std.specs.Prelude.{All}
+use Rattle.std.proofs.Common.{◌≡◌, drop, length}
 use Rattle.hc_places.specs.Swap.{replaced}
 use Rattle.hc_places.proofs.room.replace_tasks.Given as goal
 

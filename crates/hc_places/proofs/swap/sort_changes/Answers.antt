@@ -1,4 +1,4 @@
-use Rattle.std.proofs.Common.{ℕ, rules, List, length, filter, subst, sym, ap, ◌≤◌}
+use Rattle.std.proofs.Common.{rules, List, length, subst, sym, ◌≤◌}
 use Rattle.std.specs.Prelude.{None, ◌==◌}
 use Rattle.std.proofs.lemmas.List.Sorted.{answers_always, IsNonDecreasingBy-from_sort}
 use Rattle.std.proofs.lemmas.Result.{on_ok_weaker}

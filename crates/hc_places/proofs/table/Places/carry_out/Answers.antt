@@ -1,4 +1,4 @@
-use Rattle.std.proofs.Common.{◌≡◌, ◌∙◌, ap, length}
+use Rattle.std.proofs.Common.{◌∙◌, ap, length}
 use Rattle.hc_places.specs.Table.{RowsAscend}
 use Rattle.hc_places.specs.Swap.{merged}
 use Rattle.hc_places.proofs.Roomy.{replaced-length}
