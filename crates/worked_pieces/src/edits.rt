@@ -129,18 +129,26 @@ const DISCONNECTED: [OfGroup; 3] = [
     (0, Some(EditFault::Mandatory)),
 ];
 
+/// How many of the rows, from the first on, have their faults, connected and then disconnected.
+fn group_faults(groups: &[Declared], connected: &[OfGroup], disconnected: &[OfGroup]) -> usize
+    requires { lowest_fault (groups_of groups.now) ≡ None }
+{
+    let mut count = 0;
+    for ((alias, fault), (other, its)) in connected.iter().zip(disconnected) {
+        if fault_of(groups, Edit::Connect(*alias)) != *fault
+            || fault_of(groups, Edit::Disconnect(*other)) != *its
+        {
+            return count;
+        }
+        count = count.saturating_add(1);
+    }
+    count
+}
+
 #[test]
 fn groups_are_refused(rt: HostRuntime) -> Result<(), Fail> {
     let groups = drive_and_tool(rt.alloc())?;
-    for (alias, fault) in &CONNECTED {
-        assert_eq!(rt; fault_of(groups.as_slice(), Edit::Connect(*alias)), *fault);
-    }
-    for (alias, fault) in &DISCONNECTED {
-        assert_eq!(rt;
-            fault_of(groups.as_slice(), Edit::Disconnect(*alias)),
-            *fault
-        );
-    }
+    assert!(rt; group_faults(groups.as_slice(), &CONNECTED, &DISCONNECTED) == 3);
     Ok(())
 }
 

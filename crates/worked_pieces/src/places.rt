@@ -181,16 +181,20 @@ fn has_datagram(places: &Places, length: u16, expected: u16) -> bool {
         && places.part(0) == (length, 0)
 }
 
+/// Whether the three areas share two bytes of task 0, and no other task has any.
+fn shares_bytes(layout: &Layout, places: &Places) -> bool {
+    let placed = is_placed(layout, 1, 0, 0)
+        && is_placed(layout, 1, 1, 3)
+        && is_placed(layout, 2, 0, 6)
+        && layout.placed(1, Key::START).is_none();
+    placed && has_datagram(places, 2, 4) && places.part(7) == (0, 0)
+}
+
 #[test]
 fn areas_of_three_bits_share_bytes(rt: HostRuntime) -> Result<(), Fail> {
     let alloc = rt.alloc();
     let Configured { layout, places } = configured(alloc, two_slaves(alloc)?, NONE)?;
-    assert!(rt; is_placed(&layout, 1, 0, 0));
-    assert!(rt; is_placed(&layout, 1, 1, 3));
-    assert!(rt; is_placed(&layout, 2, 0, 6));
-    assert!(rt; layout.placed(1, Key::START).is_none());
-    assert!(rt; has_datagram(&places, 2, 4));
-    assert_eq!(rt; places.part(7), (0, 0));
+    assert!(rt; shares_bytes(&layout, &places));
     Ok(())
 }
 
@@ -209,15 +213,18 @@ fn has_two_slaves(places: &Places) -> bool {
         && has_place(places, 7, Some(output(0, 3)))
 }
 
+/// Whether a copy of a table has the same variables and the same datagram.
+fn is_copied(alloc: Global, places: &Places) -> Result<bool, AllocError> {
+    let copy = places.copied(alloc)?;
+    Ok(has_two_slaves(&copy) && copy.datagram(0, 0) == places.datagram(0, 0))
+}
+
 #[test]
 fn a_variable_stands_behind_a_gap(rt: HostRuntime) -> Result<(), Fail> {
     let alloc = rt.alloc();
     let places = configured(alloc, two_slaves(alloc)?, NONE)?.places;
-    assert!(rt; has_two_slaves(&places));
-    assert!(rt; has_place(&places, 8, None));
-    let copy = places.copied(alloc)?;
-    assert!(rt; has_two_slaves(&copy));
-    assert_eq!(rt; copy.datagram(0, 0), places.datagram(0, 0));
+    let copied = is_copied(alloc, &places)?;
+    assert!(rt; copied && has_two_slaves(&places) && has_place(&places, 8, None));
     Ok(())
 }
 
@@ -239,19 +246,27 @@ fn counts(places: &Places) -> [usize; 3] {
     ]
 }
 
+/// Whether the table's variables, its datagrams and their bits are walked as they stand.
+fn is_walked(alloc: Global, places: &Places) -> Result<bool, AllocError> {
+    let ends = ends(alloc, places)?.as_slice() == [(5, 6), (6, 9), (7, 3)].as_slice();
+    let bits = [
+        output_bits(places, 0, 0),
+        output_bits(places, 0, 1),
+        output_bits(places, 1, 0),
+    ];
+    let first = places.datagrams(0).first().copied();
+    Ok(
+        ends && counts(places) == [1, 0, 0]
+            && first == places.datagram(0, 0)
+            && bits == [Some(7), Some(0), Some(0)],
+    )
+}
+
 #[test]
 fn tables_are_walked(rt: HostRuntime) -> Result<(), Fail> {
     let alloc = rt.alloc();
     let places = configured(alloc, two_slaves(alloc)?, NONE)?.places;
-    assert!(rt; ends(alloc, &places)?.as_slice() == [(5, 6), (6, 9), (7, 3)].as_slice());
-    assert_eq!(rt; counts(&places), [1, 0, 0]);
-    assert_eq!(rt; places.datagrams(0).first().copied(), places.datagram(0, 0));
-    let bits = [
-        output_bits(&places, 0, 0),
-        output_bits(&places, 0, 1),
-        output_bits(&places, 1, 0),
-    ];
-    assert_eq!(rt; bits, [Some(7), Some(0), Some(0)]);
+    assert!(rt; is_walked(alloc, &places)?);
     Ok(())
 }
 
@@ -329,9 +344,8 @@ fn goes(alloc: Global, with: &Places, without: &Places) -> Result<bool, AllocErr
 #[test]
 fn a_tool_goes(rt: HostRuntime) -> Result<(), Fail> {
     let with = table(rt.alloc(), NONE)?;
-    assert!(rt; has_tool(&with));
     let without = table(rt.alloc(), TOOL)?;
-    assert!(rt; goes(rt.alloc(), &with, &without)?);
+    assert!(rt; has_tool(&with) && goes(rt.alloc(), &with, &without)?);
     Ok(())
 }
 
@@ -344,17 +358,20 @@ fn comes(alloc: Global, without: &Places, with: &Places) -> Result<bool, AllocEr
 #[test]
 fn a_tool_comes(rt: HostRuntime) -> Result<(), Fail> {
     let without = table(rt.alloc(), TOOL)?;
-    assert!(rt; has_no_tool(&without));
     let with = table(rt.alloc(), NONE)?;
-    assert!(rt; comes(rt.alloc(), &without, &with)?);
+    assert!(rt; has_no_tool(&without) && comes(rt.alloc(), &without, &with)?);
     Ok(())
+}
+
+/// Whether a swap between a table and itself changes nothing and names its edit.
+fn names_its_edit(alloc: Global, places: &Places) -> Result<bool, AllocError> {
+    let swap = Swap::between(alloc, &Edit::Connect(TOOL), places, places)?;
+    Ok(swap.places() == 0 && matches!(swap.edit(), Edit::Connect(TOOL)))
 }
 
 #[test]
 fn a_swap_names_its_edit(rt: HostRuntime) -> Result<(), Fail> {
     let places = table(rt.alloc(), NONE)?;
-    let swap = Swap::between(rt.alloc(), &Edit::Connect(TOOL), &places, &places)?;
-    assert_eq!(rt; swap.places(), 0);
-    assert!(rt; matches!(swap.edit(), Edit::Connect(TOOL)));
+    assert!(rt; names_its_edit(rt.alloc(), &places)?);
     Ok(())
 }

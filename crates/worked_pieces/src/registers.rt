@@ -81,17 +81,43 @@ fn is_block(block: &Block, register: u16, bytes: &[u8]) -> bool {
     block.register() == register && block.bytes() == bytes
 }
 
+/// The bytes of an area's sync manager block and of its FMMU block.
+type Blocks = ([u8; 8], [u8; 16]);
+
+/// Those of an output area.
+const OUTPUT: Blocks = (
+    [0x00, 0x11, 0x01, 0x00, 0x64, 0x00, 0x01, 0x00],
+    [0, 0, 0, 1, 1, 0, 0, 1, 0x00, 0x11, 0, 2, 1, 0, 0, 0],
+);
+
+/// Those of an input area behind it.
+const INPUT: Blocks = (
+    [0x80, 0x11, 0x02, 0x00, 0x20, 0x00, 0x01, 0x00],
+    [1, 0, 0, 1, 2, 0, 0, 3, 0x80, 0x11, 0, 1, 1, 0, 0, 0],
+);
+
+/// Whether an output area of 2 bits has those blocks.
+fn has_output_blocks(alloc: Global) -> Result<bool, AllocError> {
+    let output = area(alloc, 2, Dir::Out, 0x1100, 2)?;
+    has_blocks(
+        alloc,
+        0,
+        &output,
+        0,
+        (0x0810, &OUTPUT.0),
+        (0x0600, &OUTPUT.1),
+    )
+}
+
+/// Whether an input area of 12 bits has those blocks.
+fn has_input_blocks(alloc: Global) -> Result<bool, AllocError> {
+    let input = area(alloc, 3, Dir::In, 0x1180, 12)?;
+    has_blocks(alloc, 1, &input, 8, (0x0818, &INPUT.0), (0x0610, &INPUT.1))
+}
+
 #[test]
 fn a_slave_of_two_areas(rt: HostRuntime) -> Result<(), Fail> {
-    let alloc = rt.alloc();
-    let output = area(alloc, 2, Dir::Out, 0x1100, 2)?;
-    let manager = [0x00, 0x11, 0x01, 0x00, 0x64, 0x00, 0x01, 0x00];
-    let fmmu = [0, 0, 0, 1, 1, 0, 0, 1, 0x00, 0x11, 0, 2, 1, 0, 0, 0];
-    assert!(rt; has_blocks(alloc, 0, &output, 0, (0x0810, &manager), (0x0600, &fmmu))?);
-    let input = area(alloc, 3, Dir::In, 0x1180, 12)?;
-    let manager = [0x80, 0x11, 0x02, 0x00, 0x20, 0x00, 0x01, 0x00];
-    let fmmu = [1, 0, 0, 1, 2, 0, 0, 3, 0x80, 0x11, 0, 1, 1, 0, 0, 0];
-    assert!(rt; has_blocks(alloc, 1, &input, 8, (0x0818, &manager), (0x0610, &fmmu))?);
+    assert!(rt; has_output_blocks(rt.alloc())? && has_input_blocks(rt.alloc())?);
     Ok(())
 }
 
@@ -109,15 +135,28 @@ fn has_fmmu(
     }
 }
 
+/// The FMMU block of the second of three areas of 3 bits.
+const SECOND: [u8; 16] = [0, 0, 0, 1, 1, 0, 3, 5, 0x10, 0x10, 0, 2, 1, 0, 0, 0];
+
+/// That of the third.
+const THIRD: [u8; 16] = [0, 0, 0, 1, 2, 0, 6, 0, 0x00, 0x10, 0, 2, 1, 0, 0, 0];
+
+/// Whether an area of 3 bits at a sync manager, an address and a bit has such an FMMU block.
+fn has_three_bits(
+    alloc: Global,
+    sm: u8,
+    phys: u16,
+    bit: u16,
+    bytes: &[u8],
+) -> Result<bool, AllocError> {
+    let area = area(alloc, sm, Dir::Out, phys, 3)?;
+    has_fmmu(alloc, sm, &area, bit, bytes)
+}
+
 #[test]
 fn areas_of_three_bits(rt: HostRuntime) -> Result<(), Fail> {
-    let alloc = rt.alloc();
-    let second = area(alloc, 1, Dir::Out, 0x1010, 3)?;
-    let bytes = [0, 0, 0, 1, 1, 0, 3, 5, 0x10, 0x10, 0, 2, 1, 0, 0, 0];
-    assert!(rt; has_fmmu(alloc, 1, &second, 3, &bytes)?);
-    let third = area(alloc, 0, Dir::Out, 0x1000, 3)?;
-    let bytes = [0, 0, 0, 1, 2, 0, 6, 0, 0x00, 0x10, 0, 2, 1, 0, 0, 0];
-    assert!(rt; has_fmmu(alloc, 0, &third, 6, &bytes)?);
+    let second = has_three_bits(rt.alloc(), 1, 0x1010, 3, &SECOND)?;
+    assert!(rt; second && has_three_bits(rt.alloc(), 0, 0x1000, 6, &THIRD)?);
     Ok(())
 }
 

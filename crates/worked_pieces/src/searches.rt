@@ -74,10 +74,13 @@ fn begin_at(alloc: Global, list: &[(Key, u16)], later: &[Key]) -> Result<bool, A
 #[test]
 fn searched_datagrams_begin_where_areas_no_longer_fit(rt: HostRuntime) -> Result<(), Fail> {
     let [a, b, c] = [key(Dir::Out, 1), key(Dir::Out, 2), key(Dir::Out, 3)];
-    assert!(rt; begin_at(rt.alloc(), &[(a, 8 * 1485), (b, 8), (c, 1)], &[c])?);
-    assert!(rt; begin_at(rt.alloc(), &[(a, 8 * 1485), (b, 7), (c, 1)], &[])?);
-    assert!(rt; begin_at(rt.alloc(), &[(c, 5600), (b, 5600), (a, 8000)], &[b])?);
-    assert!(rt; begin_at(rt.alloc(), &[], &[])?);
+    let begin = [
+        begin_at(rt.alloc(), &[(a, 8 * 1485), (b, 8), (c, 1)], &[c])?,
+        begin_at(rt.alloc(), &[(a, 8 * 1485), (b, 7), (c, 1)], &[])?,
+        begin_at(rt.alloc(), &[(c, 5600), (b, 5600), (a, 8000)], &[b])?,
+        begin_at(rt.alloc(), &[], &[])?,
+    ];
+    assert!(rt; begin == [true; 4]);
     Ok(())
 }
 
@@ -85,9 +88,29 @@ fn searched_datagrams_begin_where_areas_no_longer_fit(rt: HostRuntime) -> Result
 fn a_searched_input_begins_a_byte(rt: HostRuntime) -> Result<(), Fail> {
     let [a, b, i] = [key(Dir::Out, 1), key(Dir::Out, 2), key(Dir::In, 1)];
     // the first free bit is 11,881
-    assert!(rt; begin_at(rt.alloc(), &[(a, 11881), (b, 7)], &[])?);
-    assert!(rt; begin_at(rt.alloc(), &[(a, 11881), (i, 7)], &[i])?);
+    let output = begin_at(rt.alloc(), &[(a, 11881), (b, 7)], &[])?;
+    assert!(rt; output && begin_at(rt.alloc(), &[(a, 11881), (i, 7)], &[i])?);
     Ok(())
+}
+
+/// Whether a cut ends so, with so many boundaries behind it.
+fn cuts_as(cuts: &mut Cuts, end: Result<(), TooManyDatagrams>, starts: usize) -> bool
+    ensures { cuts.new.tree ≡ cuts.old.tree }
+{
+    cut(cuts) == end && cuts.starts().len() == starts
+}
+
+/// Whether a task is refused a seventeenth datagram, keeps its sixteen boundaries, and is cut anew without its first
+/// area.
+fn keeps_its_boundaries(cuts: &mut Cuts) -> bool
+    requires { cuts.old.tree.slaves ≡ 17 }
+{
+    let first = cuts_as(cuts, Ok(()), 16);
+    set(cuts, key(Dir::In, 1), 8 * 1400);
+    let refused = cuts_as(cuts, Err(TooManyDatagrams), 16);
+    set(cuts, key(Dir::Out, 1), 0);
+    let again = cut(cuts) == Ok(());
+    first && refused && again && cuts.starts().last() == Some(&key(Dir::In, 1))
 }
 
 #[test]
@@ -96,14 +119,7 @@ fn a_refused_cut_leaves_the_boundaries(rt: HostRuntime) -> Result<(), Fail> {
     for rank in 1..17 {
         set(&mut cuts, key(Dir::Out, rank), 8 * 1400);
     }
-    assert_eq!(rt; cut(&mut cuts), Ok(()));
-    assert_eq!(rt; cuts.starts().len(), 16);
-    set(&mut cuts, key(Dir::In, 1), 8 * 1400);
-    assert_eq!(rt; cut(&mut cuts), Err(TooManyDatagrams));
-    assert_eq!(rt; cuts.starts().len(), 16);
-    set(&mut cuts, key(Dir::Out, 1), 0);
-    assert_eq!(rt; cut(&mut cuts), Ok(()));
-    assert_eq!(rt; cuts.starts().last(), Some(&key(Dir::In, 1)));
+    assert!(rt; keeps_its_boundaries(&mut cuts));
     Ok(())
 }
 
