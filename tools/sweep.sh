@@ -148,6 +148,7 @@ sweep_test hotline tests::edits::a_group_comes_and_goes
 sweep_program "alone lasting" "its first run" crates/hotline/stdin crates/hotline/stdout 0
 sweep_program "alone lasting" "every command" tools/commands.in tools/commands.out 2
 sweep_program "alone lasting" "frames" tools/frames.in tools/frames.out 0
+sweep_program "alone lasting" "the tool changer with frames" examples/tool_changer_frames.in examples/tool_changer_frames.out 0
 sweep_program alone "two groups" examples/two_groups.in examples/two_groups.out 0
 echo "$passed passed, $failed failed"
 [ "$failed" -eq 0 ]
