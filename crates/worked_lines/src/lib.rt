@@ -13,8 +13,6 @@ mod edits;
 #[cfg(test)]
 mod equal;
 #[cfg(test)]
-mod found;
-#[cfg(test)]
 mod layouts;
 #[cfg(test)]
 mod lines;

@@ -21,5 +21,3 @@ mod registers;
 mod repairs;
 #[cfg(test)]
 mod searches;
-#[cfg(test)]
-mod swaps;
