@@ -1,19 +1,23 @@
 -- The blocks of a line, slave by slave.
-use Rattle.std.proofs.Common.{◌≡◌, ℕ, zero, suc, ◌+◌, ◌-◌, ◌*◌, ◌<◌, ◌≤◌, List, [], ◌∷◌, ◌++◌, length, drop, refl, sym, ap, subst, ◌∙◌, arith, length-append, drop-cons}
+use Rattle.std.proofs.Common.{◌≡◌, ℕ, zero, suc, ◌+◌, ◌-◌, ◌*◌, ◌<◌, ◌≤◌, List, [], ◌∷◌, ◌++◌, length, drop, refl, sym, ap, subst, ◌∙◌, arith, length-append, drop-cons, true, false, if◌then◌else◌}
 use Rattle.std.proofs.lemmas.List.{length-map}
-use Rattle.std.specs.Prelude.{All, Bool, Option, Some, None, filter, find, not, option_and_then, option_map, slice_get, slice_index_or, sum_by}
+use Rattle.std.specs.Prelude.{All, Bool, Option, Some, None, filter, find, not, option_and_then, option_map, slice_get, slice_index_or, nat_lt, sum_by}
 use Rattle.std.specs.List.{enumerate_from, flat_map, list_any}
 use Rattle.std.proofs.lemmas.List.Filters.{length-filter_both}
 use Rattle.std.proofs.lemmas.List.FromFn.{length-enumerate_from}
 use Rattle.std.proofs.lemmas.Option.{get_or_from_slice_get, slice_get-get_or, slice_get-map, slice_get_within}
+use Rattle.std.proofs.lemmas.Bool.{ltb-false, ltb-true}
+use Rattle.std.proofs.lemmas.List.Sums.{sum_by-cons}
 use Rattle.std.proofs.lemmas.List.Elements.{All-head, All-tail, All-weaker}
 use Rattle.hc_records.specs.declared.records.Area.{Area}
 use Rattle.hc_records.specs.declared.records.Declared.{Declared}
 use Rattle.hc_records.specs.declared.keys.Key.{Key}
+use Rattle.hc_records.specs.declared.records.Slave.{Slave}
 use Rattle.hc_records.specs.Line.{Member, is_at, line_from}
 use Rattle.hc_records.specs.Packing.{Placed}
 use Rattle.hc_records.proofs.lemmas.Slaves.{project-counted}
 use Rattle.hc_records.proofs.lemmas.Walks.{get-back, get-front, length-line}
+use Rattle.hc_index.specs.Index.{own_blocks, owned_by}
 use Rattle.hc_registers.specs.declared.fmmu.Mapping.{Mapping}
 use Rattle.hc_registers.specs.Blocks.{LineBlock, RegisterBlock, area_blocks, line_blocks, member_blocks, moved_blocks, numbered, same_block, slave_blocks, sync_manager_block, fmmu_block, mapping_at, mapping_of}
 use Rattle.hc_places.specs.Layout.{placed_in}
@@ -120,16 +124,58 @@ blocks-met whole rest member =
     length-append (member_blocks whole member) (flat_map (member_blocks whole) rest)
     ∙ ap (λ (n : ℕ). n + length (flat_map (member_blocks whole) rest)) (length-member_blocks whole member)
 
--- the block with a number is one of the slave that a walk meets, where it has enough
-pub met-here : (groups : List Declared) (layout : List (List Placed)) (rest : List Member) (member : Member) (n left : ℕ) → IsLaidOut groups layout → IsMappedSlave layout member
-    → left < 2 * length member.slave.areas
-    → slice_get (flat_map (member_blocks (line_from 1 groups)) (member ∷ rest)) left ≡ slice_get (line_blocks (line_from 1 groups)) n
-    → line_block_at (line_from 1 groups) n ≡ option_map (at_station member.slave.station) (slice_get (slave_blocks_in layout member) left)
-met-here groups layout rest member n left laid mapped inside same =
+-- as many as the slaves own
+pub blocks-owned : (whole members : List Member) → length (flat_map (member_blocks whole) members) ≡ sum_by own_blocks members
+blocks-owned whole [] = refl
+blocks-owned whole (member ∷ members) =
+    blocks-met whole members member
+    ∙ ap (λ (n : ℕ). own_blocks member + n) (blocks-owned whole members)
+    ∙ sym (sum_by-cons own_blocks member members)
+
+-- the block with a number is one of the slave that owns it
+
+abbrev tells : List Member → Member × ℕ → Option (ℕ × RegisterBlock)
+tells whole owner = option_map (at_station owner.0.slave.station) (slice_get (slave_blocks whole owner.0) owner.1)
+
+owned-by : (whole rest : List Member) (member : Member) (n : ℕ) (here : Bool) → nat_lt n (own_blocks member) ≡ here
+    → option_map told (slice_get (flat_map (member_blocks whole) rest) (n - own_blocks member)) ≡ option_and_then (tells whole) (owned_by rest (n - own_blocks member))
+    → option_map told (slice_get (flat_map (member_blocks whole) (member ∷ rest)) n) ≡ option_and_then (tells whole) (if here then Some (member, n) else owned_by rest (n - own_blocks member))
+owned-by whole rest member n true is behind = block-here whole rest member n (ltb-true n (own_blocks member) is)
+owned-by whole rest member n false is behind = ap (option_map told) (block-behind whole rest member n (ltb-false n (own_blocks member) is)) ∙ behind
+
+owned-block : (whole members : List Member) (n : ℕ) → option_map told (slice_get (flat_map (member_blocks whole) members) n) ≡ option_and_then (tells whole) (owned_by members n)
+owned-block whole [] n = refl
+owned-block whole (member ∷ members) n = owned-by whole members member n (nat_lt n (own_blocks member)) refl (owned-block whole members (n - own_blocks member))
+
+pub owned-none : (groups : List Declared) (n : ℕ) → owned_by (line_from 1 groups) n ≡ None → line_block_at (line_from 1 groups) n ≡ None
+owned-none groups n none =
     let line = line_from 1 groups in
-    ap (option_map told) (sym same)
-    ∙ block-here line rest member left inside
-    ∙ ap (λ (blocks : List RegisterBlock). option_map (at_station member.slave.station) (slice_get blocks left)) (sym (slave_blocks-line groups layout member laid mapped))
+    owned-block line line n ∙ ap (option_and_then (tells line)) none
+
+-- what all slaves have the owner has
+owner-all : (P : Member → Type 0) (member : Member) (n : ℕ) (rest : Option (Member × ℕ)) (owner : Member × ℕ) (here : Bool) → P member → (rest ≡ Some owner → P owner.0)
+    → (if here then Some (member, n) else rest) ≡ Some owner → P owner.0
+owner-all P member n rest owner true own behind is = let same : (member, n) ≡ owner = cc in subst P (ap (λ (e : Member × ℕ). e.0) same) own
+owner-all P member n rest owner false own behind is = behind is
+
+owner-has : (P : Member → Type 0) (members : List Member) (n : ℕ) (owner : Member × ℕ) → All P members → owned_by members n ≡ Some owner → P owner.0
+owner-has P [] n owner all is = cc
+owner-has P (member ∷ members) n owner all is =
+    owner-all P member n (owned_by members (n - own_blocks member)) owner (nat_lt n (own_blocks member)) (All-head P member members all)
+    (λ rest. owner-has P members (n - own_blocks member) owner (All-tail P member members all) rest) is
+
+pub owner-mapped : (groups : List Declared) (layout : List (List Placed)) (n number : ℕ) (member : Member) → IsLaidOut groups layout → owned_by (line_from 1 groups) n ≡ Some (member, number)
+    → IsMappedSlave layout member
+owner-mapped groups layout n number member laid is = owner-has (IsMappedSlave layout) (line_from 1 groups) n (member, number) (laid-out-all groups layout laid) is
+
+pub owner-tells : (groups : List Declared) (layout : List (List Placed)) (n number : ℕ) (member : Member) → IsLaidOut groups layout → owned_by (line_from 1 groups) n ≡ Some (member, number)
+    → line_block_at (line_from 1 groups) n ≡ option_map (at_station member.slave.station) (slice_get (slave_blocks_in layout member) number)
+owner-tells groups layout n number member laid is =
+    let line = line_from 1 groups in
+    owned-block line line n
+    ∙ ap (option_and_then (tells line)) is
+    ∙ ap (λ (blocks : List RegisterBlock). option_map (at_station member.slave.station) (slice_get blocks number))
+    (sym (slave_blocks-line groups layout member laid (owner-mapped groups layout n number member laid is)))
 
 -- a walk by a layout of the line gives the blocks of the line
 pub walk-begins : (groups : List Declared) (layout : List (List Placed)) (members : List Member) → IsLaidOut groups layout → All (IsMappedSlave layout) members
@@ -153,6 +199,11 @@ pub walk-goes : (layout : List (List Placed)) (member : Option Member) (number :
 walk-goes layout member number members next rest none is =
     sym (ap (λ (own : List LineBlock). own ++ flat_map (λ m. own_left layout (Some m) 0) members) none
     ∙ ap (flat_map (λ m. own_left layout (Some m) 0)) is)
+
+-- a slave of the line by its rank and its record
+pub same-member : (rank : ℕ) (slave : Slave) (member : Member) → rank ≡ member.rank → slave ≡ member.slave → member ≡ record { rank = rank; slave = slave }
+same-member rank slave member ranked own =
+    sym (ap (λ (r : ℕ). record { rank = r; slave = slave }) ranked ∙ ap (λ (s : Slave). record { rank = member.rank; slave = s }) own)
 
 pub found-block : (groups : List Declared) (layout : List (List Placed)) (station number : ℕ) (member : Member) → IsLaidOut groups layout
     → find (is_at station) (line_from 1 groups) ≡ Some member → block_at (line_from 1 groups) station number ≡ slice_get (slave_blocks_in layout member) number

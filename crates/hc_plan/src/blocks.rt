@@ -8,10 +8,11 @@ ghost use Rattle.hc_registers.specs.Blocks.{line_blocks};
 ghost use Rattle.hc_plan.specs.Configuration.{at_station, block_at, line_block_at};
 ghost use Rattle.hc_plan.specs.Blocks.{IsLaidOut, IsMappedArea, IsMappedSlave, area_block_in, mapping_in, own_left, slave_blocks_in};
 
+use hc_index::index::Indexed;
 use hc_places::layout::Layout;
 use hc_records::keys::Key;
-use hc_records::line::{LineMembers, Member, member_at, members};
-use hc_records::records::{Area, Declared};
+use hc_records::line::{LineMembers, Member, members};
+use hc_records::records::{Area, Declared, Slave};
 use hc_registers::blocks::Block;
 use hc_registers::fmmu::{Mapping, logical_address};
 use std::marker::Model;
@@ -91,23 +92,31 @@ fn area_block(layout: &Layout, rank: u16, index: u8, area: &Area, number: u8) ->
     Block::fmmu(index, area, mapping(layout, rank, index, area))
 }
 
-/// The block with a number, from 0, in the order of a slave; none where it has fewer.
-pub(crate) fn block_of(layout: &Layout, member: &Member<'_>, number: u8) -> Option<Block>
-    requires { IsMappedSlave layout.now member.now }
-    ensures { result ≡ slice_get (slave_blocks_in layout.now member.now) number }
+/// The block with a number, from 0, in the order of a slave with a rank; none where it has fewer.
+fn slave_block(layout: &Layout, rank: u16, slave: &Slave, number: u8) -> Option<Block>
+    requires { IsMappedSlave layout.now (record { rank = rank; slave = slave.now }) }
+    ensures { result ≡ slice_get (slave_blocks_in layout.now (record { rank = rank; slave = slave.now })) number }
 {
-    let areas = member.slave().areas.as_slice();
+    let areas = slave.areas.as_slice();
     let index = number / 2;
     if usize::from(index) >= areas.len() {
         return None;
     }
     let area = &areas[usize::from(index)];
-    Some(area_block(layout, member.rank(), index, area, number))
+    Some(area_block(layout, rank, index, area, number))
+}
+
+/// The block with a number, from 0, in the order of a slave of the line; none where it has fewer.
+pub(crate) fn block_of(layout: &Layout, member: &Member<'_>, number: u8) -> Option<Block>
+    requires { IsMappedSlave layout.now member.now }
+    ensures { result ≡ slice_get (slave_blocks_in layout.now member.now) number }
+{
+    slave_block(layout, member.rank(), member.slave(), number)
 }
 
 /// The block with a number, from 0, in the order of the slave with a station address.
 pub(crate) fn block_at(
-    groups: &[Declared],
+    groups: &Indexed<'_>,
     layout: &Layout,
     station: u16,
     number: u8,
@@ -115,30 +124,10 @@ pub(crate) fn block_at(
     requires { IsLaidOut groups.now layout.now }
     ensures { result ≡ block_at (line_from 1 groups.now) station number }
 {
-    match member_at(groups, station) {
-        Some(member) => block_of(layout, &member, number),
+    match groups.slave_at(station) {
+        Some(slave) => slave_block(layout, slave.rank(), slave.slave(), number),
         None => None,
     }
-}
-
-/// The number of a slave's blocks: two for each area.
-fn own_blocks(member: &Member<'_>) -> u32
-    requires { length member.now.slave.areas ≤ MOST_AREAS }
-    ensures { result ≡ 2 * length member.now.slave.areas }
-{
-    2 * member.slave().areas.len() as u32
-}
-
-/// The number of blocks of the line.
-pub(crate) fn count_blocks(groups: &[Declared], layout: &Layout) -> u32
-    requires { IsLaidOut groups.now layout.now }
-    ensures { result ≡ length (line_blocks (line_from 1 groups.now)) }
-{
-    let mut total = 0;
-    for member in members(groups) {
-        total += own_blocks(&member);
-    }
-    total
 }
 
 /// A block, if there is one, with its slave's station address.
@@ -152,20 +141,13 @@ fn with_station(station: u16, block: Option<Block>) -> Option<(u16, Block)>
 }
 
 /// The block with a number, from 0, in line and block order, with its slave's station address.
-pub(crate) fn nth_block(groups: &[Declared], layout: &Layout, n: u32) -> Option<(u16, Block)>
+pub(crate) fn nth_block(groups: &Indexed<'_>, layout: &Layout, n: u32) -> Option<(u16, Block)>
     requires { IsLaidOut groups.now layout.now }
     ensures { result ≡ line_block_at (line_from 1 groups.now) n }
 {
-    let mut left = n;
-    for member in members(groups) {
-        let own = own_blocks(&member);
-        if left < own {
-            let block = block_of(layout, &member, left as u8);
-            return with_station(member.slave().station, block);
-        }
-        left -= own;
-    }
-    None
+    let (owner, number) = groups.block_owner(n)?;
+    let block = slave_block(layout, owner.rank(), owner.slave(), number);
+    with_station(owner.slave().station, block)
 }
 
 /// The block with a number, from 0, of a slave, if there is one.

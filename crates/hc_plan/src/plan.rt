@@ -2,17 +2,17 @@
 ghost use Rattle.std.specs.Prelude.{◌≡◌, IfOk, map};
 ghost use Rattle.hc_records.specs.Line.{opened_group};
 
-use crate::blocks::{LineBlocks, block_at, count_blocks, line_blocks, nth_block};
+use crate::blocks::{LineBlocks, block_at, line_blocks, nth_block};
 use crate::report::{Report, Standing};
 use crate::turning::{open_line, turn_line};
 use hc_edits::faults::own_fault;
 use hc_edits::groups::groups_after;
+use hc_index::index::{Index, Indexed};
 use hc_places::layout::Layout;
 use hc_places::table::Places;
 use hc_records::edit::Edit;
 use hc_records::faults::EditFault;
 use hc_records::items::Items;
-use hc_records::line::{is_declared_station, member_index, nth_member, slave_count};
 use hc_records::project::Project;
 use hc_records::records::{Declared, Group};
 use hc_registers::blocks::Block;
@@ -37,6 +37,8 @@ fn opened_groups(alloc: Global, groups: Vec<Group>) -> Result<Items<Declared>, A
 #[derive(Debug, Drop)]
 pub struct Plan {
     groups: Items<Declared>,
+    // where the slaves of the line and their blocks are found
+    index: Index,
     epoch: u32,
     layout: Layout,
     places: Places,
@@ -50,13 +52,14 @@ impl Model for Plan {
     ghost use Rattle.hc_places.specs.Table.{table_of};
     ghost use Rattle.hc_tasks.specs.Areas.{areas_by_rank};
     ghost use Rattle.hc_tasks.specs.Kept.{line_kept};
+    ghost use Rattle.hc_index.specs.Index.{IsIndexOf};
     ghost use Rattle.hc_plan.specs.Blocks.{IsLaidOut};
 
     ghost Value = { State };
 
     ghost view = { λ plan. record { groups = plan.groups; epoch = plan.epoch } };
 
-    ghost invariant = { λ plan. IsLaidOut plan.groups plan.layout × (plan.places ≡ table_of (line_from 1 plan.groups)) × (plan.cuts ≡ line_kept (areas_by_rank plan.groups)) };
+    ghost invariant = { λ plan. IsLaidOut plan.groups plan.layout × (plan.places ≡ table_of (line_from 1 plan.groups)) × (plan.cuts ≡ line_kept (areas_by_rank plan.groups)) × IsIndexOf plan.groups plan.index };
 }
 
 impl Plan {
@@ -80,9 +83,11 @@ impl Plan {
         ensures refused { IfErr result (NamesCrowded (line (opened project))) }
     {
         let groups = opened_groups(alloc, project.into_groups().into_vec())?;
+        let index = Index::new(alloc, groups.as_slice())?;
         let opened = open_line::<Brand>(alloc, groups.as_slice(), Blank::new(1))?;
         Ok(Plan {
             groups,
+            index,
             epoch: 0,
             layout: opened.configured.layout,
             places: opened.configured.places,
@@ -121,7 +126,7 @@ impl Plan {
     pub fn slaves(&self) -> u32
         ensures { result ≡ length (line self.now) }
     {
-        slave_count(self.groups.as_slice()) as u32
+        self.indexed().slaves() as u32
     }
 
     /// The block with a number, from 0, in the order of the slave with a station address: for each area
@@ -130,14 +135,14 @@ impl Plan {
     pub fn block(&self, station: u16, number: u8) -> Option<Block>
         ensures { result ≡ block_at (line self.now) station number }
     {
-        block_at(self.groups.as_slice(), &self.layout, station, number)
+        block_at(&self.indexed(), &self.layout, station, number)
     }
 
     /// The number of blocks of the present line. It takes no memory.
     pub fn blocks(&self) -> u32
         ensures { result ≡ length (config (line self.now)).blocks }
     {
-        count_blocks(self.groups.as_slice(), &self.layout)
+        self.indexed().blocks()
     }
 
     /// The block with a number, from 0, in line and block order, with its slave's station address;
@@ -145,7 +150,7 @@ impl Plan {
     pub fn nth_block(&self, n: u32) -> Option<(u16, Block)>
         ensures { result ≡ line_block_at (line self.now) n }
     {
-        nth_block(self.groups.as_slice(), &self.layout, n)
+        nth_block(&self.indexed(), &self.layout, n)
     }
 
     /// The blocks of the present line, in line and block order, one by one: each with its slave's station
@@ -161,8 +166,8 @@ impl Plan {
     pub fn station(&self, n: u32) -> Option<u16>
         ensures { result ≡ station_at (line self.now) n }
     {
-        let member = nth_member(self.groups.as_slice(), n as usize)?;
-        Some(member.slave().station)
+        let slave = self.indexed().nth(n as usize)?;
+        Some(slave.slave().station)
     }
 
     /// The position in the line, from 0, of the slave with a station address: `UnknownStation` where no
@@ -170,12 +175,19 @@ impl Plan {
     pub fn position(&self, station: u16) -> Result<u32, EditFault>
         ensures { result ≡ position_of self.now station }
     {
-        let groups = self.groups.as_slice();
-        match member_index(groups, station) {
-            Some(index) => Ok(index as u32),
-            None if is_declared_station(groups, station) => Err(EditFault::Absent),
+        let indexed = self.indexed();
+        match indexed.position(station) {
+            Some(position) => Ok(position as u32),
+            None if indexed.is_declared_station(station) => Err(EditFault::Absent),
             None => Err(EditFault::UnknownStation),
         }
+    }
+
+    /// The declared groups, for look-ups by the index.
+    fn indexed(&self) -> Indexed<'_>
+        ensures { result ≡ self.now.groups }
+    {
+        self.index.of(self.groups.as_slice())
     }
 
     /// The state, with what the line is configured to.
@@ -220,6 +232,7 @@ impl Plan {
             Blank::new(1),
         )?;
         self.groups = groups;
+        self.index.follow(self.groups.as_slice());
         self.epoch += 1;
         self.layout = applied.configured.layout;
         self.places = applied.configured.places;

@@ -1,15 +1,17 @@
-use Rattle.std.proofs.Common.{◌∙◌, sym}
-use Rattle.hc_records.proofs.lemmas.Slaves.{project-counted}
-use Rattle.hc_plan.proofs.LineBlocks.{found-block, found-mapped}
+use Rattle.std.proofs.Common.{◌∙◌, sym, ap, subst}
+use Rattle.std.specs.Prelude.{slice_get}
+use Rattle.hc_records.specs.Line.{Member}
+use Rattle.hc_plan.specs.Blocks.{IsMappedSlave, slave_blocks_in}
+use Rattle.hc_plan.proofs.LineBlocks.{found-block, found-mapped, same-member}
 use Rattle.hc_plan.proofs.blocks.block_at.Goals as goal
 
-pub member_at-requires : goal.member_at-requires
-member_at-requires c = project-counted c.args.groups.now c.requires.project
-
-pub block_of-requires : goal.block_of-requires
-block_of-requires c = found-mapped c.args.groups.now c.args.layout.now c.args.station c.in-Some.member c.requires (sym c.member_at.ensures ∙ c.in-Some.is)
+pub slave_block-requires : goal.slave_block-requires
+slave_block-requires c =
+    subst (IsMappedSlave c.args.layout.now) (same-member c.rank.result c.slave.result.now c.in-Some.slave c.rank.ensures c.slave.ensures)
+    (found-mapped c.args.groups.now c.args.layout.now c.args.station c.in-Some.slave c.requires (sym c.slave_at.ensures ∙ c.in-Some.is))
 
 pub returns-in-Some : goal.returns-in-Some
 returns-in-Some c =
-    c.block_of.ensures
-    ∙ sym (found-block c.args.groups.now c.args.layout.now c.args.station c.args.number c.in-Some.member c.requires (sym c.member_at.ensures ∙ c.in-Some.is))
+    c.slave_block.ensures
+    ∙ sym (ap (λ (m : Member). slice_get (slave_blocks_in c.args.layout.now m) c.args.number) (same-member c.rank.result c.slave.result.now c.in-Some.slave c.rank.ensures c.slave.ensures))
+    ∙ sym (found-block c.args.groups.now c.args.layout.now c.args.station c.args.number c.in-Some.slave c.requires (sym c.slave_at.ensures ∙ c.in-Some.is))

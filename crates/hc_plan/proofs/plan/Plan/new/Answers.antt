@@ -3,6 +3,7 @@ use Rattle.hc_records.specs.Edits.{crowded_task}
 use Rattle.hc_records.specs.declared.records.Declared.{Declared}
 use Rattle.hc_records.specs.Line.{line_from, opened_group}
 use Rattle.hc_records.specs.Project.{lowest_fault}
+use Rattle.hc_index.specs.Index.{IsIndexOf}
 use Rattle.hc_places.specs.Layout.{layout_of}
 use Rattle.hc_places.specs.Table.{table_of}
 use Rattle.hc_tasks.specs.Areas.{areas_by_rank}
@@ -10,15 +11,21 @@ use Rattle.hc_tasks.specs.Kept.{line_kept}
 use Rattle.hc_plan.proofs.Opening.{opened-project}
 use Rattle.hc_plan.proofs.plan.Plan.new.Goals as goal
 
-pub open_line-requires-clause-project : goal.open_line-requires-clause-project
-open_line-requires-clause-project c =
+pub new-requires : goal.new-requires
+new-requires c =
     opened-project c.into_groups.result c.as_slice.result.now
     (c.as_slice.ensures ∙ c.in_ok-groups.ensures ∙ ap (map opened_group) c.into_vec.ensures)
     (ap lowest_fault c.into_groups.ensures.value ∙ c.into_groups.ensures.kept)
 
+pub open_line-requires-clause-project : goal.open_line-requires-clause-project
+open_line-requires-clause-project c =
+    opened-project c.into_groups.result c.as_slice-2.result.now
+    (c.as_slice-2.ensures ∙ c.in_ok-groups.ensures ∙ ap (map opened_group) c.into_vec.ensures)
+    (ap lowest_fault c.into_groups.ensures.value ∙ c.into_groups.ensures.kept)
+
 pub invariant_of-result : goal.invariant_of-result
 invariant_of-result c =
-    let groups = c.as_slice.ensures in (
+    let groups = c.as_slice-2.ensures in (
       record {
         project =
             opened-project c.into_groups.result c.in_ok-groups.groups
@@ -29,4 +36,5 @@ invariant_of-result c =
       },
       c.in_ok-opened.ensures.places ∙ ap (λ (g : List Declared). table_of (line_from 1 g)) groups,
       c.in_ok-opened.ensures.kept ∙ ap (λ (g : List Declared). line_kept (areas_by_rank g)) groups,
+      subst (λ (g : List Declared). IsIndexOf g c.in_ok-index.index) c.as_slice.ensures c.in_ok-index.ensures,
     )

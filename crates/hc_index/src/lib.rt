@@ -1,0 +1,8 @@
+//! Look-ups in a project's declared groups by an index, in place of a walk: a slave by its station
+//! address or its position in the line, a register block by its number. The plan keeps one.
+#![tactic(auto)]
+
+mod addresses;
+pub mod index;
+pub mod laws;
+mod seats;
