@@ -99,8 +99,7 @@ fn finds_present(plan: &Plan, slave: &Slave, position: u32) -> bool {
 /// Whether a declared slave that isn't in the line is told from one that isn't declared, and has no
 /// block.
 fn finds_absent(plan: &Plan, slave: &Slave) -> bool {
-    plan.position(slave.station) == Err(EditFault::Absent)
-        && plan.block(slave.station, 0).is_none()
+    plan.position(slave.station) == Err(EditFault::Absent) && plan.block(slave.station, 0).is_none()
 }
 
 /// How many slaves and blocks of the line a walk has met.
@@ -309,9 +308,7 @@ fn has_rank(groups: &Indexed<'_>, slave: &Slave, rank: u16, position: Option<usi
         Some(position) => by_station == rank && rank_of(groups.nth(position)) == rank,
         None => by_station == 0,
     };
-    found
-        && groups.position(slave.station) == position
-        && groups.is_declared_station(slave.station)
+    found && groups.position(slave.station) == position && groups.is_declared_station(slave.station)
 }
 
 /// Whether an index of a plan's groups finds each slave with the rank that a walk counts.
