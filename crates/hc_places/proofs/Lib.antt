@@ -1,8 +1,11 @@
 pub mod Changed
+pub mod Compared
 pub mod Configurable
 pub mod Crowded
 pub mod Entries
 pub mod Founds
+pub mod Leading
+pub mod Members
 pub mod Merged
 pub mod Once
 pub mod Order
@@ -10,6 +13,7 @@ pub mod Pairs
 pub mod Ranks
 pub mod Recuts
 pub mod Rising
+pub mod Roomy
 pub mod Said
 pub mod Sendable
 pub mod Spread

@@ -7,21 +7,23 @@ use Rattle.std.proofs.lemmas.Bool.Decides.{nat_tests}
 use Rattle.std.proofs.lemmas.List.Elements.{All-nil, All-cons, All-head, All-tail, All-weaker, filter_agree}
 use Rattle.std.proofs.lemmas.List.Kept.{AllPairs-cons}
 use Rattle.hc_records.specs.declared.records.Dir.TheVariants.{Out}
+use Rattle.hc_records.specs.Image.{VariablePlace}
 use Rattle.hc_records.proofs.lemmas.Lists.{AllPairs-nil}
+use Rattle.hc_places.specs.Swap.{ChangesAscend}
 use Rattle.hc_places.specs.Table.{Row, RowsAscend, by_number, put}
 use Rattle.hc_places.proofs.Once.{of_row}
 use Rattle.hc_places.proofs.Totals.{total}
 use Rattle.hc_places.proofs.lemmas.Sorted.{filter-by_number}
 
 -- rows of a number
-abbrev numbered : ℕ → Row → Bool
+abbrev numbered : {X : Type 0} → ℕ → ℕ × X → Bool
 numbered number row = row.0 == number
 
 -- rows whose numbers are no lower than the first one's, and so on
-abbrev AreAtLeast : ℕ → List Row → Type 0
+abbrev AreAtLeast : {X : Type 0} → ℕ → List (ℕ × X) → Type 0
 AreAtLeast number rows = All (λ row. number ≤ row.0) rows
 
-abbrev Rises : List Row → Type 0
+abbrev Rises : {X : Type 0} → List (ℕ × X) → Type 0
 Rises [] = Unit {0}
 Rises (row ∷ rows) = AreAtLeast row.0 rows × Rises rows
 
@@ -63,14 +65,14 @@ rises-by_number (row ∷ rows) = rises-put row (by_number rows) (rises-by_number
 
 -- rows in order that have the same rows of each number are the same
 
-rises-sorted : (rows : List Row) → IsNonDecreasingBy (λ row. row.0) rows → Rises rows
+pub rises-sorted : {X : Type 0} (rows : List (ℕ × X)) → IsNonDecreasingBy (λ row. row.0) rows → Rises rows
 rises-sorted [] sorted = tt
 rises-sorted (row ∷ rows) sorted = (
   (λ k d within. sorted 0 (suc k) d zero-le (suc-le-suc within)),
   rises-sorted rows (λ i j d low within. sorted (suc i) (suc j) d (suc-le-suc low) (suc-le-suc within)),
 )
 
-filter-own : (row : Row) (rows : List Row) → filter (numbered row.0) (row ∷ rows) ≡ row ∷ filter (numbered row.0) rows
+filter-own : {X : Type 0} (row : ℕ × X) (rows : List (ℕ × X)) → filter (numbered row.0) (row ∷ rows) ≡ row ∷ filter (numbered row.0) rows
 filter-own row rows = cond-true _ _ _ (eq-eqb row.0 row.0 refl)
 
 -- a number that is among them is no lower
@@ -112,30 +114,34 @@ same-rows (one ∷ ones) (two ∷ twos) first second same =
 ties-numbered : (a b : ℕ) → ties (λ x y. is_lt (nat_cmp x y)) a b ≡ (b == a)
 ties-numbered a b = grind (arith, nat_tests)
 
--- a row of a number, whatever its place
-abbrev row_of : ℕ → Row
-row_of number = (number, record { task = 0; datagram = 0; bit = 0; bits = 0; dir = Out })
+abbrev tied_with : {X : Type 0} → ℕ × X → ℕ × X → Bool
+tied_with {X} row = ties (λ (a b : ℕ × X). is_lt (nat_cmp a.0 b.0)) row
 
-abbrev tied_with : ℕ → Row → Bool
-tied_with number = ties (λ (a b : Row). is_lt (nat_cmp a.0 b.0)) (row_of number)
+-- so it keeps the rows of each number, in their order
+pub stable-kept : {X : Type 0} (x : X) (rows sorted : List (ℕ × X)) → IsStableByKey (λ (row : ℕ × X). row.0) nat_cmp rows sorted
+    → (number : ℕ) → filter (numbered number) sorted ≡ filter (numbered number) rows
+stable-kept {X} x rows sorted stable number =
+    let tied : (row : ℕ × X) → tied_with (number, x) row ≡ numbered number row = λ row. ties-numbered number row.0 in
+    sym (filter_agree (tied_with (number, x)) (numbered number) tied sorted)
+    ∙ stable (number, x)
+    ∙ filter_agree (tied_with (number, x)) (numbered number) tied rows
+
+-- a place, whatever its bits
+abbrev a_place : VariablePlace
+a_place = record { task = 0; datagram = 0; bit = 0; bits = 0; dir = Out }
 
 pub sorted-by_number : (rows sorted : List Row) → IsNonDecreasingBy (λ row. row.0) sorted → IsStableByKey (λ (row : Row). row.0) nat_cmp rows sorted → sorted ≡ by_number rows
 sorted-by_number rows sorted rises stable =
     same-rows sorted (by_number rows) (rises-sorted sorted rises) (rises-by_number rows)
-    (λ number.
-    let tied : (row : Row) → tied_with number row ≡ numbered number row = λ row. ties-numbered number row.0 in
-    sym (filter_agree (tied_with number) (numbered number) tied sorted)
-    ∙ stable (row_of number)
-    ∙ filter_agree (tied_with number) (numbered number) tied rows
-    ∙ sym (filter-by_number number rows))
+    (λ number. stable-kept a_place rows sorted stable number ∙ sym (filter-by_number number rows))
 
 -- rows that rise, of which no two have one number, ascend
 
-none-kept-by : (passes : Bool) (row : Row) (kept : List Row) → length (cond passes (row ∷ kept) kept) ≤ 0 → (passes ≡ false) × (length kept ≤ 0)
+none-kept-by : {X : Type 0} (passes : Bool) (row : X) (kept : List X) → length (cond passes (row ∷ kept) kept) ≤ 0 → (passes ≡ false) × (length kept ≤ 0)
 none-kept-by true row kept few = absurd (omega arith)
 none-kept-by false row kept few = (refl, few)
 
-none-kept : (number : ℕ) (rows : List Row) → length (filter (numbered number) rows) ≤ 0 → All (λ row. (row.0 == number) ≡ false) rows
+none-kept : {X : Type 0} (number : ℕ) (rows : List (ℕ × X)) → length (filter (numbered number) rows) ≤ 0 → All (λ row. (row.0 == number) ≡ false) rows
 none-kept number [] few = All-nil (λ row. (row.0 == number) ≡ false)
 none-kept number (row ∷ rows) few =
     let both = none-kept-by (row.0 == number) row (filter (numbered number) rows) few in
@@ -144,11 +150,11 @@ none-kept number (row ∷ rows) few =
 strictly : (a b : ℕ) → a ≤ b → (b == a) ≡ false → a < b
 strictly a b low other = grind (arith, nat_tests)
 
-kept-fewer : (passes : Bool) (row : Row) (kept : List Row) → length (cond passes (row ∷ kept) kept) ≤ 1 → length kept ≤ 1
+kept-fewer : {X : Type 0} (passes : Bool) (row : X) (kept : List X) → length (cond passes (row ∷ kept) kept) ≤ 1 → length kept ≤ 1
 kept-fewer true row kept few = omega arith
 kept-fewer false row kept few = few
 
-rising-ascends : (rows : List Row) → Rises rows → ((number : ℕ) → length (filter (numbered number) rows) ≤ 1) → RowsAscend rows
+pub rising-ascends : {X : Type 0} (rows : List (ℕ × X)) → Rises rows → ((number : ℕ) → length (filter (numbered number) rows) ≤ 1) → ChangesAscend rows
 rising-ascends [] rises few = AllPairs-nil (λ a b. a.0 < b.0)
 rising-ascends (row ∷ rows) rises few =
     let own : length (filter (numbered row.0) (row ∷ rows)) ≡ suc (length (filter (numbered row.0) rows)) = ap length (filter-own row rows) in

@@ -3,6 +3,7 @@ pub mod Layout
 pub mod Parts
 pub mod Ranges
 pub mod Recut
+pub mod Room
 pub mod WorkedLines
 pub mod Swap
 pub mod Table

@@ -1,20 +1,35 @@
 -- What turns the table of one epoch into that of the next.
-use Rattle.std.specs.Prelude.{ℕ, ◌==◌, ◌&&◌, not, nat_lt, Bool, true, false, if◌then◌else◌, List, [], ◌∷◌, ◌++◌, AllPairs, IsTrue, ◌<◌, ◌≡◌, ◌≢◌, ◌↔◌, filter, length, map, Option, Some, None, option_map, unwrap_or, find}
+use Rattle.std.specs.Prelude.{ℕ, ◌==◌, ◌&&◌, not, nat_lt, Bool, true, false, if◌then◌else◌, List, [], ◌∷◌, ◌++◌, All, AllPairs, IsTrue, ◌<◌, ◌≤◌, ◌≡◌, ◌≢◌, ◌↔◌, filter, length, map, set, slice_get, Option, Some, None, option_map, unwrap_or, find}
 use Rattle.std.specs.Option.{option_map_or}
 use Rattle.std.specs.List.{list_any}
+use Rattle.hc_records.specs.declared.limits.TheConstants.{TASKS}
 use Rattle.hc_records.specs.declared.edit.Edit.{Edit}
 use Rattle.hc_records.specs.Keys.{same_dir}
 use Rattle.hc_records.specs.Image.{VariablePlace}
-use Rattle.hc_places.specs.Table.{Row, RowsAscend, Table, TaskTable, place_in}
+use Rattle.hc_places.specs.Table.{IsTable, Row, RowsAscend, Table, TaskTable, place_in}
 
 -- a variable that stands elsewhere, appears or goes: its number, and its new place or none
 abbrev pub ChangedRow : Type 0
 ChangedRow = ℕ × Option VariablePlace
 
--- the new tasks, and the variables that change, in the order of their numbers
+-- a task whose table differs: its number, and its table from now on
+abbrev pub ChangedTask : Type 0
+ChangedTask = ℕ × TaskTable
+
+-- the tasks that differ, and the variables that change
 pub record Change : Type 0 where
-  pub tasks : List TaskTable
+  pub tasks : List ChangedTask
   pub rows : List ChangedRow
+
+-- they stand in the order of their numbers, each once
+abbrev pub ChangesAscend : {X : Type 0} → List (ℕ × X) → Type 0
+ChangesAscend changed = AllPairs (λ a b. a.0 < b.0) changed
+
+-- a swap's tasks, of the eight, and its variables do
+pub record IsInOrder (change : Change) : Type 0 where
+  pub tasks : ChangesAscend change.tasks
+  pub eight : All (λ changed. changed.0 < TASKS) change.tasks
+  pub rows : ChangesAscend change.rows
 
 -- a swap names the edit that asks for it
 pub record Swap : Type 0 where
@@ -36,9 +51,14 @@ abbrev pub merged : List ChangedRow → List Row → List Row
 merged [] rows = rows
 merged (changed ∷ others) rows = with_changed changed (merged others rows)
 
+-- tasks with some of them changed; none comes or goes
+abbrev pub replaced : List ChangedTask → List TaskTable → List TaskTable
+replaced [] tasks = tasks
+replaced (changed ∷ others) tasks = replaced others (set tasks changed.0 changed.1)
+
 -- the table that a change leads to
 abbrev pub swapped : Change → Table → Table
-swapped change table = record { tasks = change.tasks; variables = merged change.rows table.variables }
+swapped change table = record { tasks = replaced change.tasks table.tasks; variables = merged change.rows table.variables }
 
 -- two places, or the lack of one, are the same
 abbrev pub same_place : VariablePlace → VariablePlace → Bool
@@ -76,17 +96,37 @@ new_place old new = if same_found old new then None else Some new
 abbrev pub said_of : Change → ℕ → Option (Option VariablePlace)
 said_of change variable = option_map (λ changed. changed.1) (find (λ changed. changed.0 == variable) change.rows)
 
--- between two tables a change says of each variable whose place differs its new place or none, and nothing of any other
-abbrev pub SaysWhatDiffers : Table → Table → Change → Type 0
-SaysWhatDiffers old new change = (variable : ℕ) → said_of change variable ≡ new_place (place_in old variable) (place_in new variable)
+-- what it says of a task: its new table, and nothing where it isn't among the change's tasks
+abbrev pub table_said_of : Change → ℕ → Option TaskTable
+table_said_of change task = option_map (λ changed. changed.1) (find (λ changed. changed.0 == task) change.tasks)
+
+-- a task of which nothing is said is as it was; one of which a table is said has that table, and hadn't
+abbrev pub IsNewTask : Option TaskTable → Option TaskTable → Option TaskTable → Type 0
+IsNewTask old new None = old ≡ new
+IsNewTask old new (Some said) = (new ≡ Some said) × (old ≢ new)
+
+-- between two tables a change says of each task whose table differs its new table, of each variable whose place differs its new place or none, and nothing of any other
+pub record SaysWhatDiffers (old new : Table) (change : Change) : Type 0 where
+  pub tasks : (task : ℕ) → IsNewTask (slice_get old.tasks task) (slice_get new.tasks task) (table_said_of change task)
+  pub places : (variable : ℕ) → said_of change variable ≡ new_place (place_in old variable) (place_in new variable)
+
+-- no variable has two rows
+abbrev pub AreOnce : List ChangedRow → Type 0
+AreOnce rows = (variable : ℕ) → length (filter (λ changed. changed.0 == variable) rows) ≤ 1
 
 -- how many variables a swap changes
 abbrev pub changed_places : Swap → ℕ
 changed_places swap = length swap.change.rows
 
--- the changed variables stand in the order of their numbers, each once
-abbrev pub ChangesAscend : List ChangedRow → Type 0
-ChangesAscend rows = AllPairs (λ a b. a.0 < b.0) rows
+-- a swap leads from one table to another, and carries what differs and nothing else
+pub record Leads (old new : Table) (swap : Swap) : Type 0 where
+  pub leads : swapped swap.change old ≡ new
+  pub says : SaysWhatDiffers old new swap.change
+  pub count : changed_places swap ≡ length (changed_variables old new)
+
+-- so it does from any table to any other between which it says what differs
+abbrev pub LeadsAsSaid : Change → Swap → Type 0
+LeadsAsSaid said swap = (old new : Table) → IsTable old → IsTable new → SaysWhatDiffers old new said → Leads old new swap
 
 -- answers that are the same are equal, and equal ones are the same
 abbrev pub SameIsEqual : Type 0
@@ -113,9 +153,11 @@ SwapsMoveTheirVariables =
 abbrev pub SwapsKeepTheOrder : Type 0
 SwapsKeepTheOrder = (change : Change) (table : Table) → RowsAscend table.variables → RowsAscend (swapped change table).variables
 
--- and its tasks are the change's
-abbrev pub SwapsReplaceTheTasks : Type 0
-SwapsReplaceTheTasks = (change : Change) (table : Table) → (swapped change table).tasks ≡ change.tasks
+-- and so a task has the table that the change says, and the one that it had if the change says nothing
+abbrev pub SwapsReplaceTheirTasks : Type 0
+SwapsReplaceTheirTasks =
+    (change : Change) (table : Table) → ChangesAscend change.tasks → (task : ℕ)
+    → slice_get (swapped change table).tasks task ≡ option_map (λ old. unwrap_or (table_said_of change task) old) (slice_get table.tasks task)
 
 -- tables whose rows ascend are told apart by their tasks and by what they answer for variables
 abbrev pub PlacesTellTables : Type 0

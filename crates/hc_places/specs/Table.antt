@@ -1,7 +1,8 @@
 -- The table of a line: the datagrams and the parts of its tasks, and the places of its variables.
-use Rattle.std.specs.Prelude.{◌≡◌, ℕ, ◌<◌, ◌==◌, ◌&&◌, Bool, nat_lt, if◌then◌else◌, List, [], ◌∷◌, AllPairs, map, filter, find, slice_get, option_and_then, option_map, Option}
+use Rattle.std.specs.Prelude.{◌≡◌, ℕ, ◌<◌, ◌==◌, ◌&&◌, Bool, nat_lt, if◌then◌else◌, List, [], ◌∷◌, AllPairs, length, map, filter, find, slice_get, option_and_then, option_map, Option}
 use Rattle.std.specs.Option.{option_map_or}
 use Rattle.std.specs.List.{flat_map, range_with_len}
+use Rattle.hc_records.specs.declared.limits.TheConstants.{TASKS}
 use Rattle.hc_records.specs.Line.{Member}
 use Rattle.hc_records.specs.Image.{VariablePlace, task_places, datagram_count, datagram_length, datagram_offset, expected_counter, input_length, logical_address, output_length, task_variables, tasks, variable_place}
 use Rattle.hc_places.specs.declared.table.Datagram.{Datagram}
@@ -49,6 +50,11 @@ RowsAscend rows = AllPairs (λ a b. a.0 < b.0) rows
 pub record Table : Type 0 where
   pub tasks : List TaskTable
   pub variables : List Row
+
+-- what holds of each table that is kept
+pub record IsTable (table : Table) : Type 0 where
+  pub eight : length table.tasks ≡ TASKS
+  pub ascends : RowsAscend table.variables
 
 abbrev pub table_of : List Member → Table
 table_of line = record {

@@ -1,6 +1,6 @@
 //! What follows from the definitions of the table: each function does nothing, and its contract is a
 //! law. Nobody calls it.
-ghost use Rattle.hc_places.specs.Swap.{ChangedVariablesDiffer, ChangedVariablesStandOnce, PlacesTellTables, SameIsEqual, SwapsKeepTheOrder, SwapsMoveTheirVariables, SwapsReplaceTheTasks};
+ghost use Rattle.hc_places.specs.Swap.{ChangedVariablesDiffer, ChangedVariablesStandOnce, PlacesTellTables, SameIsEqual, SwapsKeepTheOrder, SwapsMoveTheirVariables, SwapsReplaceTheirTasks};
 ghost use Rattle.hc_places.specs.Table.{TablesHavePlaces};
 
 /// In the table of a line each variable has its place in the line, and one without a place there has
@@ -39,9 +39,10 @@ pub fn swaps_keep_the_order()
     ensures { SwapsKeepTheOrder }
 {}
 
-/// The tasks of the table that a swap leads to are the swap's, whatever the table had.
-pub fn swaps_replace_the_tasks()
-    ensures { SwapsReplaceTheTasks }
+/// In the table that a swap leads to, from any table, a task that the swap names has the table that the
+/// swap says; every other task has the one that it had, and no task comes or goes.
+pub fn swaps_replace_their_tasks()
+    ensures { SwapsReplaceTheirTasks }
 {}
 
 /// Two tables that each have every variable once, in the order of their numbers, are equal where their

@@ -4,12 +4,14 @@
 #![tactic(auto)]
 
 mod areas;
+mod comparing;
 pub mod configure;
 pub mod datagram_variables;
 mod datagrams;
 pub mod laws;
 pub mod layout;
 pub mod recut;
+pub mod room;
 pub mod swap;
 pub mod table;
 mod variables;

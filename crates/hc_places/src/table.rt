@@ -1,5 +1,5 @@
 //! The table of a line, in which tasks look up their datagrams and their variables.
-ghost use Rattle.std.specs.Prelude.{◌≡◌, ◌==◌, false, find, nat_lt, OnOk, option_map, true};
+ghost use Rattle.std.specs.Prelude.{◌≡◌, ◌==◌, ◌↔◌, IsTrue, false, find, nat_lt, OnOk, option_map, true};
 ghost use Rattle.std.specs.List.Sorted.{IsNonDecreasingBy, IsPartitionPoint};
 ghost use Rattle.hc_places.specs.Table.{by_number};
 
@@ -55,7 +55,7 @@ pub struct Datagram {
 
 /// The datagrams of a task, and how many bytes of its image are outputs and inputs.
 #[derive(Debug, Drop)]
-pub(crate) struct TaskTable {
+pub struct TaskTable {
     pub(crate) datagrams: ArrayVec<Datagram, 16>,
     pub(crate) outputs: u16,
     pub(crate) inputs: u16,
@@ -73,40 +73,98 @@ impl Model for TaskTable {
     ghost invariant = { λ task. All IsDatagram task.datagrams.items };
 }
 
+/// A variable and its place.
+pub(crate) type Row = (VarId, Place);
+
 /// The datagrams and the parts of the tasks, and the place of each variable of a line.
 #[derive(Debug, Drop)]
 pub struct Places {
     pub(crate) tasks: Items<TaskTable>,
-    pub(crate) variables: Vec<(VarId, Place)>,
+    pub(crate) variables: Vec<Row>,
 }
 
 impl Model for Places {
-    ghost use Rattle.hc_places.specs.Table.{RowsAscend, Table};
+    ghost use Rattle.hc_places.specs.Table.{IsTable, Table};
 
     ghost Value = { Table };
 
     ghost view = { λ places. record { tasks = places.tasks; variables = places.variables.items } };
 
-    ghost invariant = { λ places. RowsAscend places.variables.items };
+    ghost invariant = { λ places. IsTable (record { tasks = places.tasks; variables = places.variables.items }) };
 }
 
-impl Copied for TaskTable {
-    fn copied(&self, _alloc: Global) -> Result<TaskTable, AllocError> {
+/// Whether two datagrams are the same.
+fn same_datagram(a: &Datagram, b: &Datagram) -> bool
+    ensures { IsTrue result ↔ (a.now ≡ b.now) }
+{
+    *a == *b
+}
+
+/// Whether two lists of datagrams are the same.
+fn same_datagrams(these: &[Datagram], those: &[Datagram]) -> bool
+    ensures { IsTrue result ↔ (these.now ≡ those.now) }
+{
+    if these.len() != those.len() {
+        return false;
+    }
+    for i in 0..these.len() {
+        if !same_datagram(&these[i], &those[i]) {
+            return false;
+        }
+    }
+    true
+}
+
+impl TaskTable {
+    ghost use Rattle.std.specs.Prelude.{◌≡◌, ◌↔◌, All, IsTrue};
+    ghost use Rattle.hc_places.specs.Ranges.{IsDatagram};
+
+    /// The table of a task with these datagrams, and with so many bytes of outputs and of inputs.
+    pub fn of(datagrams: ArrayVec<Datagram, 16>, outputs: u16, inputs: u16) -> TaskTable
+        requires { All IsDatagram datagrams.items }
+        ensures { result ≡ record { datagrams = datagrams.items; outputs = outputs; inputs = inputs } }
+    {
+        TaskTable {
+            datagrams,
+            outputs,
+            inputs,
+        }
+    }
+
+    /// Whether two tables are the same.
+    pub fn is_same(&self, other: &TaskTable) -> bool
+        ensures { IsTrue result ↔ (self.now ≡ other.now) }
+    {
+        self.outputs == other.outputs
+            && self.inputs == other.inputs
+            && same_datagrams(self.datagrams.as_slice(), other.datagrams.as_slice())
+    }
+
+    /// A table that equals this one; it takes no memory.
+    pub(crate) fn duplicate(&self) -> TaskTable
+        ensures { result ≡ self.now }
+    {
         let mut datagrams = ArrayVec::new();
         for datagram in self.datagrams.as_slice() {
             datagrams.push(*datagram);
         }
-        Ok(TaskTable {
+        TaskTable {
             datagrams,
             outputs: self.outputs,
             inputs: self.inputs,
-        })
+        }
+    }
+}
+
+impl Copied for TaskTable {
+    fn copied(&self, _alloc: Global) -> Result<TaskTable, AllocError> {
+        Ok(self.duplicate())
     }
 }
 
 /// Puts rows in the order of their numbers; those of one number stay in their order. `AllocError`
 /// where the sort's memory was refused.
-fn sort_rows(rows: &mut Vec<(VarId, Place)>) -> Result<(), AllocError>
+fn sort_rows(rows: &mut Vec<Row>) -> Result<(), AllocError>
     ensures sorted { OnOk result (rows.new.items ≡ by_number rows.old.items) }
     ensures order { OnOk result (IsNonDecreasingBy (λ row. row.0) rows.new.items) }
 {
@@ -114,7 +172,7 @@ fn sort_rows(rows: &mut Vec<(VarId, Place)>) -> Result<(), AllocError>
 }
 
 /// How many rows have a lower number than a variable.
-fn count_below(rows: &[(VarId, Place)], variable: VarId) -> usize
+fn count_below(rows: &[Row], variable: VarId) -> usize
     requires { IsNonDecreasingBy (λ row. row.0) rows.now }
     ensures { IsPartitionPoint (λ row. nat_lt row.0 variable ≡ true) (λ row. nat_lt row.0 variable ≡ false) rows.now result }
 {
@@ -122,7 +180,7 @@ fn count_below(rows: &[(VarId, Place)], variable: VarId) -> usize
 }
 
 /// The place of a variable among rows in the order of their numbers.
-fn find_place(rows: &[(VarId, Place)], variable: VarId) -> Option<Place>
+fn find_place(rows: &[Row], variable: VarId) -> Option<Place>
     requires { IsNonDecreasingBy (λ row. row.0) rows.now }
     ensures { result ≡ option_map (λ row. row.1) (find (λ row. row.0 == variable) rows.now) }
 {
@@ -132,14 +190,15 @@ fn find_place(rows: &[(VarId, Place)], variable: VarId) -> Option<Place>
 
 impl Places {
     ghost use Rattle.std.specs.Prelude.{◌≡◌, ◌≤◌, All, IfOk, IfSome, length};
-    ghost use Rattle.hc_records.specs.declared.limits.TheConstants.{MOST_DATAGRAMS};
+    ghost use Rattle.hc_records.specs.declared.limits.TheConstants.{MOST_DATAGRAMS, TASKS};
     ghost use Rattle.hc_places.specs.Ranges.{IsDatagram};
     ghost use Rattle.hc_places.specs.Table.{RowsAscend, by_number, datagram_in, datagrams_in, part_in, place_in, variables_in};
 
     /// The table of tasks and of rows in any order, which are sorted; no variable has two. `AllocError` where the sort's
     /// memory was refused.
-    pub(crate) fn of(tasks: Vec<TaskTable>, rows: Vec<(VarId, Place)>) -> Result<Places, AllocError>
-        requires { RowsAscend (by_number rows.items) }
+    pub(crate) fn of(tasks: Vec<TaskTable>, rows: Vec<Row>) -> Result<Places, AllocError>
+        requires eight { length tasks.items ≡ TASKS }
+        requires ascends { RowsAscend (by_number rows.items) }
         ensures { IfOk result (λ places. places ≡ record { tasks = tasks.items; variables = by_number rows.items }) }
     {
         let mut variables = rows;

@@ -39,21 +39,24 @@ filter-by_number number (row ∷ rows) =
     filter-put number row (by_number rows)
     ∙ ap (λ kept. cond (row.0 == number) (row ∷ kept) kept) (filter-by_number number rows)
 
--- the first row of a number is the first that is kept
-first : List Row → Option Row
+-- the first that passes a test is the first that is kept
+first : {X : Type 0} → List X → Option X
 first [] = None
-first (row ∷ rows) = Some row
+first (x ∷ xs) = Some x
 
-first-by : (passes : Bool) (row : Row) (found : Option Row) (kept : List Row) → found ≡ first kept → cond passes (Some row) found ≡ first (cond passes (row ∷ kept) kept)
+first-by : {X : Type 0} (passes : Bool) (x : X) (found : Option X) (kept : List X) → found ≡ first kept → cond passes (Some x) found ≡ first (cond passes (x ∷ kept) kept)
 unfolding first
-first-by true row found kept is = refl
-first-by false row found kept is = is
+first-by true x found kept is = refl
+first-by false x found kept is = is
 
-find-first : (number : ℕ) (rows : List Row) → find (numbered number) rows ≡ first (filter (numbered number) rows)
+find-first : {X : Type 0} (test : X → Bool) (xs : List X) → find test xs ≡ first (filter test xs)
 unfolding first
-find-first number [] = refl
-find-first number (row ∷ rows) = first-by (row.0 == number) row (find (numbered number) rows) (filter (numbered number) rows) (find-first number rows)
+find-first test [] = refl
+find-first test (x ∷ xs) = first-by (test x) x (find test xs) (filter test xs) (find-first test xs)
+
+-- so two lists of which the same are kept have the same first one
+pub find-kept : {X : Type 0} (test : X → Bool) (xs ys : List X) → filter test xs ≡ filter test ys → find test xs ≡ find test ys
+find-kept test xs ys same = find-first test xs ∙ ap first same ∙ sym (find-first test ys)
 
 pub find-by_number : (number : ℕ) (rows : List Row) → find (λ row. row.0 == number) (by_number rows) ≡ find (λ row. row.0 == number) rows
-find-by_number number rows =
-    find-first number (by_number rows) ∙ ap first (filter-by_number number rows) ∙ sym (find-first number rows)
+find-by_number number rows = find-kept (numbered number) (by_number rows) rows (filter-by_number number rows)

@@ -27,8 +27,8 @@ of-requires c =
     (λ k d within. places-in-order (task_list _ (line_from 1 c.args.groups.now)) (configurable.ascends _)) in
     All-same AreInOrder _ _ (c.in_ok-layout.ensures.layout ∙ ap layout_of line) all
 
-pub of-requires-2 : goal.of-requires-2
-of-requires-2 c =
+pub of-requires-2-clause-ascends : goal.of-requires-2-clause-ascends
+of-requires-2-clause-ascends c =
     let line = c.as_slice.ensures.value ∙ c.in_ok-line.ensures in
     let rows : c.in_ok-layout.field-0.rows.items ≡ flat_map (task_variables (line_from 1 c.args.groups.now)) tasks =
     c.in_ok-layout.ensures.rows ∙ ap (λ (l : List Member). flat_map (task_variables l) tasks) line in

@@ -15,5 +15,5 @@ of-requires g c =
     let all = All-map AreInOrder (λ task. task_places task line) tasks (λ k d within. places-in-order (task_list _ line) (configurable.ascends _)) in
     All-same AreInOrder _ _ c.in_ok-layout.ensures.layout all
 
-pub of-requires-2 : goal.of-requires-2
-of-requires-2 g c = rw (c.in_ok-layout.ensures.rows) (table-ascends c.args.groups.now c.requires.project)
+pub of-requires-2-clause-ascends : goal.of-requires-2-clause-ascends
+of-requires-2-clause-ascends g c = rw (c.in_ok-layout.ensures.rows) (table-ascends c.args.groups.now c.requires.project)

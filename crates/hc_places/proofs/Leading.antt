@@ -1,0 +1,185 @@
+-- A change that says what differs between two tables leads from the one to the other, and says as much as there is to say.
+use Rattle.std.proofs.Common.{◌≡◌, ◌∙◌, ap, ℕ, zero, suc, ◌<◌, Bool, true, false, cond, List, [], ◌∷◌, length, refl, sym, subst, arith}
+use Rattle.std.specs.Prelude.{Option, Some, None, find, not, option_map, set, slice_get, unwrap_or, ◌==◌, ◌||◌}
+use Rattle.std.specs.Option.{option_map_or}
+use Rattle.std.proofs.lemmas.Bool.{eqb-true}
+use Rattle.std.proofs.lemmas.Bool.Decides.{nat_tests}
+use Rattle.std.proofs.lemmas.List.Elements.{All-head, All-tail}
+use Rattle.std.proofs.lemmas.List.{length-map}
+use Rattle.hc_records.specs.declared.edit.Edit.{Edit}
+use Rattle.hc_records.specs.Image.{VariablePlace}
+use Rattle.hc_places.specs.Table.{IsTable, Table, TaskTable}
+use Rattle.hc_places.specs.Swap.{Change, ChangedRow, ChangedTask, ChangesAscend, IsNewTask, LeadsAsSaid, SaysWhatDiffers, changed_variables, merged, replaced, same_found, swapped}
+use Rattle.hc_places.proofs.Changed.{different-among, different-once, numbers, numbers-once, place_of}
+use Rattle.hc_places.proofs.Members.{among, as-long}
+use Rattle.hc_places.specs.Walk.{changes, walked}
+use Rattle.hc_places.proofs.Said.{changes-say, said}
+use Rattle.hc_places.proofs.Swapped.{merged-rows-ascend, place-merged, tables-told}
+use Rattle.hc_places.proofs.Walked.{AreAbove, ascends-above, ascends-rest}
+use Rattle.hc_places.proofs.lemmas.Same.{found-equal}
+
+-- tasks of which some are replaced
+
+abbrev table_said : List ChangedTask → ℕ → Option TaskTable
+table_said changed task = option_map (λ (c : ChangedTask). c.1) (find (λ (c : ChangedTask). c.0 == task) changed)
+
+kept-as-is : {X : Type 0} (found : Option X) → found ≡ option_map (λ x. x) found
+kept-as-is None = refl
+kept-as-is (Some x) = refl
+
+next-tests : (i j : ℕ) → (i == j) ≡ (suc i == suc j)
+next-tests i j = grind (arith, nat_tests)
+
+get-set-by : {X : Type 0} (here : Bool) (xs : List X) (i j : ℕ) (x : X) → (i == j) ≡ here → slice_get (set xs i x) j ≡ cond here (option_map (λ _. x) (slice_get xs j)) (slice_get xs j)
+get-set-by true [] i j x is = refl
+get-set-by false [] i j x is = refl
+get-set-by true (y ∷ ys) zero zero x is = refl
+get-set-by false (y ∷ ys) zero zero x is = cc
+get-set-by true (y ∷ ys) zero (suc j) x is = let same = eqb-true 0 (suc j) is in absurd (omega arith)
+get-set-by false (y ∷ ys) zero (suc j) x is = refl
+get-set-by true (y ∷ ys) (suc i) zero x is = let same = eqb-true (suc i) 0 is in absurd (omega arith)
+get-set-by false (y ∷ ys) (suc i) zero x is = refl
+get-set-by here (y ∷ ys) (suc i) (suc j) x is = get-set-by here ys i j x (next-tests i j ∙ is)
+
+get-set : {X : Type 0} (xs : List X) (i j : ℕ) (x : X) → slice_get (set xs i x) j ≡ cond (i == j) (option_map (λ _. x) (slice_get xs j)) (slice_get xs j)
+get-set xs i j x = get-set-by (i == j) xs i j x refl
+
+above-other : (a b : ℕ) → a < b → (b == a) ≡ false
+above-other a b less = grind (arith, nat_tests)
+
+none-said : (task : ℕ) (others : List ChangedTask) → AreAbove task others → table_said others task ≡ None
+none-said task [] above = refl
+none-said task (c ∷ others) above =
+    ap (λ (here : Bool). option_map (λ (c : ChangedTask). c.1) (cond here (Some c) (find (λ (c : ChangedTask). c.0 == task) others)))
+    (above-other task c.0 (All-head (λ (c : ChangedTask). task < c.0) c others above))
+    ∙ none-said task others (All-tail (λ (c : ChangedTask). task < c.0) c others above)
+
+-- a task behind the first change
+said-by : (here : Bool) (c : ChangedTask) (found : Option ChangedTask) (old : Option TaskTable)
+    → (here ≡ true → option_map (λ (c : ChangedTask). c.1) found ≡ None)
+    → option_map (λ old. unwrap_or (option_map (λ (c : ChangedTask). c.1) found) old) (cond here (option_map (λ _. c.1) old) old)
+    ≡ option_map (λ old. unwrap_or (option_map (λ (c : ChangedTask). c.1) (cond here (Some c) found)) old) old
+said-by true c found None none = refl
+said-by true c found (Some old) none = rw (none refl) refl
+said-by false c found old none = refl
+
+pub task-replaced : (changed : List ChangedTask) (tasks : List TaskTable) (task : ℕ) → ChangesAscend changed
+    → slice_get (replaced changed tasks) task ≡ option_map (λ old. unwrap_or (table_said changed task) old) (slice_get tasks task)
+task-replaced [] tasks task ascends = kept-as-is (slice_get tasks task)
+task-replaced (c ∷ others) tasks task ascends =
+    task-replaced others (set tasks c.0 c.1) task (ascends-rest c others ascends)
+    ∙ ap (option_map (λ old. unwrap_or (table_said others task) old)) (get-set tasks c.0 task c.1)
+    ∙ said-by (c.0 == task) c (find (λ (c : ChangedTask). c.0 == task) others) (slice_get tasks task)
+    (λ here. none-said task others (rw (← (eqb-true c.0 task here)) (ascends-above c others ascends)))
+
+-- a task is new as a change says, where no task comes or goes
+
+as-many : {X : Type 0} (xs ys : List X) (i : ℕ) (y : X) → length xs ≡ length ys → slice_get ys i ≡ Some y → option_map (λ _. y) (slice_get xs i) ≡ Some y
+as-many [] [] i y same is = cc
+as-many [] (z ∷ zs) i y same is = cc
+as-many (x ∷ xs) [] i y same is = cc
+as-many (x ∷ xs) (z ∷ zs) zero y same is = refl
+as-many (x ∷ xs) (z ∷ zs) (suc i) y same is = as-many xs zs i y (omega arith) is
+
+new-by : (olds news : List TaskTable) (task : ℕ) (told : Option TaskTable) → length olds ≡ length news → IsNewTask (slice_get olds task) (slice_get news task) told
+    → option_map (λ old. unwrap_or told old) (slice_get olds task) ≡ slice_get news task
+new-by olds news task None same is = sym (kept-as-is (slice_get olds task)) ∙ is
+new-by olds news task (Some table) same is = as-many olds news task table same is.0 ∙ sym is.0
+
+same-elements : {X : Type 0} (xs ys : List X) → ((i : ℕ) → slice_get xs i ≡ slice_get ys i) → xs ≡ ys
+same-elements [] [] same = refl
+same-elements [] (y ∷ ys) same = let never = same 0 in cc
+same-elements (x ∷ xs) [] same = let never = same 0 in cc
+same-elements (x ∷ xs) (y ∷ ys) same =
+    let head = same 0 in
+    let rest = same-elements xs ys (λ i. same (suc i)) in
+    cc
+
+tasks-lead : (old new : Table) (change : Change) → IsTable old → IsTable new → ChangesAscend change.tasks → SaysWhatDiffers old new change → (swapped change old).tasks ≡ new.tasks
+tasks-lead old new change before after ascends says =
+    same-elements (replaced change.tasks old.tasks) new.tasks
+    (λ task. task-replaced change.tasks old.tasks task ascends ∙ new-by old.tasks new.tasks task (table_said change.tasks task) (before.eight ∙ sym after.eight) (says.tasks task))
+
+-- so is a variable's place
+
+told-by : (same : Bool) (old new : Option VariablePlace) → same_found old new ≡ same → unwrap_or (cond same None (Some new)) old ≡ new
+told-by true old new is = found-equal old new is
+told-by false old new is = refl
+
+place-leads : (old new : Table) (change : Change) → IsTable old → SaysWhatDiffers old new change → (variable : ℕ)
+    → place_of (merged change.rows old.variables) variable ≡ place_of new.variables variable
+place-leads old new change before says variable =
+    place-merged change.rows old.variables variable before.ascends
+    ∙ ap (λ told. unwrap_or told (place_of old.variables variable)) (says.places variable)
+    ∙ told-by (same_found (place_of old.variables variable) (place_of new.variables variable)) (place_of old.variables variable) (place_of new.variables variable) refl
+
+pub says-leads : (old new : Table) (change : Change) → IsTable old → IsTable new → ChangesAscend change.tasks → SaysWhatDiffers old new change → swapped change old ≡ new
+says-leads old new change before after ascends says =
+    tables-told (swapped change old) new (merged-rows-ascend change.rows old.variables before.ascends) after.ascends
+    (tasks-lead old new change before after ascends says) (place-leads old new change before says)
+
+-- the variables of which something is said are those whose place differs
+
+abbrev is_told : Option (Option VariablePlace) → Bool
+is_told told = option_map_or (λ _. true) told false
+
+told-or : (here : Bool) (row : ChangedRow) (found : Option ChangedRow)
+    → (here || is_told (option_map (λ (c : ChangedRow). c.1) found)) ≡ is_told (option_map (λ (c : ChangedRow). c.1) (cond here (Some row) found))
+told-or true row found = refl
+told-or false row found = refl
+
+among-said : (rows : List ChangedRow) (variable : ℕ) → among variable (numbers rows) ≡ is_told (said rows variable)
+among-said [] variable = refl
+among-said (row ∷ rows) variable =
+    ap (λ (rest : Bool). (row.0 == variable) || rest) (among-said rows variable) ∙ told-or (row.0 == variable) row (find (λ (c : ChangedRow). c.0 == variable) rows)
+
+told-differs : (same : Bool) (new : Option VariablePlace) → is_told (cond same None (Some new)) ≡ not same
+told-differs true new = refl
+told-differs false new = refl
+
+pub says-count : (old new : Table) (change : Change) → IsTable old → IsTable new → ChangesAscend change.rows → SaysWhatDiffers old new change
+    → length change.rows ≡ length (changed_variables old new)
+says-count old new change before after ascends says =
+    sym (length-map change.rows (λ (row : ChangedRow). row.0))
+    ∙ as-long (numbers change.rows) (changed_variables old new) (numbers-once change.rows ascends) (different-once old.variables new.variables before.ascends after.ascends)
+    (λ variable. among-said change.rows variable
+    ∙ ap is_told (says.places variable)
+    ∙ told-differs (same_found (place_of old.variables variable) (place_of new.variables variable)) (place_of new.variables variable)
+    ∙ sym (different-among old.variables new.variables variable))
+
+-- what is said of each task and of each variable is what a change says
+
+abbrev change_of : List ChangedTask → List ChangedRow → Change
+change_of tasks rows = record { tasks = tasks; rows = rows }
+
+abbrev TasksSay : Table → Table → List ChangedTask → Type 0
+TasksSay old new tasks = (task : ℕ) → IsNewTask (slice_get old.tasks task) (slice_get new.tasks task) (table_said tasks task)
+
+abbrev SamePlaces : List ChangedRow → List ChangedRow → Type 0
+SamePlaces rows given = (variable : ℕ) → find (λ (c : ChangedRow). c.0 == variable) rows ≡ find (λ (c : ChangedRow). c.0 == variable) given
+
+-- of the changes that are found between two tables
+pub says-between : (old new : Table) (olds news : List TaskTable) (tasks kept : List ChangedTask) (rows : List ChangedRow) → olds ≡ old.tasks → news ≡ new.tasks → kept ≡ tasks
+    → ((task : ℕ) → IsNewTask (slice_get olds task) (slice_get news task) (table_said tasks task))
+    → rows ≡ walked changes new.variables old.variables → IsTable old → IsTable new → SaysWhatDiffers old new (change_of kept rows)
+says-between old new olds news tasks kept rows first second same say is before after = record {
+  tasks = subst (TasksSay old new) (sym same)
+      (subst (λ l. (task : ℕ) → IsNewTask (slice_get old.tasks task) (slice_get l task) (table_said tasks task)) second
+      (subst (λ l. (task : ℕ) → IsNewTask (slice_get l task) (slice_get news task) (table_said tasks task)) first say));
+  places = λ variable. ap (λ (rows : List ChangedRow). said rows variable) is ∙ changes-say old.variables new.variables variable before.ascends after.ascends;
+}
+
+-- so a swap leads where its rows say the same as those that were given
+pub leads-said : (edit : Edit) (tasks kept : List ChangedTask) (given rows : List ChangedRow) → kept ≡ tasks → SamePlaces rows given → ChangesAscend tasks → ChangesAscend rows
+    → LeadsAsSaid (change_of tasks given) (record { edit = edit; change = change_of kept rows })
+leads-said edit tasks kept given rows same places first second old new before after says =
+    let own : SaysWhatDiffers old new (change_of kept rows) = record {
+      tasks = subst (TasksSay old new) (sym same) says.tasks;
+      places = λ variable. ap (option_map (λ (c : ChangedRow). c.1)) (places variable) ∙ says.places variable;
+    } in
+    let ascends : ChangesAscend kept = subst ChangesAscend (sym same) first in
+    record {
+      leads = says-leads old new (change_of kept rows) before after ascends own;
+      says = own;
+      count = says-count old new (change_of kept rows) before after second own;
+    }

@@ -1,0 +1,10 @@
+use Rattle.std.proofs.Common.{ap, length, arith}
+use Rattle.hc_places.proofs.Roomy.{merged-few}
+use Rattle.hc_places.proofs.table.Places.room_for.Goals as goal
+
+pub returns : goal.returns
+returns c =
+    let few = merged-few c.args.swap.now.change.rows c.args.self.now.variables in
+    let changed = ap length c.changes-changed.ensures.rows in
+    let rows = ap length c.variables-rows.ensures.rows in
+    omega (arith, few, changed, rows, c.in_ok-room.ensures.exact)

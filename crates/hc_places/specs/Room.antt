@@ -1,0 +1,9 @@
+-- The memory that carrying a swap out takes.
+use Rattle.std.specs.Prelude.{ℕ, ◌≡◌, ◌≤◌, [], Option, None, Some, length}
+use Rattle.hc_places.specs.Swap.{Change, swapped}
+use Rattle.hc_places.specs.Table.{Table}
+
+-- none where no variable changes; else memory for as many rows as the table will have, or more
+abbrev pub IsRoomFor : Change → Table → Option ℕ → Type 0
+IsRoomFor change table None = change.rows ≡ []
+IsRoomFor change table (Some rows) = length (swapped change table).variables ≤ rows
