@@ -1,4 +1,8 @@
 //! Swaps: the tables of a line that is edited, each led to from the one before.
+ghost use Rattle.std.specs.Prelude.{◌<◌, ◌≢◌, All, IfOk};
+ghost use Rattle.hc_records.specs.declared.limits.TheConstants.{TASKS};
+ghost use Rattle.hc_places.specs.Swap.{AreOnce, ChangesAscend};
+
 use crate::places::{
     NONE, TOOL, area, configured, has_datagram, one_slave, output, tool_and_module,
 };
@@ -200,7 +204,10 @@ fn each_swap_leads_to_the_next_table(rt: HostRuntime) -> Result<(), Fail> {
 }
 
 /// What the tool's going changes in task 0: two bytes, which three slaves write.
-fn changed_task(alloc: Global) -> Result<Vec<ChangedTask>, AllocError> {
+fn changed_task(alloc: Global) -> Result<Vec<ChangedTask>, AllocError>
+    ensures ascends { IfOk result (λ tasks. ChangesAscend tasks.items) }
+    ensures eight { IfOk result (λ tasks. All (λ changed. changed.0 < TASKS) tasks.items) }
+{
     let mut datagrams = ArrayVec::new();
     datagrams.push(Datagram {
         address: 0x0100_0000,
@@ -214,7 +221,10 @@ fn changed_task(alloc: Global) -> Result<Vec<ChangedTask>, AllocError> {
 }
 
 /// The module's variable stands elsewhere, and the tool's is gone.
-fn changed_rows(alloc: Global, module: VarId, tool: VarId) -> Result<Vec<ChangedRow>, AllocError> {
+fn changed_rows(alloc: Global, module: VarId, tool: VarId) -> Result<Vec<ChangedRow>, AllocError>
+    requires { module ≢ tool }
+    ensures { IfOk result (λ rows. AreOnce rows.items) }
+{
     let mut rows = Vec::new(alloc);
     rows.push((module, Some(output(3, 5))))?;
     rows.push((tool, None))?;
