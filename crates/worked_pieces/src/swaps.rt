@@ -220,23 +220,23 @@ fn changed_task(alloc: Global) -> Result<Vec<ChangedTask>, AllocError>
     Ok(tasks)
 }
 
-/// The module's variable stands elsewhere, and the tool's is gone.
-fn changed_rows(alloc: Global, module: VarId, tool: VarId) -> Result<Vec<ChangedRow>, AllocError>
-    requires { module ≢ tool }
+/// The variable behind the tool stands elsewhere, and the tool's is gone.
+fn changed_rows(alloc: Global, behind: VarId, tool: VarId) -> Result<Vec<ChangedRow>, AllocError>
+    requires { behind ≢ tool }
     ensures { IfOk result (λ rows. AreOnce rows.items) }
 {
     let mut rows = Vec::new(alloc);
-    rows.push((module, Some(output(3, 5))))?;
+    rows.push((behind, Some(output(3, 5))))?;
     rows.push((tool, None))?;
     Ok(rows)
 }
 
 /// A swap of what the tool's going changes, made without a table.
 fn given(alloc: Global) -> Result<Swap, Fail> {
-    let module = VarId::new(8).ok_or("a number")?;
+    let behind = VarId::new(8).ok_or("a number")?;
     let tool = VarId::new(6).ok_or("a number")?;
     let tasks = changed_task(alloc)?;
-    let rows = changed_rows(alloc, module, tool)?;
+    let rows = changed_rows(alloc, behind, tool)?;
     Ok(Swap::of(alloc, &Edit::Disconnect(TOOL), tasks, rows)?)
 }
 
