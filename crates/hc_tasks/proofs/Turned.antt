@@ -75,7 +75,7 @@ tree-widths task slaves tree is key = ap (λ (t : Tree). width_in t.list key) is
 tree-is : (tree : Tree) (slaves : ℕ) (list : List Keyed) → tree.slaves ≡ slaves → tree.list ≡ list → tree ≡ record { slaves = slaves; list = list }
 tree-is tree slaves list first second = rw (← first, ← second) refl
 
-kept-is : (kept : Kept) (tree : Tree) (starts : List Key) → kept.tree ≡ tree → kept.starts ≡ starts → kept ≡ record { tree = tree; starts = starts }
+pub kept-is : (kept : Kept) (tree : Tree) (starts : List Key) → kept.tree ≡ tree → kept.starts ≡ starts → kept ≡ record { tree = tree; starts = starts }
 kept-is kept tree starts first second = rw (← first, ← second) refl
 
 pub set-tree : (task : ℕ) (old new : List (List Area)) (before last : Kept) → IsLine new → length new ≡ length old → before.tree ≡ tree_by task old
