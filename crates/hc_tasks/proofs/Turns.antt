@@ -1,14 +1,16 @@
 -- Tasks in a row that are turned, or put back.
-use Rattle.std.specs.Prelude.{None, Option, Some, drop, slice_index_or, slice_set}
+use Rattle.std.specs.Prelude.{None, Option, Some, drop, replicate, slice_index_or, slice_set}
 use Rattle.std.proofs.Common.{◌≡◌, ℕ, suc, ◌+◌, Bool, true, false, if◌then◌else◌, List, [], ◌∷◌, ◌++◌, length, refl, sym, ap, subst, ◌∙◌, arith, length-append}
 use Rattle.hc_records.specs.declared.records.Area.{Area}
 use Rattle.hc_bitsum.specs.Tree.{Tree}
 use Rattle.hc_cuts.specs.Starts.{Kept}
-use Rattle.hc_tasks.specs.Kept.{crowded_from, is_crowded, kept_by, kept_from, tree_by}
-use Rattle.hc_tasks.specs.Turn.{AreLines, HasTaskTurn, HasTree, HasTurn, IsTaskTurn, IsTurn}
+use Rattle.hc_tasks.specs.Kept.{IsLine, crowded_from, is_crowded, kept_by, kept_from, line_kept, tree_by}
+use Rattle.hc_tasks.specs.Turn.{AreLines, HasTurn, IsTaskTurn, IsTurn}
 use Rattle.hc_tasks.specs.Widths.{IsSetTo}
 use Rattle.hc_tasks.specs.Areas.{width_at}
+use Rattle.hc_tasks.proofs.Lines.{absent-fits, absent-line, length-absent}
 use Rattle.hc_tasks.proofs.Turned.{kept-is, set-tree}
+use Rattle.hc_tasks.proofs.lemmas.Whole.{whole-turn}
 
 pub as-long : (first : ℕ) (before after old new : List (List Area)) → AreLines first before after old new → length new ≡ length old
 as-long first before after old new lines =
@@ -20,14 +22,6 @@ as-long first before after old new lines =
     let d = length-append before lines.behind in
     let e = length-append after lines.behind in
     omega (arith, many, was, is, a, b, d, e)
-
-pub turn-tree : (task first : ℕ) (before after : List (List Area)) (kept : Kept) → HasTaskTurn task kept first before after → HasTree task kept.tree first before after
-turn-tree task first before after kept has = record {
-  old = has.old;
-  new = has.new;
-  lines = has.turn.lines;
-  holds = ap (λ (k : Kept). k.tree) has.turn.stands;
-}
 
 -- a task whose widths are set to those of the new line
 pub set-turned : (task first : ℕ) (before after old new : List (List Area)) (kept mid : Kept) → AreLines first before after old new → kept.tree ≡ tree_by task old
@@ -99,3 +93,26 @@ pub set-again : (these rest : List Kept) (kept last : Kept) → length these ≡
 set-again [] rest kept last one = absurd (omega arith)
 set-again (first ∷ []) rest kept last one = refl
 set-again (first ∷ next ∷ these) rest kept last one = absurd (omega arith)
+
+-- the eight tasks of a line, as many as are kept
+pub eight-turn : (count first : ℕ) (kept : List Kept) (before after old new : List (List Area)) → count ≡ 8
+    → IsTurn 8 0 kept first before after old new → IsTurn count 0 kept first before after old new
+eight-turn count first kept before after old new eight turn = subst (λ (n : ℕ). IsTurn n 0 kept first before after old new) (sym eight) turn
+
+pub has-eight : (count first : ℕ) (kept : List Kept) (before after : List (List Area)) → count ≡ 8 → HasTurn 8 0 kept first before after → HasTurn count 0 kept first before after
+has-eight count first kept before after eight has = record { old = has.old; new = has.new; turn = eight-turn count first kept before after has.old has.new eight has.turn }
+
+-- those of a line without slaves are turned into those of any line
+pub absent-turn : (count : ℕ) (kept : List Kept) (absent line : List (List Area)) → absent ≡ replicate count [] → kept ≡ line_kept (replicate count []) → length line ≡ count
+    → IsLine line → HasTurn 8 0 kept 1 absent line
+absent-turn count kept absent line none stand many is =
+    let few = is.few in
+    record {
+      old = absent;
+      new = line;
+      turn =
+          whole-turn kept absent line (subst (λ (s : List (List Area)). IsLine s) (sym none) (absent-line count (omega (arith, few, many)))) is
+          (many ∙ sym (length-absent count) ∙ ap (λ (s : List (List Area)). length s) (sym none))
+          (stand ∙ ap (λ (s : List (List Area)). line_kept s) (sym none))
+          (subst (λ (s : List (List Area)). crowded_from 8 0 s ≡ None) (sym none) (absent-fits 8 0 count));
+    }
