@@ -39,7 +39,7 @@ abbrev list_from : Key → List Keyed → List Keyed
 list_from key list = filter (λ area. not (is_before area.0 key)) list
 
 -- a key that doesn't come before another is that one or comes behind it
-reached-by : (before : Bool) (a b : Key) → is_before a b ≡ before → not before ≡ is_within b a
+pub reached-by : (before : Bool) (a b : Key) → is_before a b ≡ before → not before ≡ is_within b a
 reached-by true a b test = sym (before-apart a b test)
 reached-by false a b test = sym (within-else a b test)
 

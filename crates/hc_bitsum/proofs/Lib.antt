@@ -11,6 +11,8 @@ pub mod Run
 pub mod Parts
 pub mod Sums
 pub mod Nodes
+pub mod Stretches
+pub mod Strides
 pub mod Anew
 pub mod Blank
 pub mod lemmas

@@ -121,7 +121,7 @@ into-right branch height node room filled end some at is within =
     rw (node-parts branch.dir branch.rows.items branch.levels height node some at, is)
     (sym (scan-append-through room filled (node_areas branch (height - 1) (2 * node)) (node_areas branch (height - 1) (2 * node + 1)) _ all))
 
-with_areas-append : (filled : Filled) (xs ys : List Keyed) → with_areas filled (xs ++ ys) ≡ with_areas (with_areas filled xs) ys
+pub with_areas-append : (filled : Filled) (xs ys : List Keyed) → with_areas filled (xs ++ ys) ≡ with_areas (with_areas filled xs) ys
 with_areas-append filled [] ys = refl
 with_areas-append filled (x ∷ xs) ys = with_areas-append (with_area filled x) xs ys
 

@@ -1,18 +1,18 @@
 -- The width of an area is that of its key in the list.
 use Rattle.std.specs.Prelude.{All, filter}
-use Rattle.std.proofs.Common.{◌≡◌, ℕ, zero, suc, ◌+◌, ◌<◌, ◌≤◌, Bool, true, false, List, [], ◌∷◌, ◌++◌, length, refl, sym, ap, ◌∙◌, arith, if◌then◌else◌}
+use Rattle.std.proofs.Common.{◌≡◌, ℕ, zero, suc, ◌+◌, ◌<◌, ◌≤◌, Bool, true, false, List, [], ◌∷◌, ◌++◌, length, refl, sym, ap, subst, ◌∙◌, arith, if◌then◌else◌}
 use Rattle.std.proofs.lemmas.Bool.Decides.{nat_tests}
-use Rattle.std.proofs.lemmas.List.Elements.{All-cons, All-filter, All-head, All-nil, All-tail, filter-append}
+use Rattle.std.proofs.lemmas.List.Elements.{All-cons, All-filter, All-head, All-nil, All-tail, All-weaker, filter-append}
 use Rattle.hc_records.specs.declared.records.Dir.{Dir}
 use Rattle.hc_records.specs.declared.records.Dir.TheVariants.{Out, In}
 use Rattle.hc_records.specs.declared.keys.Key.{Key}
 use Rattle.hc_records.specs.Keys.{same_key}
 use Rattle.hc_records.specs.TaskList.{Keyed}
 use Rattle.hc_records.specs.Boundaries.{width_in}
-use Rattle.hc_records.proofs.lemmas.KeyOrder.{before-other, other-sym, same_key-refl}
+use Rattle.hc_records.proofs.lemmas.KeyOrder.{before-other, other-sym, same_key-refl, same_key-same}
 use Rattle.hc_records.proofs.lemmas.Spans.{width-absent, width-here, width-skip}
 use Rattle.hc_bitsum.specs.Slots.{IsNarrow, bits_at, key_at}
-use Rattle.hc_bitsum.specs.Tree.{has_width}
+use Rattle.hc_bitsum.specs.Tree.{HasPlace, has_width}
 use Rattle.hc_bitsum.specs.Places.{StandFrom}
 use Rattle.hc_bitsum.proofs.Listed.{before-place}
 use Rattle.hc_bitsum.proofs.lemmas.Lacking.{LacksKey, lacks-before, lacks-behind}
@@ -105,3 +105,13 @@ bits-front (x ∷ xs) ys (suc at) h = bits-front xs ys at (omega arith)
 pub bits-back : (xs ys : List Keyed) (at : ℕ) → bits_at at ys ≡ bits_at (length xs + at) (xs ++ ys)
 bits-back [] ys at = ap (λ (n : ℕ). bits_at n ys) (omega arith)
 bits-back (x ∷ xs) ys at = let more : suc (length xs) + at ≡ suc (length xs + at) = omega arith in rw more (bits-back xs ys at)
+
+-- a key that has no place is no area's
+no-place : (slaves : ℕ) (key : Key) (other : Key) → (HasPlace slaves key → ⊥) → HasPlace slaves other → (same : Bool) → same_key other key ≡ same → same_key other key ≡ false
+no-place slaves key other none has true test = absurd (none (subst (λ (k : Key). HasPlace slaves k) (same_key-same other key test) has))
+no-place slaves key other none has false test = test
+
+pub width-none : (slaves : ℕ) (key : Key) (list : List Keyed) → All (λ area. HasPlace slaves area.0) list → (HasPlace slaves key → ⊥) → width_in list key ≡ 0
+width-none slaves key list places none =
+    width-absent list key
+    (All-weaker (λ area. HasPlace slaves area.0) (λ area. same_key area.0 key ≡ false) (λ area has. no-place slaves key area.0 none has (same_key area.0 key) refl) list places)

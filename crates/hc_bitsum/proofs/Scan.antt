@@ -22,7 +22,7 @@ le-no a b h = grind (arith, nat_tests)
 pub yes-le : (a b : ℕ) → nat_le a b ≡ true → a ≤ b
 yes-le a b h = grind (arith, nat_tests)
 
-with_areas-le : (areas : List Keyed) (filled : Filled) → filled.bit ≤ (with_areas filled areas).bit
+pub with_areas-le : (areas : List Keyed) (filled : Filled) → filled.bit ≤ (with_areas filled areas).bit
 with_areas-le [] filled = omega arith
 with_areas-le (area ∷ areas) filled =
     let one = with_area-le filled area in

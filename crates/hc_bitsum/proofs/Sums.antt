@@ -13,13 +13,13 @@ use Rattle.hc_bitsum.proofs.Ends.{sum_of-append}
 use Rattle.hc_bitsum.proofs.Parts.{part-split}
 
 -- twice so many rows, from twice as high up
-double : (i s : ℕ) → 2 * i * s ≡ i * (s + s)
+pub double : (i s : ℕ) → 2 * i * s ≡ i * (s + s)
 double i s = grind arith
 
 double-next : (i s : ℕ) → (2 * i + 1) * s ≡ i * (s + s) + s
 double-next i s = grind arith
 
-more-by : (i s : ℕ) → (i + 1) * s ≡ i * s + s
+pub more-by : (i s : ℕ) → (i + 1) * s ≡ i * s + s
 more-by i s = grind arith
 
 -- what a node at an index of its level stands for, where the forks below it stand
@@ -65,7 +65,7 @@ node-sum dir rows sums above levels height node many leaves forks is low =
     ap (λ n. get_or sums n Empty) (sym whole) ∙ at-index dir rows sums above height depth (node - 2 ^ depth) all leaves forks (omega arith) (omega arith)
 
 -- a level has so many nodes of so many rows
-level : (levels height : ℕ) → height ≤ levels → 2 ^ (levels - height) * 2 ^ height ≡ 2 ^ levels
+pub level : (levels height : ℕ) → height ≤ levels → 2 ^ (levels - height) * 2 ^ height ≡ 2 ^ levels
 level levels height h = sym (pow-add 2 (levels - height) height) ∙ ap (λ n. 2 ^ n) (omega arith)
 
 -- it stands for some of the rows

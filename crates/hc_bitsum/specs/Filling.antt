@@ -1,7 +1,10 @@
 -- How areas fill a datagram, one behind another, whatever its room (this project's profile).
-use Rattle.std.specs.Prelude.{◌+◌, ◌==◌, if◌then◌else◌, List, [], ◌∷◌}
+use Rattle.std.specs.Prelude.{◌+◌, ◌==◌, if◌then◌else◌, List, [], ◌∷◌, filter}
+use Rattle.hc_records.specs.declared.keys.Key.{Key}
+use Rattle.hc_records.specs.Keys.{is_before}
 use Rattle.hc_records.specs.TaskList.{Keyed}
 use Rattle.hc_records.specs.Packing.{Front, beginning}
+use Rattle.hc_records.specs.SpanLaws.{areas_from}
 use Rattle.hc_bitsum.specs.declared.filled.Filled.{Filled}
 
 -- the datagram that is filled so far, as packing has it
@@ -17,3 +20,7 @@ with_area filled area =
 abbrev pub with_areas : Filled → List Keyed → Filled
 with_areas filled [] = filled
 with_areas filled (area ∷ areas) = with_areas (with_area filled area) areas
+
+-- the areas of a list from one key on and before another
+abbrev pub areas_between : Key → Key → List Keyed → List Keyed
+areas_between from until list = filter (λ area. is_before area.0 until) (areas_from from list)

@@ -5,5 +5,6 @@ pub mod Search
 pub mod Slots
 pub mod Rows
 pub mod Branch
+pub mod Strides
 pub mod Tree
 pub mod Places

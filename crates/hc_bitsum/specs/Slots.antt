@@ -1,5 +1,5 @@
 -- What a part of a tree is seen as: areas of one direction, in key order, each with its width, which may be 0.
-use Rattle.std.specs.Prelude.{◌≡◌, ℕ, zero, suc, ◌+◌, ◌/◌, ◌%◌, ◌^◌, ◌≤◌, List, [], ◌∷◌, All, length}
+use Rattle.std.specs.Prelude.{◌≡◌, ℕ, zero, suc, ◌+◌, ◌-◌, ◌/◌, ◌%◌, ◌^◌, ◌≤◌, List, [], ◌∷◌, All, drop, length, take}
 use Rattle.hc_records.specs.declared.limits.TheConstants.{MOST_AREA_BITS}
 use Rattle.hc_records.specs.declared.records.Dir.{Dir}
 use Rattle.hc_records.specs.declared.keys.Key.{Key}
@@ -36,3 +36,7 @@ bits_at (suc at) (area ∷ areas) = bits_at at areas
 -- the key at a place of a direction: 8 areas for each slave
 abbrev pub key_at : Dir → ℕ → Key
 key_at dir place = record { dir = dir; rank = place / 8 + 1; area = place % 8 }
+
+-- the areas from one place up to another
+abbrev pub stretch : ℕ → ℕ → List Keyed → List Keyed
+stretch first end areas = take (end - first) (drop first areas)

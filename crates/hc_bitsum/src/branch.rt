@@ -1,19 +1,21 @@
 //! A part of a tree: the areas of one direction, a row for each slave, and above the rows a tree of sums in an array.
 //! Node 1 is the root, below node `k` stand `2 * k` and `2 * k + 1`, and the last level has a node for each row.
-ghost use Rattle.std.specs.Prelude.{◌≡◌, ◌+◌, ◌*◌, ◌^◌, ◌<◌, ◌≤◌, ℕ, All, IfOk, length, drop, get_or};
+ghost use Rattle.std.specs.Prelude.{◌≡◌, ◌+◌, ◌-◌, ◌*◌, ◌^◌, ◌<◌, ◌≤◌, ℕ, All, IfOk, length, drop, get_or};
 ghost use Rattle.hc_records.specs.declared.limits.TheConstants.{MOST_AREA_BITS};
 ghost use Rattle.hc_bitsum.specs.Branch.{AreForks, AreRowSums, AreSums, IsBranch, IsNode, areas_behind, node_areas, slots_of};
-ghost use Rattle.hc_bitsum.specs.Filling.{with_areas};
-ghost use Rattle.hc_bitsum.specs.Rows.{IsRow, blank_slots};
+ghost use Rattle.hc_bitsum.specs.Filling.{areas_between, with_areas};
+ghost use Rattle.hc_bitsum.specs.Rows.{IsRow, blank_slots, part};
 ghost use Rattle.hc_bitsum.specs.Search.{IsInRoom, scan};
-ghost use Rattle.hc_bitsum.specs.Slots.{IsShaped, bits_at, with_bits};
+ghost use Rattle.hc_bitsum.specs.Slots.{IsShaped, bits_at, stretch, with_bits};
+ghost use Rattle.hc_bitsum.specs.Strides.{HasClimbed, StandsAt};
 ghost use Rattle.hc_bitsum.specs.Sums.{ended, sum_of};
 ghost use Rattle.hc_bitsum.specs.declared.sum.Sum.TheVariants.{Empty};
 
 use crate::filled::Filled;
-use crate::row::{Fit, Row, fit_row, row_sum};
+use crate::row::{Fit, Row, fit_row, places_before, row_sum};
 use crate::steps::Steps;
 use crate::sum::Sum;
+use hc_records::keys::Key;
 use hc_records::records::Dir;
 use std::alloc::{AllocError, Global};
 use std::sync::ledger::Ledger;
@@ -26,6 +28,16 @@ pub(crate) struct Branch {
     levels: u32,
     rows: Vec<Row>,
     sums: Vec<Sum>,
+}
+
+/// Where a walk over rows stands: the next row, a node that begins with it, that node's height above
+/// the last level, and how far a datagram is filled by the rows before.
+#[derive(Clone, Copy, Debug)]
+struct Stand {
+    row: usize,
+    node: usize,
+    height: u32,
+    filled: Filled,
 }
 
 /// Sums a row, and what stands above it, anew.
@@ -74,7 +86,17 @@ impl Branch {
         self.sums[1]
     }
 
-    /// How far a datagram is filled once all areas of a node stand in it. The node is read, a step.
+    /// How far a datagram is filled once all areas of a node stand in it.
+    fn filled_by(&self, node: usize, filled: Filled) -> Filled
+        requires node { node < length self.now.sums.items }
+        requires here { filled.bit < 2 ^ 31 }
+        requires there { (ended (get_or self.now.sums.items node Empty) filled).bit < 2 ^ 32 }
+        ensures { result ≡ ended (get_or self.now.sums.items node Empty) filled }
+    {
+        filled.after(&self.sums[node])
+    }
+
+    /// The same; the node that is read is a step.
     fn behind_node<L: Ledger>(&self, node: usize, filled: Filled, steps: &mut Steps<L>) -> Filled
         requires node { node < length self.now.sums.items }
         requires here { filled.bit < 2 ^ 31 }
@@ -83,7 +105,7 @@ impl Branch {
         ensures step { steps.new ≡ steps.old + 1 }
     {
         steps.tick();
-        filled.after(&self.sums[node])
+        self.filled_by(node, filled)
     }
 
     /// Fills a datagram with the areas of a node that it has no room for all of, as long as each ends
@@ -218,7 +240,128 @@ impl Branch {
         }
     }
 
-    /// The width of the area behind `at` others, in bits: a step.
+    /// Fills a datagram with the nodes from a row on, each higher than the one before, that end by
+    /// another row.
+    fn climb(&self, first: usize, end: usize, filled: Filled) -> Stand
+        requires branch { IsBranch self.now }
+        requires order { first ≤ end }
+        requires within { end ≤ length self.now.rows.items }
+        requires there { (with_areas filled (part self.now.dir self.now.rows.items first (end - first))).bit < 2 ^ 30 }
+        ensures { HasClimbed self.now first end filled result }
+    {
+        let mut row = first;
+        let mut node = self.rows.len() + first;
+        let mut height = 0;
+        let mut so_far = filled;
+        while height < self.levels {
+            if row + (1 << height) > end {
+                break;
+            }
+            if node % 2 == 1 {
+                so_far = self.filled_by(node, so_far);
+                row += 1 << height;
+                node += 1;
+            }
+            node /= 2;
+            height += 1;
+        }
+        Stand {
+            row,
+            node,
+            height,
+            filled: so_far,
+        }
+    }
+
+    /// Fills a datagram with the nodes from where a climb came to, each lower than the one before, up
+    /// to the row by which they end.
+    fn descend(&self, from: Stand, end: usize) -> Filled
+        requires branch { IsBranch self.now }
+        requires order { from.row ≤ end }
+        requires within { end ≤ length self.now.rows.items }
+        requires stands { StandsAt self.now.levels from.height from.node from.row }
+        requires near { end < from.row + 2 ^ (from.height + 1) }
+        requires there { (with_areas from.filled (part self.now.dir self.now.rows.items from.row (end - from.row))).bit < 2 ^ 30 }
+        ensures { result ≡ with_areas from.filled (part self.now.dir self.now.rows.items from.row (end - from.row)) }
+    {
+        let mut row = from.row;
+        let mut node = from.node;
+        let mut height = from.height;
+        let mut so_far = from.filled;
+        'levels: loop {
+            if row + (1 << height) <= end {
+                so_far = self.filled_by(node, so_far);
+                row += 1 << height;
+                node += 1;
+            }
+            if height == 0 {
+                return so_far;
+            }
+            node *= 2;
+            height -= 1;
+        }
+    }
+
+    /// How far a datagram is filled once the areas from one place up to another stand in it, gone over
+    /// one by one.
+    fn filled_by_each(&self, first: u32, end: u32, filled: Filled) -> Filled
+        requires branch { IsBranch self.now }
+        requires order { first ≤ end }
+        requires within { end ≤ length (slots_of self.now).areas }
+        requires there { (with_areas filled (stretch first end (slots_of self.now).areas)).bit < 2 ^ 30 }
+        ensures { result ≡ with_areas filled (stretch first end (slots_of self.now).areas) }
+    {
+        let mut so_far = filled;
+        for at in first..end {
+            so_far = so_far.behind_area(self.dir, self.bits(at));
+        }
+        so_far
+    }
+
+    /// How far a datagram is filled once the areas from one place up to another stand in it.
+    fn filled_by_stretch(&self, first: u32, end: u32, filled: Filled) -> Filled
+        requires branch { IsBranch self.now }
+        requires order { first ≤ end }
+        requires within { end ≤ length (slots_of self.now).areas }
+        requires there { (with_areas filled (stretch first end (slots_of self.now).areas)).bit < 2 ^ 30 }
+        ensures { result ≡ with_areas filled (stretch first end (slots_of self.now).areas) }
+    {
+        let first_row = first.div_ceil(8);
+        let end_row = end / 8;
+        if first_row >= end_row {
+            return self.filled_by_each(first, end, filled);
+        }
+        let head = self.filled_by_each(first, 8 * first_row, filled);
+        let stand = self.climb(first_row as usize, end_row as usize, head);
+        let rows = self.descend(stand, end_row as usize);
+        self.filled_by_each(8 * end_row, end, rows)
+    }
+
+    /// How far a datagram is filled once its areas from one key on and before another stand in it.
+    pub(crate) fn filled_between(&self, from: Key, until: Key, filled: Filled) -> Filled
+        requires branch { IsBranch self.now }
+        requires there { (with_areas filled (areas_between from until (slots_of self.now).areas)).bit < 2 ^ 30 }
+        ensures { result ≡ with_areas filled (areas_between from until (slots_of self.now).areas) }
+    {
+        let places = 8 * self.rows.len() as u32;
+        let first = places_before(self.dir, from, places);
+        let end = places_before(self.dir, until, places);
+        if end <= first {
+            return filled;
+        }
+        self.filled_by_stretch(first, end, filled)
+    }
+
+    /// The width of the area behind `at` others, in bits.
+    pub(crate) fn bits(&self, at: u32) -> u16
+        requires branch { IsBranch self.now }
+        requires within { at < length (slots_of self.now).areas }
+        ensures { result ≡ bits_at at (slots_of self.now).areas }
+    {
+        self.rows[(at / 8) as usize][(at % 8) as usize]
+    }
+
+    /// The same: a step.
     pub(crate) fn width<L: Ledger>(&self, at: u32, reads: &mut Steps<L>) -> u16
         requires branch { IsBranch self.now }
         requires within { at < length (slots_of self.now).areas }
@@ -226,7 +369,7 @@ impl Branch {
         ensures steps { reads.new ≡ reads.old + 1 }
     {
         reads.tick();
-        self.rows[(at / 8) as usize][(at % 8) as usize]
+        self.bits(at)
     }
 
     /// Sets the width of the area behind `at` others, in bits.

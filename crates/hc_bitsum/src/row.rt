@@ -1,6 +1,7 @@
 //! A row: the widths of the 8 areas of a slave in one direction, which are gone over one by one.
-ghost use Rattle.std.specs.Prelude.{◌≡◌, ◌+◌, ◌*◌, ◌^◌, ◌<◌, ◌≤◌, ℕ, All, drop, slice_index};
+ghost use Rattle.std.specs.Prelude.{◌≡◌, ◌+◌, ◌*◌, ◌^◌, ◌<◌, ◌≤◌, ℕ, All, drop, nat_lt, slice_index};
 ghost use Rattle.hc_records.specs.declared.limits.TheConstants.{MOST_AREA_BITS};
+ghost use Rattle.hc_records.specs.Keys.{is_before};
 ghost use Rattle.hc_bitsum.specs.Rows.{IsRow, row_areas};
 ghost use Rattle.hc_bitsum.specs.Search.{IsInRoom, scan};
 ghost use Rattle.hc_bitsum.specs.Slots.{key_at};
@@ -49,6 +50,22 @@ pub(crate) fn key_at(dir: Dir, place: u32) -> Key
         rank: (place / 8 + 1) as u16,
         area: (place % 8) as u8,
     }
+}
+
+/// How many places of a direction, of so many, have a key before another key.
+pub(crate) fn places_before(dir: Dir, key: Key, places: u32) -> u32
+    requires { places ≤ 2 ^ 15 }
+    ensures within { result ≤ places }
+    ensures parts { (place : ℕ) → place < places → is_before (key_at dir place) key ≡ nat_lt place result }
+{
+    if dir != key.dir {
+        return if dir == Dir::Out { places } else { 0 };
+    }
+    if key.rank == 0 {
+        return 0;
+    }
+    let before = 8 * (u32::from(key.rank) - 1) + u32::from(key.area).min(8);
+    before.min(places)
 }
 
 /// The ends of a run with an area of its direction behind it.

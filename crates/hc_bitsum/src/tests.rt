@@ -94,6 +94,23 @@ fn a_search_finds_the_first_area_without_room(rt: HostRuntime) -> Result<(), Fai
     Ok(())
 }
 
+#[test]
+fn areas_between_two_keys_fill_a_datagram(rt: HostRuntime) -> Result<(), Fail> {
+    let tree = filled_tree(rt.alloc())?;
+    let begun = Filled::begun(0);
+    let second = key(Dir::Out, 2, 7);
+    let input = key(Dir::In, 1, 1);
+    assert_eq!(rt; tree.filled_between(Key::START, Key::END, begun).bit, 11908);
+    // 8 bits and 1, and the input, which begins a byte
+    assert_eq!(rt; tree.filled_between(second, input, begun).bit, 9);
+    assert_eq!(rt; tree.filled_between(second, Key::END, begun).bit, 28);
+    assert_eq!(rt; tree.filled_between(second, second, begun), begun);
+    assert_eq!(rt; tree.filled_between(input, second, begun), begun);
+    assert_eq!(rt; tree.bits(input), 12);
+    assert_eq!(rt; tree.bits(key(Dir::In, 4, 1)), 0);
+    Ok(())
+}
+
 /// The bit behind a run that starts at bit 0.
 fn ends(sum: &Sum) -> Option<u32> {
     match sum {

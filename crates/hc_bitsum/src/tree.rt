@@ -1,5 +1,5 @@
 //! A tree of sums over the areas of a task: those with a width, in key order.
-ghost use Rattle.std.specs.Prelude.{◌≡◌, ◌+◌, ◌*◌, ◌^◌, ◌<◌, ◌≤◌, ◌++◌, drop, length};
+ghost use Rattle.std.specs.Prelude.{◌≡◌, ◌+◌, ◌*◌, ◌^◌, ◌<◌, ◌≤◌, ◌++◌, IsTrue, drop, length};
 ghost use Rattle.hc_records.specs.declared.limits.TheConstants.{MOST_SLAVES};
 ghost use Rattle.hc_bitsum.specs.Tree.{CanBegin, HasPlace, HoldsTaskList};
 ghost use Rattle.hc_bitsum.specs.Branch.{IsBranch, slots_of};
@@ -12,6 +12,7 @@ use crate::row::Fit;
 use crate::steps::Steps;
 use crate::sum::Sum;
 use hc_records::keys::Key;
+use hc_records::limits::MOST_AREAS;
 use hc_records::records::Dir;
 use std::alloc::{AllocError, Global};
 use std::marker::Model;
@@ -52,6 +53,14 @@ fn levels_of(slaves: u16) -> u32
     11
 }
 
+/// Whether a key has a place among those of so many slaves.
+fn has_place(slaves: u16, key: Key) -> bool
+    ensures yes { IsTrue result → HasPlace slaves key }
+    ensures no { HasPlace slaves key → IsTrue result }
+{
+    1 <= key.rank && key.rank <= slaves && usize::from(key.area) < MOST_AREAS
+}
+
 /// The place of a key in its direction.
 fn place_of(key: Key) -> u32
     requires first { 1 ≤ key.rank }
@@ -88,11 +97,12 @@ fn fit_both<L: Ledger>(
 }
 
 impl SumTree {
-    ghost use Rattle.std.specs.Prelude.{◌≡◌, [], IfOk};
+    ghost use Rattle.std.specs.Prelude.{◌≡◌, [], IfOk, IsTrue};
     ghost use Rattle.hc_records.specs.declared.keys.TheConstants.Key.{START};
     ghost use Rattle.hc_records.specs.declared.limits.TheConstants.{MOST_AREA_BITS};
     ghost use Rattle.hc_records.specs.Boundaries.{width_in};
     ghost use Rattle.hc_records.specs.SpanLaws.{areas_from};
+    ghost use Rattle.hc_bitsum.specs.Filling.{areas_between, with_areas};
     ghost use Rattle.hc_bitsum.specs.Search.{begun, first_beyond};
     ghost use Rattle.hc_bitsum.specs.Sums.{sum_of};
     ghost use Rattle.hc_bitsum.specs.Tree.{with_width};
@@ -140,6 +150,43 @@ impl SumTree {
             Dir::Out => self.outputs.width(place, steps),
             Dir::In => self.inputs.width(place, steps),
         }
+    }
+
+    /// Whether a key has a place: the rank of one of its slaves, from 1, and an area from 0 to 7.
+    pub fn has_place(&self, key: Key) -> bool
+        ensures yes { IsTrue result → HasPlace self.now.slaves key }
+        ensures no { HasPlace self.now.slaves key → IsTrue result }
+    {
+        has_place(self.slaves, key)
+    }
+
+    /// The width in bits of the area with a key, at most 11,888; 0 where it takes no place. The key may
+    /// be any. It takes no memory and no steps.
+    pub fn bits(&self, key: Key) -> u16
+        ensures width { result ≡ width_in self.now.list key }
+        ensures narrow { result ≤ MOST_AREA_BITS }
+    {
+        if !has_place(self.slaves, key) {
+            return 0;
+        }
+        let place = place_of(key);
+        match key.dir {
+            Dir::Out => self.outputs.bits(place),
+            Dir::In => self.inputs.bits(place),
+        }
+    }
+
+    /// How far a datagram is filled once its areas from one key on, that one included, and before
+    /// another stand in it behind what fills it, at most 11,888 bits: `Filled::begun(0)` where they begin
+    /// the datagram. The keys may be any, `Key::START` and `Key::END` too; no area lies between where the
+    /// second isn't behind the first. One climb and one descent in each direction's tree. It takes no
+    /// memory and no steps.
+    pub fn filled_between(&self, from: Key, until: Key, filled: Filled) -> Filled
+        requires { filled.bit ≤ MOST_AREA_BITS }
+        ensures { result ≡ with_areas filled (areas_between from until self.now.list) }
+    {
+        let outputs = self.outputs.filled_between(from, until, filled);
+        self.inputs.filled_between(from, until, outputs)
     }
 
     /// The sum of all its areas.

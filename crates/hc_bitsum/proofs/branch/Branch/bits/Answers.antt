@@ -2,15 +2,15 @@ use Rattle.std.proofs.Common.{◌≡◌, ◌/◌, ◌%◌, [], get_or, ap, ◌�
 use Rattle.std.proofs.lemmas.List.{get_or_default}
 use Rattle.hc_bitsum.proofs.Anew.{bits-part}
 use Rattle.hc_bitsum.proofs.Nodes.{row-inside}
-use Rattle.hc_bitsum.proofs.branch.Branch.width.Goals as goal
+use Rattle.hc_bitsum.proofs.branch.Branch.bits.Goals as goal
 
 pub index-requires : goal.index-requires
-index-requires g c =
+index-requires c =
     let inside = row-inside c.args.self.now c.args.at c.requires.branch c.requires.within in
     omega (arith, c.args.self.now.rows.ok.0)
 
-pub returns-clause-width : goal.returns-clause-width
-returns-clause-width g c =
+pub returns : goal.returns
+returns c =
     let rows = c.args.self.now.rows.items in
     let inside = row-inside c.args.self.now c.args.at c.requires.branch c.requires.within in
     let row : c.index.result.now ≡ get_or rows (c.args.at / 8) [] = c.index.ensures ∙ get_or_default rows (c.args.at / 8) c.index.result.now [] inside in
