@@ -4,6 +4,8 @@
 
 pub mod borders;
 mod branch;
+#[cfg(test)]
+mod drawn;
 pub mod filled;
 pub mod laws;
 mod row;
