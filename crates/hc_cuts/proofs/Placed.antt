@@ -10,7 +10,7 @@ use Rattle.hc_records.specs.declared.keys.Key.{Key}
 use Rattle.hc_records.specs.declared.keys.TheConstants.Key.{START, END}
 use Rattle.hc_records.specs.Keys.{is_before, is_within, same_key}
 use Rattle.hc_records.specs.TaskList.{Keyed}
-use Rattle.hc_records.specs.Boundaries.{boundaries, width_in}
+use Rattle.hc_records.specs.Boundaries.{boundaries, later_keys, width_in}
 use Rattle.hc_records.specs.Packing.{Front, Placed, behind, beginning, fits, opening, packed, placed_at}
 use Rattle.hc_records.specs.Laws.{IsPackable}
 use Rattle.hc_records.specs.SpanLaws.{IsTaskList, areas_from, carried, next_cut}
@@ -61,7 +61,7 @@ none-by : (same : Bool) (key : Key) (front : Front) (area : Keyed) (areas : List
     → (width_in areas key ≡ 0 → find (has_key key) (packed (behind (placed_at front area)) areas) ≡ None)
     → find (has_key key) (packed front (area ∷ areas)) ≡ None
 none-by true key front area areas test some none later =
-    let here = width-here area areas key test in
+    let never : 0 ≡ area.1 = sym none ∙ width-here area areas key test in
     absurd (omega arith)
 none-by false key front area areas test some none later =
     found-behind (has_key key) (placed_at front area) (packed (behind (placed_at front area)) areas)
@@ -71,7 +71,8 @@ none-by false key front area areas test some none later =
 pub none-found : (key : Key) (front : Front) (list : List Keyed) → All IsPackable list → width_in list key ≡ 0 → find (has_key key) (packed front list) ≡ None
 none-found key front [] all none = refl
 none-found key front (area ∷ areas) all none =
-    none-by (same_key area.0 key) key front area areas refl ((All-head IsPackable area areas all).some) none
+    let some = (All-head IsPackable area areas all).some in
+    none-by (same_key area.0 key) key front area areas refl (omega arith) none
     (none-found key (behind (placed_at front area)) areas (All-tail IsPackable area areas all))
 
 -- a key with a width stands where its area is placed behind those before it
@@ -113,11 +114,12 @@ stands-here datagram filled key first bits area areas is test width before =
     (list-behind first area areas is))) in
     let room : fits front area ≡ true = fits-before (fits front area) (next_cut (behind (placed_at front area)) areas) area.0 key low before in
     record {
-      room = rw (none, own) room;
+      room = ap (λ (l : List Keyed). fits (filled_datagram datagram (with_areas filled l)) (key, bits)) none ∙ ap (fits front) own ∙ room;
       found =
           found-here (has_key key) (placed_at front area) (packed (behind (placed_at front area)) areas)
           (ap (λ (k : Key). same_key k key) (place-key (fits front area) front area) ∙ test)
-          ∙ rw (none, own) refl;
+          ∙ ap (λ (a : Keyed). Some (placed_at front a)) (sym own)
+          ∙ ap (λ (l : List Keyed). Some (placed_at (filled_datagram datagram (with_areas filled l)) (key, bits))) (sym none);
     }
 
 behind-is : (fitting : Bool) (datagram : ℕ) (filled : Filled) (area : Keyed) → fitting ≡ true → (area.1 == 0) ≡ false
@@ -134,7 +136,7 @@ stands-behind datagram filled key first bits area areas is test width some befor
     let front = filled_datagram datagram filled in
     let so_far = with_area filled area in
     let width' : width_in areas key ≡ bits = sym (width-skip area areas key test) ∙ width in
-    let many : 0 < width_in areas key = omega arith in
+    let many : 0 < width_in areas key = subst (λ (n : ℕ). 0 < n) (sym width') some in
     let earlier : is_before area.0 key ≡ true = width-holds (λ k. is_before area.0 k ≡ true) key areas (list-behind first area areas is) many in
     let room : fits front area ≡ true =
     fits-before (fits front area) (next_cut (behind (placed_at front area)) areas) area.0 key (within-from_before area.0 key earlier) before in
@@ -256,3 +258,58 @@ found-in at list key bits is within low high width some =
       room = own.room;
       found = ap (find (has_key key)) (sym (spans-begin keys list is refl)) ∙ skips-spans at list key is within low ∙ own.found;
     }
+
+-- by a key at which a datagram begins, among those at which they do
+
+pub starts-some : (tree : Tree) (starts : List Key) → starts ++ END ∷ [] ≡ boundaries tree.list → 0 < length starts
+starts-some tree starts all =
+    let same : length starts ≡ length (START ∷ later_keys tree.list) = ap length (firsts tree.list starts all) in
+    omega arith
+
+pub starts-low : (tree : Tree) (starts : List Key) (key : Key) → HoldsTaskList tree → starts ++ END ∷ [] ≡ boundaries tree.list → 0 < width_in tree.list key
+    → is_within (slice_index_or starts 0 END) key ≡ true
+starts-low tree starts key holds all some =
+    ap (λ (keys : List Key). is_within (slice_index_or keys 0 END) key) (firsts tree.list starts all)
+    ∙ within-from_before START key (width-holds (λ k. is_before START k ≡ true) key tree.list holds.list.between.above some)
+
+ends-behind : (starts : List Key) (at : ℕ) (key : Key) → at < length starts → is_before key END ≡ true
+    → (at + 1 < length starts → is_before key (slice_index_or starts (at + 1) END) ≡ true) → is_before key (boundary (starts ++ END ∷ []) (suc at)) ≡ true
+ends-behind [] at key h end next = absurd (omega arith)
+ends-behind (first ∷ []) zero key h end next = end
+ends-behind (first ∷ []) (suc at) key h end next = absurd (omega arith)
+ends-behind (first ∷ (second ∷ rest)) zero key h end next =
+    let one : 0 + 1 ≡ suc zero = omega arith in
+    subst (λ (n : ℕ). is_before key (slice_index_or (first ∷ (second ∷ rest)) n END) ≡ true) one (next (omega arith))
+ends-behind (first ∷ (second ∷ rest)) (suc at) key h end next =
+    let more : suc at + 1 ≡ suc (at + 1) = omega arith in
+    ends-behind (second ∷ rest) at key (omega arith) end
+    (λ within. subst (λ (n : ℕ). is_before key (slice_index_or (first ∷ (second ∷ rest)) n END) ≡ true) more (next (omega arith)))
+
+pub found-at : (tree : Tree) (starts : List Key) (at : ℕ) (from key other : Key) (bits : ℕ) (filled : Filled) → HoldsTaskList tree → starts ++ END ∷ [] ≡ boundaries tree.list
+    → at < length starts → from ≡ slice_index_or starts at other → is_within (slice_index_or starts at END) key ≡ true
+    → (at + 1 < length starts → is_before key (slice_index_or starts (at + 1) END) ≡ true) → width_in tree.list key ≡ bits → 0 < bits
+    → filled ≡ with_areas nothing (areas_between from key tree.list) → StandsAt (filled_datagram at filled) (key, bits) (place_of key tree.list)
+found-at tree starts at from key other bits filled holds all within first low next width some is =
+    let list = tree.list in
+    let many = length-end starts in
+    let same : length (starts ++ END ∷ []) ≡ length (boundaries list) = ap length all in
+    let inside : at + 1 < length (boundaries list) = omega arith in
+    let here : from ≡ boundary (boundaries list) at = first ∙ boundary-front starts (END ∷ []) at other within ∙ ap (λ (keys : List Key). boundary keys at) all in
+    let there : slice_index_or starts at END ≡ boundary (boundaries list) at = boundary-front starts (END ∷ []) at END within ∙ ap (λ (keys : List Key). boundary keys at) all in
+    let wide : 0 < width_in list key = subst (λ (n : ℕ). 0 < n) (sym width) some in
+    let end = width-holds (λ k. is_before k END ≡ true) key list holds.list.between.below wide in
+    let own = found-in at list key bits holds.list inside (subst (λ (k : Key). is_within k key ≡ true) there low)
+    (subst (λ (keys : List Key). is_before key (boundary keys (suc at)) ≡ true) all (ends-behind starts at key within end next)) width some in
+    let filling : filled ≡ with_areas nothing (areas_between (boundary (boundaries list) at) key list) = is ∙ ap (λ (k : Key). with_areas nothing (areas_between k key list)) here in
+    subst (λ (f : Filled). StandsAt (filled_datagram at f) (key, bits) (place_of key list)) (sym filling) own
+
+-- what leaves room for an area is no fuller than the longest datagram
+
+yes-le : (a b : ℕ) → nat_le a b ≡ true → a ≤ b
+yes-le a b h = grind (arith, nat_tests)
+
+pub room-low : (front : Front) (area : Keyed) → fits front area ≡ true → front.bit ≤ MOST_AREA_BITS
+room-low front area room =
+    let low = front-beginning front.last front.bit area in
+    let high = yes-le (beginning front area + area.1) MOST_AREA_BITS room in
+    omega arith
