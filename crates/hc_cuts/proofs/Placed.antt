@@ -80,7 +80,7 @@ none-found key front (area ∷ areas) all none =
 -- the area fits where it is placed, and that is its place
 pub record StandsAt (front : Front) (area : Keyed) (found : Option Placed) : Type 0 where
   pub room : fits front area ≡ true
-  pub found : found ≡ Some (placed_at front area)
+  pub place : found ≡ Some (placed_at front area)
 
 abbrev areas_before : Key → List Keyed → List Keyed
 areas_before key list = filter (λ area. is_before area.0 key) list
@@ -115,7 +115,7 @@ stands-here datagram filled key first bits area areas is test width before =
     let room : fits front area ≡ true = fits-before (fits front area) (next_cut (behind (placed_at front area)) areas) area.0 key low before in
     record {
       room = ap (λ (l : List Keyed). fits (filled_datagram datagram (with_areas filled l)) (key, bits)) none ∙ ap (fits front) own ∙ room;
-      found =
+      place =
           found-here (has_key key) (placed_at front area) (packed (behind (placed_at front area)) areas)
           (ap (λ (k : Key). same_key k key) (place-key (fits front area) front area) ∙ test)
           ∙ ap (λ (a : Keyed). Some (placed_at front a)) (sym own)
@@ -149,11 +149,11 @@ stands-behind datagram filled key first bits area areas is test width some befor
     let more : areas_before key (area ∷ areas) ≡ area ∷ areas_before key areas = cond-true (is_before area.0 key) (area ∷ areas_before key areas) (areas_before key areas) earlier in
     record {
       room = ap (λ (l : List Keyed). fits (filled_datagram datagram (with_areas filled l)) (key, bits)) more ∙ rest.room;
-      found =
+      place =
           found-behind (has_key key) (placed_at front area) (packed (behind (placed_at front area)) areas)
           (ap (λ (k : Key). same_key k key) (place-key (fits front area) front area) ∙ test)
           ∙ ap (λ (f : Front). find (has_key key) (packed f areas)) goes
-          ∙ rest.found
+          ∙ rest.place
           ∙ ap (λ (l : List Keyed). Some (placed_at (filled_datagram datagram (with_areas filled l)) (key, bits))) (sym more);
     }
 
@@ -256,7 +256,7 @@ found-in at list key bits is within low high width some =
     (subst (λ (k : Key). is_before key k ≡ true) (sym (cut-at at list is within)) high) in
     record {
       room = own.room;
-      found = ap (find (has_key key)) (sym (spans-begin keys list is refl)) ∙ skips-spans at list key is within low ∙ own.found;
+      place = ap (find (has_key key)) (sym (spans-begin keys list is refl)) ∙ skips-spans at list key is within low ∙ own.place;
     }
 
 -- by a key at which a datagram begins, among those at which they do
