@@ -1,0 +1,6 @@
+-- What the crates above cite, a file a subject.
+pub mod Blocks
+pub mod KeptSpans
+pub mod Lists
+pub mod Ranks
+pub mod Slots

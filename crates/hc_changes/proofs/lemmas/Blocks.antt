@@ -1,0 +1,36 @@
+-- The blocks of a line are those of its areas.
+use Rattle.std.proofs.Common.{◌≡◌, ℕ, ◌+◌, ◌*◌, List, [], ◌∷◌, ◌++◌, refl, sym, ap, ◌∙◌, arith}
+use Rattle.std.specs.List.{enumerate_from, flat_map}
+use Rattle.std.proofs.lemmas.List.Folds.{flat_map-map}
+use Rattle.hc_records.specs.declared.records.Area.{Area}
+use Rattle.hc_records.specs.declared.keys.Key.{Key}
+use Rattle.hc_records.specs.Line.{Member}
+use Rattle.hc_registers.specs.Blocks.{LineBlock, RegisterBlock, fmmu_block, line_blocks, mapping_of, member_blocks, numbered, sync_manager_block}
+use Rattle.hc_changes.specs.Candidates.{areas_of, blocks_of, line_areas}
+use Rattle.hc_changes.proofs.lemmas.Lists.{flat_map-flat_map}
+
+-- of a slave whose areas from an index on give two blocks each
+pairs-numbered : (station index : ℕ) (first second : ℕ × Area → RegisterBlock) (areas : List Area)
+    → numbered station (2 * index) (flat_map (λ e. first e ∷ second e ∷ []) (enumerate_from index areas))
+    ≡ flat_map (λ e. numbered station (2 * e.0) (first e ∷ second e ∷ [])) (enumerate_from index areas)
+pairs-numbered station index first second [] = refl
+pairs-numbered station index first second (area ∷ areas) =
+    let next : 2 * index + 1 + 1 ≡ 2 * (index + 1) = omega arith in
+    let own = numbered station (2 * index) (first (index, area) ∷ second (index, area) ∷ []) in
+    ap (λ (n : ℕ). own ++ numbered station n (flat_map (λ e. first e ∷ second e ∷ []) (enumerate_from (index + 1) areas))) next
+    ∙ ap (λ (rest : List LineBlock). own ++ rest) (pairs-numbered station (index + 1) first second areas)
+
+flat_map-alike : {X Y : Type 0} (f g : X → List Y) → ((x : X) → f x ≡ g x) → (xs : List X) → flat_map f xs ≡ flat_map g xs
+flat_map-alike f g same [] = refl
+flat_map-alike f g same (x ∷ xs) = ap (λ (ys : List _). ys ++ flat_map f xs) (same x) ∙ ap (λ (ys : List _). g x ++ ys) (flat_map-alike f g same xs)
+
+member-blocks : (line : List Member) (member : Member) → member_blocks line member ≡ flat_map (blocks_of line) (areas_of member)
+member-blocks line member =
+    let key : ℕ × Area → Key = λ e. record { dir = e.1.dir; rank = member.rank; area = e.0 } in
+    pairs-numbered member.slave.station 0 (λ e. sync_manager_block e.1) (λ e. fmmu_block e.0 e.1 (mapping_of line e.1.task (key e))) member.slave.areas
+    ∙ sym (flat_map-map (blocks_of line) (λ (e : ℕ × Area). record { member = member; index = e.0; area = e.1 }) (enumerate_from 0 member.slave.areas))
+
+pub blocks-of-areas : (line : List Member) → line_blocks line ≡ flat_map (blocks_of line) (line_areas line)
+blocks-of-areas line =
+    flat_map-alike (member_blocks line) (λ member. flat_map (blocks_of line) (areas_of member)) (member-blocks line) line
+    ∙ sym (flat_map-flat_map (blocks_of line) areas_of line)

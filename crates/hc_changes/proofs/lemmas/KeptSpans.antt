@@ -1,0 +1,101 @@
+-- A kept datagram carries what it carried.
+use Rattle.std.proofs.Common.{◌≡◌, ℕ, ◌==◌, zero, suc, true, false, List, [], ◌∷◌, ◌++◌, Contains, Option, Some, None, refl, sym, ap, subst, ◌∙◌}
+use Rattle.std.specs.Prelude.{All, map, slice_get, ◌&&◌}
+use Rattle.std.specs.Option.{option_map_or}
+use Rattle.std.specs.List.{zip}
+use Rattle.std.proofs.lemmas.Bool.{and_parts, eqb-true}
+use Rattle.std.proofs.lemmas.List.Elements.{All-head, All-tail, filter_passes}
+use Rattle.std.proofs.lemmas.Option.{get_or_from_slice_get, slice_get_within}
+use Rattle.hc_records.specs.declared.keys.Key.{Key}
+use Rattle.hc_records.specs.declared.keys.TheConstants.Key.{START, END}
+use Rattle.hc_records.specs.Keys.{is_before, same_key}
+use Rattle.hc_records.specs.TaskList.{Keyed}
+use Rattle.hc_records.specs.Packing.{Placed, opening, packed}
+use Rattle.hc_records.specs.Image.{inside}
+use Rattle.hc_records.specs.Boundaries.{Interval, boundaries, is_settled, later_keys, spans}
+use Rattle.hc_records.specs.SpanLaws.{IsTaskList, seen_area}
+use Rattle.hc_records.proofs.lemmas.KeyOrder.{before-other, other-sym, same_key-same}
+use Rattle.hc_records.proofs.lemmas.SettledSpans.{settled-stays}
+use Rattle.hc_records.proofs.lemmas.SpanCuts.{span-alone, span-begins}
+use Rattle.hc_records.proofs.lemmas.SpanDatagrams.{span-datagram}
+use Rattle.hc_changes.specs.Candidates.{begins_at, is_kept}
+
+-- an element that stands at an index is contained
+pub at-contained : {X : Type 0} (xs : List X) (i : ℕ) (x : X) → slice_get xs i ≡ Some x → Contains xs x
+at-contained xs i x is = (i, slice_get_within xs i x is, get_or_from_slice_get xs i x x is)
+
+-- a span begins at each boundary but END
+begun : (first : Key) (later : List Key) (i : ℕ) (key : Key) → slice_get (first ∷ (later ++ END ∷ [])) i ≡ Some key → (key ≡ END → ⊥)
+    → (next : Key) × (slice_get (zip (first ∷ (later ++ END ∷ [])) (later ++ END ∷ [])) i ≡ Some (key, next))
+begun first [] zero key is other = (END, let same : first ≡ key = cc in ap (λ (k : Key). Some (k, END)) same)
+begun first [] (suc zero) key is other = absurd (other (let same : END ≡ key = cc in sym same))
+begun first [] (suc (suc i)) key is other = cc
+begun first (next ∷ later) zero key is other = (next, let same : first ≡ key = cc in ap (λ (k : Key). Some (k, next)) same)
+begun first (next ∷ later) (suc i) key is other = begun next later i key is other
+
+-- what is said of a datagram that is kept
+pub record IsKept (old new : List Keyed) (datagram : ℕ) : Type 0 where
+  pub span : Interval
+  pub stands : slice_get (spans (boundaries new)) datagram ≡ Some span
+  pub settled : is_settled old new span ≡ true
+  pub began : slice_get (boundaries old) datagram ≡ Some span.0
+
+began-by : (first : Option Key) (key : Key) → option_map_or (same_key key) first false ≡ true → first ≡ Some key
+began-by None key is = cc
+began-by (Some first) key is = ap (λ (k : Key). Some k) (sym (same_key-same key first is))
+
+kept-by : (old new : List Keyed) (datagram : ℕ) (span : Option Interval) → slice_get (spans (boundaries new)) datagram ≡ span
+    → option_map_or (λ s. is_settled old new s && begins_at old datagram s.0) span false ≡ true → IsKept old new datagram
+kept-by old new datagram None stands is = cc
+kept-by old new datagram (Some span) stands is =
+    let parts = and_parts (is_settled old new span) (begins_at old datagram span.0) is in
+    record { span = span; stands = stands; settled = parts.0; began = began-by (slice_get (boundaries old) datagram) span.0 parts.1 }
+
+pub kept-parts : (old new : List Keyed) (datagram : ℕ) → is_kept old new datagram ≡ true → IsKept old new datagram
+kept-parts old new datagram is = kept-by old new datagram (slice_get (spans (boundaries new)) datagram) refl is
+
+-- its span has the same number in the old list
+pub kept-number : (old new : List Keyed) (datagram : ℕ) → IsTaskList old → IsTaskList new → (kept : IsKept old new datagram) → slice_get (spans (boundaries old)) datagram ≡ Some kept.span
+kept-number old new datagram is is' kept =
+    let span = kept.span in
+    let contains = at-contained (spans (boundaries new)) datagram span kept.stands in
+    let same = settled-stays old new span is is' contains kept.settled in
+    let before : is_before span.0 END ≡ true = span-begins new span is' contains in
+    let other : span.0 ≡ END → ⊥ = (λ end.
+    let apart : same_key span.0 END ≡ false = other-sym END span.0 (before-other span.0 END before) in
+    let never : same_key END END ≡ false = subst (λ (k : Key). same_key k END ≡ false) end apart in cc) in
+    let found = begun START (later_keys old) datagram span.0 kept.began other in
+    let one = span-alone old (span.0, found.0) is (at-contained (spans (boundaries old)) datagram (span.0, found.0) found.1) in
+    let two = span-alone old span is same.was_span in
+    found.1 ∙ ap (λ (k : Key). Some (span.0, k)) (one.next ∙ sym two.next)
+
+-- areas of one datagram are told by what is seen of them
+
+abbrev unseen : ℕ → Key × (ℕ × ℕ) → Placed
+unseen datagram seen = record { key = seen.0; bits = seen.1.0; datagram = datagram; bit = seen.1.1 }
+
+shown : (datagram : ℕ) (areas : List Placed) → All (λ area. area.datagram ≡ datagram) areas → map (unseen datagram) (map seen_area areas) ≡ areas
+shown datagram [] all = refl
+shown datagram (area ∷ areas) all =
+    let here : area.datagram ≡ datagram = All-head (λ a. a.datagram ≡ datagram) area areas all in
+    ap (λ (n : ℕ). record { key = area.key; bits = area.bits; datagram = n; bit = area.bit } ∷ map (unseen datagram) (map seen_area areas)) (sym here)
+    ∙ ap (λ (rest : List Placed). area ∷ rest) (shown datagram areas (All-tail (λ a. a.datagram ≡ datagram) area areas all))
+
+inside-numbered : (datagram : ℕ) (areas : List Placed) → All (λ area. area.datagram ≡ datagram) (inside datagram areas)
+inside-numbered datagram areas k d within =
+    eqb-true _ datagram (filter_passes (λ (area : Placed). area.datagram == datagram) areas k d within)
+
+-- so a kept datagram carries the same areas at the same bits
+pub kept-inside : (old new : List Keyed) (datagram : ℕ) → IsTaskList old → IsTaskList new → is_kept old new datagram ≡ true
+    → inside datagram (packed opening new) ≡ inside datagram (packed opening old)
+kept-inside old new datagram is is' test =
+    let kept = kept-parts old new datagram test in
+    let span = kept.span in
+    let same = settled-stays old new span is is' (at-contained (spans (boundaries new)) datagram span kept.stands) kept.settled in
+    let after = span-datagram new datagram span is' kept.stands in
+    let before = span-datagram old datagram span is (kept-number old new datagram is is' kept) in
+    let seen : map seen_area (inside datagram (packed opening new)) ≡ map seen_area (inside datagram (packed opening old)) =
+    ap (map seen_area) after ∙ same.areas ∙ sym (ap (map seen_area) before) in
+    sym (shown datagram (inside datagram (packed opening new)) (inside-numbered datagram (packed opening new)))
+    ∙ ap (map (unseen datagram)) seen
+    ∙ shown datagram (inside datagram (packed opening old)) (inside-numbered datagram (packed opening old))

@@ -1,0 +1,91 @@
+-- The slave of a line with a rank is the declared one with that rank, where it is present.
+use Rattle.std.proofs.Common.{◌≡◌, ℕ, ◌+◌, ◌<◌, ◌==◌, zero, suc, Bool, true, false, List, [], ◌∷◌, ◌++◌, Option, Some, None, length, refl, sym, ap, ◌∙◌, arith, cond, if◌then◌else◌}
+use Rattle.std.specs.Prelude.{find, map, option_map, slice_index_or}
+use Rattle.std.proofs.lemmas.Bool.{eq-eqb, ne_eqb}
+use Rattle.std.proofs.lemmas.List.Elements.{All-weaker}
+use Rattle.hc_records.specs.declared.edit.Edit.{Edit}
+use Rattle.hc_records.specs.declared.records.Declared.{Declared}
+use Rattle.hc_records.specs.declared.records.Slave.{Slave}
+use Rattle.hc_records.specs.Edits.{groups_after}
+use Rattle.hc_records.specs.Line.{Member, line_from, members_from}
+use Rattle.hc_records.proofs.lemmas.Lines.{RankWithin, declared_slaves, line-within}
+use Rattle.hc_cuts.proofs.lemmas.Found.{find-none}
+use Rattle.hc_changes.specs.Candidates.{DifferAt, slave_of}
+use Rattle.hc_changes.specs.Edited.{is_named}
+use Rattle.hc_changes.proofs.lemmas.Slots.{edit-agrees, slot, slots}
+
+-- no slave has a rank below the first one
+pub none-below : (first : ℕ) (groups : List Declared) (rank : ℕ) → rank < first → slave_of (line_from first groups) rank ≡ None
+none-below first groups rank low =
+    ap (option_map (λ (member : Member). member.slave))
+    (find-none (λ (member : Member). member.rank == rank) (line_from first groups)
+    (All-weaker (RankWithin first (first + length (declared_slaves groups))) (λ member. (member.rank == rank) ≡ false)
+    (λ member within. ne_eqb member.rank rank (λ same. omega arith)) (line_from first groups) (line-within first groups)))
+
+-- a slave in front of others
+
+met : (here : Bool) (slave : Slave) (first : ℕ) (rest : Option Member) → here ≡ true
+    → option_map (λ (member : Member). member.slave) (cond here (Some (record { rank = first; slave = slave })) rest) ≡ Some slave
+met true slave first rest is = refl
+met false slave first rest is = cc
+
+passed : (here : Bool) (member : Member) (rest : Option Member) → here ≡ false
+    → option_map (λ (m : Member). m.slave) (cond here (Some member) rest) ≡ option_map (λ (m : Member). m.slave) rest
+passed true member rest is = cc
+passed false member rest is = refl
+
+present-slots : (first : ℕ) (slaves : List Slave) (rest : List Member) (behind : List (Option Slave))
+    → ((i : ℕ) → slave_of rest (first + length slaves + i) ≡ slice_index_or behind i None)
+    → (i : ℕ) → slave_of (members_from first slaves ++ rest) (first + i) ≡ slice_index_or (map (slot true) slaves ++ behind) i None
+present-slots first [] rest behind same i =
+    let none : first + i ≡ first + 0 + i = omega arith in
+    ap (slave_of rest) none ∙ same i
+present-slots first (slave ∷ slaves) rest behind same zero =
+    met (first == first + 0) slave first (find (λ (m : Member). m.rank == first + 0) (members_from (first + 1) slaves ++ rest)) (eq-eqb first (first + 0) (omega arith))
+present-slots first (slave ∷ slaves) rest behind same (suc i) =
+    let next : first + suc i ≡ first + 1 + i = omega arith in
+    let more : (j : ℕ) → first + 1 + length slaves + j ≡ first + suc (length slaves) + j = (λ j. omega arith) in
+    passed (first == first + suc i) (record { rank = first; slave = slave }) (find (λ (m : Member). m.rank == first + suc i) (members_from (first + 1) slaves ++ rest))
+    (ne_eqb first (first + suc i) (λ same. omega arith))
+    ∙ ap (slave_of (members_from (first + 1) slaves ++ rest)) next
+    ∙ present-slots (first + 1) slaves rest behind (λ j. ap (slave_of rest) (more j) ∙ same j) i
+
+-- absent slaves in front of others
+absent-slots : (first : ℕ) (slaves : List Slave) (rest : List Member) (behind : List (Option Slave))
+    → ((rank : ℕ) → rank < first + length slaves → slave_of rest rank ≡ None)
+    → ((i : ℕ) → slave_of rest (first + length slaves + i) ≡ slice_index_or behind i None)
+    → (i : ℕ) → slave_of rest (first + i) ≡ slice_index_or (map (slot false) slaves ++ behind) i None
+absent-slots first [] rest behind none same i =
+    let here : first + i ≡ first + 0 + i = omega arith in
+    ap (slave_of rest) here ∙ same i
+absent-slots first (slave ∷ slaves) rest behind none same zero = none (first + 0) (omega arith)
+absent-slots first (slave ∷ slaves) rest behind none same (suc i) =
+    let next : first + suc i ≡ first + 1 + i = omega arith in
+    let more : (j : ℕ) → first + 1 + length slaves + j ≡ first + suc (length slaves) + j = (λ j. omega arith) in
+    ap (slave_of rest) next
+    ∙ absent-slots (first + 1) slaves rest behind (λ rank low. none rank (omega arith)) (λ j. ap (slave_of rest) (more j) ∙ same j) i
+
+group-slots : (present : Bool) (first : ℕ) (slaves : List Slave) (rest : List Member) (behind : List (Option Slave))
+    → ((rank : ℕ) → rank < first + length slaves → slave_of rest rank ≡ None)
+    → ((i : ℕ) → slave_of rest (first + length slaves + i) ≡ slice_index_or behind i None)
+    → (i : ℕ) → slave_of (members_from first (if present then slaves else []) ++ rest) (first + i) ≡ slice_index_or (map (slot present) slaves ++ behind) i None
+group-slots true first slaves rest behind none same i = present-slots first slaves rest behind same i
+group-slots false first slaves rest behind none same i = absent-slots first slaves rest behind none same i
+
+pub line-slots : (first : ℕ) (groups : List Declared) (i : ℕ) → slave_of (line_from first groups) (first + i) ≡ slice_index_or (slots groups) i None
+line-slots first [] i = refl
+line-slots first (declared ∷ groups) i =
+    let next = first + length declared.group.slaves in
+    group-slots declared.present first declared.group.slaves (line_from next groups) (slots groups)
+    (λ rank low. none-below next groups rank low) (λ j. line-slots next groups j) i
+
+-- so each slave that an edit doesn't name stands in both lines with the same record, or in neither
+pub edits-differ : (groups : List Declared) (edit : Edit) → DifferAt (is_named groups edit) (line_from 1 groups) (line_from 1 (groups_after groups edit))
+edits-differ groups edit zero unnamed = none-below 1 groups 0 (omega arith) ∙ sym (none-below 1 (groups_after groups edit) 0 (omega arith))
+edits-differ groups edit (suc i) unnamed =
+    let rank : suc i ≡ 1 + i = omega arith in
+    ap (slave_of (line_from 1 groups)) rank
+    ∙ line-slots 1 groups i
+    ∙ edit-agrees groups edit i unnamed
+    ∙ sym (line-slots 1 (groups_after groups edit) i)
+    ∙ sym (ap (slave_of (line_from 1 (groups_after groups edit))) rank)

@@ -1,0 +1,72 @@
+-- Which areas of a new line may be configured in another way than in the old one: those of changed slaves, and those in datagrams that weren't kept.
+use Rattle.std.specs.Prelude.{◌≡◌, ℕ, ◌*◌, ◌==◌, ◌&&◌, ◌||◌, not, Bool, false, List, filter, find, map, slice_get, Option, option_map}
+use Rattle.std.specs.Option.{option_map_or}
+use Rattle.std.specs.List.{enumerate_from, flat_map, list_any}
+use Rattle.hc_records.specs.declared.records.Area.{Area}
+use Rattle.hc_records.specs.declared.records.Slave.{Slave}
+use Rattle.hc_records.specs.declared.keys.Key.{Key}
+use Rattle.hc_records.specs.Keys.{same_key}
+use Rattle.hc_records.specs.Line.{Member}
+use Rattle.hc_records.specs.TaskList.{Keyed, task_list}
+use Rattle.hc_records.specs.Packing.{Placed}
+use Rattle.hc_records.specs.Image.{task_places}
+use Rattle.hc_records.specs.Boundaries.{boundaries, is_settled, spans}
+use Rattle.hc_registers.specs.Blocks.{LineBlock, area_blocks, line_blocks, numbered, same_block}
+
+-- the slave of a line with a rank, where it is present
+abbrev pub slave_of : List Member → ℕ → Option Slave
+slave_of line rank = option_map (λ member. member.slave) (find (λ member. member.rank == rank) line)
+
+-- each slave whose rank isn't among the changed ones stands in both lines with the same record, or in neither
+abbrev pub DifferAt : (ℕ → Bool) → List Member → List Member → Type 0
+DifferAt changed old new = (rank : ℕ) → changed rank ≡ false → slave_of old rank ≡ slave_of new rank
+
+-- the datagram of a task's list with a number begins at a key
+abbrev pub begins_at : List Keyed → ℕ → Key → Bool
+begins_at list datagram key = option_map_or (same_key key) (slice_get (boundaries list) datagram) false
+
+-- a datagram of the new list is kept: its span is settled, and the old list's datagram with its number began at the same key
+abbrev pub is_kept : List Keyed → List Keyed → ℕ → Bool
+is_kept old new datagram =
+    option_map_or (λ span. is_settled old new span && begins_at old datagram span.0) (slice_get (spans (boundaries new)) datagram) false
+
+-- an area of a line: its slave, its index in the slave's record, and its own record
+pub record LineArea : Type 0 where
+  pub member : Member
+  pub index : ℕ
+  pub area : Area
+
+abbrev pub areas_of : Member → List LineArea
+areas_of member = map (λ e. record { member = member; index = e.0; area = e.1 }) (enumerate_from 0 member.slave.areas)
+
+-- the areas of a line, slave by slave in record order
+abbrev pub line_areas : List Member → List LineArea
+line_areas line = flat_map areas_of line
+
+abbrev pub key_of : LineArea → Key
+key_of found = record { dir = found.area.dir; rank = found.member.rank; area = found.index }
+
+-- where an area stands; none where it has 0 bits
+abbrev pub place_of : List Member → LineArea → Option Placed
+place_of line found = find (λ placed. same_key placed.key (key_of found)) (task_places found.area.task line)
+
+-- it stands in a datagram that wasn't kept
+abbrev pub is_recut : List Member → List Member → LineArea → Bool
+is_recut old new found =
+    option_map_or (λ placed. not (is_kept (task_list found.area.task old) (task_list found.area.task new) placed.datagram)) (place_of new found) false
+
+abbrev pub is_candidate : (ℕ → Bool) → List Member → List Member → LineArea → Bool
+is_candidate changed old new found = changed found.member.rank || is_recut old new found
+
+-- the candidates, in line and record order
+abbrev pub candidates : (ℕ → Bool) → List Member → List Member → List LineArea
+candidates changed old new = filter (is_candidate changed old new) (line_areas new)
+
+-- the two blocks of an area, by their numbers in the slave's order
+abbrev pub blocks_of : List Member → LineArea → List LineBlock
+blocks_of line found =
+    numbered found.member.slave.station (2 * found.index) (area_blocks line found.member.rank (found.index, found.area))
+
+-- what a candidate contributes to the moved blocks: those of its two that weren't blocks of the old line
+abbrev pub moved_of : List Member → List Member → LineArea → List LineBlock
+moved_of old new found = filter (λ block. not (list_any (same_block block) (line_blocks old))) (blocks_of new found)

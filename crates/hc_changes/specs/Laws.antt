@@ -1,0 +1,29 @@
+-- What follows from the definitions. Each is the contract of a function of `laws`.
+use Rattle.std.specs.Prelude.{◌≡◌, ℕ, true, List}
+use Rattle.std.specs.List.{flat_map}
+use Rattle.hc_records.specs.declared.edit.Edit.{Edit}
+use Rattle.hc_records.specs.declared.records.Declared.{Declared}
+use Rattle.hc_records.specs.Edits.{groups_after}
+use Rattle.hc_records.specs.Line.{Member, line_from}
+use Rattle.hc_registers.specs.Blocks.{line_blocks}
+use Rattle.hc_records.specs.TaskList.{Keyed}
+use Rattle.hc_records.specs.Packing.{opening, packed}
+use Rattle.hc_records.specs.Image.{inside}
+use Rattle.hc_records.specs.SpanLaws.{IsTaskList}
+use Rattle.hc_changes.specs.Candidates.{DifferAt, blocks_of, is_kept, line_areas}
+use Rattle.hc_changes.specs.Edited.{is_named}
+
+-- a kept datagram carries the areas that it carried, each at its bit
+abbrev pub KeptDatagramsStay : Type 0
+KeptDatagramsStay =
+    (old new : List Keyed) (datagram : ℕ) → IsTaskList old → IsTaskList new → is_kept old new datagram ≡ true
+    → inside datagram (packed opening new) ≡ inside datagram (packed opening old)
+
+-- the blocks of a line are those of its areas, two each, in line and record order
+abbrev pub BlocksAreTheAreas : Type 0
+BlocksAreTheAreas = (line : List Member) → line_blocks line ≡ flat_map (blocks_of line) (line_areas line)
+
+-- each slave that an edit doesn't name stands in both lines with the same record, or in neither
+abbrev pub EditsChangeTheNamed : Type 0
+EditsChangeTheNamed =
+    (groups : List Declared) (edit : Edit) → DifferAt (is_named groups edit) (line_from 1 groups) (line_from 1 (groups_after groups edit))

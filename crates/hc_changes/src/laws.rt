@@ -1,0 +1,20 @@
+//! What follows from the definitions of this crate: each function does nothing, and its contract is a
+//! law. Nobody calls it.
+ghost use Rattle.hc_changes.specs.Laws.{BlocksAreTheAreas, EditsChangeTheNamed, KeptDatagramsStay};
+
+/// A datagram that an edit keeps carries the areas that it carried, each at its bit: so its length and its
+/// expected working counter stay too.
+pub fn kept_datagrams_stay()
+    ensures { KeptDatagramsStay }
+{}
+
+/// The register blocks of a line are those of its areas, two each, in line and record order.
+pub fn blocks_are_the_areas()
+    ensures { BlocksAreTheAreas }
+{}
+
+/// An edit changes the slaves that it names, by their group's alias or by their station address: each other
+/// declared slave stands in the lines before and behind it with the same rank and record, or in neither.
+pub fn edits_change_the_named()
+    ensures { EditsChangeTheNamed }
+{}
