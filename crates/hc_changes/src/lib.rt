@@ -1,6 +1,6 @@
 //! What an edit changed of a line's configuration, told by few areas: those of the slaves that it names, and
-//! those in datagrams that it didn't keep. All other areas are configured as they were. The plan builds its
-//! report and its new table from these.
+//! those in datagrams that it didn't keep. All other areas are configured as they were. The plan's reports
+//! and tables are to be made from these.
 #![tactic(auto)]
 
 pub mod laws;
