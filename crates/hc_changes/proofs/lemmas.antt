@@ -2,5 +2,6 @@
 pub mod Blocks
 pub mod KeptSpans
 pub mod Lists
+pub mod Others
 pub mod Ranks
 pub mod Slots
