@@ -5,3 +5,4 @@ pub mod Lists
 pub mod Others
 pub mod Ranks
 pub mod Slots
+pub mod Standing

@@ -1,16 +1,17 @@
 -- What follows from the definitions. Each is the contract of a function of `laws`.
-use Rattle.std.specs.Prelude.{◌≡◌, ℕ, Bool, true, false, Contains, List}
+use Rattle.std.specs.Prelude.{◌≡◌, ℕ, Bool, true, false, Contains, List, None, Some}
 use Rattle.std.specs.List.{flat_map}
 use Rattle.hc_records.specs.declared.edit.Edit.{Edit}
 use Rattle.hc_records.specs.declared.records.Declared.{Declared}
 use Rattle.hc_records.specs.Edits.{groups_after}
-use Rattle.hc_records.specs.Line.{Member, State, line, line_from}
+use Rattle.hc_records.specs.Line.{Member, State, groups_of, line, line_from}
 use Rattle.hc_registers.specs.Blocks.{line_blocks}
-use Rattle.hc_records.specs.TaskList.{Keyed}
-use Rattle.hc_records.specs.Packing.{opening, packed}
+use Rattle.hc_records.specs.TaskList.{Keyed, task_list}
+use Rattle.hc_records.specs.Packing.{Placed, opening, packed}
 use Rattle.hc_records.specs.Image.{inside}
+use Rattle.hc_records.specs.Project.{lowest_fault}
 use Rattle.hc_records.specs.SpanLaws.{IsTaskList}
-use Rattle.hc_changes.specs.Candidates.{DifferAt, LineArea, blocks_of, is_kept, line_areas}
+use Rattle.hc_changes.specs.Candidates.{DifferAt, LineArea, blocks_of, is_kept, line_areas, place_of}
 use Rattle.hc_changes.specs.Edited.{is_named}
 
 -- a kept datagram carries the areas that it carried, each at its bit
@@ -33,3 +34,10 @@ abbrev pub OtherAreasStood : Type 0
 OtherAreasStood =
     (changed : ℕ → Bool) (old new : State) (found : LineArea) → DifferAt changed (line old) (line new)
     → Contains (line_areas (line new)) found → changed found.member.rank ≡ false → Contains (line_areas (line old)) found
+
+-- an area that stands in a kept datagram of a project's line stood there in the old line, at the same bit
+abbrev pub KeptAreasStay : Type 0
+KeptAreasStay =
+    (old new : State) (found : LineArea) (placed : Placed) → lowest_fault (groups_of old.groups) ≡ None → lowest_fault (groups_of new.groups) ≡ None
+    → place_of (line new) found ≡ Some placed → is_kept (task_list found.area.task (line old)) (task_list found.area.task (line new)) placed.datagram ≡ true
+    → place_of (line old) found ≡ Some placed

@@ -1,6 +1,6 @@
 //! What follows from the definitions of this crate: each function does nothing, and its contract is a
 //! law. Nobody calls it.
-ghost use Rattle.hc_changes.specs.Laws.{BlocksAreTheAreas, EditsChangeTheNamed, KeptDatagramsStay, OtherAreasStood};
+ghost use Rattle.hc_changes.specs.Laws.{BlocksAreTheAreas, EditsChangeTheNamed, KeptAreasStay, KeptDatagramsStay, OtherAreasStood};
 
 /// A datagram that an edit keeps carries the areas that it carried, each at its bit: so its length and its
 /// expected working counter stay too.
@@ -23,4 +23,10 @@ pub fn edits_change_the_named()
 /// the same index, with the same record.
 pub fn other_areas_stood()
     ensures { OtherAreasStood }
+{}
+
+/// An area of a project's line that stands in a datagram which an edit keeps stood there before it, at
+/// the same bit.
+pub fn kept_areas_stay()
+    ensures { KeptAreasStay }
 {}
