@@ -1,6 +1,6 @@
 //! What follows from the definitions of this crate: each function does nothing, and its contract is a
 //! law. Nobody calls it.
-ghost use Rattle.hc_changes.specs.Laws.{BlocksAreTheAreas, EditsChangeTheNamed, KeptAreasStay, KeptDatagramsStay, OtherAreasStood};
+ghost use Rattle.hc_changes.specs.Laws.{BlocksAreTheAreas, EditsChangeTheNamed, KeptAreasStay, KeptDatagramsStay, MovedBlocksAreTold, OtherAreasStood};
 
 /// A datagram that an edit keeps carries the areas that it carried, each at its bit: so its length and its
 /// expected working counter stay too.
@@ -29,4 +29,10 @@ pub fn other_areas_stood()
 /// the same bit.
 pub fn kept_areas_stay()
     ensures { KeptAreasStay }
+{}
+
+/// The blocks that an edit moved are told by the candidates: those of each that weren't blocks of the old
+/// line, in line and block order.
+pub fn moved_blocks_are_told()
+    ensures { MovedBlocksAreTold }
 {}
