@@ -55,20 +55,32 @@ fn has_line(plan: &Plan, alloc: Global, slaves: &[(u16, u16)]) -> Result<bool, A
     Ok(slaves_of(plan, alloc)?.as_slice() == slaves)
 }
 
+/// Whether that line of that plan has them.
+fn connected_has_line(alloc: Global, both: bool, slaves: &[(u16, u16)]) -> Result<bool, Fail> {
+    let plan = connected(alloc, both)?;
+    Ok(has_line(&plan, alloc, slaves)?)
+}
+
 #[test]
 fn a_line_has_the_present_slaves_with_their_ranks(rt: HostRuntime) -> Result<(), Fail> {
-    let one = connected(rt.alloc(), false)?;
-    assert!(rt; has_line(&one, rt.alloc(), &[(2, 1002)])?);
-    let both = connected(rt.alloc(), true)?;
-    assert!(rt; has_line(&both, rt.alloc(), &[(1, 1001), (2, 1002)])?);
+    let one = connected_has_line(rt.alloc(), false, &[(2, 1002)])?;
+    let both = connected_has_line(rt.alloc(), true, &[(1, 1001), (2, 1002)])?;
+    assert!(rt; one && both);
     Ok(())
+}
+
+/// How many spans are recut where the first group comes, and where the line stays.
+fn recuts(one: &Plan, both: &Plan, alloc: Global) -> Result<[u32; 2], AllocError> {
+    Ok([
+        recut_between(one, both, alloc)?,
+        recut_between(one, one, alloc)?,
+    ])
 }
 
 #[test]
 fn a_task_that_gets_an_area_is_recut(rt: HostRuntime) -> Result<(), Fail> {
     let one = connected(rt.alloc(), false)?;
     let both = connected(rt.alloc(), true)?;
-    assert_eq!(rt; recut_between(&one, &both, rt.alloc())?, 2);
-    assert_eq!(rt; recut_between(&one, &one, rt.alloc())?, 0);
+    assert!(rt; recuts(&one, &both, rt.alloc())? == [2, 0]);
     Ok(())
 }
