@@ -33,8 +33,9 @@ fn opened_groups(alloc: Global, groups: Vec<Group>) -> Result<Items<Declared>, A
     Ok(Items::of(opened))
 }
 
-/// A state of a line and its configuration.
-#[derive(Debug, Drop)]
+/// A state of a line and its configuration. Its drop is written out, so that those who own a plan don't
+/// open what it holds wherever they let it go.
+#[derive(Debug)]
 pub struct Plan {
     groups: Items<Declared>,
     epoch: u32,
@@ -42,6 +43,18 @@ pub struct Plan {
     places: Places,
     // the tasks of the line, from which an edit cuts the new ones
     cuts: LineCuts,
+}
+
+impl Drop for Plan {
+    fn drop(self) {
+        let Plan {
+            groups: _,
+            epoch: _,
+            layout: _,
+            places: _,
+            cuts: _,
+        } = self;
+    }
 }
 
 impl Model for Plan {
