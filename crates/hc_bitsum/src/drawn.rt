@@ -26,7 +26,11 @@ impl Draws {
 
     /// A key at a place of one of the slaves, in either direction, or `Key::START` or `Key::END`.
     fn key(&mut self) -> Key {
-        let dir = if self.next() % 2 == 0 { Dir::Out } else { Dir::In };
+        let dir = if self.next() % 2 == 0 {
+            Dir::Out
+        } else {
+            Dir::In
+        };
         match self.next() % 20 {
             0 => Key::START,
             1 => Key::END,
