@@ -40,7 +40,7 @@ pub struct Place {
     pub is_out: bool,
 }
 
-#[derive(Clone, Copy, Default)]
+#[derive(Clone, Copy, PartialEq, Default)]
 pub struct Datagram {
     pub address: u32,
     pub length: u16,
@@ -49,7 +49,7 @@ pub struct Datagram {
 }
 
 /// The datagrams of a task, and the bytes of its outputs.
-#[derive(Clone, Copy, Default)]
+#[derive(Clone, Copy, PartialEq, Default)]
 pub struct Table {
     pub all: [Datagram; 16],
     pub count: usize,
@@ -106,7 +106,7 @@ impl Area {
     }
 }
 
-fn address_of(task: u8, datagram: u8) -> u32 {
+pub fn address_of(task: u8, datagram: u8) -> u32 {
     0x0100_0000 * (u32::from(task) + 1) + 2048 * u32::from(datagram)
 }
 

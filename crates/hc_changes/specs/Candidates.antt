@@ -1,5 +1,5 @@
 -- Which areas of a new line may be configured in another way than in the old one: those of changed slaves, and those in datagrams that weren't kept.
-use Rattle.std.specs.Prelude.{◌≡◌, ℕ, ◌*◌, ◌==◌, ◌&&◌, ◌||◌, not, Bool, false, List, filter, find, map, slice_get, Option, option_map}
+use Rattle.std.specs.Prelude.{◌≡◌, ℕ, ◌*◌, ◌==◌, ◌||◌, not, Bool, false, List, filter, find, map, Option, option_map}
 use Rattle.std.specs.Option.{option_map_or}
 use Rattle.std.specs.List.{enumerate_from, flat_map, list_any}
 use Rattle.hc_records.specs.declared.records.Area.{Area}
@@ -7,10 +7,10 @@ use Rattle.hc_records.specs.declared.records.Slave.{Slave}
 use Rattle.hc_records.specs.declared.keys.Key.{Key}
 use Rattle.hc_records.specs.Keys.{same_key}
 use Rattle.hc_records.specs.Line.{Member}
-use Rattle.hc_records.specs.TaskList.{Keyed, task_list}
+use Rattle.hc_records.specs.TaskList.{task_list}
 use Rattle.hc_records.specs.Packing.{Placed}
 use Rattle.hc_records.specs.Image.{task_places}
-use Rattle.hc_records.specs.Boundaries.{boundaries, is_settled, spans}
+use Rattle.hc_cuts.specs.Keeping.{is_kept}
 use Rattle.hc_registers.specs.Blocks.{LineBlock, area_blocks, line_blocks, numbered, same_block}
 
 -- the slave of a line with a rank, where it is present
@@ -20,15 +20,6 @@ slave_of line rank = option_map (λ member. member.slave) (find (λ member. memb
 -- each slave whose rank isn't among the changed ones stands in both lines with the same record, or in neither
 abbrev pub DifferAt : (ℕ → Bool) → List Member → List Member → Type 0
 DifferAt changed old new = (rank : ℕ) → changed rank ≡ false → slave_of old rank ≡ slave_of new rank
-
--- the datagram of a task's list with a number begins at a key
-abbrev pub begins_at : List Keyed → ℕ → Key → Bool
-begins_at list datagram key = option_map_or (same_key key) (slice_get (boundaries list) datagram) false
-
--- a datagram of the new list is kept: its span is settled, and the old list's datagram with its number began at the same key
-abbrev pub is_kept : List Keyed → List Keyed → ℕ → Bool
-is_kept old new datagram =
-    option_map_or (λ span. is_settled old new span && begins_at old datagram span.0) (slice_get (spans (boundaries new)) datagram) false
 
 -- an area of a line: its slave, its index in the slave's record, and its own record
 pub record LineArea : Type 0 where

@@ -4,9 +4,11 @@
 pub mod cuts;
 pub mod fold;
 pub mod hulls;
+pub mod keeping;
 pub mod laws;
 pub mod next;
 pub mod packing;
+pub mod place;
 mod repair;
 pub mod settled;
 mod walk;

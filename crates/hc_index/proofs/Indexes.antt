@@ -20,7 +20,7 @@ use Rattle.hc_records.proofs.lemmas.Slaves.{line-inside, line-stations, project-
 use Rattle.hc_records.proofs.lemmas.Walks.{length-line}
 use Rattle.hc_index.specs.declared.addresses.Address.{Address}
 use Rattle.hc_index.specs.declared.seats.Seat.{Seat}
-use Rattle.hc_index.specs.Index.{Index, IsIndexOf, IsIndexOfSlaves, address_of, addresses, own_blocks, owned_by, present_blocks, slave_in}
+use Rattle.hc_index.specs.Index.{Index, IsIndexOf, IsIndexOfDeclared, address_of, addresses, own_blocks, owned_by, present_blocks, slave_in}
 use Rattle.hc_index.proofs.Declaring.{addresses-distinct, addresses-length, addresses-ranked, any-station, line-among}
 use Rattle.hc_index.proofs.Found.{any-none, any-some, only-one, past-end, position-at, position-none}
 use Rattle.hc_index.proofs.Owners.{few-blocks, line-sum, owned-at}
@@ -62,7 +62,7 @@ few-present groups none =
     let blocks = few-blocks line (λ k d within. (line-inside groups none k d within).few) in
     omega (arith, sum, low, blocks)
 
-pub room-for : (groups : List Declared) (index : Index) → IsIndexOfSlaves groups index → sum_by (λ (d : Declared). length d.group.slaves) groups ≡ length index.addresses
+pub room-for : (groups : List Declared) (index : Index) → IsIndexOfDeclared groups index → sum_by (λ (d : Declared). length d.group.slaves) groups ≡ length index.addresses
 room-for groups index is = sym (addresses-length 1 groups) ∙ sym (length_permutation (addresses groups) index.addresses is.addresses)
 
 -- the slave with a station address

@@ -1,3 +1,4 @@
+pub mod Aliased
 pub mod Declaring
 pub mod Found
 pub mod Indexes

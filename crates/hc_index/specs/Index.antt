@@ -1,12 +1,22 @@
--- What an index of a project's declared groups keeps, so that a slave or a block of the line is found without a walk.
+-- What an index of a project's declared groups keeps, so that a group, a slave or a block of the line is found without a walk.
 use Rattle.std.specs.Prelude.{◌≡◌, ℕ, ◌+◌, ◌-◌, ◌*◌, nat_lt, true, if◌then◌else◌, List, [], ◌∷◌, ◌++◌, length, map, slice_get, sum_by, Option, Some, None, option_and_then}
+use Rattle.std.specs.List.{enumerate_from}
 use Rattle.std.specs.List.Sorted.{IsPermutation}
 use Rattle.hc_records.specs.declared.records.Declared.{Declared}
 use Rattle.hc_records.specs.declared.records.Slave.{Slave}
 use Rattle.hc_records.specs.Line.{Member, groups_of, line_from, present_slaves}
 use Rattle.hc_records.specs.Project.{lowest_fault}
 use Rattle.hc_index.specs.declared.addresses.Address.{Address}
+use Rattle.hc_index.specs.declared.aliases.Alias.{Alias}
 use Rattle.hc_index.specs.declared.seats.Seat.{Seat}
+
+-- the aliases of all declared groups, present or not, each with the group's number from 0, in declared order
+
+abbrev pub alias_of : ℕ × Declared → Alias
+alias_of numbered = record { alias = numbered.1.group.alias; group = numbered.0 }
+
+abbrev pub aliases : List Declared → List Alias
+aliases groups = map alias_of (enumerate_from 0 groups)
 
 -- the groups, as if each were present
 abbrev pub all_present : List Declared → List Declared
@@ -52,20 +62,23 @@ line_seats group rank blocks (declared ∷ rest) =
     seats_of group 0 rank blocks (present_slaves declared)
     ++ line_seats (group + 1) (rank + length declared.group.slaves) (blocks + block_sum (present_slaves declared)) rest
 
--- the station addresses with their ranks, in the order of the addresses; the seats of the line; and the number of its blocks
+-- the aliases with the numbers of their groups, in the order of the aliases; the station addresses with their ranks, in the
+-- order of the addresses; the seats of the line; and the number of its blocks
 pub record Index : Type 0 where
+  pub aliases : List Alias
   pub addresses : List Address
   pub seats : List Seat
   pub blocks : ℕ
 
--- the index has the addresses of the slaves that a project's groups declare
-pub record IsIndexOfSlaves (groups : List Declared) (index : Index) : Type 0 where
+-- the index has the aliases of a project's groups, and the addresses of the slaves that they declare
+pub record IsIndexOfDeclared (groups : List Declared) (index : Index) : Type 0 where
   pub project : lowest_fault (groups_of groups) ≡ None
+  pub aliases : IsPermutation (aliases groups) index.aliases
   pub addresses : IsPermutation (addresses groups) index.addresses
 
 -- the index is that of a project's groups
 pub record IsIndexOf (groups : List Declared) (index : Index) : Type 0 where
-  pub declared : IsIndexOfSlaves groups index
+  pub declared : IsIndexOfDeclared groups index
   pub seats : index.seats ≡ line_seats 0 1 0 groups
   pub blocks : index.blocks ≡ present_blocks groups
 

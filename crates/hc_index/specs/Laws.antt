@@ -6,13 +6,13 @@ use Rattle.hc_records.specs.declared.records.Declared.{Declared}
 use Rattle.hc_records.specs.Edits.{groups_after}
 use Rattle.hc_records.specs.Line.{groups_of}
 use Rattle.hc_records.specs.Project.{lowest_fault}
-use Rattle.hc_index.specs.Index.{Index, IsIndexOf, IsIndexOfSlaves}
+use Rattle.hc_index.specs.Index.{Index, IsIndexOf, IsIndexOfDeclared}
 
--- an edit leaves a project's groups what they declare: the station addresses stay, and their ranks
-abbrev pub EditsKeepAddresses : Type 0
-EditsKeepAddresses =
-    (groups : List Declared) (index : Index) (edit : Edit) → IsIndexOfSlaves groups index → lowest_fault (groups_of (groups_after groups edit)) ≡ None
-    → IsIndexOfSlaves (groups_after groups edit) index
+-- an edit leaves a project's groups what they declare: the aliases and the station addresses stay, with their numbers and ranks
+abbrev pub EditsKeepDeclared : Type 0
+EditsKeepDeclared =
+    (groups : List Declared) (index : Index) (edit : Edit) → IsIndexOfDeclared groups index → lowest_fault (groups_of (groups_after groups edit)) ≡ None
+    → IsIndexOfDeclared (groups_after groups edit) index
 
 -- other PDOs or another task change neither the slaves of the line nor how many blocks each has
 abbrev pub RemapsKeepIndexes : Type 0

@@ -2,9 +2,10 @@
 ghost use Rattle.std.specs.Prelude.{◌≡◌, None, IfOk};
 ghost use Rattle.hc_records.specs.Line.{groups_of};
 ghost use Rattle.hc_records.specs.Project.{lowest_fault};
-ghost use Rattle.hc_index.specs.Index.{IsIndexOf, IsIndexOfSlaves};
+ghost use Rattle.hc_index.specs.Index.{IsIndexOf, IsIndexOfDeclared};
 
 use crate::addresses::{Address, find_rank, sorted_addresses};
+use crate::aliases::{Alias, find_group, sorted_aliases};
 use crate::seats::{Seat, count_begun, find_seat, seat_line};
 use hc_records::records::{Declared, Slave};
 use std::alloc::{AllocError, Global};
@@ -43,9 +44,11 @@ impl<'a> LineSlave<'a> {
     }
 }
 
-/// What is kept of a project's declared groups to find their slaves and blocks.
+/// What is kept of a project's declared groups to find each by its alias, and their slaves and blocks.
 #[derive(Debug, Drop)]
 pub struct Index {
+    // of all declared groups, the lowest alias first
+    aliases: Vec<Alias>,
     // of all declared slaves, the lowest station address first
     addresses: Vec<Address>,
     // of the slaves of the line, in its order; there is room for all declared ones
@@ -61,9 +64,9 @@ impl Model for Index {
 
     ghost Value = { Index };
 
-    ghost view = { λ index. record { addresses = index.addresses.items; seats = index.seats.items; blocks = index.blocks } };
+    ghost view = { λ index. record { aliases = index.aliases.items; addresses = index.addresses.items; seats = index.seats.items; blocks = index.blocks } };
 
-    ghost invariant = { λ index. IsNonDecreasingBy (λ address. address.station) index.addresses.items × (length index.addresses.items ≤ vec_capacity index.seats) };
+    ghost invariant = { λ index. IsNonDecreasingBy (λ alias. alias.alias) index.aliases.items × IsNonDecreasingBy (λ address. address.station) index.addresses.items × (length index.addresses.items ≤ vec_capacity index.seats) };
 }
 
 impl Index {
@@ -72,20 +75,22 @@ impl Index {
         requires { lowest_fault (groups_of groups.now) ≡ None }
         ensures { IfOk result (IsIndexOf groups.now) }
     {
+        let aliases = sorted_aliases(alloc, groups)?;
         let addresses = sorted_addresses(alloc, groups)?;
         let mut seats = Vec::with_capacity(alloc, addresses.len())?;
         let blocks = seat_line(&mut seats, groups);
         Ok(Index {
+            aliases,
             addresses,
             seats,
             blocks,
         })
     }
 
-    /// Other groups of the slaves that it has the addresses of are present: it becomes the index of the
-    /// groups as they are now. It takes no memory.
+    /// Other groups of those that it has the aliases and the slaves' addresses of are present: it becomes
+    /// the index of the groups as they are now. It takes no memory.
     pub fn follow(&mut self, groups: &[Declared])
-        requires { IsIndexOfSlaves groups.now self.old }
+        requires { IsIndexOfDeclared groups.now self.old }
         ensures { IsIndexOf groups.now self.new }
     {
         self.seats.clear();
@@ -99,6 +104,7 @@ impl Index {
     {
         Indexed {
             groups,
+            aliases: self.aliases.as_slice(),
             addresses: self.addresses.as_slice(),
             seats: self.seats.as_slice(),
             blocks: self.blocks,
@@ -110,6 +116,7 @@ impl Index {
 #[derive(Debug, Drop)]
 pub struct Indexed<'a> {
     groups: &'a [Declared],
+    aliases: &'a [Alias],
     addresses: &'a [Address],
     seats: &'a [Seat],
     blocks: u32,
@@ -125,11 +132,11 @@ impl<'a> Model for Indexed<'a> {
 
     ghost view = { λ indexed. indexed.groups.now };
 
-    ghost invariant = { λ indexed. IsIndexOf indexed.groups.now (record { addresses = indexed.addresses.now; seats = indexed.seats.now; blocks = indexed.blocks }) × IsNonDecreasingBy (λ address. address.station) indexed.addresses.now };
+    ghost invariant = { λ indexed. IsIndexOf indexed.groups.now (record { aliases = indexed.aliases.now; addresses = indexed.addresses.now; seats = indexed.seats.now; blocks = indexed.blocks }) × IsNonDecreasingBy (λ alias. alias.alias) indexed.aliases.now × IsNonDecreasingBy (λ address. address.station) indexed.addresses.now };
 }
 
 impl<'a> Indexed<'a> {
-    ghost use Rattle.std.specs.Prelude.{◌≡◌, ◌<◌, IfSome, find, length, option_map, position, slice_get, sum_by};
+    ghost use Rattle.std.specs.Prelude.{◌≡◌, ◌==◌, ◌<◌, IfSome, find, length, option_map, position, slice_get, sum_by};
     ghost use Rattle.std.specs.List.{list_any};
     ghost use Rattle.hc_records.specs.Edits.{has_station};
     ghost use Rattle.hc_records.specs.Line.{is_at, line_from};
@@ -148,6 +155,15 @@ impl<'a> Indexed<'a> {
         ensures { result ≡ sum_by own_blocks (line_from 1 self.now) }
     {
         self.blocks
+    }
+
+    /// The number among the declared groups, from 0, of the one with an alias, present or not; none where
+    /// none has it.
+    pub fn group(&self, alias: u16) -> Option<usize>
+        ensures { result ≡ position (λ declared. declared.group.alias == alias) self.now }
+    {
+        let group = find_group(self.aliases, alias)?;
+        Some(usize::from(group))
     }
 
     /// Whether a slave with a station address is declared, present or not.

@@ -1,8 +1,9 @@
-//! Look-ups in a project's declared groups by an index, in place of a walk: a slave by its station
-//! address or its position in the line, a register block by its number. The plan keeps one.
+//! Look-ups in a project's declared groups by an index, in place of a walk: a group by its alias, a slave
+//! by its station address or its position in the line, a register block by its number. The plan keeps one.
 #![tactic(auto)]
 
 mod addresses;
+mod aliases;
 pub mod index;
 pub mod laws;
 mod seats;

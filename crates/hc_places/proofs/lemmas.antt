@@ -1,5 +1,7 @@
 -- What the crates above cite, a file a subject.
 pub mod Ascends
 pub mod Found
+pub mod Layouts
+pub mod Ranks
 pub mod Same
 pub mod Sorted

@@ -13,6 +13,8 @@ mod edits;
 #[cfg(test)]
 mod equal;
 #[cfg(test)]
+mod found;
+#[cfg(test)]
 mod layouts;
 #[cfg(test)]
 mod lines;

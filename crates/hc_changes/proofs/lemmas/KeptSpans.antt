@@ -18,7 +18,7 @@ use Rattle.hc_records.proofs.lemmas.KeyOrder.{before-other, other-sym, same_key-
 use Rattle.hc_records.proofs.lemmas.SettledSpans.{settled-stays}
 use Rattle.hc_records.proofs.lemmas.SpanCuts.{span-alone, span-begins}
 use Rattle.hc_records.proofs.lemmas.SpanDatagrams.{span-datagram}
-use Rattle.hc_changes.specs.Candidates.{begins_at, is_kept}
+use Rattle.hc_cuts.specs.Keeping.{begins_at, is_kept}
 
 -- an element that stands at an index is contained
 pub at-contained : {X : Type 0} (xs : List X) (i : ℕ) (x : X) → slice_get xs i ≡ Some x → Contains xs x

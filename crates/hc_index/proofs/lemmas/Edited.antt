@@ -1,6 +1,7 @@
--- Edits leave the station addresses and the number of each slave's areas as they are.
+-- Edits leave the aliases, the station addresses and the number of each slave's areas as they are.
 use Rattle.std.proofs.Common.{◌≡◌, ℕ, zero, suc, ◌+◌, ◌*◌, ◌==◌, Bool, true, false, List, [], ◌∷◌, ◌++◌, length, refl, sym, ap, subst, ◌∙◌, if◌then◌else◌}
 use Rattle.std.specs.Prelude.{None, map}
+use Rattle.std.specs.List.{enumerate_from}
 use Rattle.std.specs.List.Sorted.{IsPermutation}
 use Rattle.std.proofs.lemmas.List.{length-map}
 use Rattle.std.proofs.lemmas.List.Sums.{sum_by-cons}
@@ -15,10 +16,22 @@ use Rattle.hc_records.specs.Line.{groups_of, present_slaves}
 use Rattle.hc_records.specs.Lists.{changed_at}
 use Rattle.hc_records.specs.Project.{lowest_fault}
 use Rattle.hc_index.specs.declared.addresses.Address.{Address}
+use Rattle.hc_index.specs.declared.aliases.Alias.{Alias}
 use Rattle.hc_index.specs.declared.seats.Seat.{Seat}
-use Rattle.hc_index.specs.Index.{Index, IsIndexOf, addresses, block_sum, blocks_of, line_seats, present_blocks, seats_of}
-use Rattle.hc_index.specs.Laws.{EditsKeepAddresses, MovesKeepIndexes, RemapsKeepIndexes}
+use Rattle.hc_index.specs.Index.{Index, IsIndexOf, alias_of, aliases, addresses, block_sum, blocks_of, line_seats, present_blocks, seats_of}
+use Rattle.hc_index.specs.Laws.{EditsKeepDeclared, MovesKeepIndexes, RemapsKeepIndexes}
 use Rattle.hc_index.proofs.Declaring.{addresses-group, addresses_from, own_addresses}
+
+-- a change of a declared group keeps its alias
+
+abbrev KeepsAlias : (Declared → Declared) → Type 0
+KeepsAlias change = (declared : Declared) → (change declared).group.alias ≡ declared.group.alias
+
+aliases-kept : (change : Declared → Declared) → KeepsAlias change → (group : ℕ) (groups : List Declared) → map alias_of (enumerate_from group (map change groups)) ≡ map alias_of (enumerate_from group groups)
+aliases-kept change keeps group [] = refl
+aliases-kept change keeps group (declared ∷ groups) =
+    ap (λ (alias : ℕ). (record { alias = alias; group = group }) ∷ map alias_of (enumerate_from (group + 1) (map change groups))) (keeps declared)
+    ∙ ap (λ (behind : List Alias). (record { alias = declared.group.alias; group = group }) ∷ behind) (aliases-kept change keeps (group + 1) groups)
 
 -- a change of a declared group keeps the addresses of its slaves
 record KeepsAddresses (change : Declared → Declared) : Type 0 where
@@ -48,6 +61,9 @@ presence-keeps alias present =
       addresses = λ rank declared. ap (λ (group : Group). own_addresses rank group.slaves) (same-group present (declared.group.alias == alias) declared);
       count = λ declared. ap (λ (group : Group). length group.slaves) (same-group present (declared.group.alias == alias) declared);
     }
+
+presence-names : (alias : ℕ) (present : Bool) → KeepsAlias (with_presence alias present)
+presence-names alias present declared = ap (λ (group : Group). group.alias) (same-group present (declared.group.alias == alias) declared)
 
 -- an area changed
 
@@ -98,9 +114,26 @@ edit-keeps groups (Move station area task) =
     let change = with_area station area (λ a. record a { task = task }) in
     addresses-kept (with_slaves change) (slaves-keep change (area-keeps station area (λ a. record a { task = task }))) 1 groups
 
-pub kept-addresses : EditsKeepAddresses
-kept-addresses groups index edit is none =
-    record { project = none; addresses = subst (λ (all : List Address). IsPermutation all index.addresses) (sym (edit-keeps groups edit)) is.addresses }
+slaves-name : (change : Slave → Slave) → KeepsAlias (with_slaves change)
+slaves-name change declared = refl
+
+edit-names : (groups : List Declared) (edit : Edit) → aliases (groups_after groups edit) ≡ aliases groups
+edit-names groups (Connect alias) = aliases-kept (with_presence alias true) (presence-names alias true) 0 groups
+edit-names groups (Disconnect alias) = aliases-kept (with_presence alias false) (presence-names alias false) 0 groups
+edit-names groups (Remap station area pdos) =
+    let change = with_area station area (λ a. record a { assigned = pdos }) in
+    aliases-kept (with_slaves change) (slaves-name change) 0 groups
+edit-names groups (Move station area task) =
+    let change = with_area station area (λ a. record a { task = task }) in
+    aliases-kept (with_slaves change) (slaves-name change) 0 groups
+
+pub kept-declared : EditsKeepDeclared
+kept-declared groups index edit is none =
+    record {
+      project = none;
+      aliases = subst (λ (all : List Alias). IsPermutation all index.aliases) (sym (edit-names groups edit)) is.aliases;
+      addresses = subst (λ (all : List Address). IsPermutation all index.addresses) (sym (edit-keeps groups edit)) is.addresses;
+    }
 
 -- the seats of the line, where areas change alone
 
@@ -150,6 +183,7 @@ index-kept change keeps groups index is none =
     record {
       declared = record {
         project = none;
+        aliases = subst (λ (all : List Alias). IsPermutation all index.aliases) (sym (aliases-kept (with_slaves change) (slaves-name change) 0 groups)) is.declared.aliases;
         addresses = subst (λ (all : List Address). IsPermutation all index.addresses) (sym (addresses-kept (with_slaves change) (slaves-keep change keeps) 1 groups)) is.declared.addresses;
       };
       seats = is.seats ∙ sym (line-kept change keeps 0 1 0 groups);

@@ -8,7 +8,7 @@ pub seat_line-self-inside-requires-clause-room : goal.seat_line-self-inside-requ
 seat_line-self-inside-requires-clause-room c =
     let many = room-for c.args.groups.now c.args.self.now c.requires in
     let same = ap (λ (i : Index). length i.addresses) c.self.view_is in
-    let room = c.self.invariant.1 in
+    let room = c.self.invariant.2 in
     omega (arith, many, same, room, c.clear.ensures.capacity)
 
 pub seat_line-self-inside-requires-clause-counted : goal.seat_line-self-inside-requires-clause-counted

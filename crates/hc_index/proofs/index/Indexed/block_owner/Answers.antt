@@ -11,7 +11,7 @@ use Rattle.hc_index.proofs.index.Indexed.block_owner.Goals as goal
 
 pub returns-then-n-self : goal.returns-then-n-self
 returns-then-n-self c =
-    let index : Index = record { addresses = c.self.inside.addresses.now; seats = c.self.inside.seats.now; blocks = c.self.inside.blocks } in
+    let index : Index = record { aliases = c.self.inside.aliases.now; addresses = c.self.inside.addresses.now; seats = c.self.inside.seats.now; blocks = c.self.inside.blocks } in
     let is = subst (λ (g : List Declared). IsIndexOf g index) c.self.view_is c.self.invariant.0 in
     let sum = line-sum 1 c.args.self.now in
     let total = is.blocks in
@@ -22,14 +22,14 @@ count_begun-requires c = fronts-rise c.self.inside.groups.now _ c.self.invariant
 
 pub overflow_sub-count_begun : goal.overflow_sub-count_begun
 overflow_sub-count_begun c =
-    let index : Index = record { addresses = c.self.inside.addresses.now; seats = c.self.inside.seats.now; blocks = c.self.inside.blocks } in
+    let index : Index = record { aliases = c.self.inside.aliases.now; addresses = c.self.inside.addresses.now; seats = c.self.inside.seats.now; blocks = c.self.inside.blocks } in
     let is = subst (λ (g : List Declared). IsIndexOf g index) c.self.view_is c.self.invariant.0 in
     let own = owning c.args.self.now index c.args.n c.count_begun.result is c.if-n-self.false c.count_begun.ensures.parted c.count_begun.ensures.bound in
     own.some
 
 pub returns-in_err-seat : goal.returns-in_err-seat
 returns-in_err-seat c =
-    let index : Index = record { addresses = c.self.inside.addresses.now; seats = c.self.inside.seats.now; blocks = c.self.inside.blocks } in
+    let index : Index = record { aliases = c.self.inside.aliases.now; addresses = c.self.inside.addresses.now; seats = c.self.inside.seats.now; blocks = c.self.inside.blocks } in
     let is = subst (λ (g : List Declared). IsIndexOf g index) c.self.view_is c.self.invariant.0 in
     let own = owning c.args.self.now index c.args.n c.count_begun.result is c.if-n-self.false c.count_begun.ensures.parted c.count_begun.ensures.bound in
     let none : slice_get index.seats (c.count_begun.result - 1) ≡ None = grind (arith, common_steps, gets) in
@@ -38,7 +38,7 @@ returns-in_err-seat c =
 
 pub returns-in_err-slave : goal.returns-in_err-slave
 returns-in_err-slave c =
-    let index : Index = record { addresses = c.self.inside.addresses.now; seats = c.self.inside.seats.now; blocks = c.self.inside.blocks } in
+    let index : Index = record { aliases = c.self.inside.aliases.now; addresses = c.self.inside.addresses.now; seats = c.self.inside.seats.now; blocks = c.self.inside.blocks } in
     let is = subst (λ (g : List Declared). IsIndexOf g index) c.self.view_is c.self.invariant.0 in
     let own = owning c.args.self.now index c.args.n c.count_begun.result is c.if-n-self.false c.count_begun.ensures.parted c.count_begun.ensures.bound in
     let seat = c.in_ok-seat.field-0.now in
@@ -50,7 +50,7 @@ returns-in_err-slave c =
 
 pub overflow_sub-number : goal.overflow_sub-number
 overflow_sub-number c =
-    let index : Index = record { addresses = c.self.inside.addresses.now; seats = c.self.inside.seats.now; blocks = c.self.inside.blocks } in
+    let index : Index = record { aliases = c.self.inside.aliases.now; addresses = c.self.inside.addresses.now; seats = c.self.inside.seats.now; blocks = c.self.inside.blocks } in
     let is = subst (λ (g : List Declared). IsIndexOf g index) c.self.view_is c.self.invariant.0 in
     let own = owning c.args.self.now index c.args.n c.count_begun.result is c.if-n-self.false c.count_begun.ensures.parted c.count_begun.ensures.bound in
     let seat = c.in_ok-seat.field-0.now in
@@ -59,7 +59,7 @@ overflow_sub-number c =
 
 pub overflow_cast-result : goal.overflow_cast-result
 overflow_cast-result c =
-    let index : Index = record { addresses = c.self.inside.addresses.now; seats = c.self.inside.seats.now; blocks = c.self.inside.blocks } in
+    let index : Index = record { aliases = c.self.inside.aliases.now; addresses = c.self.inside.addresses.now; seats = c.self.inside.seats.now; blocks = c.self.inside.blocks } in
     let is = subst (λ (g : List Declared). IsIndexOf g index) c.self.view_is c.self.invariant.0 in
     let own = owning c.args.self.now index c.args.n c.count_begun.result is c.if-n-self.false c.count_begun.ensures.parted c.count_begun.ensures.bound in
     let seat = c.in_ok-seat.field-0.now in
@@ -69,7 +69,7 @@ overflow_cast-result c =
 
 pub returns : goal.returns
 returns c =
-    let index : Index = record { addresses = c.self.inside.addresses.now; seats = c.self.inside.seats.now; blocks = c.self.inside.blocks } in
+    let index : Index = record { aliases = c.self.inside.aliases.now; addresses = c.self.inside.addresses.now; seats = c.self.inside.seats.now; blocks = c.self.inside.blocks } in
     let is = subst (λ (g : List Declared). IsIndexOf g index) c.self.view_is c.self.invariant.0 in
     let own = owning c.args.self.now index c.args.n c.count_begun.result is c.if-n-self.false c.count_begun.ensures.parted c.count_begun.ensures.bound in
     let seat = c.in_ok-seat.field-0.now in

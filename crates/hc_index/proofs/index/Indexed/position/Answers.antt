@@ -6,7 +6,7 @@ use Rattle.hc_index.proofs.index.Indexed.position.Goals as goal
 
 pub returns-in_err-rank-clause-value : goal.returns-in_err-rank-clause-value
 returns-in_err-rank-clause-value c =
-    let index : Index = record { addresses = c.self.inside.addresses.now; seats = c.self.inside.seats.now; blocks = c.self.inside.blocks } in
+    let index : Index = record { aliases = c.self.inside.aliases.now; addresses = c.self.inside.addresses.now; seats = c.self.inside.seats.now; blocks = c.self.inside.blocks } in
     let is = subst (λ (g : List Declared). IsIndexOf g index) c.self.view_is c.self.invariant.0 in
     c.from_residual.ensures ∙ sym (position-unknown c.args.self.now index c.args.station is c.in_err-rank.ensures)
 
@@ -15,7 +15,7 @@ find_seat-requires c = seats-ascend c.self.inside.groups.now _ c.self.invariant.
 
 pub returns-clause-value : goal.returns-clause-value
 returns-clause-value c =
-    let index : Index = record { addresses = c.self.inside.addresses.now; seats = c.self.inside.seats.now; blocks = c.self.inside.blocks } in
+    let index : Index = record { aliases = c.self.inside.aliases.now; addresses = c.self.inside.addresses.now; seats = c.self.inside.seats.now; blocks = c.self.inside.blocks } in
     let is = subst (λ (g : List Declared). IsIndexOf g index) c.self.view_is c.self.invariant.0 in
     position-is c.args.self.now index c.args.station c.in_ok-rank.rank c.find_seat.result is c.in_ok-rank.ensures c.find_seat.ensures
 

@@ -8,8 +8,8 @@ use Rattle.hc_records.specs.Line.{IsCounted, State, line_from}
 use Rattle.hc_records.specs.Project.{lowest_fault}
 use Rattle.hc_records.proofs.lemmas.Slaves.{project-counted}
 use Rattle.hc_edits.specs.Edits.{own_fault}
-use Rattle.hc_index.specs.Index.{IsIndexOf, IsIndexOfSlaves}
-use Rattle.hc_index.proofs.lemmas.Edited.{kept-addresses}
+use Rattle.hc_index.specs.Index.{IsIndexOf, IsIndexOfDeclared}
+use Rattle.hc_index.proofs.lemmas.Edited.{kept-declared}
 use Rattle.hc_edits.proofs.lemmas.Refusals.{own-refuses}
 use Rattle.hc_places.specs.Layout.{layout_of}
 use Rattle.hc_places.specs.Table.{table_of}
@@ -57,9 +57,9 @@ follow-requires c =
     let project = subst (λ (g : List Declared). lowest_fault (map (λ declared. declared.group) g) ≡ None) (sym c.as_slice-2.ensures) c.self.invariant.0.project in
     let none = judged c.as_slice.result.now c.as_slice-2.result.now edit c.own_fault.result (c.as_slice.ensures ∙ sym c.as_slice-2.ensures) c.own_fault.ensures ∙ c.in_default.is in
     let after = c.in_ok-groups.ensures.value ∙ ap (λ (g : List Declared). groups_after g edit) c.as_slice-2.ensures in
-    let kept = kept-addresses c.self.inside.groups c.self.inside.index edit c.self.invariant.3.declared
+    let kept = kept-declared c.self.inside.groups c.self.inside.index edit c.self.invariant.3.declared
     (subst (λ (g : List Declared). lowest_fault (map (λ declared. declared.group) g) ≡ None) after (c.in_ok-groups.ensures.kept project none)) in
-    subst (λ (g : List Declared). IsIndexOfSlaves g c.self.inside.index) (sym (c.as_slice-5.ensures ∙ after)) kept
+    subst (λ (g : List Declared). IsIndexOfDeclared g c.self.inside.index) (sym (c.as_slice-5.ensures ∙ after)) kept
 
 pub invariant_of-self-2 : goal.invariant_of-self-2
 invariant_of-self-2 c =

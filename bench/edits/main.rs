@@ -1,0 +1,212 @@
+//! Edits of a plan, timed against plain Rust that does the same and against the configuring of the same line from
+//! nothing, in one run: on lines of 64, 512 and 2,048 slaves with eight areas of 11 bytes in eight tasks.
+//!
+//! A turn plays rounds of edits in the library, and in plain Rust before it and behind it. Each edit of a round has one
+//! that takes it back, and behind all of them the line is configured. What is printed is ratios: to the configuring in
+//! the same round, medians over all rounds, and to plain Rust, medians over the turns of the ratios of medians; and how
+//! often memory grew.
+//!
+//! Words after the program's name: `few` for a short run, any other one for the edits whose names have it.
+
+mod asked;
+mod drawn;
+mod growths;
+mod line;
+mod plain;
+mod told;
+
+use asked::{Asked, CONFIGURE, Round, WHOLE, joining, played};
+use plain::{Group, Plan, Report};
+use std::hint::black_box;
+use std::time::Instant;
+
+const SLAVES: [usize; 3] = [64, 512, 2048];
+
+// What is handed over are slices, each by its first element and its length.
+unsafe extern "C" {
+    fn edits_told(
+        text: *const u8, size: usize, asked: *const Asked, count: usize, told: *mut u64, told_count: usize,
+    ) -> usize;
+    fn edits_timed(
+        text: *const u8, size: usize, asked: *const Asked, count: usize, times: *mut u64, time_count: usize,
+    ) -> usize;
+}
+
+/// A line, and what is played on it.
+struct Line {
+    slaves: usize,
+    groups: Vec<Group>,
+    text: String,
+    round: Round,
+}
+
+impl Line {
+    fn new(slaves: usize) -> Line {
+        let groups = line::line(slaves);
+        let text = line::text(&groups);
+        Line { slaves, groups, text, round: asked::round(slaves) }
+    }
+
+    /// What joins the line, and then so many rounds.
+    fn asked(&self, rounds: usize) -> Vec<Asked> {
+        [joining(&self.groups), self.round.asked.repeat(rounds)].concat()
+    }
+}
+
+/// Stops the benchmark where the library tells otherwise than plain Rust.
+fn compare(name: &str, groups: &[Group], asked: &[Asked]) {
+    let text = line::text(groups);
+    let mut plan = Plan::new(groups);
+    let told: Vec<u64> = asked.iter().map(|one| one.told_by(&mut plan)).collect();
+    let mut found = vec![0; told.len()];
+    let (start, size) = (text.as_ptr(), text.len());
+    let count = unsafe { edits_told(start, size, asked.as_ptr(), asked.len(), found.as_mut_ptr(), found.len()) };
+    assert_eq!(count, told.len(), "{name}: not all was played");
+    if let Some(place) = (0..count).find(|place| found[*place] != told[*place]) {
+        panic!("{name}: number {place}, {:?}, is answered otherwise", asked[place]);
+    }
+}
+
+fn compare_drawn(count: usize) {
+    for seed in 0..4 {
+        let groups = drawn::line(seed, 60);
+        compare(&format!("drawn edits {seed}"), &groups, &drawn::edits(seed, &groups, count));
+    }
+}
+
+fn compare_line(line: &Line) {
+    let mut asked = line.asked(1);
+    asked.retain(|one| one.kind != CONFIGURE);
+    asked.push(Asked { kind: WHOLE, ..Asked::default() });
+    compare("the line", &line.groups, &asked);
+}
+
+/// The library's times, a row of the round's for each round.
+fn proved(line: &Line, rounds: usize) -> Vec<Vec<u64>> {
+    let (text, asked) = (&line.text, line.asked(rounds));
+    let mut times = vec![0; asked.len()];
+    let count =
+        unsafe { edits_timed(text.as_ptr(), text.len(), asked.as_ptr(), asked.len(), times.as_mut_ptr(), times.len()) };
+    assert_eq!(count, times.len(), "not all was played");
+    assert!(times.iter().all(|time| *time < u64::MAX), "a refused edit");
+    let own = &times[times.len() - rounds * line.round.asked.len()..];
+    own.chunks(line.round.asked.len()).map(<[u64]>::to_vec).collect()
+}
+
+/// The same of plain Rust; it configures nothing.
+fn plain(line: &Line, rounds: usize) -> Vec<Vec<u64>> {
+    let mut plan = Plan::new(&line.groups);
+    played(&mut plan, &joining(&line.groups));
+    let edits: Vec<_> = line.round.asked.iter().filter_map(Asked::edit).collect();
+    let mut once = || -> Vec<u64> {
+        let timed = edits.iter().map(|edit| {
+            let begun = Instant::now();
+            let report = plan.apply(black_box(edit));
+            let time = begun.elapsed();
+            assert!(black_box(report).is_ok(), "a refused edit");
+            time.as_nanos() as u64
+        });
+        timed.collect()
+    };
+    (0..rounds).map(|_| once()).collect()
+}
+
+fn median(mut values: Vec<f64>) -> f64 {
+    values.sort_by(f64::total_cmp);
+    values.get(values.len() / 2).copied().unwrap_or(f64::NAN)
+}
+
+/// The rounds of a turn, of the library and of plain Rust before it and behind it.
+struct Turn {
+    proved: Vec<Vec<u64>>,
+    before: Vec<Vec<u64>>,
+    behind: Vec<Vec<u64>>,
+}
+
+struct Times(Vec<Turn>);
+
+impl Times {
+    fn of(line: &Line, turns: usize, rounds: usize) -> Times {
+        let plain = || plain(line, 4 * rounds);
+        Times((0..turns).map(|_| Turn { before: plain(), proved: proved(line, rounds), behind: plain() }).collect())
+    }
+
+    /// What edits cost of a configuring in the same round.
+    fn to_configure(&self, edits: &[usize]) -> f64 {
+        let rounds = self.0.iter().flat_map(|turn| &turn.proved);
+        median(rounds.flat_map(|row| edits.iter().map(|edit| row[*edit] as f64 / row[row.len() - 1] as f64)).collect())
+    }
+
+    /// The median over the turns of what is found of the times of the library and of plain Rust, before and behind.
+    fn over_turns(&self, edits: &[usize], find: impl Fn(f64, f64, f64) -> f64) -> f64 {
+        let found = |turn: &Turn| find(of(&turn.proved, edits), of(&turn.before, edits), of(&turn.behind, edits));
+        median(self.0.iter().map(found).collect())
+    }
+}
+
+/// The median time of edits over rounds; none is timed of plain Rust where the line is configured.
+fn of(rounds: &[Vec<u64>], edits: &[usize]) -> f64 {
+    median(
+        rounds.iter().flat_map(|row| edits.iter().filter_map(|edit| row.get(*edit)).map(|time| *time as f64)).collect(),
+    )
+}
+
+/// How often memory grew in each part of a round, in the library and in plain Rust: in the second round of two.
+fn growths(line: &Line) -> [Vec<u64>; 2] {
+    growths::counted(|| [proved(line, 2), plain(line, 2)].map(|rounds| rounds.concat().split_off(rounds[0].len())))
+}
+
+fn listed(numbers: impl Iterator<Item = u64>) -> String {
+    let mut numbers: Vec<u64> = numbers.collect();
+    numbers.dedup();
+    numbers.iter().map(u64::to_string).collect::<Vec<_>>().join(", ")
+}
+
+/// Prints the rows of a line.
+fn tell(line: &Line, times: &Times, is_wanted: impl Fn(&str) -> bool) {
+    let mut plan = Plan::new(&line.groups);
+    played(&mut plan, &joining(&line.groups));
+    let reports = played(&mut plan, &line.round.asked);
+    let (slaves, [own, plain]) = (line.slaves, growths(line));
+    let configured = line.round.asked.len() - 1;
+    for case in line.round.cases.iter().filter(|case| is_wanted(case.name)) {
+        let told = |tell: fn(&Report) -> u32| listed(case.edits.iter().map(|edit| tell(&reports[*edit]).into()));
+        let grown = |growths: &[u64]| listed(case.edits.iter().map(|edit| growths[*edit]));
+        let (moved, recut) = (told(|report| report.moved), told(|report| report.recut));
+        let to_configure = times.to_configure(&case.edits);
+        let to_plain = times.over_turns(&case.edits, |own, before, behind| 2.0 * own / (before + behind));
+        let to_itself = times.over_turns(&case.edits, |_, before, behind| behind / before);
+        let apart = if (0.9..=1.1).contains(&to_itself) { "" } else { " (plain Rust differs from itself)" };
+        let (own, plain) = (grown(&own), grown(&plain));
+        print!("| {} | {} | {slaves} | {moved} | {recut} | {to_configure:.4} ", case.class, case.name);
+        println!("| {to_plain:.1}{apart} | {own} | {plain} |");
+        tell_nanoseconds(case.name, slaves, times, &case.edits);
+    }
+    println!("| | `configure` | {slaves} | | | 1 | | {} | |", own[configured]);
+    tell_nanoseconds("configure", slaves, times, &[configured]);
+}
+
+fn tell_nanoseconds(name: &str, slaves: usize, times: &Times, edits: &[usize]) {
+    if std::env::var_os("NANOSECONDS").is_some() {
+        let proved = times.over_turns(edits, |own, _, _| own);
+        let plain = times.over_turns(edits, |_, before, behind| (before + behind) / 2.0);
+        eprintln!("{name}, {slaves}: {proved:.0}, plain {plain:.0}");
+    }
+}
+
+fn main() {
+    let words: Vec<String> = std::env::args().skip(1).collect();
+    let few = words.iter().any(|word| word == "few");
+    let is_wanted = |name: &str| words.iter().all(|word| word == "few" || name.contains(word.as_str()));
+    compare_drawn(if few { 200 } else { 2000 });
+    println!(
+        "| | Edit | Slaves | Blocks moved | Spans recut | To `configure` | To plain Rust | Growths | Of plain Rust |"
+    );
+    println!("|---|---|---|---|---|---|---|---|---|");
+    for slaves in SLAVES {
+        let line = Line::new(slaves);
+        compare_line(&line);
+        let times = Times::of(&line, if few { 1 } else { 5 }, if few { 3 } else { 11 });
+        tell(&line, &times, is_wanted);
+    }
+}

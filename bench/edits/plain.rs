@@ -1,0 +1,213 @@
+//! The same plan in plain Rust, written for speed. What an edit asks of an area stands in one array of small records,
+//! the areas of a task in one sorted array, and the rows in another. An edit changes the records, packs the spans anew
+//! that it touches, marks the blocks and areas that became different, and tells of the marks.
+
+#[path = "edits.rs"]
+mod edits;
+#[allow(dead_code)]
+#[path = "../core/layout.rs"]
+pub mod layout;
+#[path = "repair.rs"]
+mod repair;
+#[path = "rows.rs"]
+mod rows;
+
+use layout::{Area, Block, Pdo, Place, Slave, Table, fmmu_block, sync_block};
+use repair::{Key, Placed, Task};
+pub use rows::{Change, Row};
+use std::ops::Range;
+
+const AREAS: usize = 8;
+const TASKS: usize = 8;
+
+/// The slaves that come and go together; those of the first group, with alias 0, stay.
+#[derive(Clone)]
+pub struct Group {
+    pub alias: u16,
+    pub slaves: Vec<Slave>,
+}
+
+#[derive(Clone, Debug)]
+pub enum Edit {
+    Connect(u16),
+    Disconnect(u16),
+    Remap { station: u16, area: u8, pdos: Vec<u16> },
+    Move { station: u16, area: u8, task: u8 },
+}
+
+/// The number of a fault, and the task that is named where a task would need more than 16 datagrams.
+pub type Fault = (u8, u8);
+
+/// What an edit did, as the library's report tells it.
+#[allow(dead_code)]
+pub struct Report {
+    pub epoch: u32,
+    pub recut: u32,
+    pub moved: u32,
+    pub edit: Edit,
+    pub tasks: Vec<(u8, Table)>,
+    pub rows: Vec<Change>,
+    pub blocks: Vec<(u16, u8)>,
+}
+
+/// An area: where it stands, and where its assigned entries do among those of all areas.
+#[derive(Clone, Copy, Default)]
+pub struct Spot {
+    width: u16,
+    bit: u16,
+    phys: u16,
+    datagram: u8,
+    task: u8,
+    sm: u8,
+    is_input: bool,
+    count: u16,
+    first: u32,
+}
+
+/// A declared group: its slaves, from one place to another.
+struct Declared {
+    slaves: Range<usize>,
+    is_present: bool,
+}
+
+struct Owner {
+    station: u16,
+    areas: u8,
+    group: u16,
+}
+
+pub struct Plan {
+    groups: Vec<Declared>,
+    /// The group with an alias; no group has the number 65,535.
+    aliases: Vec<u16>,
+    slaves: Vec<Owner>,
+    /// The slave with a station address; no slave has the number 65,535.
+    stations: Vec<u16>,
+    /// Eight for each slave.
+    spots: Vec<Spot>,
+    offered: Vec<Vec<Pdo>>,
+    entries: Vec<(u32, u8)>,
+    tasks: Vec<Task>,
+    rows: Vec<Row>,
+    epoch: u32,
+    /// What the repairs of an edit place.
+    placed: Vec<Placed>,
+    /// The areas of a group, by task and direction.
+    keys: Vec<Vec<Key>>,
+    /// The slaves with marks: of each its blocks that moved, and its areas that stand elsewhere.
+    marked: Range<usize>,
+    moved: Vec<u16>,
+    shifted: Vec<u8>,
+}
+
+fn pdo_of(offered: &[Pdo], index: u16) -> Option<&Pdo> {
+    offered.iter().find(|pdo| pdo.index == index)
+}
+
+/// Tells of each variable of an area where it stands.
+fn each_row(spot: &Spot, entries: &[(u32, u8)], mut tell: impl FnMut(u32, Place)) {
+    let (task, datagram, is_out) = (spot.task, spot.datagram, !spot.is_input);
+    let mut bit = spot.bit;
+    for (variable, bits) in &entries[spot.first as usize..][..usize::from(spot.count)] {
+        if *variable != 0 {
+            tell(*variable, Place { task, datagram, bit, bits: *bits, is_out });
+        }
+        bit += u16::from(*bits);
+    }
+}
+
+impl Plan {
+    /// The plan at its opening: the first group alone is present.
+    pub fn new(groups: &[Group]) -> Plan {
+        let count = groups.iter().map(|group| group.slaves.len()).sum();
+        let mut plan = Plan {
+            groups: Vec::new(),
+            aliases: vec![u16::MAX; 65_536],
+            slaves: Vec::new(),
+            stations: vec![u16::MAX; 65_536],
+            spots: vec![Spot::default(); AREAS * count],
+            offered: vec![Vec::new(); AREAS * count],
+            entries: Vec::new(),
+            tasks: (0..TASKS as u8).map(Task::new).collect(),
+            rows: Vec::new(),
+            epoch: 0,
+            placed: Vec::new(),
+            keys: vec![Vec::new(); 2 * TASKS],
+            marked: 0..0,
+            moved: vec![0; count],
+            shifted: vec![0; count],
+        };
+        groups.iter().for_each(|group| plan.declare(group));
+        plan.open();
+        plan
+    }
+
+    fn declare(&mut self, group: &Group) {
+        let number = self.groups.len() as u16;
+        let first = self.slaves.len();
+        for slave in &group.slaves {
+            let place = self.slaves.len();
+            self.stations[usize::from(slave.station)] = place as u16;
+            self.slaves.push(Owner { station: slave.station, areas: slave.areas.len() as u8, group: number });
+            for (spot, area) in (AREAS * place..).zip(&slave.areas) {
+                self.declare_area(spot, area);
+            }
+        }
+        let slaves = first..self.slaves.len();
+        self.groups.push(Declared { slaves, is_present: false });
+        self.aliases[usize::from(group.alias)] = number;
+    }
+
+    /// The entries of an area have room for all that it offers.
+    fn declare_area(&mut self, spot: usize, area: &Area) {
+        let (phys, task, sm, is_input) = (area.phys, area.task, area.sm, !area.is_out);
+        let first = self.entries.len() as u32;
+        let room: usize = area.offered.iter().map(|pdo| pdo.entries.len()).sum();
+        self.entries.resize(self.entries.len() + room, (0, 0));
+        self.spots[spot] = Spot { phys, task, sm, is_input, first, ..Spot::default() };
+        self.offered[spot].clone_from(&area.offered);
+        self.assign(spot, &area.assigned);
+    }
+
+    /// The area gets these PDOs, which it offers.
+    fn assign(&mut self, spot: usize, pdos: &[u16]) {
+        let own = &mut self.spots[spot];
+        (own.count, own.width) = (0, 0);
+        for index in pdos {
+            let pdo = pdo_of(&self.offered[spot], *index).expect("an offered PDO");
+            for entry in &pdo.entries {
+                self.entries[own.first as usize + usize::from(own.count)] = *entry;
+                own.count += 1;
+                own.width += u16::from(entry.1);
+            }
+        }
+    }
+
+    pub fn epoch(&self) -> u32 {
+        self.epoch
+    }
+
+    pub fn rows(&self) -> &[Row] {
+        &self.rows
+    }
+
+    pub fn table(&self, task: u8) -> &Table {
+        self.tasks[usize::from(task)].table()
+    }
+
+    /// Tells of each block of the line: its slave's station address, its number and its bytes.
+    pub fn each_block(&self, mut tell: impl FnMut(u16, u8, &Block)) {
+        for (place, slave) in self.slaves.iter().enumerate() {
+            if !self.groups[usize::from(slave.group)].is_present {
+                continue;
+            }
+            for (number, spot) in (0..slave.areas).zip(&self.spots[AREAS * place..]) {
+                let Spot { width, bit, phys, datagram, task, sm, is_input, .. } = *spot;
+                let (offered, assigned) = (Vec::new(), Vec::new());
+                let area = Area { is_out: !is_input, sm, phys, task, offered, assigned, width, datagram, bit };
+                tell(slave.station, 2 * number, &sync_block(&area));
+                tell(slave.station, 2 * number + 1, &fmmu_block(number, &area));
+            }
+        }
+    }
+}
