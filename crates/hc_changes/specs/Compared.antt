@@ -6,14 +6,14 @@ use Rattle.hc_registers.specs.Blocks.{LineBlock, same_block}
 use Rattle.hc_changes.specs.Candidates.{LineArea, blocks_of}
 
 -- the area of a line that stands where another does: at its index in the slave with its slave's rank; none where the line lacks that slave
-abbrev pub area_in : List Member → LineArea → Option LineArea
-area_in line found =
+abbrev pub counterpart : List Member → LineArea → Option LineArea
+counterpart line found =
     option_and_then (λ member. option_map (λ area. record { member = member; index = found.index; area = area }) (slice_get member.slave.areas found.index))
     (find (λ member. member.rank == found.member.rank) line)
 
 -- its two blocks, which have the numbers of the other's
 abbrev pub blocks_in : List Member → LineArea → List LineBlock
-blocks_in line found = option_map_or (blocks_of line) (area_in line found) []
+blocks_in line found = option_map_or (blocks_of line) (counterpart line found) []
 
 -- the blocks of a list that aren't the same as those in their places in another list
 abbrev pub unlike : List LineBlock → List LineBlock → List LineBlock

@@ -65,20 +65,22 @@ NumbersTellTheMoved =
     → Contains (line_areas (line_from 1 (groups_after groups edit))) found
     → moved_of (line_from 1 groups) (line_from 1 (groups_after groups edit)) found ≡ differing_of (line_from 1 groups) (line_from 1 (groups_after groups edit)) found
 
--- so the blocks that an edit moved are those of the candidates that differ from the old line's blocks with their numbers
+-- so the blocks that an edit moved are those of the candidates, by any ranks at which alone its lines differ, that differ from the old line's blocks with their numbers
 abbrev pub MovedBlocksAreCompared : Type 0
 MovedBlocksAreCompared =
-    (groups : List Declared) (edit : Edit) → lowest_fault (groups_of groups) ≡ None → lowest_fault (groups_of (groups_after groups edit)) ≡ None
+    (changed : ℕ → Bool) (groups : List Declared) (edit : Edit) → lowest_fault (groups_of groups) ≡ None → lowest_fault (groups_of (groups_after groups edit)) ≡ None
+    → DifferAt changed (line_from 1 groups) (line_from 1 (groups_after groups edit))
     → moved_blocks (line_from 1 groups) (line_from 1 (groups_after groups edit))
     ≡ flat_map (differing_of (line_from 1 groups) (line_from 1 (groups_after groups edit)))
-    (candidates (is_named groups edit) (line_from 1 groups) (line_from 1 (groups_after groups edit)))
+    (candidates changed (line_from 1 groups) (line_from 1 (groups_after groups edit)))
 
--- the variables whose places an edit changed are told by the candidates and by the areas of the slaves that went
+-- the variables whose places an edit changed are told by the candidates, by any such ranks, and by the areas of the slaves that went
 abbrev pub VariablesAreTold : Type 0
 VariablesAreTold =
-    (groups : List Declared) (edit : Edit) → lowest_fault (groups_of groups) ≡ None → lowest_fault (groups_of (groups_after groups edit)) ≡ None
+    (changed : ℕ → Bool) (groups : List Declared) (edit : Edit) → lowest_fault (groups_of groups) ≡ None → lowest_fault (groups_of (groups_after groups edit)) ≡ None
+    → DifferAt changed (line_from 1 groups) (line_from 1 (groups_after groups edit))
     → TellsVariables (line_from 1 groups) (line_from 1 (groups_after groups edit))
-    (told_rows (is_named groups edit) (line_from 1 groups) (line_from 1 (groups_after groups edit)))
+    (told_rows changed (line_from 1 groups) (line_from 1 (groups_after groups edit)))
 
 -- a task that no edit touched has the table that it had
 abbrev pub UntouchedTasksStay : Type 0
@@ -149,7 +151,8 @@ CandidatesAreListed =
 -- tasks that tell the touched ones whose tables differ, with the told variables, say what differs between the tables of the two lines
 abbrev pub SwapsAreTold : Type 0
 SwapsAreTold =
-    (groups : List Declared) (edit : Edit) (tasks : List ChangedTask) → lowest_fault (groups_of groups) ≡ None → lowest_fault (groups_of (groups_after groups edit)) ≡ None
+    (changed : ℕ → Bool) (groups : List Declared) (edit : Edit) (tasks : List ChangedTask) → lowest_fault (groups_of groups) ≡ None → lowest_fault (groups_of (groups_after groups edit)) ≡ None
+    → DifferAt changed (line_from 1 groups) (line_from 1 (groups_after groups edit))
     → TellsTasks (line_from 1 groups) (line_from 1 (groups_after groups edit)) tasks
     → SaysWhatDiffers (table_of (line_from 1 groups)) (table_of (line_from 1 (groups_after groups edit)))
-    (record { tasks = tasks; rows = told_rows (is_named groups edit) (line_from 1 groups) (line_from 1 (groups_after groups edit)) })
+    (record { tasks = tasks; rows = told_rows changed (line_from 1 groups) (line_from 1 (groups_after groups edit)) })

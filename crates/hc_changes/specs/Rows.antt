@@ -7,7 +7,7 @@ use Rattle.hc_records.specs.Image.{VariablePlace, area_variables}
 use Rattle.hc_places.specs.Swap.{AreOnce, ChangedRow, new_place, same_found}
 use Rattle.hc_places.specs.Table.{Row, place_in, table_of}
 use Rattle.hc_changes.specs.Candidates.{LineArea, candidates, key_of, line_areas, place_of, slave_of}
-use Rattle.hc_changes.specs.Compared.{area_in}
+use Rattle.hc_changes.specs.Compared.{counterpart}
 
 -- the variables of an area that stands in a line, each with its place; none where it has 0 bits
 abbrev pub rows_of : List Member → LineArea → List Row
@@ -16,7 +16,7 @@ rows_of line found =
 
 -- those of the area of a line that stands where another does
 abbrev pub rows_in : List Member → LineArea → List Row
-rows_in line found = option_map_or (rows_of line) (area_in line found) []
+rows_in line found = option_map_or (rows_of line) (counterpart line found) []
 
 -- the place that rows have for a variable
 abbrev pub place_among : List Row → ℕ → Option VariablePlace

@@ -20,20 +20,18 @@ use Rattle.hc_records.proofs.lemmas.Finds.{mapped-some}
 use Rattle.hc_records.proofs.lemmas.Lines.{RanksBelow, line-ascends}
 use Rattle.hc_records.proofs.lemmas.Slaves.{line-inside}
 use Rattle.hc_registers.specs.Blocks.{LineBlock, fmmu_block, line_blocks, mapping_of, moved_blocks, same_block, same_bytes, sync_manager_block}
-use Rattle.hc_changes.specs.Candidates.{LineArea, blocks_of, candidates, is_candidate, line_areas, moved_of}
-use Rattle.hc_changes.specs.Compared.{area_in, differing_of, unlike}
-use Rattle.hc_changes.specs.Edited.{is_named}
+use Rattle.hc_changes.specs.Candidates.{DifferAt, LineArea, blocks_of, candidates, is_candidate, line_areas, moved_of}
+use Rattle.hc_changes.specs.Compared.{counterpart, differing_of, unlike}
 use Rattle.hc_changes.proofs.lemmas.Bare.{bare}
 use Rattle.hc_changes.proofs.lemmas.Blocks.{blocks-of-areas}
 use Rattle.hc_changes.proofs.lemmas.Lists.{contains-behind, contains-first, contains-flat_map, contains-unfiltered, flat_map-piece, found-among}
 use Rattle.hc_changes.proofs.lemmas.Moved.{moved-told}
 use Rattle.hc_changes.proofs.lemmas.OneProject.{AreOfOneProject, at-own, edit-one-project, one-index, own-at}
 use Rattle.hc_changes.proofs.lemmas.Others.{IsAreaOf, StandAlike, area-stands, line-area, member-found}
-use Rattle.hc_changes.proofs.lemmas.Ranks.{edits-differ}
 
 -- the area of a line that stands where another does
 
-pub area-found : (line : List Member) (found was : LineArea) → AllPairs RanksBelow line → IsAreaOf line was → was.member.rank ≡ found.member.rank → was.index ≡ found.index → area_in line found ≡ Some was
+pub area-found : (line : List Member) (found was : LineArea) → AllPairs RanksBelow line → IsAreaOf line was → was.member.rank ≡ found.member.rank → was.index ≡ found.index → counterpart line found ≡ Some was
 area-found line found was ranks of rank index =
     let make : ℕ → Member → Option LineArea = λ i m. option_map (λ a. record { member = m; index = i; area = a }) (slice_get m.slave.areas i) in
     ap (λ (n : ℕ). option_and_then (make found.index) (find (λ (m : Member). m.rank == n) line)) (sym rank)
@@ -59,7 +57,7 @@ stood-by line found was (Some member) at is =
       index = refl;
     })
 
-pub area-stood : (line : List Member) (found was : LineArea) → area_in line found ≡ Some was → StoodAt line found was
+pub area-stood : (line : List Member) (found was : LineArea) → counterpart line found ≡ Some was → StoodAt line found was
 area-stood line found was is = stood-by line found was (find (λ (m : Member). m.rank == found.member.rank) line) refl is
 
 -- the two blocks of an area
@@ -199,7 +197,7 @@ module _ (old new : List Member) (one : AreOfOneProject old new) (inside : All (
       list_any_at (same_block block) (line_blocks old) at.0 other at.1 (subst (λ (b : LineBlock). same_block block b ≡ true) (sym at.2) same)
 
   -- where no area stood, no block was one of the old line
-  none-any : (found : LineArea) (block : LineBlock) → AllPairs RanksBelow old → area_in old found ≡ None
+  none-any : (found : LineArea) (block : LineBlock) → AllPairs RanksBelow old → counterpart old found ≡ None
       → ((was : LineArea) → IsAreaOf old was → same_block block (first_block was) ≡ true → StandAlike was found)
       → ((was : LineArea) → IsAreaOf old was → same_block block (second_block old was) ≡ true → StandAlike was found)
       → list_any (same_block block) (line_blocks old) ≡ true → false ≡ true
@@ -211,13 +209,13 @@ module _ (old new : List Member) (one : AreOfOneProject old new) (inside : All (
       cc
 
   -- where one stood, it is the one that was found
-  alone : (found was other : LineArea) → AllPairs RanksBelow old → area_in old found ≡ Some was → IsAreaOf old other → StandAlike other found → other ≡ was
+  alone : (found was other : LineArea) → AllPairs RanksBelow old → counterpart old found ≡ Some was → IsAreaOf old other → StandAlike other found → other ≡ was
   alone found was other ranks is of alike =
       let there = area-found old found other ranks of alike.rank alike.index in
       let same : Some other ≡ Some was = sym there ∙ is in
       cc
 
-  first-any : (found was : LineArea) → AllPairs RanksBelow old → IsAreaOf new found → area_in old found ≡ Some was
+  first-any : (found was : LineArea) → AllPairs RanksBelow old → IsAreaOf new found → counterpart old found ≡ Some was
       → list_any (same_block (first_block found)) (line_blocks old) ≡ true → same_block (first_block found) (first_block was) ≡ true
   first-any found was ranks of is any =
       let some = found-any (first_block found) any in
@@ -227,7 +225,7 @@ module _ (old new : List Member) (one : AreOfOneProject old new) (inside : All (
       (λ own. absurd (never-first found some.was of some.of own))
       some.same
 
-  second-any : (found was : LineArea) → AllPairs RanksBelow old → IsAreaOf new found → area_in old found ≡ Some was
+  second-any : (found was : LineArea) → AllPairs RanksBelow old → IsAreaOf new found → counterpart old found ≡ Some was
       → list_any (same_block (second_block new found)) (line_blocks old) ≡ true → same_block (second_block new found) (second_block old was) ≡ true
   second-any found was ranks of is any =
       let some = found-any (second_block new found) any in
@@ -237,7 +235,7 @@ module _ (old new : List Member) (one : AreOfOneProject old new) (inside : All (
       subst (λ (w : LineArea). same_block (second_block new found) (second_block old w) ≡ true) same own)
       some.same
 
-  compared-by : (found : LineArea) (was : Option LineArea) → AllPairs RanksBelow old → IsAreaOf new found → area_in old found ≡ was
+  compared-by : (found : LineArea) (was : Option LineArea) → AllPairs RanksBelow old → IsAreaOf new found → counterpart old found ≡ was
       → moved_of old new found ≡ unlike (option_map_or (blocks_of old) was []) (blocks_of new found)
   compared-by found None ranks of is =
       none-had (list_any (same_block (first_block found)) (line_blocks old)) (list_any (same_block (second_block new found)) (line_blocks old)) (first_block found) (second_block new found)
@@ -258,7 +256,7 @@ pub compared : (groups : List Declared) (edit : Edit) (found : LineArea) → low
 compared groups edit found none at =
     let old = line_from 1 groups in
     let new = line_from 1 (groups_after groups edit) in
-    compared-by old new (edit-one-project groups edit none) (line-inside groups none) found (area_in old found) (line-ascends 1 groups) (line-area new found at) refl
+    compared-by old new (edit-one-project groups edit none) (line-inside groups none) found (counterpart old found) (line-ascends 1 groups) (line-area new found at) refl
 
 -- so the blocks that an edit moved are told by the candidates, each compared with the one that had its number
 
@@ -268,15 +266,15 @@ flat_map-among f g (x ∷ xs) all =
     ap (λ (ys : List _). ys ++ flat_map f xs) (All-head (λ y. f y ≡ g y) x xs all)
     ∙ ap (λ (ys : List _). g x ++ ys) (flat_map-among f g xs (All-tail (λ y. f y ≡ g y) x xs all))
 
-pub all-compared : (groups : List Declared) (edit : Edit) → lowest_fault (groups_of groups) ≡ None → lowest_fault (groups_of (groups_after groups edit)) ≡ None
+pub all-compared : (changed : ℕ → Bool) (groups : List Declared) (edit : Edit) → lowest_fault (groups_of groups) ≡ None → lowest_fault (groups_of (groups_after groups edit)) ≡ None
+    → DifferAt changed (line_from 1 groups) (line_from 1 (groups_after groups edit))
     → moved_blocks (line_from 1 groups) (line_from 1 (groups_after groups edit))
     ≡ flat_map (differing_of (line_from 1 groups) (line_from 1 (groups_after groups edit)))
-    (candidates (is_named groups edit) (line_from 1 groups) (line_from 1 (groups_after groups edit)))
-all-compared groups edit none none' =
+    (candidates changed (line_from 1 groups) (line_from 1 (groups_after groups edit)))
+all-compared changed groups edit none none' differ =
     let old = line_from 1 groups in
     let new = line_from 1 (groups_after groups edit) in
-    let changed = is_named groups edit in
-    moved-told changed (record { groups = groups; epoch = 0 }) (record { groups = groups_after groups edit; epoch = 0 }) none none' (edits-differ groups edit)
+    moved-told changed (record { groups = groups; epoch = 0 }) (record { groups = groups_after groups edit; epoch = 0 }) none none' differ
     ∙ flat_map-among (moved_of old new) (differing_of old new) (candidates changed old new)
     (All-weaker (Contains (candidates changed old new)) (λ found. moved_of old new found ≡ differing_of old new found)
     (λ found at. compared groups edit found none (contains-unfiltered (is_candidate changed old new) (line_areas new) found at))

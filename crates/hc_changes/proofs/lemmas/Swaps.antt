@@ -14,7 +14,7 @@ use Rattle.hc_records.specs.Line.{Member, groups_of, line_from}
 use Rattle.hc_records.specs.Project.{lowest_fault}
 use Rattle.hc_places.specs.Swap.{ChangedTask, IsNewTask, SaysWhatDiffers}
 use Rattle.hc_places.specs.Table.{TaskTable, table_of, task_table}
-use Rattle.hc_changes.specs.Edited.{is_named}
+use Rattle.hc_changes.specs.Candidates.{DifferAt}
 use Rattle.hc_changes.specs.Rows.{told_rows}
 use Rattle.hc_changes.specs.Tables.{TellsTasks, told_table}
 use Rattle.hc_changes.proofs.lemmas.Lists.{found-among}
@@ -54,8 +54,8 @@ none-past told task (Some changed) high eight is =
 unsaid : (old new said : Option TaskTable) → said ≡ None → old ≡ new → IsNewTask old new said
 unsaid old new said none same = subst (IsNewTask old new) (sym none) same
 
-module _ (groups : List Declared) (edit : Edit) (told : List ChangedTask) (none : lowest_fault (groups_of groups) ≡ None) (none' : lowest_fault (groups_of (groups_after groups edit)) ≡ None)
-    (tells : TellsTasks (line_from 1 groups) (line_from 1 (groups_after groups edit)) told) where
+module _ (changed : ℕ → Bool) (groups : List Declared) (edit : Edit) (told : List ChangedTask) (none : lowest_fault (groups_of groups) ≡ None) (none' : lowest_fault (groups_of (groups_after groups edit)) ≡ None)
+    (differ : DifferAt changed (line_from 1 groups) (line_from 1 (groups_after groups edit))) (tells : TellsTasks (line_from 1 groups) (line_from 1 (groups_after groups edit)) told) where
   low-told : (task : ℕ) (touched : Bool) → is_touched_task (line_from 1 groups) (line_from 1 (groups_after groups edit)) task ≡ touched → task < TASKS
       → IsNewTask (Some (task_table (line_from 1 groups) task)) (Some (task_table (line_from 1 (groups_after groups edit)) task)) (told_table told task)
   low-told task true is low = tells.touched task low is
@@ -76,8 +76,8 @@ module _ (groups : List Declared) (edit : Edit) (told : List ChangedTask) (none 
       (table-past (line_from 1 groups) task high ∙ sym (table-past (line_from 1 (groups_after groups edit)) task high))
 
   pub swap-told : SaysWhatDiffers (table_of (line_from 1 groups)) (table_of (line_from 1 (groups_after groups edit)))
-      (record { tasks = told; rows = told_rows (is_named groups edit) (line_from 1 groups) (line_from 1 (groups_after groups edit)) })
+      (record { tasks = told; rows = told_rows changed (line_from 1 groups) (line_from 1 (groups_after groups edit)) })
   swap-told = record {
     tasks = λ task. task-told task (cases_lt task TASKS);
-    places = (rows-told groups edit none none').says;
+    places = (rows-told changed groups edit none none' differ).says;
   }

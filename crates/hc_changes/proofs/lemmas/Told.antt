@@ -21,9 +21,8 @@ use Rattle.hc_records.proofs.lemmas.Finds.{mapped-some}
 use Rattle.hc_places.specs.Swap.{ChangedRow, new_place, same_found}
 use Rattle.hc_places.specs.Table.{Row, place_in, table_of}
 use Rattle.hc_places.proofs.lemmas.Same.{found-same}
-use Rattle.hc_changes.specs.Candidates.{LineArea, candidates, is_candidate, key_of, line_areas, slave_of}
-use Rattle.hc_changes.specs.Compared.{area_in}
-use Rattle.hc_changes.specs.Edited.{is_named}
+use Rattle.hc_changes.specs.Candidates.{DifferAt, LineArea, candidates, is_candidate, key_of, line_areas, slave_of}
+use Rattle.hc_changes.specs.Compared.{counterpart}
 use Rattle.hc_changes.specs.Rows.{TellsVariables, changes_of, coming, going, gone, place_among, rows_in, rows_of, told_rows}
 use Rattle.hc_changes.proofs.lemmas.Bare.{bare}
 use Rattle.hc_changes.proofs.lemmas.Compared.{StoodAt, area-found, area-stood}
@@ -34,22 +33,21 @@ use Rattle.hc_changes.proofs.lemmas.Named.{StandsAmong, names, new-among, old-am
 use Rattle.hc_changes.proofs.lemmas.OneProject.{AreOfOneProject, at-own, edit-one-project, own-at}
 use Rattle.hc_changes.proofs.lemmas.Ordered.{InOrder, areas-ordered}
 use Rattle.hc_changes.proofs.lemmas.Others.{IsAreaOf, StandAlike, area-stands, contains-mapped, line-area, map-piece, member-found}
-use Rattle.hc_changes.proofs.lemmas.Ranks.{edits-differ}
 use Rattle.hc_changes.proofs.lemmas.Rows.{HasRows, IsRowOf, line-rows, of_variable, one-line-area}
 
 -- a row of the area of a line that stands where another does
 pub record IsRowIn (line : List Member) (found : LineArea) (row : Row) : Type 0 where
   pub was : LineArea
-  pub is : area_in line found ≡ Some was
+  pub is : counterpart line found ≡ Some was
   pub stood : StoodAt line found was
   pub own : Contains (rows_of line was) row
 
-row-in-by : (line : List Member) (found : LineArea) (row : Row) (was : Option LineArea) → area_in line found ≡ was → Contains (option_map_or (rows_of line) was []) row → IsRowIn line found row
+row-in-by : (line : List Member) (found : LineArea) (row : Row) (was : Option LineArea) → counterpart line found ≡ was → Contains (option_map_or (rows_of line) was []) row → IsRowIn line found row
 row-in-by line found row None is (k, within, at) = absurd (omega arith)
 row-in-by line found row (Some was) is at = record { was = was; is = is; stood = area-stood line found was is; own = at }
 
 pub row-in : (line : List Member) (found : LineArea) (row : Row) → Contains (rows_in line found) row → IsRowIn line found row
-row-in line found row at = row-in-by line found row (area_in line found) refl at
+row-in line found row at = row-in-by line found row (counterpart line found) refl at
 
 -- the rows of an area that stands there
 rows-there : (line : List Member) (found was : LineArea) → AllPairs RanksBelow line → IsAreaOf line was → was.member.rank ≡ found.member.rank → was.index ≡ found.index → rows_in line found ≡ rows_of line was
@@ -167,12 +165,12 @@ module _ (slaves : List Slave) (alone : (a b : LineArea) (variable : ℕ) → St
     among : (found : LineArea) (variable : ℕ) → IsNamedAt slaves found variable → place_among (rows_in line found) variable ≡ place_in (table_of line) variable
     among found variable at = among-by found variable (place_in (table_of line) variable) refl at
 
-    few-by : (found : LineArea) (variable : ℕ) (was : Option LineArea) → area_in line found ≡ was → few (of_variable variable) (option_map_or (rows_of line) was []) ≤ 1
+    few-by : (found : LineArea) (variable : ℕ) (was : Option LineArea) → counterpart line found ≡ was → few (of_variable variable) (option_map_or (rows_of line) was []) ≤ 1
     few-by found variable None is = omega arith
     few-by found variable (Some was) is = has.few_rows was variable (area-stood line found was is).of
 
     few-in : (found : LineArea) (variable : ℕ) → few (of_variable variable) (rows_in line found) ≤ 1
-    few-in found variable = few-by found variable (area_in line found) refl
+    few-in found variable = few-by found variable (counterpart line found) refl
 
   module _ (old new : List Member) (was : HasRows old) (is : HasRows new)
       (old-stand : (found : LineArea) → IsAreaOf old found → StandsAmong slaves found) (new-stand : (found : LineArea) → IsAreaOf new found → StandsAmong slaves found) where
@@ -400,15 +398,15 @@ module _ (slaves : List Slave) (alone : (a b : LineArea) (variable : ℕ) → St
           }
 
 -- between the lines before and after an edit
-pub rows-told : (groups : List Declared) (edit : Edit) → lowest_fault (groups_of groups) ≡ None → lowest_fault (groups_of (groups_after groups edit)) ≡ None
-    → TellsVariables (line_from 1 groups) (line_from 1 (groups_after groups edit)) (told_rows (is_named groups edit) (line_from 1 groups) (line_from 1 (groups_after groups edit)))
-rows-told groups edit none none' =
+pub rows-told : (changed : ℕ → Bool) (groups : List Declared) (edit : Edit) → lowest_fault (groups_of groups) ≡ None → lowest_fault (groups_of (groups_after groups edit)) ≡ None
+    → DifferAt changed (line_from 1 groups) (line_from 1 (groups_after groups edit))
+    → TellsVariables (line_from 1 groups) (line_from 1 (groups_after groups edit)) (told_rows changed (line_from 1 groups) (line_from 1 (groups_after groups edit)))
+rows-told changed groups edit none none' differ =
     let after = groups_after groups edit in
     let old = line_from 1 groups in
     let new = line_from 1 after in
-    let changed = is_named groups edit in
     tells-variables (declared_slaves groups) (λ a b variable one two at at'. one-place groups a b variable none one two at at')
     old new (line-rows groups none) (line-rows after none') (old-among groups) (new-among groups edit) changed (edit-one-project groups edit none)
     (λ found at other.
-    let stood = unchanged-stand changed (record { groups = groups; epoch = 0 }) (record { groups = after; epoch = 0 }) none none' (edits-differ groups edit) found at other in
+    let stood = unchanged-stand changed (record { groups = groups; epoch = 0 }) (record { groups = after; epoch = 0 }) none none' differ found at other in
     (stood.0, ap (λ (p : Option Placed). option_map_or (λ q. area_variables found.area.task (record { key = key_of found; area = found.area }, q)) p []) stood.1))
