@@ -124,6 +124,24 @@ impl Cuts {
         &self.starts
     }
 
+    /// A copy of the boundaries that were last worked out, as `starts` lends them. It takes no memory.
+    pub fn copied_starts(&self) -> ArrayVec<Key, 16>
+        ensures { result.items ≡ self.now.starts }
+    {
+        let Ok(starts) = ArrayVec::try_from(self.starts.as_slice()) else {
+            unreachable!()
+        };
+        starts
+    }
+
+    /// Puts boundaries in the place of those that were last worked out. It takes no memory.
+    pub fn put_starts(&mut self, starts: ArrayVec<Key, 16>)
+        ensures areas { self.new.tree ≡ self.old.tree }
+        ensures starts { self.new.starts ≡ starts.items }
+    {
+        self.starts = starts;
+    }
+
     /// Works out the boundaries anew, from the front, by a search for each. `TooManyDatagrams` exactly
     /// where packing gives more than 16 datagrams, and the boundaries stay as they were. Each search
     /// takes 1 to 104 steps, and there are at most 16. It takes no memory.

@@ -1,17 +1,19 @@
 //! A line whose tasks are kept in trees: opened, and turned by an edit. Where anything behind the turn
 //! fails, the trees are turned back.
-ghost use Rattle.std.specs.Prelude.{◌≡◌, ◌≢◌, ◌<◌, Err, IfErr, IfOk, None, Ok, OnErr, OnOk, length};
+ghost use Rattle.std.specs.Prelude.{◌≡◌, ◌≢◌, ◌<◌, Err, IfErr, IfOk, List, None, Ok, OnErr, OnOk};
 ghost use Rattle.hc_records.specs.declared.faults.EditFault.TheVariants.{Memory};
 ghost use Rattle.hc_records.specs.declared.limits.TheConstants.{LAST_EPOCH};
 ghost use Rattle.hc_records.specs.Boundaries.{recut};
 ghost use Rattle.hc_records.specs.Edits.{changed, crowded_task, edited, groups_after};
 ghost use Rattle.hc_records.specs.Line.{groups_of, line_from};
 ghost use Rattle.hc_records.specs.Project.{lowest_fault};
+ghost use Rattle.hc_records.specs.declared.records.Area.{Area};
 ghost use Rattle.hc_edits.specs.Edits.{own_fault};
 ghost use Rattle.hc_places.specs.Layout.{NamesCrowded, layout_of};
 ghost use Rattle.hc_places.specs.Table.{table_of};
 ghost use Rattle.hc_tasks.specs.Areas.{areas_by_rank};
-ghost use Rattle.hc_tasks.specs.Kept.{IsLine, crowded_from, line_kept};
+ghost use Rattle.hc_tasks.specs.Kept.{crowded_from, line_kept};
+ghost use Rattle.hc_tasks.specs.Turn.{HasAcceptedTurn, IsTurn};
 ghost use Rattle.hc_plan.specs.Reports.{Tells};
 
 use crate::report::{Report, Standing};
@@ -98,22 +100,19 @@ fn answer_edit<L: Ledger>(
     Ok(AppliedEdit { configured, report })
 }
 
-/// Turns the trees of a line's tasks back to those of the line before it, none of whose tasks is crowded.
+/// Turns the trees of a line's tasks back to those of the line before it, none of whose tasks is crowded:
+/// the slaves from a rank on have some areas in the one and had others in the other.
 fn turn_back<L: Ledger>(
     cuts: &mut LineCuts,
+    first: u16,
     from: &[SlaveAreas],
     to: &[SlaveAreas],
     steps: &mut Steps<L>,
 )
-    requires from { IsLine from.now }
-    requires to { IsLine to.now }
-    requires same { length to.now ≡ length from.now }
-    requires was { cuts.old ≡ line_kept from.now }
-    requires fits { crowded_from 8 0 from.now ≡ None }
-    requires fitted { crowded_from 8 0 to.now ≡ None }
-    ensures { cuts.new ≡ line_kept to.now }
+    requires { HasAcceptedTurn cuts.old first from.now to.now }
+    ensures { (old new : List (List Area)) → IsTurn 8 0 cuts.old first from.now to.now old new → crowded_from 8 0 new ≡ None → cuts.new ≡ line_kept new }
 {
-    let Ok(_) = cuts.turn(from, to, steps) else {
+    let Ok(_) = cuts.turn(first, from, to, steps) else {
         unreachable!()
     };
 }
@@ -149,14 +148,14 @@ pub(crate) fn turn_line<L: Ledger>(
     let mut steps: Steps<L> = Steps::start(blank);
     let before = areas_by_rank(alloc, old.groups())?;
     let after = areas_by_rank(alloc, groups)?;
-    let unsettled = match cuts.turn(before.as_slice(), after.as_slice(), &mut steps) {
+    let unsettled = match cuts.turn(1, before.as_slice(), after.as_slice(), &mut steps) {
         Ok(unsettled) => unsettled,
         Err(task) => return Err(EditFault::TooManyDatagrams(task)),
     };
     match answer_edit(alloc, edit, old, groups, cuts, unsettled, &mut steps) {
         Ok(applied) => Ok(applied),
         Err(fault) => {
-            turn_back(cuts, after.as_slice(), before.as_slice(), &mut steps);
+            turn_back(cuts, 1, after.as_slice(), before.as_slice(), &mut steps);
             Err(fault)
         }
     }

@@ -1,5 +1,7 @@
 pub mod Lines
+pub mod Rows
 pub mod Setting
 pub mod Taking
 pub mod Turned
+pub mod Turns
 pub mod lemmas

@@ -57,7 +57,7 @@ absent-list task dir rank (suc count) = absent-list task dir (rank + 1) count
 absent-none : (task count : ℕ) → list_by task (replicate count []) ≡ []
 absent-none task count = rw (absent-list task Out 1 count, absent-list task In 1 count) refl
 
-length-absent : (count : ℕ) → length {A = List Area} (replicate count []) ≡ count
+pub length-absent : (count : ℕ) → length {A = List Area} (replicate count []) ≡ count
 length-absent zero = refl
 length-absent (suc count) = ap suc (length-absent count)
 

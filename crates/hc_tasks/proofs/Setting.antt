@@ -1,5 +1,5 @@
 -- The widths of a task while they are set, key by key.
-use Rattle.std.specs.Prelude.{nat_lt, slice_get, slice_index_or, ◌&&◌, ◌||◌}
+use Rattle.std.specs.Prelude.{nat_lt, slice_get, ◌&&◌, ◌||◌}
 use Rattle.std.proofs.Common.{◌≡◌, ℕ, zero, suc, ◌+◌, ◌<◌, ◌≤◌, ◌==◌, nat_le, Bool, true, false, List, [], ◌∷◌, length, refl, sym, ap, ◌∙◌, arith, if◌then◌else◌}
 use Rattle.std.proofs.lemmas.Bool.{cond-false, cond-true, eqb-true}
 use Rattle.std.proofs.lemmas.Bool.Decides.{nat_tests}
@@ -167,20 +167,21 @@ areas-was task rank count old new before mid was set key here there =
 abbrev pub up_to : ℕ → ℕ → List (List Area) → List (List Area) → Key → ℕ
 up_to task rank old new key = if nat_le key.rank rank then width_at task new key else width_at task old key
 
--- no slave has rank 0
-first-by : (none : Bool) (key : Key) (task : ℕ) (old new : List (List Area)) → nat_le key.rank 0 ≡ none → width_at task old key ≡ (if none then width_at task new key else width_at task old key)
-first-by true key task old new test =
-    let none : key.rank ≡ 0 = grind (arith, nat_tests) in
-    ap (λ (rank : ℕ). slave_width task (areas_at old rank) key) none ∙ sym (ap (λ (rank : ℕ). slave_width task (areas_at new rank) key) none)
-first-by false key task old new test = refl
+-- up to a rank the slaves have the same areas
+first-by : (low : Bool) (key : Key) (task rank : ℕ) (old new : List (List Area)) → nat_le key.rank rank ≡ low → (key.rank ≤ rank → areas_at old key.rank ≡ areas_at new key.rank)
+    → width_at task old key ≡ (if low then width_at task new key else width_at task old key)
+first-by true key task rank old new test same =
+    let low : key.rank ≤ rank = grind (arith, nat_tests) in
+    ap (λ (areas : List Area). slave_width task areas key) (same low)
+first-by false key task rank old new test same = refl
 
-pub slaves-begin : (task : ℕ) (old new : List (List Area)) (kept : Kept) → HoldsTaskList kept.tree → ((key : Key) → width_in kept.tree.list key ≡ width_at task old key)
-    → IsSetTo kept kept (up_to task 0 old new)
-slaves-begin task old new kept holds was = record {
+pub slaves-begin : (task rank : ℕ) (old new : List (List Area)) (kept : Kept) → HoldsTaskList kept.tree → ((key : Key) → width_in kept.tree.list key ≡ width_at task old key)
+    → ((r : ℕ) → r ≤ rank → areas_at old r ≡ areas_at new r) → IsSetTo kept kept (up_to task rank old new)
+slaves-begin task rank old new kept holds was same = record {
   slaves = refl;
   starts = refl;
   holds = holds;
-  each = λ key. was key ∙ first-by (nat_le key.rank 0) key task old new refl;
+  each = λ key. was key ∙ first-by (nat_le key.rank rank) key task rank old new refl (same key.rank);
 }
 
 next-by : (same below : Bool) (key : Key) (task rank : ℕ) (old new : List (List Area)) (areas : List Area) → (rank + 1 == key.rank) ≡ same → nat_le key.rank rank ≡ below
@@ -219,27 +220,19 @@ slaves-was task rank old new areas before mid own set key here =
     ∙ ap (λ (r : ℕ). slave_width task (areas_at old r) key) here
     ∙ ap (λ (list : List Area). slave_width task list key) (sym own)
 
-pub no-slave : (slaves : List (List Area)) (rank : ℕ) → length slaves < rank → areas_at slaves rank ≡ []
-no-slave slaves zero h = absurd (omega arith)
-no-slave slaves (suc rank) h = behind slaves rank (omega arith)
-  where
-    behind : (xs : List (List Area)) (at : ℕ) → length xs ≤ at → slice_index_or xs at [] ≡ []
-    behind [] at h = refl
-    behind (x ∷ xs) zero h = absurd (omega arith)
-    behind (x ∷ xs) (suc at) h = behind xs at (omega arith)
-
-end-by : (below : Bool) (key : Key) (task rank : ℕ) (old new : List (List Area)) → nat_le key.rank rank ≡ below → length old ≤ rank → length new ≤ rank
+-- behind a rank they have the same again
+end-by : (below : Bool) (key : Key) (task rank : ℕ) (old new : List (List Area)) → nat_le key.rank rank ≡ below → (rank < key.rank → areas_at old key.rank ≡ areas_at new key.rank)
     → (if below then width_at task new key else width_at task old key) ≡ width_at task new key
-end-by true key task rank old new test few fewer = refl
-end-by false key task rank old new test few fewer =
+end-by true key task rank old new test same = refl
+end-by false key task rank old new test same =
     let high : rank < key.rank = grind (arith, nat_tests) in
-    ap (λ (areas : List Area). slave_width task areas key) (no-slave old key.rank (omega arith) ∙ sym (no-slave new key.rank (omega arith)))
+    ap (λ (areas : List Area). slave_width task areas key) (same high)
 
-pub slaves-end : (task rank : ℕ) (old new : List (List Area)) (before last : Kept) → length old ≤ rank → length new ≤ rank
+pub slaves-end : (task rank : ℕ) (old new : List (List Area)) (before last : Kept) → ((r : ℕ) → rank < r → areas_at old r ≡ areas_at new r)
     → IsSetTo before last (up_to task rank old new) → IsSetTo before last (width_at task new)
-slaves-end task rank old new before last few fewer set = record {
+slaves-end task rank old new before last same set = record {
   slaves = set.slaves;
   starts = set.starts;
   holds = set.holds;
-  each = λ key. set.each key ∙ end-by (nat_le key.rank rank) key task rank old new refl few fewer;
+  each = λ key. set.each key ∙ end-by (nat_le key.rank rank) key task rank old new refl (same key.rank);
 }

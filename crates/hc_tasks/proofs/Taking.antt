@@ -14,7 +14,7 @@ use Rattle.hc_cuts.specs.Hulls.{AreHulls, TakeIn, no_hulls}
 use Rattle.hc_cuts.proofs.lemmas.HullKeys.{hulls-none, hulls-same}
 use Rattle.hc_tasks.specs.Areas.{areas_at, slave_width, width_at}
 use Rattle.hc_tasks.specs.Widths.{differs, differs_at}
-use Rattle.hc_tasks.proofs.Setting.{below-next, key_of, no-area, no-slave}
+use Rattle.hc_tasks.proofs.Setting.{below-next, key_of, no-area}
 
 -- hulls that take keys in, one set of them after another
 
@@ -141,15 +141,21 @@ areas-all task rank count old new before after few fewer takes =
 abbrev pub up_to_rank : ℕ → ℕ → List (List Area) → List (List Area) → Key → Bool
 up_to_rank task rank old new key = nat_le key.rank rank && differs_at task old new key
 
-no-rank : (none : Bool) (task : ℕ) (old new : List (List Area)) (key : Key) → nat_le key.rank 0 ≡ none → (none && differs_at task old new key) ≡ false
-no-rank true task old new key test =
-    let none : key.rank ≡ 0 = grind (arith, nat_tests) in
-    ap not (eq-eqb (width_at task old key) (width_at task new key)
-    (ap (λ (rank : ℕ). slave_width task (areas_at old rank) key) none ∙ sym (ap (λ (rank : ℕ). slave_width task (areas_at new rank) key) none)))
-no-rank false task old new key test = refl
+pub equal-differs : (task : ℕ) (old new : List (List Area)) (key : Key) → areas_at old key.rank ≡ areas_at new key.rank → differs_at task old new key ≡ false
+equal-differs task old new key same =
+    ap not (eq-eqb (width_at task old key) (width_at task new key) (ap (λ (areas : List Area). slave_width task areas key) same))
 
-pub ranks-begin : (task : ℕ) (old new : List (List Area)) → AreHulls (up_to_rank task 0 old new) no_hulls
-ranks-begin task old new = hulls-none (up_to_rank task 0 old new) (λ key. no-rank (nat_le key.rank 0) task old new key refl)
+no-rank : (low : Bool) (task rank : ℕ) (old new : List (List Area)) (key : Key) → nat_le key.rank rank ≡ low → (key.rank ≤ rank → areas_at old key.rank ≡ areas_at new key.rank)
+    → (low && differs_at task old new key) ≡ false
+no-rank true task rank old new key test same =
+    let low : key.rank ≤ rank = grind (arith, nat_tests) in
+    equal-differs task old new key (same low)
+no-rank false task rank old new key test same = refl
+
+-- the slaves up to a rank have the same areas
+pub ranks-begin : (task rank : ℕ) (old new : List (List Area)) → ((r : ℕ) → r ≤ rank → areas_at old r ≡ areas_at new r) → AreHulls (up_to_rank task rank old new) no_hulls
+ranks-begin task rank old new same =
+    hulls-none (up_to_rank task rank old new) (λ key. no-rank (nat_le key.rank rank) task rank old new key refl (same key.rank))
 
 next-by : (same lower : Bool) (task rank : ℕ) (old new : List (List Area)) (was is : List Area) (key : Key) → (rank + 1 == key.rank) ≡ same → nat_le key.rank rank ≡ lower
     → was ≡ areas_at old (rank + 1) → is ≡ areas_at new (rank + 1)
@@ -188,15 +194,15 @@ ranks-go task rank old new was is mid after first second are takes =
     hulls-same (λ key. up_to_rank task rank old new key || ((rank + 1 == key.rank) && differs task was is key)) (up_to_rank task (rank + 1) old new) after
     (λ key. next-by (rank + 1 == key.rank) (nat_le key.rank rank) task rank old new was is key refl refl first second) (takes (up_to_rank task rank old new) are)
 
-end-by : (lower : Bool) (task rank : ℕ) (old new : List (List Area)) (key : Key) → nat_le key.rank rank ≡ lower → length old ≤ rank → length new ≤ rank
+end-by : (lower : Bool) (task rank : ℕ) (old new : List (List Area)) (key : Key) → nat_le key.rank rank ≡ lower → (rank < key.rank → areas_at old key.rank ≡ areas_at new key.rank)
     → (lower && differs_at task old new key) ≡ differs_at task old new key
-end-by true task rank old new key test few fewer = refl
-end-by false task rank old new key test few fewer =
+end-by true task rank old new key test same = refl
+end-by false task rank old new key test same =
     let high : rank < key.rank = grind (arith, nat_tests) in
-    sym (ap not (eq-eqb (width_at task old key) (width_at task new key)
-    (ap (λ (areas : List Area). slave_width task areas key) (no-slave old key.rank (omega arith) ∙ sym (no-slave new key.rank (omega arith))))))
+    sym (equal-differs task old new key (same high))
 
-pub ranks-end : (task rank : ℕ) (old new : List (List Area)) (hulls : Hulls) → length old ≤ rank → length new ≤ rank → AreHulls (up_to_rank task rank old new) hulls
+-- and so have those behind a rank
+pub ranks-end : (task rank : ℕ) (old new : List (List Area)) (hulls : Hulls) → ((r : ℕ) → rank < r → areas_at old r ≡ areas_at new r) → AreHulls (up_to_rank task rank old new) hulls
     → AreHulls (differs_at task old new) hulls
-ranks-end task rank old new hulls few fewer are =
-    hulls-same (up_to_rank task rank old new) (differs_at task old new) hulls (λ key. end-by (nat_le key.rank rank) task rank old new key refl few fewer) are
+ranks-end task rank old new hulls same are =
+    hulls-same (up_to_rank task rank old new) (differs_at task old new) hulls (λ key. end-by (nat_le key.rank rank) task rank old new key refl (same key.rank)) are

@@ -1,5 +1,5 @@
 -- A task that is turned into that of another line.
-use Rattle.std.specs.Prelude.{All, filter, map, nat_lt, not, ◌==◌, IfOk, OnErr, OnOk, Result, Ok, Err}
+use Rattle.std.specs.Prelude.{All, filter, map, nat_lt, not, ◌==◌}
 use Rattle.std.proofs.Common.{◌≡◌, ℕ, suc, ◌+◌, ◌<◌, ◌≤◌, Bool, true, false, List, [], ◌∷◌, ◌++◌, length, refl, sym, ap, subst, ◌∙◌, arith, if◌then◌else◌}
 use Rattle.std.proofs.lemmas.Bool.{cond-true, eqb-true, not-false}
 use Rattle.std.proofs.lemmas.Bool.Decides.{nat_tests}
@@ -75,7 +75,7 @@ tree-widths task slaves tree is key = ap (λ (t : Tree). width_in t.list key) is
 tree-is : (tree : Tree) (slaves : ℕ) (list : List Keyed) → tree.slaves ≡ slaves → tree.list ≡ list → tree ≡ record { slaves = slaves; list = list }
 tree-is tree slaves list first second = rw (← first, ← second) refl
 
-kept-is : (kept : Kept) (tree : Tree) (starts : List Key) → kept.tree ≡ tree → kept.starts ≡ starts → kept ≡ record { tree = tree; starts = starts }
+pub kept-is : (kept : Kept) (tree : Tree) (starts : List Key) → kept.tree ≡ tree → kept.starts ≡ starts → kept ≡ record { tree = tree; starts = starts }
 kept-is kept tree starts first second = rw (← first, ← second) refl
 
 pub set-tree : (task : ℕ) (old new : List (List Area)) (before last : Kept) → IsLine new → length new ≡ length old → before.tree ≡ tree_by task old
@@ -190,17 +190,3 @@ are-of_before task old new hulls before mid line are was starts is = record {
       subst (λ (keyed : List Keyed). DifferInside hulls (list_by task old) keyed) (sym (ap (λ (tree : Tree). tree.list) is))
       (hulls-hold hulls (list_by task old) (list_by task new) (touched-hulls task old new hulls are)).differ;
 }
-
--- what follows of an answer
-
-pub if-ok : {X Y : Type 0} (result : Result X Y) (P Q : X → Type 0) → ((x : X) → P x → Q x) → IfOk result P → IfOk result Q
-if-ok (Ok x) P Q so holds = so x holds
-if-ok (Err y) P Q so holds = tt
-
-pub on-ok : {X Y : Type 0} (result : Result X Y) (P Q : Type 0) → (P → Q) → OnOk result P → OnOk result Q
-on-ok (Ok x) P Q so holds = so holds
-on-ok (Err y) P Q so holds = tt
-
-pub on-err : {X Y : Type 0} (result : Result X Y) (P Q : Type 0) → (P → Q) → OnErr result P → OnErr result Q
-on-err (Ok x) P Q so holds = tt
-on-err (Err y) P Q so holds = so holds

@@ -35,10 +35,6 @@ abbrev pub kept_from : ℕ → ℕ → List (List Area) → List Kept
 kept_from zero task slaves = []
 kept_from (suc count) task slaves = kept_by task slaves ∷ kept_from count (task + 1) slaves
 
-abbrev pub trees_from : ℕ → ℕ → List (List Area) → List Tree
-trees_from zero task slaves = []
-trees_from (suc count) task slaves = tree_by task slaves ∷ trees_from count (task + 1) slaves
-
 -- the eight tasks of a line
 abbrev pub line_kept : List (List Area) → List Kept
 line_kept slaves = kept_from 8 0 slaves

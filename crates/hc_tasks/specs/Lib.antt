@@ -2,4 +2,5 @@ pub mod Areas
 pub mod Kept
 pub mod Laws
 pub mod Recut
+pub mod Turn
 pub mod Widths

@@ -26,8 +26,15 @@ impl<'a> Model for SlaveAreas<'a> {
 impl<'a> SlaveAreas<'a> {
     ghost use Rattle.std.specs.Prelude.{◌≡◌, []};
 
+    /// Those of a slave that is present.
+    pub fn of(areas: &'a [Area]) -> SlaveAreas<'a>
+        ensures { result ≡ areas.now }
+    {
+        SlaveAreas { areas }
+    }
+
     /// Those of a slave that isn't present.
-    pub(crate) fn absent() -> SlaveAreas<'a>
+    pub fn absent() -> SlaveAreas<'a>
         ensures { result ≡ [] }
     {
         SlaveAreas { areas: &[] }

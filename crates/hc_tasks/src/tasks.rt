@@ -2,7 +2,7 @@
 ghost use Rattle.std.specs.Prelude.{◌≡◌, [], IfOk, replicate};
 
 use crate::areas::SlaveAreas;
-use crate::turning::{put_tasks, turn_tasks};
+use crate::turning::turn_tasks;
 use hc_bitsum::steps::Steps;
 use hc_cuts::cuts::Cuts;
 use hc_cuts::packing::Placed;
@@ -53,6 +53,7 @@ impl LineCuts {
     ghost use Rattle.hc_tasks.specs.Areas.{list_by};
     ghost use Rattle.hc_tasks.specs.Kept.{IsLine, crowded_from, line_kept, starts_by};
     ghost use Rattle.hc_tasks.specs.Recut.{recut_from, touched_from};
+    ghost use Rattle.hc_tasks.specs.Turn.{HasTurn, IsTurn};
 
     /// The tasks of a line of so many declared slaves, at most 2,048, none of which is present.
     fn new(alloc: Global, slaves: u16) -> Result<LineCuts, AllocError>
@@ -66,39 +67,32 @@ impl LineCuts {
         Ok(LineCuts { tasks })
     }
 
-    /// Turns the tasks of a line into those of another line of the same declared slaves: their areas and
-    /// their boundaries are then those of the new line, and the answer is how many spans of touched tasks
-    /// aren't settled. Otherwise the lowest task that needs more than 16 datagrams, and all is as it was.
-    /// None of the old line's tasks needs more. Where it succeeds, each of these spans takes 1 to 104
-    /// steps and nothing else takes any, so a task in which no width differs takes none. It takes no memory.
+    /// Turns the tasks of a line into those of another line, which differs in the areas of slaves in a row:
+    /// the first of these has a rank, and they have some areas before and others after. The areas and
+    /// boundaries are then those of the other line, and the answer is how many spans of touched tasks aren't
+    /// settled. Otherwise the lowest task that needs more than 16 datagrams, and all is as it was. None of
+    /// the old line's tasks needs more. The work is that of these slaves and of the tasks in which a width
+    /// of theirs differs: each span that isn't settled takes 1 to 104 steps and nothing else takes any, and
+    /// where a task needs too many datagrams, at most 16 searches are made in each task in which a width
+    /// differs. It takes no memory.
     pub fn turn<L: Ledger>(
         &mut self,
-        old: &[SlaveAreas],
-        new: &[SlaveAreas],
+        first: u16,
+        before: &[SlaveAreas],
+        after: &[SlaveAreas],
         steps: &mut Steps<L>,
     ) -> Result<u32, u8>
-        requires old { IsLine old.now }
-        requires new { IsLine new.now }
-        requires same { length new.now ≡ length old.now }
-        requires was { self.old ≡ line_kept old.now }
-        requires fits { crowded_from 8 0 old.now ≡ None }
-        ensures turned { OnOk result (self.new ≡ line_kept new.now) }
-        ensures accepted { OnOk result (crowded_from 8 0 new.now ≡ None) }
-        ensures refused { IfErr result (λ task. crowded_from 8 0 new.now ≡ Some task) }
+        requires { HasTurn 8 0 self.old first before.now after.now }
+        ensures turned { (old new : List (List Area)) → IsTurn 8 0 self.old first before.now after.now old new → OnOk result (self.new ≡ line_kept new) }
+        ensures accepted { (old new : List (List Area)) → IsTurn 8 0 self.old first before.now after.now old new → OnOk result (crowded_from 8 0 new ≡ None) }
+        ensures refused { (old new : List (List Area)) → IsTurn 8 0 self.old first before.now after.now old new → IfErr result (λ task. crowded_from 8 0 new ≡ Some task) }
         ensures unchanged { OnErr result (self.new ≡ self.old) }
-        ensures recut { IfOk result (λ recut. recut ≡ recut_from 8 0 old.now new.now) }
-        ensures steps { OnOk result (steps.new ≤ steps.old + most_read * MOST_DATAGRAMS * touched_from 8 0 old.now new.now) }
+        ensures recut { (old new : List (List Area)) → IsTurn 8 0 self.old first before.now after.now old new → IfOk result (λ recut. recut ≡ recut_from 8 0 old new) }
+        ensures steps { (old new : List (List Area)) → IsTurn 8 0 self.old first before.now after.now old new → steps.new ≤ steps.old + most_read * MOST_DATAGRAMS * touched_from 8 0 old new }
         ensures least { IfOk result (λ recut. steps.old + recut ≤ steps.new) }
         ensures most { IfOk result (λ recut. steps.new ≤ steps.old + most_read * recut) }
     {
-        let turned = turn_tasks(self.tasks.as_mut_slice(), 0, old, new, steps);
-        match turned.crowded {
-            None => Ok(turned.recut),
-            Some(task) => {
-                put_tasks(self.tasks.as_mut_slice(), 0, new, old, steps);
-                Err(task)
-            }
-        }
+        turn_tasks(self.tasks.as_mut_slice(), 0, first, before, after, steps)
     }
 
     /// The tasks of a line, from nothing. `TooManyDatagrams` with the lowest task that needs more than
@@ -115,7 +109,7 @@ impl LineCuts {
     {
         let absent = absent_slaves(alloc, line.len())?;
         let mut cuts = LineCuts::new(alloc, line.len() as u16)?;
-        match cuts.turn(absent.as_slice(), line, steps) {
+        match cuts.turn(1, absent.as_slice(), line, steps) {
             Ok(_) => Ok(cuts),
             Err(task) => Err(EditFault::TooManyDatagrams(task)),
         }

@@ -1,12 +1,15 @@
 //! The widths of a task's areas, set where they differ between two lines.
-ghost use Rattle.std.specs.Prelude.{◌≡◌, ◌<◌, ◌≤◌, ◌==◌, ◌&&◌, All, if◌then◌else◌, length};
+ghost use Rattle.std.specs.Prelude.{◌≡◌, ◌<◌, ◌≤◌, ◌==◌, ◌&&◌, List, if◌then◌else◌};
 ghost use Rattle.hc_bitsum.specs.Tree.{HasPlace, HoldsTaskList};
 ghost use Rattle.hc_records.specs.Boundaries.{width_in};
 ghost use Rattle.hc_records.specs.Keys.{same_key};
 ghost use Rattle.hc_records.specs.declared.keys.Key.{Key};
-ghost use Rattle.hc_records.specs.declared.limits.TheConstants.{MOST_AREAS, MOST_AREA_BITS, MOST_SLAVES};
+ghost use Rattle.hc_records.specs.declared.limits.TheConstants.{MOST_AREAS, MOST_AREA_BITS};
+ghost use Rattle.hc_records.specs.declared.records.Area.{Area};
 ghost use Rattle.hc_cuts.specs.Hulls.{AreHulls, TakeIn};
 ghost use Rattle.hc_tasks.specs.Areas.{slave_width, width_at};
+ghost use Rattle.hc_tasks.specs.Kept.{tree_by};
+ghost use Rattle.hc_tasks.specs.Turn.{AreLines, HasTree};
 ghost use Rattle.hc_tasks.specs.Widths.{AreKept, IsSetTo, differs, differs_at, with_slave};
 
 use crate::areas::SlaveAreas;
@@ -97,29 +100,29 @@ fn set_slave(cuts: &mut Cuts, hulls: &mut Hulls, task: u8, rank: u16, old: &[Are
     }
 }
 
-/// Sets the widths of a task whose slaves had some areas and have others, where they differ. The hulls of
-/// the keys whose widths do. It takes no memory.
-pub(crate) fn set_widths(cuts: &mut Cuts, task: u8, old: &[SlaveAreas], new: &[SlaveAreas]) -> Hulls
-    requires few { length old.now ≤ MOST_SLAVES }
-    requires slaves { cuts.old.tree.slaves ≡ length old.now }
-    requires same { length new.now ≡ length old.now }
-    requires holds { HoldsTaskList cuts.old.tree }
-    requires old { All AreKept old.now }
-    requires new { All AreKept new.now }
-    requires was { (key : Key) → width_in cuts.old.tree.list key ≡ width_at task old.now key }
-    ensures widths { IsSetTo cuts.old cuts.new (width_at task new.now) }
-    ensures touched { AreHulls (differs_at task old.now new.now) result }
+/// Sets the widths of a task of a line whose slaves from a rank on had some areas and have others, where
+/// they differ. The hulls of the keys whose widths do. It takes no memory.
+pub(crate) fn set_widths(
+    cuts: &mut Cuts,
+    task: u8,
+    first: u16,
+    before: &[SlaveAreas],
+    after: &[SlaveAreas],
+) -> Hulls
+    requires { HasTree task cuts.old.tree first before.now after.now }
+    ensures widths { (old new : List (List Area)) → AreLines first before.now after.now old new → cuts.old.tree ≡ tree_by task old → IsSetTo cuts.old cuts.new (width_at task new) }
+    ensures touched { (old new : List (List Area)) → AreLines first before.now after.now old new → AreHulls (differs_at task old new) result }
 {
     let mut hulls = Hulls::none();
-    for i in 0..old.len() {
-        let rank = i as u16 + 1;
+    for i in 0..before.len() {
+        let rank = first + i as u16;
         set_slave(
             cuts,
             &mut hulls,
             task,
             rank,
-            old[i].as_slice(),
-            new[i].as_slice(),
+            before[i].as_slice(),
+            after[i].as_slice(),
         );
     }
     hulls

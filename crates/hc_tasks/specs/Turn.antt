@@ -1,0 +1,55 @@
+-- Two lines that differ in the areas of slaves in a row, and tasks that are turned from the one to the other.
+use Rattle.std.specs.Prelude.{◌≡◌, ℕ, ◌+◌, List, ◌++◌, length, None, false}
+use Rattle.hc_records.specs.declared.records.Area.{Area}
+use Rattle.hc_bitsum.specs.Tree.{Tree}
+use Rattle.hc_cuts.specs.Starts.{Kept}
+use Rattle.hc_tasks.specs.Kept.{IsLine, crowded_from, is_crowded, kept_by, kept_from, tree_by}
+
+-- the slaves in a row, the first of which has a rank, have some areas in the old line and others in the new one; each other slave has the same in both
+pub record AreLines (first : ℕ) (before after old new : List (List Area)) : Type 0 where
+  pub front : List (List Area)
+  pub behind : List (List Area)
+  pub rank : first ≡ length front + 1
+  pub many : length after ≡ length before
+  pub was : old ≡ front ++ (before ++ behind)
+  pub is : new ≡ front ++ (after ++ behind)
+  pub old_line : IsLine old
+  pub new_line : IsLine new
+
+-- so many tasks from one on are kept of the old line, and none of them needs more than 16 datagrams
+pub record IsTurn (count task : ℕ) (kept : List Kept) (first : ℕ) (before after old new : List (List Area)) : Type 0 where
+  pub lines : AreLines first before after old new
+  pub stand : kept ≡ kept_from count task old
+  pub fits : crowded_from count task old ≡ None
+
+-- there are two such lines
+pub record HasTurn (count task : ℕ) (kept : List Kept) (first : ℕ) (before after : List (List Area)) : Type 0 where
+  pub old : List (List Area)
+  pub new : List (List Area)
+  pub turn : IsTurn count task kept first before after old new
+
+-- the eight tasks of a line are kept, and none of the tasks of either line needs more than 16 datagrams
+pub record HasAcceptedTurn (kept : List Kept) (first : ℕ) (before after : List (List Area)) : Type 0 where
+  pub old : List (List Area)
+  pub new : List (List Area)
+  pub turn : IsTurn 8 0 kept first before after old new
+  pub fits : crowded_from 8 0 new ≡ None
+
+-- the same of one task
+
+pub record IsTaskTurn (task : ℕ) (kept : Kept) (first : ℕ) (before after old new : List (List Area)) : Type 0 where
+  pub lines : AreLines first before after old new
+  pub stands : kept ≡ kept_by task old
+  pub fits : is_crowded task old ≡ false
+
+pub record HasTaskTurn (task : ℕ) (kept : Kept) (first : ℕ) (before after : List (List Area)) : Type 0 where
+  pub old : List (List Area)
+  pub new : List (List Area)
+  pub turn : IsTaskTurn task kept first before after old new
+
+-- there are two such lines, and a tree holds a task of the old one
+pub record HasTree (task : ℕ) (tree : Tree) (first : ℕ) (before after : List (List Area)) : Type 0 where
+  pub old : List (List Area)
+  pub new : List (List Area)
+  pub lines : AreLines first before after old new
+  pub holds : tree ≡ tree_by task old
