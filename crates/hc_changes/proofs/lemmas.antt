@@ -2,5 +2,9 @@
 pub mod Blocks
 pub mod KeptSpans
 pub mod Lists
+pub mod Moved
+pub mod Others
 pub mod Ranks
 pub mod Slots
+pub mod Standing
+pub mod Widths

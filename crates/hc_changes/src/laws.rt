@@ -1,6 +1,6 @@
 //! What follows from the definitions of this crate: each function does nothing, and its contract is a
 //! law. Nobody calls it.
-ghost use Rattle.hc_changes.specs.Laws.{BlocksAreTheAreas, EditsChangeTheNamed, KeptDatagramsStay};
+ghost use Rattle.hc_changes.specs.Laws.{BlocksAreTheAreas, EditsChangeTheNamed, KeptAreasStay, KeptDatagramsStay, MovedBlocksAreTold, OtherAreasStood};
 
 /// A datagram that an edit keeps carries the areas that it carried, each at its bit: so its length and its
 /// expected working counter stay too.
@@ -17,4 +17,22 @@ pub fn blocks_are_the_areas()
 /// declared slave stands in the lines before and behind it with the same rank and record, or in neither.
 pub fn edits_change_the_named()
     ensures { EditsChangeTheNamed }
+{}
+
+/// An area of the new line whose slave didn't change was an area of the old line, of the same slave at
+/// the same index, with the same record.
+pub fn other_areas_stood()
+    ensures { OtherAreasStood }
+{}
+
+/// An area of a project's line that stands in a datagram which an edit keeps stood there before it, at
+/// the same bit.
+pub fn kept_areas_stay()
+    ensures { KeptAreasStay }
+{}
+
+/// The blocks that an edit moved are told by the candidates: those of each that weren't blocks of the old
+/// line, in line and block order.
+pub fn moved_blocks_are_told()
+    ensures { MovedBlocksAreTold }
 {}
