@@ -4,3 +4,9 @@
 #![tactic(auto)]
 
 pub mod laws;
+pub mod candidates;
+pub mod kept;
+pub mod moved;
+pub mod outlook;
+pub mod rows;
+pub mod tables;

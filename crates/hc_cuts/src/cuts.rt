@@ -242,6 +242,31 @@ impl Cuts {
         Ok(places)
     }
 
+    /// The areas of one of its datagrams with their places, in key order. The boundaries are those of its
+    /// areas, as `cut` leaves them; the areas are walked in the tree. `AllocError` where a growth was refused.
+    pub fn datagram<L: Ledger>(
+        &self,
+        alloc: Global,
+        number: u16,
+        steps: &mut Steps<L>,
+    ) -> Result<Vec<Placed>, AllocError>
+        requires stands { self.now.starts ++ END ∷ [] ≡ boundaries self.now.tree.list }
+        requires number { number < length self.now.starts }
+        ensures { IfOk result (λ places. places.items ≡ inside number (packed opening self.now.tree.list)) }
+    {
+        let mut places = Vec::new(alloc);
+        let starts = self.starts.as_slice();
+        let first = usize::from(number);
+        let span = (starts[first], end_of(starts, first));
+        add_span(&mut places, &self.tree, span, number, steps)?;
+        Ok(places)
+    }
+
+    /// The number of the datagram that would carry a key: the last one that doesn't begin behind it.
+    pub fn carrier(&self, key: Key) -> u16 {
+        carrier(self.starts.as_slice(), key) as u16
+    }
+
     /// The place of its area with a key, any key: the datagram that carries it, and its first bit there;
     /// none where it has no such area. It is that which `places` gives, without the places of the others:
     /// the boundaries tell the datagram, and the tree how far it is filled before the area. The boundaries

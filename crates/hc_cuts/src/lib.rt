@@ -4,6 +4,7 @@
 pub mod cuts;
 pub mod fold;
 pub mod hulls;
+pub mod kept;
 pub mod laws;
 pub mod next;
 pub mod packing;

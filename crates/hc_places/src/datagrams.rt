@@ -26,7 +26,7 @@ fn datagram_count(areas: &[Placed]) -> usize
 }
 
 /// The length of a datagram in bytes, up to its last used one.
-fn datagram_length(areas: &[Placed], number: u16) -> u16
+pub fn datagram_length(areas: &[Placed], number: u16) -> u16
     requires { All LiesInside areas.now }
     ensures value { result ≡ datagram_length areas.now number }
     ensures low { result ≤ MOST_DATAGRAM_BYTES }
@@ -55,7 +55,7 @@ fn datagram_offset(areas: &[Placed], number: u16) -> u16
 }
 
 /// The working counter that a datagram comes back with when every slave of the line has processed it.
-fn expected_counter(areas: &[Placed], number: u16) -> u16
+pub fn expected_counter(areas: &[Placed], number: u16) -> u16
     requires { counted_inside number areas.now < 65536 }
     ensures { result ≡ counted_inside number areas.now }
 {
@@ -71,7 +71,7 @@ fn expected_counter(areas: &[Placed], number: u16) -> u16
 }
 
 /// The first input area.
-fn first_input(areas: &[Placed]) -> Option<Placed>
+pub fn first_input(areas: &[Placed]) -> Option<Placed>
     ensures { result ≡ find (λ area. same_dir area.key.dir In) areas.now }
 {
     areas.iter().find(|area| area.key().dir == Dir::In).copied()

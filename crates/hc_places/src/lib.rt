@@ -7,7 +7,7 @@ mod areas;
 mod comparing;
 pub mod configure;
 pub mod datagram_variables;
-mod datagrams;
+pub mod datagrams;
 pub mod laws;
 pub mod layout;
 pub mod recut;

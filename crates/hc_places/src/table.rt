@@ -258,6 +258,14 @@ impl Places {
         task.datagrams.get(usize::from(number)).copied()
     }
 
+    /// Whether a task, 0 to 7, has a table.
+    pub fn is_task(&self, task: u8, table: &TaskTable) -> bool {
+        match self.tasks.as_slice().get(usize::from(task)) {
+            Some(own) => own.is_same(table),
+            None => false,
+        }
+    }
+
     /// The bytes of the outputs, which come first, and of the inputs of a task's image; 0 and 0 where
     /// there is no such task.
     pub fn part(&self, task: u8) -> (u16, u16)

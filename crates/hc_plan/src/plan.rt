@@ -3,12 +3,12 @@ ghost use Rattle.std.specs.Prelude.{◌≡◌, IfOk, map};
 ghost use Rattle.hc_records.specs.Line.{opened_group};
 
 use crate::blocks::{LineBlocks, block_at, line_blocks, nth_block};
-use crate::report::{Report, Standing};
-use crate::turning::{open_line, turn_line};
-use hc_edits::faults::own_fault;
-use hc_edits::groups::groups_after;
+use crate::report::Report;
+use crate::applying::{Applied, work_out};
+use crate::turning::open_line;
+use hc_changes::outlook::Outlook;
+use hc_edits::prepared::Prepared;
 use hc_index::index::{Index, Indexed};
-use hc_places::layout::Layout;
 use hc_places::table::Places;
 use hc_records::edit::Edit;
 use hc_records::faults::EditFault;
@@ -41,7 +41,6 @@ pub struct Plan {
     // where the slaves of the line and their blocks are found
     index: Index,
     epoch: u32,
-    layout: Layout,
     places: Places,
     // the tasks of the line, from which an edit cuts the new ones
     cuts: LineCuts,
@@ -53,7 +52,6 @@ impl Drop for Plan {
             groups: _,
             index: _,
             epoch: _,
-            layout: _,
             places: _,
             cuts: _,
         } = self;
@@ -103,7 +101,6 @@ impl Plan {
             groups,
             index,
             epoch: 0,
-            layout: opened.configured.layout,
             places: opened.configured.places,
             cuts: opened.cuts,
         })
@@ -113,7 +110,7 @@ impl Plan {
     pub fn epoch(&self) -> u32
         ensures { result ≡ self.now.epoch }
     {
-        self.standing().epoch()
+        self.epoch
     }
 
     /// The declared groups with their assigned PDOs and tasks, and which of them are present. No fault's
@@ -123,7 +120,7 @@ impl Plan {
         ensures kept { lowest_fault (groups_of self.now.groups) ≡ None }
         ensures uncrowded { crowded_task (line self.now) ≡ None }
     {
-        self.standing().groups()
+        self.groups.as_slice()
     }
 
     /// The table of the present line: its datagrams, parts and variable places. No fault's condition
@@ -149,7 +146,7 @@ impl Plan {
     pub fn block(&self, station: u16, number: u8) -> Option<Block>
         ensures { result ≡ block_at (line self.now) station number }
     {
-        block_at(&self.indexed(), &self.layout, station, number)
+        block_at(&self.indexed(), &self.cuts, station, number)
     }
 
     /// The number of blocks of the present line. It takes no memory.
@@ -164,7 +161,7 @@ impl Plan {
     pub fn nth_block(&self, n: u32) -> Option<(u16, Block)>
         ensures { result ≡ line_block_at (line self.now) n }
     {
-        nth_block(&self.indexed(), &self.layout, n)
+        nth_block(&self.indexed(), &self.cuts, n)
     }
 
     /// The blocks of the present line, in line and block order, one by one: each with its slave's station
@@ -172,7 +169,7 @@ impl Plan {
     pub fn line_blocks(&self) -> LineBlocks<'_>
         ensures { result ≡ (config (line self.now)).blocks }
     {
-        line_blocks(self.groups.as_slice(), &self.layout)
+        line_blocks(self.groups.as_slice(), &self.cuts)
     }
 
     /// The station address of the slave at a position of the line, from 0; none where the line is
@@ -204,18 +201,6 @@ impl Plan {
         self.index.of(self.groups.as_slice())
     }
 
-    /// The state, with what the line is configured to.
-    fn standing(&self) -> Standing<'_>
-        ensures { result ≡ self.now }
-    {
-        Standing::of(
-            self.groups.as_slice(),
-            self.epoch,
-            &self.layout,
-            &self.places,
-        )
-    }
-
     /// Carries an edit out: the plan is then that of the new line, and the report tells what became
     /// different. Otherwise the lowest fault whose condition holds, or `Memory` where a growth was
     /// refused; the plan is then as it was. A fault that the edit has by itself, of the faults 1 to 11,
@@ -227,30 +212,24 @@ impl Plan {
         ensures own { IfSome (own_fault self.old.groups edit.now) (λ fault. result ≡ Err fault) }
         ensures unchanged { OnErr result (self.new ≡ self.old) }
     {
-        if let Some(fault) = own_fault(self.groups.as_slice(), edit) {
-            return Err(fault);
-        }
-        let groups = groups_after(alloc, self.groups.as_slice(), edit)?;
-        let old = Standing::of(
-            self.groups.as_slice(),
-            self.epoch,
-            &self.layout,
-            &self.places,
-        );
-        let applied = turn_line::<Brand>(
+        let change = Prepared::of(alloc, self.groups.as_slice(), edit)?;
+        let outlook = Outlook::of(alloc, self.groups.as_slice(), &change)?;
+        let applied = work_out::<Brand>(
             alloc,
             edit,
-            &old,
-            groups.as_slice(),
+            &outlook,
+            self.epoch,
             &mut self.cuts,
+            &self.places,
             Blank::new(1),
         )?;
-        self.groups = groups;
+        drop(outlook);
+        let Applied { report, room } = applied;
+        change.carry_out(&mut self.groups);
         self.index.follow(self.groups.as_slice());
+        self.places.carry_out(&report.swap, room);
         self.epoch += 1;
-        self.layout = applied.configured.layout;
-        self.places = applied.configured.places;
-        Ok(applied.report)
+        Ok(report)
     }
 
     /// Carries edits out in their order, as `apply` does each, and gives their answers. The room for the

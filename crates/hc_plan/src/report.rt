@@ -4,7 +4,7 @@ ghost use Rattle.hc_plan.specs.Reports.{name_of};
 
 use crate::blocks::LineBlock;
 use crate::moved::moved_blocks;
-use hc_places::layout::Layout;
+use hc_tasks::tasks::LineCuts;
 use hc_places::swap::Swap;
 use hc_places::table::Places;
 use hc_records::edit::Edit;
@@ -18,7 +18,7 @@ use std::marker::Model;
 pub(crate) struct Standing<'a> {
     groups: &'a [Declared],
     epoch: u32,
-    layout: &'a Layout,
+    layout: &'a LineCuts,
     places: &'a Places,
 }
 
@@ -47,7 +47,7 @@ impl<'a> Standing<'a> {
     pub(crate) fn of(
         groups: &'a [Declared],
         epoch: u32,
-        layout: &'a Layout,
+        layout: &'a LineCuts,
         places: &'a Places,
     ) -> Standing<'a>
         requires laid { IsLaidOut groups.now layout.now }

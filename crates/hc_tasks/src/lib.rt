@@ -6,4 +6,4 @@ pub mod areas;
 pub mod laws;
 pub mod tasks;
 mod turning;
-mod widths;
+pub mod widths;

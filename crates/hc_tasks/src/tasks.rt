@@ -3,6 +3,7 @@ ghost use Rattle.std.specs.Prelude.{◌≡◌, [], IfOk, replicate};
 
 use crate::areas::SlaveAreas;
 use crate::turning::turn_tasks;
+use arrayvec::ArrayVec;
 use hc_bitsum::steps::Steps;
 use hc_cuts::cuts::Cuts;
 use hc_cuts::packing::Placed;
@@ -147,5 +148,44 @@ impl LineCuts {
         ensures { (line : List (List Area)) → self.now ≡ line_kept line → result ≡ place_of key (list_by task line) }
     {
         self.tasks[usize::from(task)].place(key)
+    }
+
+    /// The areas of a datagram of a task, 0 to 7, with their places, in key order. `AllocError` where a growth
+    /// was refused.
+    pub fn datagram<L: Ledger>(
+        &self,
+        alloc: Global,
+        task: u8,
+        number: u16,
+        steps: &mut Steps<L>,
+    ) -> Result<Vec<Placed>, AllocError> {
+        self.tasks[usize::from(task)].datagram(alloc, number, steps)
+    }
+
+    /// The number of the datagram of a task, 0 to 7, that would carry a key.
+    pub fn carrier(&self, task: u8, key: Key) -> u16 {
+        self.tasks[usize::from(task)].carrier(key)
+    }
+
+    /// The boundaries of the eight tasks, to be compared with later ones. It takes no memory.
+    pub fn copied_starts(&self) -> LineStarts {
+        let mut tasks = ArrayVec::new();
+        for cuts in self.tasks.as_slice() {
+            tasks.push(cuts.copied_starts());
+        }
+        LineStarts { tasks }
+    }
+}
+
+/// The boundaries of the eight tasks of a line, but `Key::END`.
+#[derive(Debug, Drop)]
+pub struct LineStarts {
+    tasks: ArrayVec<ArrayVec<Key, 16>, 8>,
+}
+
+impl LineStarts {
+    /// Those of a task, 0 to 7.
+    pub fn of_task(&self, task: u8) -> &[Key] {
+        self.tasks[usize::from(task)].as_slice()
     }
 }

@@ -127,3 +127,30 @@ pub(crate) fn set_widths(
     }
     hulls
 }
+
+/// The touched keys of a slave that had some areas and has others, in a task.
+fn add_touched(hulls: &mut Hulls, task: u8, rank: u16, old: &[Area], new: &[Area]) {
+    for area in 0..old.len().max(new.len()) {
+        for dir in [Dir::Out, Dir::In] {
+            let key = Key {
+                dir,
+                rank,
+                area: area as u8,
+            };
+            if slave_width(old, task, key) != slave_width(new, task, key) {
+                hulls.add(key);
+            }
+        }
+    }
+}
+
+/// The hulls of the keys of a task whose widths differ where the slaves from a rank on had some areas and
+/// have others. It takes no memory.
+pub fn touched_hulls(task: u8, first: u16, before: &[SlaveAreas], after: &[SlaveAreas]) -> Hulls {
+    let mut hulls = Hulls::none();
+    for i in 0..before.len() {
+        let rank = first + i as u16;
+        add_touched(&mut hulls, task, rank, before[i].as_slice(), after[i].as_slice());
+    }
+    hulls
+}
