@@ -7,14 +7,14 @@ use Rattle.std.proofs.lemmas.List.Elements.{All-cons, All-head, All-nil, All-tai
 use Rattle.hc_records.specs.declared.limits.TheConstants.{MOST_AREA_BITS}
 use Rattle.hc_records.specs.declared.records.Dir.TheVariants.{Out}
 use Rattle.hc_records.specs.declared.keys.Key.{Key}
-use Rattle.hc_records.specs.declared.keys.TheConstants.Key.{START, END}
+use Rattle.hc_records.specs.declared.keys.TheConstants.Key.{END}
 use Rattle.hc_records.specs.Keys.{is_before, is_within, same_key}
 use Rattle.hc_records.specs.TaskList.{Keyed}
-use Rattle.hc_records.specs.Boundaries.{boundaries, later_keys, width_in}
-use Rattle.hc_records.specs.Packing.{Front, Placed, behind, beginning, fits, opening, packed, placed_at}
+use Rattle.hc_records.specs.Boundaries.{boundaries, width_in}
+use Rattle.hc_records.specs.Packing.{Front, Placed, behind, beginning, fits, packed, placed_at}
 use Rattle.hc_records.specs.Laws.{IsPackable}
 use Rattle.hc_records.specs.SpanLaws.{IsTaskList, areas_from, carried, next_cut}
-use Rattle.hc_records.proofs.lemmas.KeyOrder.{before-apart, same_key-refl, same_key-same, within-apart, within-from_before, within-refl, within-trans}
+use Rattle.hc_records.proofs.lemmas.KeyOrder.{before-apart, same_key-same, within-apart, within-from_before, within-refl, within-trans}
 use Rattle.hc_records.proofs.lemmas.Packed.{place}
 use Rattle.hc_records.proofs.lemmas.SettledSpans.{width-from}
 use Rattle.hc_records.proofs.lemmas.SpanCuts.{areas-from}
@@ -24,7 +24,6 @@ use Rattle.hc_bitsum.specs.Filling.{areas_between, with_area, with_areas}
 use Rattle.hc_bitsum.specs.Tree.{HoldsTaskList, Tree}
 use Rattle.hc_cuts.specs.Place.{has_key, place_of}
 use Rattle.hc_cuts.specs.Walk.{blank_datagram, filled_datagram, span_places}
-use Rattle.hc_cuts.proofs.Repaired.{firsts}
 use Rattle.hc_cuts.proofs.Searched.{boundary-cut}
 use Rattle.hc_cuts.proofs.Walked.{cut-number, cuts-on, front-beginning, keyed-is}
 use Rattle.hc_cuts.proofs.Whole.{before-end, boundary, boundary-front, length-end, next-at, places_from, span-places, spans-begin}
@@ -170,7 +169,7 @@ stands : (datagram : ℕ) (filled : Filled) (key first : Key) (bits : ℕ) (list
 stands datagram filled key first bits [] is width some before = absurd (omega arith)
 stands datagram filled key first bits (area ∷ areas) is width some before =
     stands-by (same_key area.0 key) datagram filled key first bits area areas refl is width some before
-    (λ so_far width' before'. stands datagram so_far key first bits areas (list-tail first area areas is) width' before')
+    (λ so_far width' before'. stands datagram so_far key first bits areas (list-tail first area areas is) width' some before')
 
 -- what a datagram carries comes before the next cut
 
@@ -260,17 +259,6 @@ found-in at list key bits is within low high width some =
     }
 
 -- by a key at which a datagram begins, among those at which they do
-
-pub starts-some : (tree : Tree) (starts : List Key) → starts ++ END ∷ [] ≡ boundaries tree.list → 0 < length starts
-starts-some tree starts all =
-    let same : length starts ≡ length (START ∷ later_keys tree.list) = ap length (firsts tree.list starts all) in
-    omega arith
-
-pub starts-low : (tree : Tree) (starts : List Key) (key : Key) → HoldsTaskList tree → starts ++ END ∷ [] ≡ boundaries tree.list → 0 < width_in tree.list key
-    → is_within (slice_index_or starts 0 END) key ≡ true
-starts-low tree starts key holds all some =
-    ap (λ (keys : List Key). is_within (slice_index_or keys 0 END) key) (firsts tree.list starts all)
-    ∙ within-from_before START key (width-holds (λ k. is_before START k ≡ true) key tree.list holds.list.between.above some)
 
 ends-behind : (starts : List Key) (at : ℕ) (key : Key) → at < length starts → is_before key END ≡ true
     → (at + 1 < length starts → is_before key (slice_index_or starts (at + 1) END) ≡ true) → is_before key (boundary (starts ++ END ∷ []) (suc at)) ≡ true

@@ -19,7 +19,7 @@ use Rattle.hc_records.proofs.lemmas.Packed.{place}
 use Rattle.hc_records.proofs.lemmas.SpanCuts.{areas-from, span-alone, span-begins}
 use Rattle.hc_records.proofs.lemmas.Spans.{IsListFrom, cut-all, filter-keeps, list-behind, list-tail}
 use Rattle.hc_bitsum.specs.Tree.{CanBegin, HoldsTaskList, Tree}
-use Rattle.hc_cuts.specs.Starts.{next_boundary}
+use Rattle.hc_cuts.specs.Starts.{Kept, next_boundary}
 use Rattle.hc_cuts.specs.Walk.{blank_datagram, span_places}
 use Rattle.hc_cuts.proofs.Chain.{areas-twice, goes-place}
 use Rattle.hc_cuts.proofs.Searched.{boundary-cut}
@@ -171,3 +171,9 @@ spans-end tree starts places at holds last whole =
     rw last (ap (λ (key : Key). packed (blank_datagram (length starts)) (areas_from key tree.list)) (boundary-last starts)
     ∙ ap (packed (blank_datagram (length starts))) (none-from_end tree.list holds.list.between.below)) in
     sym (append-none places) ∙ ap (λ (rest : List Placed). places ++ rest) (sym none) ∙ whole
+
+-- the boundaries, as the caller has them and as they are kept
+pub own-boundaries : (kept own : Kept) (starts : List Key) → own ≡ kept → starts ≡ own.starts → kept.starts ++ END ∷ [] ≡ boundaries kept.tree.list
+    → starts ++ END ∷ [] ≡ boundaries own.tree.list
+own-boundaries kept own starts same are all =
+    ap (λ (keys : List Key). keys ++ END ∷ []) are ∙ subst (λ (k : Kept). k.starts ++ END ∷ [] ≡ boundaries k.tree.list) (sym same) all
