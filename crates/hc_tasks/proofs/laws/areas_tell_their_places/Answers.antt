@@ -1,6 +1,4 @@
-use Rattle.std.proofs.Common.{◌≡◌, List, sym, ap}
-use Rattle.hc_records.specs.Packing.{opening, packed}
-use Rattle.hc_records.specs.TaskList.{Keyed}
+use Rattle.std.proofs.Common.{sym, ap}
 use Rattle.hc_cuts.specs.Place.{place_of}
 use Rattle.hc_tasks.proofs.lemmas.Told.{task-listed}
 use Rattle.hc_tasks.proofs.laws.areas_tell_their_places.Goals as goal
