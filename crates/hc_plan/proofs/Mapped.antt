@@ -32,6 +32,7 @@ use Rattle.hc_registers.specs.declared.fmmu.Mapping.{Mapping}
 use Rattle.hc_registers.specs.Blocks.{IsMappable, mapping_at}
 use Rattle.hc_places.specs.Layout.{layout_of, placed_in}
 use Rattle.hc_places.proofs.lemmas.Found.{find-holds}
+use Rattle.hc_places.proofs.lemmas.Layouts.{placed-in-line, task-at}
 use Rattle.hc_places.proofs.lemmas.Same.{same-dirs}
 use Rattle.hc_plan.specs.Blocks.{IsMappedArea, IsMappedSlave}
 use Rattle.hc_plan.proofs.Numbered.{numbered-get}
@@ -71,25 +72,6 @@ task-list-names task members ascending =
           let one : (slice_index_or (enumerate_from 0 own.slave.areas) k e).1 ≡ found = cc in
           ap width one;
     })
-
--- a layout's place of a key in a task is its place in the task's list
-
-task-at : (task : ℕ) → task < TASKS → slice_get tasks task ≡ Some task
-task-at zero below = refl
-task-at (suc zero) below = refl
-task-at (suc (suc zero)) below = refl
-task-at (suc (suc (suc zero))) below = refl
-task-at (suc (suc (suc (suc zero)))) below = refl
-task-at (suc (suc (suc (suc (suc zero))))) below = refl
-task-at (suc (suc (suc (suc (suc (suc zero)))))) below = refl
-task-at (suc (suc (suc (suc (suc (suc (suc zero))))))) below = refl
-task-at (suc (suc (suc (suc (suc (suc (suc (suc n)))))))) below = absurd (omega arith)
-
-pub placed-in-line : (members : List Member) (task : ℕ) (key : Key) → task < TASKS
-    → placed_in (layout_of members) task key ≡ find (λ placed. same_key placed.key key) (task_places task members)
-placed-in-line members task key below =
-    ap (option_and_then (find (λ (placed : Placed). same_key placed.key key)))
-    (slice_get-map (λ t. task_places t members) tasks task ∙ ap (option_map (λ t. task_places t members)) (task-at task below))
 
 -- where no task is crowded, each has at most 16 datagrams
 

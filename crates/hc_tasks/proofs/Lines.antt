@@ -1,17 +1,15 @@
 -- The eight tasks of a line, and those of a line without slaves.
-use Rattle.std.specs.Prelude.{All, None, find, replicate, slice_index_or}
+use Rattle.std.specs.Prelude.{All, None, replicate, slice_index_or}
 use Rattle.std.proofs.Common.{◌≡◌, ℕ, zero, suc, ◌+◌, ◌<◌, ◌≤◌, true, List, [], ◌∷◌, ◌++◌, length, refl, sym, ap, subst, ◌∙◌, arith}
 use Rattle.std.proofs.lemmas.List.Elements.{All-cons, All-nil}
 use Rattle.hc_records.specs.declared.records.Dir.{Dir}
 use Rattle.hc_records.specs.declared.records.Dir.TheVariants.{Out, In}
 use Rattle.hc_records.specs.declared.records.Area.{Area}
-use Rattle.hc_records.specs.declared.keys.Key.{Key}
 use Rattle.hc_records.specs.Keys.{is_before}
 use Rattle.hc_records.specs.TaskList.{Keyed}
 use Rattle.hc_records.specs.Packing.{opening, packed}
 use Rattle.hc_records.specs.SpanLaws.{IsTaskList}
 use Rattle.hc_records.proofs.lemmas.Lists.{AllPairs-nil}
-use Rattle.hc_cuts.specs.Place.{has_key, place_of}
 use Rattle.hc_cuts.specs.Starts.{Kept, kept_empty}
 use Rattle.hc_tasks.specs.Areas.{list_by, rank_list}
 use Rattle.hc_tasks.specs.Kept.{IsCut, IsLine, crowded_from, kept_by, kept_from, line_kept, starts_by}
@@ -41,10 +39,6 @@ task-places task line kept other low is =
     ap (λ (all : List Kept). packed opening (slice_index_or all task other).tree.list) is
     ∙ ap (λ (k : Kept). packed opening k.tree.list) (kept-at 8 0 task line other low)
     ∙ ap (λ (n : ℕ). packed opening (list_by n line)) number
-
-pub task-place : (task : ℕ) (key : Key) (line : List (List Area)) (kept : List Kept) (other : Kept) → task < 8 → kept ≡ line_kept line
-    → place_of key (slice_index_or kept task other).tree.list ≡ place_of key (list_by task line)
-task-place task key line kept other low is = ap (find (has_key key)) (task-places task line kept other low is)
 
 pub task-starts : (task : ℕ) (line : List (List Area)) (kept : List Kept) (other : Kept) → task < 8 → kept ≡ line_kept line
     → (slice_index_or kept task other).starts ≡ starts_by task line
