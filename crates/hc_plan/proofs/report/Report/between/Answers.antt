@@ -19,19 +19,19 @@ counted names blocks is = ap length is ∙ length-map blocks name_of
 
 pub overflow_cast-result : goal.overflow_cast-result
 overflow_cast-result c =
-    let moved = moved_blocks (line_from 1 c.old.inside.groups.now) (line_from 1 c.new.inside.groups.now) in
-    let few = few-moved c.new.inside.groups.now c.new.inside.layout.now (line_from 1 c.old.inside.groups.now) c.new.invariant.0 in
+    let moved = moved_blocks (line_from 1 c.args.old.groups.now) (line_from 1 c.args.new.groups.now) in
+    let few = few-moved c.args.new.groups.now c.args.new.layout.now (line_from 1 c.args.old.groups.now) c.new.invariant.0 in
     let is = all-named c.in_ok-moved.moved.items c.as_slice.result.now moved c.in_ok-blocks.blocks c.in_ok-moved.ensures c.as_slice.ensures.value c.in_ok-blocks.ensures in
     let count = counted c.in_ok-blocks.blocks moved is in
     omega (arith, few, count, c.len.ensures)
 
 pub returns : goal.returns
 returns c =
-    let old = c.old.inside.groups.now in
-    let new = c.new.inside.groups.now in
+    let old = c.args.old.groups.now in
+    let new = c.args.new.groups.now in
     let moved = moved_blocks (line_from 1 old) (line_from 1 new) in
     let report : Report = record {
-      epoch = c.new.inside.epoch;
+      epoch = c.args.new.epoch;
       recut = c.args.unsettled;
       moved = c.len.result;
       swap = c.in_ok-between.field-0;
@@ -39,11 +39,11 @@ returns c =
     } in
     let is = all-named c.in_ok-moved.moved.items c.as_slice.result.now moved c.in_ok-blocks.blocks c.in_ok-moved.ensures c.as_slice.ensures.value c.in_ok-blocks.ensures in
     let count = counted c.in_ok-blocks.blocks moved is in
-    let places' = c.new.inside.places.now in
-    let tables : c.old.inside.places.now ≡ table_of (line_from 1 old) = c.old.invariant.1 in
+    let places' = c.args.new.places.now in
+    let tables : c.args.old.places.now ≡ table_of (line_from 1 old) = c.old.invariant.1 in
     let next : places' ≡ table_of (line_from 1 new) = c.new.invariant.1 in
     let change = c.in_ok-between.field-0.change in
-    let tells : Tells (record { groups = old; epoch = c.old.inside.epoch }) c.args.edit.now (record { groups = new; epoch = c.new.inside.epoch }) report = record {
+    let tells : Tells (record { groups = old; epoch = c.args.old.epoch }) c.args.edit.now (record { groups = new; epoch = c.args.new.epoch }) report = record {
       epoch = refl;
       recut = c.requires
           ∙ ap (λ (s : State). recut (line s) (line c.args.new.now)) (sym c.old.view_is)
@@ -60,4 +60,4 @@ returns c =
           ∙ ap (λ (t : Table). length (changed_variables (table_of (line_from 1 old)) t)) next;
     } in
     subst (λ (s : State). Tells s c.args.edit.now c.args.new.now report) c.old.view_is
-    (subst (λ (s : State). Tells (record { groups = old; epoch = c.old.inside.epoch }) c.args.edit.now s report) c.new.view_is tells)
+    (subst (λ (s : State). Tells (record { groups = old; epoch = c.args.old.epoch }) c.args.edit.now s report) c.new.view_is tells)
