@@ -1,14 +1,15 @@
 -- Tasks in a row that are turned, or put back.
-use Rattle.std.specs.Prelude.{None, Option, Some, drop, replicate, slice_index_or, slice_set}
+use Rattle.std.specs.Prelude.{All, Err, None, Ok, OnErr, OnOk, Option, Result, Some, drop, replicate, slice_index_or, slice_set, take}
 use Rattle.std.proofs.Common.{◌≡◌, ℕ, suc, ◌+◌, Bool, true, false, if◌then◌else◌, List, [], ◌∷◌, ◌++◌, length, refl, sym, ap, subst, ◌∙◌, arith, length-append}
 use Rattle.hc_records.specs.declared.records.Area.{Area}
 use Rattle.hc_bitsum.specs.Tree.{Tree}
 use Rattle.hc_cuts.specs.Starts.{Kept}
-use Rattle.hc_tasks.specs.Kept.{IsLine, crowded_from, is_crowded, kept_by, kept_from, line_kept, tree_by}
-use Rattle.hc_tasks.specs.Turn.{AreLines, HasTurn, IsTaskTurn, IsTurn}
+use Rattle.std.proofs.Math.Seq.{take-append_seam}
+use Rattle.hc_tasks.specs.Kept.{IsCut, IsLine, crowded_from, is_crowded, kept_by, kept_from, line_kept, tree_by}
+use Rattle.hc_tasks.specs.Turn.{AreLines, IsTaskTurn, IsTurn}
 use Rattle.hc_tasks.specs.Widths.{IsSetTo}
 use Rattle.hc_tasks.specs.Areas.{width_at}
-use Rattle.hc_tasks.proofs.Lines.{absent-fits, absent-line, length-absent}
+use Rattle.hc_tasks.proofs.Lines.{absent-fits, absent-line, length-absent, line-is}
 use Rattle.hc_tasks.proofs.Turned.{kept-is, set-tree}
 use Rattle.hc_tasks.proofs.lemmas.Whole.{whole-turn}
 
@@ -94,25 +95,35 @@ set-again [] rest kept last one = absurd (omega arith)
 set-again (first ∷ []) rest kept last one = refl
 set-again (first ∷ next ∷ these) rest kept last one = absurd (omega arith)
 
--- the eight tasks of a line, as many as are kept
-pub eight-turn : (count first : ℕ) (kept : List Kept) (before after old new : List (List Area)) → count ≡ 8
-    → IsTurn 8 0 kept first before after old new → IsTurn count 0 kept first before after old new
-eight-turn count first kept before after old new eight turn = subst (λ (n : ℕ). IsTurn n 0 kept first before after old new) (sym eight) turn
+-- the eight tasks of a line, lent as a slice
 
-pub has-eight : (count first : ℕ) (kept : List Kept) (before after : List (List Area)) → count ≡ 8 → HasTurn 8 0 kept first before after → HasTurn count 0 kept first before after
-has-eight count first kept before after eight has = record { old = has.old; new = has.new; turn = eight-turn count first kept before after has.old has.new eight has.turn }
+pub eight-turn : (kept lent : List Kept) (first : ℕ) (before after old new : List (List Area)) → lent ≡ kept → length lent ≡ 8
+    → IsTurn 8 0 kept first before after old new → IsTurn (length lent) 0 lent first before after old new
+eight-turn kept lent first before after old new is eight turn =
+    subst (λ (n : ℕ). IsTurn n 0 lent first before after old new) (sym eight) (subst (λ (ks : List Kept). IsTurn 8 0 ks first before after old new) (sym is) turn)
+
+are-tasks : (result : Result ℕ ℕ) (lent last : List Kept) (new : List (List Area)) → OnOk result (last ≡ kept_from (length lent) 0 new) → OnErr result (last ≡ lent)
+    → (length lent ≡ 8) × All IsCut lent → (length last ≡ 8) × All IsCut last
+are-tasks (Ok recut) lent last new turned same are = line-is last new (turned ∙ ap (λ (n : ℕ). kept_from n 0 new) are.0)
+are-tasks (Err task) lent last new turned same are = subst (λ (ks : List Kept). (length ks ≡ 8) × All IsCut ks) (sym same) are
+
+-- and what they are when it comes back
+pub given-back : (len : ℕ) (kept lent last : List Kept) (result : Result ℕ ℕ) (new : List (List Area)) → len ≡ length kept → lent ≡ kept → (length kept ≡ 8) × All IsCut kept
+    → OnOk result (last ≡ kept_from (length lent) 0 new) → OnErr result (last ≡ lent)
+    → (take len (last ++ drop (length last) kept) ≡ last) × (length last ≡ 8) × All IsCut last
+given-back len kept lent last result new long is are turned same =
+    let all = are-tasks result lent last new turned same (subst (λ (ks : List Kept). (length ks ≡ 8) × All IsCut ks) (sym is) are) in (
+      ap (λ (n : ℕ). take n (last ++ drop (length last) kept)) (long ∙ are.0 ∙ sym all.0) ∙ take-append_seam last (drop (length last) kept),
+      all.0,
+      all.1,
+    )
 
 -- those of a line without slaves are turned into those of any line
 pub absent-turn : (count : ℕ) (kept : List Kept) (absent line : List (List Area)) → absent ≡ replicate count [] → kept ≡ line_kept (replicate count []) → length line ≡ count
-    → IsLine line → HasTurn 8 0 kept 1 absent line
+    → IsLine line → IsTurn 8 0 kept 1 absent line absent line
 absent-turn count kept absent line none stand many is =
     let few = is.few in
-    record {
-      old = absent;
-      new = line;
-      turn =
-          whole-turn kept absent line (subst (λ (s : List (List Area)). IsLine s) (sym none) (absent-line count (omega (arith, few, many)))) is
-          (many ∙ sym (length-absent count) ∙ ap (λ (s : List (List Area)). length s) (sym none))
-          (stand ∙ ap (λ (s : List (List Area)). line_kept s) (sym none))
-          (subst (λ (s : List (List Area)). crowded_from 8 0 s ≡ None) (sym none) (absent-fits 8 0 count));
-    }
+    whole-turn kept absent line (subst (λ (s : List (List Area)). IsLine s) (sym none) (absent-line count (omega (arith, few, many)))) is
+    (many ∙ sym (length-absent count) ∙ ap (λ (s : List (List Area)). length s) (sym none))
+    (stand ∙ ap (λ (s : List (List Area)). line_kept s) (sym none))
+    (subst (λ (s : List (List Area)). crowded_from 8 0 s ≡ None) (sym none) (absent-fits 8 0 count))
