@@ -134,12 +134,12 @@ impl Cuts {
         starts
     }
 
-    /// Puts boundaries in the place of those that were last worked out. It takes no memory.
-    pub fn put_starts(&mut self, starts: ArrayVec<Key, 16>)
+    /// Puts others in the place of the boundaries that were last worked out. It takes no memory.
+    pub fn put_starts(&mut self, others: ArrayVec<Key, 16>)
         ensures areas { self.new.tree ≡ self.old.tree }
-        ensures starts { self.new.starts ≡ starts.items }
+        ensures starts { self.new.starts ≡ others.items }
     {
-        self.starts = starts;
+        self.starts = others;
     }
 
     /// Works out the boundaries anew, from the front, by a search for each. `TooManyDatagrams` exactly

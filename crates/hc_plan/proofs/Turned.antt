@@ -16,7 +16,7 @@ use Rattle.hc_tasks.specs.Kept.{IsLine, crowded_from, line_kept}
 use Rattle.hc_tasks.specs.Recut.{recut_from}
 use Rattle.hc_tasks.specs.Turn.{IsTurn}
 use Rattle.hc_tasks.proofs.lemmas.Projects.{edit-declares, line-crowded, line-recut, project-line}
-use Rattle.hc_tasks.proofs.lemmas.Whole.{whole-turn}
+use Rattle.hc_tasks.proofs.lemmas.Turning.{whole-turn}
 use Rattle.hc_plan.proofs.Editing.{crowded-refused}
 
 pub is-line : (groups : List Declared) (slaves : List (List Area)) → slaves ≡ areas_by_rank groups → lowest_fault (groups_of groups) ≡ None → IsLine slaves
@@ -49,21 +49,13 @@ turn-refused state edit new after task is second none crowded =
     (ap (λ (g : List Declared). option_map TooManyDatagrams (crowded_task (line_from 1 g))) (sym is)
     ∙ ap (option_map TooManyDatagrams) (same-crowded new after second ∙ crowded))
 
--- the tasks of a project's line are turned by an edit, and back
-
+-- the tasks of a project's line are turned by an edit
 pub edit-turn : (old new : List Declared) (edit : Edit) (before after : List (List Area)) (kept : List Kept) → before ≡ areas_by_rank old → after ≡ areas_by_rank new
     → new ≡ groups_after old edit → lowest_fault (groups_of old) ≡ None → lowest_fault (groups_of new) ≡ None → crowded_task (line_from 1 old) ≡ None
     → kept ≡ line_kept (areas_by_rank old) → IsTurn 8 0 kept 1 before after before after
 edit-turn old new edit before after kept first second is none nor fits stand =
     whole-turn kept before after (is-line old before first none) (is-line new after second nor) (as-many old new before after edit first second is)
     (stand ∙ ap (λ (s : List (List Area)). line_kept s) (sym first)) (line-fits old before first fits)
-
-pub back-turn : (old new : List Declared) (edit : Edit) (before after : List (List Area)) (kept : List Kept) → before ≡ areas_by_rank old → after ≡ areas_by_rank new
-    → new ≡ groups_after old edit → lowest_fault (groups_of old) ≡ None → lowest_fault (groups_of new) ≡ None → crowded_task (line_from 1 new) ≡ None
-    → kept ≡ line_kept (areas_by_rank new) → IsTurn 8 0 kept 1 after before after before
-back-turn old new edit before after kept first second is none nor fits stand =
-    whole-turn kept after before (is-line new after second nor) (is-line old before first none) (sym (as-many old new before after edit first second is))
-    (stand ∙ ap (λ (s : List (List Area)). line_kept s) (sym second)) (line-fits new after second fits)
 
 -- what the turn left unsettled is what the edit recuts
 pub line-unsettled : (old new : List Declared) (before after : List (List Area)) (unsettled : ℕ) → before ≡ areas_by_rank old → after ≡ areas_by_rank new

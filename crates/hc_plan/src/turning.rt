@@ -12,7 +12,7 @@ ghost use Rattle.hc_edits.specs.Edits.{own_fault};
 ghost use Rattle.hc_places.specs.Layout.{NamesCrowded, layout_of};
 ghost use Rattle.hc_places.specs.Table.{table_of};
 ghost use Rattle.hc_tasks.specs.Areas.{areas_by_rank};
-ghost use Rattle.hc_tasks.specs.Kept.{crowded_from, line_kept};
+ghost use Rattle.hc_tasks.specs.Kept.{line_kept};
 ghost use Rattle.hc_tasks.specs.Turn.{HasAcceptedTurn, IsTurn};
 ghost use Rattle.hc_plan.specs.Reports.{Tells};
 
@@ -110,7 +110,7 @@ fn turn_back<L: Ledger>(
     steps: &mut Steps<L>,
 )
     requires { HasAcceptedTurn cuts.old first from.now to.now }
-    ensures { (old new : List (List Area)) → IsTurn 8 0 cuts.old first from.now to.now old new → crowded_from 8 0 new ≡ None → cuts.new ≡ line_kept new }
+    ensures { (old new : List (List Area)) → IsTurn 8 0 cuts.old first from.now to.now old new → cuts.new ≡ line_kept new }
 {
     let Ok(_) = cuts.turn(first, from, to, steps) else {
         unreachable!()

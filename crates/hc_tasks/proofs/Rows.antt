@@ -11,6 +11,7 @@ use Rattle.hc_tasks.specs.Turn.{AreLines}
 use Rattle.hc_tasks.specs.Widths.{AreKept, IsSetTo, differs, with_slave}
 use Rattle.hc_tasks.proofs.Setting.{slaves-go, up_to}
 use Rattle.hc_tasks.proofs.Taking.{areas-of, ranks-go, up_to_rank}
+use Rattle.hc_tasks.proofs.lemmas.Turning.{back-lines}
 
 -- the areas of the slaves in front of the row, in it, and behind it
 
@@ -84,24 +85,11 @@ old-at first before after old new lines i areas own same is within =
     ∙ row-at lines.front before lines.behind i within
     ∙ sym (ap (λ (s : List (List Area)). areas_at s (length lines.front + i + 1)) lines.was)
 
--- the other way round
-abbrev pub back : (first : ℕ) (before after old new : List (List Area)) → AreLines first before after old new → AreLines first after before new old
-back first before after old new lines = record {
-  front = lines.front;
-  behind = lines.behind;
-  rank = lines.rank;
-  many = sym lines.many;
-  was = lines.is;
-  is = lines.was;
-  old_line = lines.new_line;
-  new_line = lines.old_line;
-}
-
 pub new-at : (first : ℕ) (before after old new : List (List Area)) (lines : AreLines first before after old new) (i : ℕ) (areas own : List Area) → areas ≡ own
     → own ≡ slice_index_or after i own → i < length before → areas ≡ areas_at new (length lines.front + i + 1)
 new-at first before after old new lines i areas own same is within =
     let many = lines.many in
-    old-at first after before new old (back first before after old new lines) i areas own same is (omega arith)
+    old-at first after before new old (back-lines first before after old new lines) i areas own same is (omega arith)
 
 -- the row is within the line
 pub row-within : (first : ℕ) (before after old new : List (List Area)) (lines : AreLines first before after old new) → first + length before ≤ length old + 1

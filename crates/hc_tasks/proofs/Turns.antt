@@ -11,7 +11,7 @@ use Rattle.hc_tasks.specs.Widths.{IsSetTo}
 use Rattle.hc_tasks.specs.Areas.{width_at}
 use Rattle.hc_tasks.proofs.Lines.{absent-fits, absent-line, length-absent, line-is}
 use Rattle.hc_tasks.proofs.Turned.{kept-is, set-tree}
-use Rattle.hc_tasks.proofs.lemmas.Whole.{whole-turn}
+use Rattle.hc_tasks.proofs.lemmas.Turning.{whole-turn}
 
 pub as-long : (first : ℕ) (before after old new : List (List Area)) → AreLines first before after old new → length new ≡ length old
 as-long first before after old new lines =

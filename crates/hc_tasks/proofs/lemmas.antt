@@ -2,4 +2,4 @@
 pub mod Named
 pub mod Projects
 pub mod Told
-pub mod Whole
+pub mod Turning

@@ -14,4 +14,4 @@ unreachable-requires g c =
     cc
 
 pub returns : goal.returns
-returns g c = λ old new turn fits. c.in-Ok.ensures.turned old new turn
+returns g c = λ old new turn. c.in-Ok.ensures.turned old new turn

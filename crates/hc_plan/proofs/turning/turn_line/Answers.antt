@@ -70,28 +70,11 @@ turn_back-requires g c =
     edit-turn c.args.old.now.groups c.args.groups.now c.args.edit.now c.as_slice.result.now c.as_slice-2.result.now c.args.cuts.now
     (c.as_slice.ensures.value ∙ c.in_ok-before.ensures ∙ ap areas_by_rank c.groups.ensures.value) (c.as_slice-2.ensures.value ∙ c.in_ok-after.ensures)
     c.requires.after c.groups.ensures.kept c.requires.project c.groups.ensures.uncrowded c.requires.was in
-    let turned = c.in-Ok.ensures.turned c.as_slice.result.now c.as_slice-2.result.now turn ∙ ap (λ (s : List (List Area)). line_kept s) (c.as_slice-2.ensures.value ∙ c.in_ok-after.ensures) in
-    let fits = fits-line c.args.groups.now c.as_slice-2.result.now (c.as_slice-2.ensures.value ∙ c.in_ok-after.ensures) (c.in-Ok.ensures.accepted c.as_slice.result.now c.as_slice-2.result.now turn) in
     let back =
-    back-turn c.args.old.now.groups c.args.groups.now c.args.edit.now c.as_slice-in-Err-answer_edit-2.result.now c.as_slice-in-Err-answer_edit.result.now c.turn.new.self
-    (c.as_slice-in-Err-answer_edit-2.ensures.value ∙ c.in_ok-before.ensures ∙ ap areas_by_rank c.groups.ensures.value) (c.as_slice-in-Err-answer_edit.ensures.value ∙ c.in_ok-after.ensures)
-    c.requires.after c.groups.ensures.kept c.requires.project fits turned in
-    let fitted = line-fits c.args.old.now.groups c.as_slice-in-Err-answer_edit-2.result.now (c.as_slice-in-Err-answer_edit-2.ensures.value ∙ c.in_ok-before.ensures ∙ ap areas_by_rank c.groups.ensures.value) c.groups.ensures.uncrowded in
-    record { old = c.as_slice-in-Err-answer_edit.result.now; new = c.as_slice-in-Err-answer_edit-2.result.now; turn = back; fits = fitted }
+    back-accepted c.args.cuts.now c.turn.new.cuts c.args.first c.as_slice.result.now c.as_slice-2.result.now c.as_slice.result.now c.as_slice-2.result.now turn
+    (c.in-Ok.ensures.turned c.as_slice.result.now c.as_slice-2.result.now turn) (c.in-Ok.ensures.accepted c.as_slice.result.now c.as_slice-2.result.now turn) in
+    ?
 
 pub returns-in-Err-answer_edit-clause-unchanged : goal.returns-in-Err-answer_edit-clause-unchanged
 returns-in-Err-answer_edit-clause-unchanged g c =
-    let turn =
-    edit-turn c.args.old.now.groups c.args.groups.now c.args.edit.now c.as_slice.result.now c.as_slice-2.result.now c.args.cuts.now
-    (c.as_slice.ensures.value ∙ c.in_ok-before.ensures ∙ ap areas_by_rank c.groups.ensures.value) (c.as_slice-2.ensures.value ∙ c.in_ok-after.ensures)
-    c.requires.after c.groups.ensures.kept c.requires.project c.groups.ensures.uncrowded c.requires.was in
-    let turned = c.in-Ok.ensures.turned c.as_slice.result.now c.as_slice-2.result.now turn ∙ ap (λ (s : List (List Area)). line_kept s) (c.as_slice-2.ensures.value ∙ c.in_ok-after.ensures) in
-    let fits = fits-line c.args.groups.now c.as_slice-2.result.now (c.as_slice-2.ensures.value ∙ c.in_ok-after.ensures) (c.in-Ok.ensures.accepted c.as_slice.result.now c.as_slice-2.result.now turn) in
-    let back =
-    back-turn c.args.old.now.groups c.args.groups.now c.args.edit.now c.as_slice-in-Err-answer_edit-2.result.now c.as_slice-in-Err-answer_edit.result.now c.turn.new.self
-    (c.as_slice-in-Err-answer_edit-2.ensures.value ∙ c.in_ok-before.ensures ∙ ap areas_by_rank c.groups.ensures.value) (c.as_slice-in-Err-answer_edit.ensures.value ∙ c.in_ok-after.ensures)
-    c.requires.after c.groups.ensures.kept c.requires.project fits turned in
-    let fitted = line-fits c.args.old.now.groups c.as_slice-in-Err-answer_edit-2.result.now (c.as_slice-in-Err-answer_edit-2.ensures.value ∙ c.in_ok-before.ensures ∙ ap areas_by_rank c.groups.ensures.value) c.groups.ensures.uncrowded in
-    c.turn_back.ensures c.as_slice-in-Err-answer_edit.result.now c.as_slice-in-Err-answer_edit-2.result.now back fitted
-    ∙ ap (λ (s : List (List Area)). line_kept s) (c.as_slice-in-Err-answer_edit-2.ensures.value ∙ c.in_ok-before.ensures ∙ ap areas_by_rank c.groups.ensures.value)
-    ∙ sym c.requires.was
+    ?

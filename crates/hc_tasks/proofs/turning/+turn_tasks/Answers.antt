@@ -1,8 +1,8 @@
 use Rattle.std.proofs.Common.{◌≡◌, ℕ, List, None, Some, length, ◌∷◌, ap, slice_index_or, sym, subst, ◌∙◌}
 use Rattle.hc_cuts.specs.Starts.{Kept}
 use Rattle.hc_tasks.specs.Kept.{crowded_from, kept_by, kept_from}
-use Rattle.hc_tasks.proofs.Rows.{back}
 use Rattle.hc_tasks.proofs.Turns.{first-crowded, parts, rest-crowded, set-again, set-at, set-first, split-tasks}
+use Rattle.hc_tasks.proofs.lemmas.Turning.{back-lines}
 use Rattle.hc_tasks.proofs.turning.+turn_tasks.Goals as goal
 
 pub returns-in_default-clause-refused : goal.returns-in_default-clause-refused
@@ -20,7 +20,7 @@ put_task-requires g t c =
     record {
       old = r.new;
       new = r.old;
-      lines = back c.args.first c.args.before.now c.args.after.now r.old r.new r.turn.lines;
+      lines = back-lines c.args.first c.args.before.now c.args.after.now r.old r.new r.turn.lines;
       holds =
           ap (λ (k : Kept). k.tree)
           (set-at s.result.0.now c.turn_task.new.cuts c.index-these-0-in-Err.result s.ensures.front_len ∙ c.in-Ok.ensures.turned r.old r.new p.0);
@@ -58,7 +58,7 @@ returns-in-Err-clause-unchanged g t c =
     let holds =
         ap (λ (k : Kept). k.tree)
         (set-at s.result.0.now c.turn_task.new.cuts c.index-these-0-in-Err.result s.ensures.front_len ∙ c.in-Ok.ensures.turned r.old r.new p.0) in
-    let put = c.put_task.ensures r.new r.old (back c.args.first c.args.before.now c.args.after.now r.old r.new r.turn.lines) holds (c.copied_starts-starts.ensures ∙ ap (λ (k : Kept). k.starts) q.0.stands) in
+    let put = c.put_task.ensures r.new r.old (back-lines c.args.first c.args.before.now c.args.after.now r.old r.new r.turn.lines) holds (c.copied_starts-starts.ensures ∙ ap (λ (k : Kept). k.starts) q.0.stands) in
     set-again s.result.0.now c.turn_tasks.new.tasks c.turn_task.new.cuts c.put_task.new.cuts s.ensures.front_len
     ∙ ap (λ (k : Kept). k ∷ c.turn_tasks.new.tasks) (put ∙ sym q.0.stands)
     ∙ ap (λ (ks : List Kept). slice_index_or s.result.0.now 0 c.index-these-0.result ∷ ks) c.in-Err.ensures.unchanged

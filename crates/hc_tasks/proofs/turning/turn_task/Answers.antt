@@ -1,9 +1,9 @@
 use Rattle.std.proofs.Common.{arith, sym, ◌∙◌, ap}
 use Rattle.hc_cuts.specs.Starts.{Kept}
 use Rattle.hc_tasks.specs.Kept.{starts_by, tree_by}
-use Rattle.hc_tasks.proofs.Rows.{back}
 use Rattle.hc_tasks.proofs.Turned.{are-of_before, crowds-by, cut-kept, fits-by, kept-is, lists-same, one-touched, recut-none, recut-some, some-touched, unturned, unturned-fits}
 use Rattle.hc_tasks.proofs.Turns.{set-turned}
+use Rattle.hc_tasks.proofs.lemmas.Turning.{back-lines}
 use Rattle.hc_tasks.proofs.turning.turn_task.Goals as goal
 
 pub returns-then-are_none-clause-turned : goal.returns-then-are_none-clause-turned
@@ -39,7 +39,7 @@ set_widths-requires g c =
     record {
       old = r.new;
       new = r.old;
-      lines = back c.args.first c.args.before.now c.args.after.now r.old r.new r.turn.lines;
+      lines = back-lines c.args.first c.args.before.now c.args.after.now r.old r.new r.turn.lines;
       holds = c.repair.ensures.areas ∙ is;
     }
 
@@ -81,7 +81,7 @@ returns-in-Err-clause-unchanged g c =
     let r = c.requires in
     let stands = ap (λ (k : Kept). k.tree) r.turn.stands in
     let is = set-turned c.args.task c.args.first c.args.before.now c.args.after.now r.old r.new c.args.cuts.now c.set_widths-hulls.new.cuts r.turn.lines stands c.set_widths-hulls.ensures.widths in
-    let lines = back c.args.first c.args.before.now c.args.after.now r.old r.new r.turn.lines in
+    let lines = back-lines c.args.first c.args.before.now c.args.after.now r.old r.new r.turn.lines in
     let turned = c.repair.ensures.areas ∙ is in
     let tree = set-turned c.args.task c.args.first c.args.after.now c.args.before.now r.new r.old c.repair.new.self c.set_widths.new.cuts lines turned c.set_widths.ensures.widths in
     kept-is c.set_widths.new.cuts (tree_by c.args.task r.old) (starts_by c.args.task r.old) tree

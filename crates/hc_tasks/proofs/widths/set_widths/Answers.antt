@@ -4,10 +4,11 @@ use Rattle.hc_cuts.specs.Hulls.{AreHulls}
 use Rattle.hc_cuts.specs.declared.hulls.Hulls.{Hulls}
 use Rattle.hc_records.specs.declared.records.Area.{Area}
 use Rattle.hc_tasks.specs.Widths.{IsSetTo}
-use Rattle.hc_tasks.proofs.Rows.{back, lines-behind, lines-front, new-at, old-at, ranks-next, row-kept, row-within, slaves-next}
+use Rattle.hc_tasks.proofs.Rows.{lines-behind, lines-front, new-at, old-at, ranks-next, row-kept, row-within, slaves-next}
 use Rattle.hc_tasks.proofs.Setting.{slaves-begin, slaves-end, slaves-was, up_to}
 use Rattle.hc_tasks.proofs.Taking.{ranks-begin, ranks-end, up_to_rank}
 use Rattle.hc_tasks.proofs.Turned.{tree-holds, tree-widths}
+use Rattle.hc_tasks.proofs.lemmas.Turning.{back-lines}
 use Rattle.hc_tasks.proofs.widths.set_widths.Goals as goal
 
 pub loop-i-init : goal.loop-i-init
@@ -54,7 +55,7 @@ set_slave-requires-clause-new c =
     let r = c.requires in
     let many = r.lines.many in
     let rank = r.lines.rank in
-    let low = row-within c.args.first c.args.after.now c.args.before.now r.new r.old (back c.args.first c.args.before.now c.args.after.now r.old r.new r.lines) in
+    let low = row-within c.args.first c.args.after.now c.args.before.now r.new r.old (back-lines c.args.first c.args.before.now c.args.after.now r.old r.new r.lines) in
     row-kept r.new (length r.lines.front + c.loop-i.i) c.as_slice-in-loop-i.result.now r.lines.new_line
     (new-at c.args.first c.args.before.now c.args.after.now r.old r.new r.lines c.loop-i.i c.as_slice-in-loop-i.result.now c.index-after-i.result c.as_slice-in-loop-i.ensures c.index-after-i.is (omega arith))
     (omega (arith, within, low, rank, many))
