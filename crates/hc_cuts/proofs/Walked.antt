@@ -33,7 +33,7 @@ head_key (area ∷ areas) = area.0
 
 -- searches without room
 
-front-beginning : (last : Dir) (bit : ℕ) (area : Keyed) → bit ≤ beginning (record { datagram = 0; bit = bit; last = last }) area
+pub front-beginning : (last : Dir) (bit : ℕ) (area : Keyed) → bit ≤ beginning (record { datagram = 0; bit = bit; last = last }) area
 front-beginning last bit area = by (nat_le 8 area.1 || is_turn last area.0.dir)
   where
     by : (aligned : Bool) → bit ≤ (if aligned then next_byte bit else bit)
@@ -216,7 +216,7 @@ carries : (fitting : Bool) (own : Placed) (rest : List Placed) → fitting ≡ t
 carries true own rest test = refl
 carries false own rest test = cc
 
-cuts-on : (fitting : Bool) (next own : Key) → fitting ≡ true → (if fitting then next else own) ≡ next
+pub cuts-on : (fitting : Bool) (next own : Key) → fitting ≡ true → (if fitting then next else own) ≡ next
 cuts-on true next own test = refl
 cuts-on false next own test = cc
 

@@ -19,7 +19,7 @@ use Rattle.hc_records.proofs.lemmas.Packed.{place}
 use Rattle.hc_records.proofs.lemmas.SpanCuts.{areas-from, span-alone, span-begins}
 use Rattle.hc_records.proofs.lemmas.Spans.{IsListFrom, cut-all, filter-keeps, list-behind, list-tail}
 use Rattle.hc_bitsum.specs.Tree.{CanBegin, HoldsTaskList, Tree}
-use Rattle.hc_cuts.specs.Starts.{next_boundary}
+use Rattle.hc_cuts.specs.Starts.{Kept, next_boundary}
 use Rattle.hc_cuts.specs.Walk.{blank_datagram, span_places}
 use Rattle.hc_cuts.proofs.Chain.{areas-twice, goes-place}
 use Rattle.hc_cuts.proofs.Searched.{boundary-cut}
@@ -36,13 +36,13 @@ span-at zero (key ∷ (next ∷ keys)) h = (zero, omega arith, refl)
 span-at (suc at) (key ∷ (next ∷ keys)) h = let (k, within, found) = span-at at (next ∷ keys) (omega arith) in (suc k, omega arith, found)
 
 -- from each boundary, the next one is the one behind it
-next-at : (at : ℕ) (list : List Keyed) → IsTaskList list → at + 1 < length (boundaries list)
+pub next-at : (at : ℕ) (list : List Keyed) → IsTaskList list → at + 1 < length (boundaries list)
     → boundary (boundaries list) (suc at) ≡ next_boundary (boundary (boundaries list) at) list
 next-at at list is within =
     (span-alone list (boundary (boundaries list) at, boundary (boundaries list) (suc at)) is (span-at at (boundaries list) within)).next
     ∙ sym (boundary-cut (boundary (boundaries list) at) list is)
 
-before-end : (at : ℕ) (list : List Keyed) → IsTaskList list → at + 1 < length (boundaries list) → is_before (boundary (boundaries list) at) END ≡ true
+pub before-end : (at : ℕ) (list : List Keyed) → IsTaskList list → at + 1 < length (boundaries list) → is_before (boundary (boundaries list) at) END ≡ true
 before-end at list is within = span-begins list (boundary (boundaries list) at, boundary (boundaries list) (suc at)) is (span-at at (boundaries list) within)
 
 -- a span begins at the front, or at a key that has a place
@@ -104,7 +104,7 @@ abbrev pub places_from : ℕ → List Key → List Keyed → List Placed
 places_from at keys list = packed (blank_datagram at) (areas_from (boundary keys at) list)
 
 -- they are those of its span, and those from the next boundary on
-span-places : (at : ℕ) (list : List Keyed) → IsTaskList list → at + 1 < length (boundaries list)
+pub span-places : (at : ℕ) (list : List Keyed) → IsTaskList list → at + 1 < length (boundaries list)
     → places_from at (boundaries list) list ≡ span_places at (boundary (boundaries list) at) list ++ places_from (at + 1) (boundaries list) list
 span-places at list is within =
     let keys = boundaries list in
@@ -131,10 +131,10 @@ all-from list is =
 pub spans-begin : (keys : List Key) (list : List Keyed) → IsTaskList list → keys ≡ boundaries list → places_from 0 keys list ≡ packed opening list
 spans-begin keys list is all = rw all (ap (packed opening) (all-from list is))
 
-length-end : (starts : List Key) → length (starts ++ END ∷ []) ≡ length starts + 1
+pub length-end : (starts : List Key) → length (starts ++ END ∷ []) ≡ length starts + 1
 length-end starts = length-append starts (END ∷ [])
 
-boundary-front : (keys behind : List Key) (at : ℕ) (other : Key) → at < length keys → slice_index_or keys at other ≡ boundary (keys ++ behind) at
+pub boundary-front : (keys behind : List Key) (at : ℕ) (other : Key) → at < length keys → slice_index_or keys at other ≡ boundary (keys ++ behind) at
 boundary-front [] behind at other h = absurd (omega arith)
 boundary-front (key ∷ keys) behind zero other h = refl
 boundary-front (key ∷ keys) behind (suc at) other h = boundary-front keys behind at other (omega arith)
@@ -171,3 +171,9 @@ spans-end tree starts places at holds last whole =
     rw last (ap (λ (key : Key). packed (blank_datagram (length starts)) (areas_from key tree.list)) (boundary-last starts)
     ∙ ap (packed (blank_datagram (length starts))) (none-from_end tree.list holds.list.between.below)) in
     sym (append-none places) ∙ ap (λ (rest : List Placed). places ++ rest) (sym none) ∙ whole
+
+-- the boundaries, as the caller has them and as they are kept
+pub own-boundaries : (kept own : Kept) (starts : List Key) → own ≡ kept → starts ≡ own.starts → kept.starts ++ END ∷ [] ≡ boundaries kept.tree.list
+    → starts ++ END ∷ [] ≡ boundaries own.tree.list
+own-boundaries kept own starts same are all =
+    ap (λ (keys : List Key). keys ++ END ∷ []) are ∙ subst (λ (k : Kept). k.starts ++ END ∷ [] ≡ boundaries k.tree.list) (sym same) all

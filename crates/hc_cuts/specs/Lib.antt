@@ -1,5 +1,6 @@
 pub mod Firsts
 pub mod Hulls
+pub mod Place
 pub mod Repair
 pub mod Spans
 pub mod Starts

@@ -5,10 +5,15 @@ use Rattle.hc_records.specs.declared.keys.Key.{Key}
 use Rattle.hc_records.specs.TaskList.{Keyed}
 use Rattle.hc_records.specs.Packing.{Front, Placed}
 use Rattle.hc_records.specs.SpanLaws.{areas_from, carried}
+use Rattle.hc_bitsum.specs.declared.filled.Filled.{Filled}
 
 -- the datagram with a number, before an area stands in it
 abbrev pub blank_datagram : ℕ → Front
 blank_datagram datagram = record { datagram = datagram; bit = 0; last = Out }
+
+-- and filled so far
+abbrev pub filled_datagram : ℕ → Filled → Front
+filled_datagram datagram filled = record { datagram = datagram; bit = filled.bit; last = filled.last }
 
 -- the areas from a key on that the datagram with a number carries, each with its place
 abbrev pub span_places : ℕ → Key → List Keyed → List Placed

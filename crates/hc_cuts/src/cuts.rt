@@ -11,14 +11,17 @@ ghost use Rattle.hc_cuts.specs.Starts.{most_read};
 use crate::fold::TooManyDatagrams;
 use crate::hulls::Hulls;
 use crate::next::next_cut;
-use crate::packing::Placed;
+use crate::packing::{Front, Placed};
+use crate::place::carrier;
 use crate::repair::repaired_starts;
 use crate::settled::{Reach, later};
 use crate::walk::add_span;
 use arrayvec::ArrayVec;
+use hc_bitsum::filled::Filled;
 use hc_bitsum::steps::Steps;
 use hc_bitsum::tree::SumTree;
 use hc_records::keys::Key;
+use hc_records::records::Dir;
 use std::alloc::{AllocError, Global};
 use std::marker::Model;
 use std::sync::ledger::Ledger;
@@ -89,6 +92,7 @@ impl Cuts {
     ghost use Rattle.hc_records.specs.Boundaries.{is_touched, unsettled_spans};
     ghost use Rattle.hc_bitsum.specs.Tree.{HasPlace, HoldsTaskList, with_width};
     ghost use Rattle.hc_cuts.specs.Hulls.{AreHulls};
+    ghost use Rattle.hc_cuts.specs.Place.{place_of};
     ghost use Rattle.hc_cuts.specs.Repair.{AreOfBefore, unsettled_between};
     ghost use Rattle.hc_cuts.specs.Starts.{kept_empty};
 
@@ -236,5 +240,28 @@ impl Cuts {
             add_span(&mut places, &self.tree, span, i as u16, steps)?;
         }
         Ok(places)
+    }
+
+    /// The place of its area with a key, any key: the datagram that carries it, and its first bit there;
+    /// none where it has no such area. It is that which `places` gives, without the places of the others:
+    /// the boundaries tell the datagram, and the tree how far it is filled before the area. The boundaries
+    /// are those of its areas, as `cut` leaves them. It takes no memory and no steps.
+    pub fn place(&self, key: Key) -> Option<Placed>
+        requires { self.now.starts ++ END ∷ [] ≡ boundaries self.now.tree.list }
+        ensures { result ≡ place_of key self.now.tree.list }
+    {
+        let bits = self.tree.bits(key);
+        if bits == 0 {
+            return None;
+        }
+        let starts = self.starts.as_slice();
+        let datagram = carrier(starts, key);
+        let empty = Filled {
+            bit: 0,
+            last: Dir::Out,
+        };
+        let filled = self.tree.filled_between(starts[datagram], key, empty);
+        let front = Front::filled(datagram as u16, filled);
+        Some(front.place(key, bits))
     }
 }

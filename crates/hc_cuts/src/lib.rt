@@ -7,6 +7,7 @@ pub mod hulls;
 pub mod laws;
 pub mod next;
 pub mod packing;
+pub mod place;
 mod repair;
 pub mod settled;
 mod walk;

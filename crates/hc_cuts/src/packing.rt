@@ -6,6 +6,7 @@ ghost use Rattle.hc_records.specs.Packing.{opening, packed};
 ghost use Rattle.hc_records.specs.declared.limits.TheConstants.{MOST_AREA_BITS};
 
 use hc_bitsum::borders::{byte_border, is_turning};
+use hc_bitsum::filled::Filled;
 use hc_records::keys::Key;
 use hc_records::limits::MOST_AREA_BITS;
 use hc_records::records::Dir;
@@ -108,7 +109,7 @@ impl Placed {
 impl Front {
     ghost use Rattle.std.specs.Prelude.{◌≡◌, ◌+◌, ◌<◌, ◌≤◌};
     ghost use Rattle.hc_records.specs.Packing.{beginning, fits, opening, placed_at};
-    ghost use Rattle.hc_cuts.specs.Walk.{blank_datagram};
+    ghost use Rattle.hc_cuts.specs.Walk.{blank_datagram, filled_datagram};
     ghost use Rattle.hc_records.specs.declared.limits.TheConstants.{MOST_AREA_BITS};
 
     /// The empty first datagram.
@@ -126,6 +127,18 @@ impl Front {
             datagram,
             bit: 0,
             last: Dir::Out,
+        }
+    }
+
+    /// The datagram with a number, filled so far.
+    pub(crate) fn filled(datagram: u16, filled: Filled) -> Front
+        requires { filled.bit ≤ MOST_AREA_BITS }
+        ensures { result ≡ filled_datagram datagram filled }
+    {
+        Front {
+            datagram,
+            bit: filled.bit as u16,
+            last: filled.last,
         }
     }
 

@@ -1,5 +1,6 @@
-//! What follows from the definitions of the table: each function does nothing, and its contract is a
-//! law. Nobody calls it.
+//! What follows from the definitions of the table and of the layout: each function does nothing, and its
+//! contract is a law. Nobody calls it.
+ghost use Rattle.hc_places.specs.Layout.{AreasTellTheLayout};
 ghost use Rattle.hc_places.specs.Swap.{ChangedVariablesDiffer, ChangedVariablesStandOnce, PlacesTellTables, SameIsEqual, SwapsKeepTheOrder, SwapsMoveTheirVariables, SwapsReplaceTheirTasks};
 ghost use Rattle.hc_places.specs.Table.{TablesHavePlaces};
 
@@ -50,4 +51,11 @@ pub fn swaps_replace_their_tasks()
 /// leave one table that a swap can lead to.
 pub fn places_tell_tables()
     ensures { PlacesTellTables }
+{}
+
+/// In a task of a project's line, 0 to 7, the place of an area by the areas of the slaves by their ranks,
+/// which is the place that the kept tasks of the line tell, is that by the layout of the line; the key may
+/// be any.
+pub fn areas_tell_the_layout()
+    ensures { AreasTellTheLayout }
 {}

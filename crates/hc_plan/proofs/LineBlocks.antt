@@ -22,9 +22,10 @@ use Rattle.hc_registers.specs.declared.fmmu.Mapping.{Mapping}
 use Rattle.hc_registers.specs.Blocks.{LineBlock, RegisterBlock, area_blocks, line_blocks, member_blocks, moved_blocks, numbered, same_block, slave_blocks, sync_manager_block, fmmu_block, mapping_at, mapping_of}
 use Rattle.hc_places.specs.Layout.{placed_in}
 use Rattle.hc_places.proofs.lemmas.Found.{find-holds}
+use Rattle.hc_places.proofs.lemmas.Layouts.{placed-in-line}
 use Rattle.hc_plan.specs.Blocks.{IsLaidOut, IsMappedSlave, area_blocks_in, blocks_left, fmmu_block_in, mapping_in, own_left, slave_blocks_in}
 use Rattle.hc_plan.specs.Configuration.{at_station, block_at, line_block_at}
-use Rattle.hc_plan.proofs.Mapped.{placed-in-line, slave-mapped}
+use Rattle.hc_plan.proofs.Mapped.{slave-mapped}
 use Rattle.hc_plan.proofs.Numbered.{get-numbered-from-0, numbered-get}
 
 flat_map-same : {X Y : Type 0} (f g : X → List Y) (xs : List X) → All (λ x. f x ≡ g x) xs → flat_map f xs ≡ flat_map g xs

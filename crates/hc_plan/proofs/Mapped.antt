@@ -1,10 +1,10 @@
 -- In the line of a project every area's blocks can be written, by the places that packing gives.
-use Rattle.std.proofs.Common.{◌≡◌, ℕ, zero, suc, ◌+◌, ◌<◌, ◌≤◌, ◌==◌, ◌&&◌, Bool, true, false, List, [], ◌∷◌, refl, sym, ap, subst, ◌∙◌, arith, cond, inl, inr}
-use Rattle.std.specs.Prelude.{All, AllPairs, Option, Some, None, find, map, nat_lt, option_and_then, option_map, slice_get, slice_index_or}
+use Rattle.std.proofs.Common.{◌≡◌, ℕ, ◌+◌, ◌<◌, ◌≤◌, ◌==◌, ◌&&◌, Bool, true, false, List, [], ◌∷◌, refl, sym, ap, subst, ◌∙◌, arith, cond, inl, inr}
+use Rattle.std.specs.Prelude.{All, AllPairs, Option, Some, None, find, map, nat_lt, option_map, slice_get, slice_index_or}
 use Rattle.std.specs.List.{enumerate_from}
 use Rattle.std.proofs.lemmas.Bool.{and_parts, cases_order, eqb-true, ltb-false}
 use Rattle.std.proofs.lemmas.List.Elements.{All-cons, All-nil}
-use Rattle.std.proofs.lemmas.Option.{get_or_from_slice_get, slice_get-get_or, slice_get-map, slice_get_within}
+use Rattle.std.proofs.lemmas.Option.{get_or_from_slice_get, slice_get-get_or, slice_get_within}
 use Rattle.hc_records.specs.declared.limits.TheConstants.{MOST_AREA_BITS, MOST_DATAGRAMS, TASKS}
 use Rattle.hc_records.specs.declared.records.Dir.{Dir}
 use Rattle.hc_records.specs.declared.records.Area.{Area}
@@ -32,6 +32,7 @@ use Rattle.hc_registers.specs.declared.fmmu.Mapping.{Mapping}
 use Rattle.hc_registers.specs.Blocks.{IsMappable, mapping_at}
 use Rattle.hc_places.specs.Layout.{layout_of, placed_in}
 use Rattle.hc_places.proofs.lemmas.Found.{find-holds}
+use Rattle.hc_places.proofs.lemmas.Layouts.{placed-in-line, task-at}
 use Rattle.hc_places.proofs.lemmas.Same.{same-dirs}
 use Rattle.hc_plan.specs.Blocks.{IsMappedArea, IsMappedSlave}
 use Rattle.hc_plan.proofs.Numbered.{numbered-get}
@@ -71,25 +72,6 @@ task-list-names task members ascending =
           let one : (slice_index_or (enumerate_from 0 own.slave.areas) k e).1 ≡ found = cc in
           ap width one;
     })
-
--- a layout's place of a key in a task is its place in the task's list
-
-task-at : (task : ℕ) → task < TASKS → slice_get tasks task ≡ Some task
-task-at zero below = refl
-task-at (suc zero) below = refl
-task-at (suc (suc zero)) below = refl
-task-at (suc (suc (suc zero))) below = refl
-task-at (suc (suc (suc (suc zero)))) below = refl
-task-at (suc (suc (suc (suc (suc zero))))) below = refl
-task-at (suc (suc (suc (suc (suc (suc zero)))))) below = refl
-task-at (suc (suc (suc (suc (suc (suc (suc zero))))))) below = refl
-task-at (suc (suc (suc (suc (suc (suc (suc (suc n)))))))) below = absurd (omega arith)
-
-pub placed-in-line : (members : List Member) (task : ℕ) (key : Key) → task < TASKS
-    → placed_in (layout_of members) task key ≡ find (λ placed. same_key placed.key key) (task_places task members)
-placed-in-line members task key below =
-    ap (option_and_then (find (λ (placed : Placed). same_key placed.key key)))
-    (slice_get-map (λ t. task_places t members) tasks task ∙ ap (option_map (λ t. task_places t members)) (task-at task below))
 
 -- where no task is crowded, each has at most 16 datagrams
 

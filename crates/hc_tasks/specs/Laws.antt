@@ -1,13 +1,16 @@
 -- What follows from the definitions. Each is the contract of a function of `laws`.
-use Rattle.std.specs.Prelude.{◌≡◌, ℕ, All, List, None, Some, length}
+use Rattle.std.specs.Prelude.{◌≡◌, ℕ, All, List, None, Some, find, length}
 use Rattle.hc_records.specs.declared.edit.Edit.{Edit}
 use Rattle.hc_records.specs.declared.records.Declared.{Declared}
 use Rattle.hc_records.specs.declared.keys.Key.{Key}
 use Rattle.hc_records.specs.Boundaries.{recut, width_in}
 use Rattle.hc_records.specs.Edits.{crowded_task, groups_after}
+use Rattle.hc_records.specs.Image.{task_places}
+use Rattle.hc_records.specs.Keys.{same_key}
 use Rattle.hc_records.specs.Line.{groups_of, line_from}
 use Rattle.hc_records.specs.Project.{lowest_fault}
 use Rattle.hc_records.specs.TaskList.{task_areas, task_list}
+use Rattle.hc_cuts.specs.Place.{place_of}
 use Rattle.hc_tasks.specs.Areas.{area_in, areas_by_rank, list_by, width_at}
 use Rattle.hc_tasks.specs.Kept.{IsLine, crowded_from}
 use Rattle.hc_tasks.specs.Recut.{recut_from}
@@ -20,6 +23,12 @@ WidthsAreTheAreas =
 -- the list of a task of a line is that of the line's areas
 abbrev pub TaskListsAreTheAreas : Type 0
 TaskListsAreTheAreas = (groups : List Declared) (task : ℕ) → task_list task (line_from 1 groups) ≡ list_by task (areas_by_rank groups)
+
+-- the place of an area in a task of a line is told by the line's areas
+abbrev pub AreasTellTheirPlaces : Type 0
+AreasTellTheirPlaces =
+    (groups : List Declared) (task : ℕ) (key : Key)
+    → place_of key (list_by task (areas_by_rank groups)) ≡ find (λ placed. same_key placed.key key) (task_places task (line_from 1 groups))
 
 -- the key of an area of a task names it
 abbrev pub KeysNameTheirAreas : Type 0

@@ -1,6 +1,6 @@
 //! What follows from the definitions of this crate: each function does nothing, and its contract is a
 //! law. Nobody calls it.
-ghost use Rattle.hc_tasks.specs.Laws.{AreasTellTheCrowded, AreasTellTheRecut, EditsDeclareNoSlave, KeysNameTheirAreas, ProjectsHaveLines, TaskListsAreTheAreas, WidthsAreTheAreas};
+ghost use Rattle.hc_tasks.specs.Laws.{AreasTellTheCrowded, AreasTellTheRecut, AreasTellTheirPlaces, EditsDeclareNoSlave, KeysNameTheirAreas, ProjectsHaveLines, TaskListsAreTheAreas, WidthsAreTheAreas};
 
 /// The width of a key in the list of a task of a line is that of the area which the key names: the one
 /// with its place in the record of the slave with its rank, where that slave stands in the line and the
@@ -13,6 +13,12 @@ pub fn widths_are_the_areas()
 /// left out.
 pub fn task_lists_are_the_areas()
     ensures { TaskListsAreTheAreas }
+{}
+
+/// The place of an area of a line's task, by the areas of the slaves by their ranks, is that which the
+/// layout of the task in the line gives.
+pub fn areas_tell_their_places()
+    ensures { AreasTellTheirPlaces }
 {}
 
 /// The key of each area of a task names that area, among those of the slaves by their ranks.

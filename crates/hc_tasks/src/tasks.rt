@@ -49,6 +49,7 @@ impl LineCuts {
     ghost use Rattle.hc_records.specs.Packing.{opening, packed};
     ghost use Rattle.hc_records.specs.declared.faults.EditFault.TheVariants.{Memory, TooManyDatagrams};
     ghost use Rattle.hc_records.specs.declared.limits.TheConstants.{MOST_DATAGRAMS, MOST_SLAVES, TASKS};
+    ghost use Rattle.hc_cuts.specs.Place.{place_of};
     ghost use Rattle.hc_cuts.specs.Starts.{most_read};
     ghost use Rattle.hc_tasks.specs.Areas.{list_by};
     ghost use Rattle.hc_tasks.specs.Kept.{IsLine, crowded_from, line_kept, starts_by};
@@ -135,5 +136,16 @@ impl LineCuts {
         ensures { IfOk result (λ places. (line : List (List Area)) → self.now ≡ line_kept line → places.items ≡ packed opening (list_by task line)) }
     {
         self.tasks[usize::from(task)].places(alloc, steps)
+    }
+
+    /// The place of an area in a task, 0 to 7, by its key, any key: the direction, the rank of the slave in
+    /// the line, and the area's place in the slave's record. The datagram of the task that carries it, and
+    /// its first bit there; none where the task has no such area. It is worked out from the widths and the
+    /// boundaries of the task. It takes no memory.
+    pub fn place(&self, task: u8, key: Key) -> Option<Placed>
+        requires { task < TASKS }
+        ensures { (line : List (List Area)) → self.now ≡ line_kept line → result ≡ place_of key (list_by task line) }
+    {
+        self.tasks[usize::from(task)].place(key)
     }
 }

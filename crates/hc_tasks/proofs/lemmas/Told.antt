@@ -1,5 +1,5 @@
--- The width of a key in a task's list, told by the area of its slave.
-use Rattle.std.specs.Prelude.{filter, map, nat_lt, slice_get, slice_index_or, ◌&&◌}
+-- The width of a key in a task's list, told by the area of its slave; and its place, told by the areas of all.
+use Rattle.std.specs.Prelude.{filter, find, map, nat_lt, slice_get, slice_index_or, ◌&&◌}
 use Rattle.std.specs.List.{enumerate_from, flat_map}
 use Rattle.std.proofs.Common.{◌≡◌, ◌≢◌, ℕ, zero, suc, ◌+◌, ◌≤◌, ◌==◌, Bool, true, false, List, [], ◌∷◌, ◌++◌, length, refl, sym, ap, ◌∙◌, arith, if◌then◌else◌, append_assoc}
 use Rattle.std.proofs.lemmas.Bool.Decides.{nat_tests}
@@ -15,11 +15,13 @@ use Rattle.hc_records.specs.declared.keys.Key.{Key}
 use Rattle.hc_records.specs.Keys.{same_dir, same_key}
 use Rattle.hc_records.specs.Area.{width}
 use Rattle.hc_records.specs.Boundaries.{width_in}
+use Rattle.hc_records.specs.Image.{task_places}
 use Rattle.hc_records.specs.Line.{line_from, members_from, present_slaves}
 use Rattle.hc_records.specs.TaskList.{Keyed, Listed, belongs, keyed, slave_areas, task_list}
 use Rattle.hc_records.proofs.lemmas.KeyOrder.{same_key-refl}
 use Rattle.hc_records.proofs.lemmas.Spans.{width-absent, width-here, width-skip}
 use Rattle.hc_bitsum.proofs.lemmas.Lacking.{LacksKey, lacks-before, lacks-behind}
+use Rattle.hc_cuts.specs.Place.{place_of}
 use Rattle.hc_tasks.specs.Areas.{area_list, areas_by_rank, list_by, own_width, present_areas, rank_list, width_at}
 
 abbrev key_of : Dir → ℕ → ℕ → Key
@@ -92,6 +94,11 @@ pub task-listed : (task : ℕ) (groups : List Declared)
 task-listed task groups =
     map-append keyed (flat_map (slave_areas task Out) (line_from 1 groups)) (flat_map (slave_areas task In) (line_from 1 groups))
     ∙ rw (line-listed task Out 1 groups, line-listed task In 1 groups) refl
+
+-- so it tells the places of a task's areas
+pub place-told : (groups : List Declared) (task : ℕ) (key : Key)
+    → place_of key (list_by task (areas_by_rank groups)) ≡ find (λ placed. same_key placed.key key) (task_places task (line_from 1 groups))
+place-told groups task key = ap (place_of key) (sym (task-listed task groups))
 
 -- keys that differ
 
