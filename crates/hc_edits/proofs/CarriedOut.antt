@@ -18,7 +18,7 @@ use Rattle.hc_records.specs.Project.{lowest_fault}
 use Rattle.hc_records.proofs.lemmas.Finds.{mapped-some}
 use Rattle.hc_records.proofs.lemmas.Limits.{project-inside}
 use Rattle.hc_records.proofs.lemmas.Lines.{declared_slaves}
-use Rattle.hc_records.proofs.lemmas.Lists.{All-append_left, All-append_right, All-from_none, All-unmap, AllPairs-append_left, AllPairs-append_right, AllPairs-between, AllPairs-head, AllPairs-nil, AllPairs-tail}
+use Rattle.hc_records.proofs.lemmas.Lists.{All-append_left, All-append_right, All-from_none, All-unmap, AllPairs-append_left, AllPairs-append_right, AllPairs-between, AllPairs-head, AllPairs-nil, AllPairs-tail, AllPairs-unmap}
 use Rattle.hc_edits.specs.declared.changes.AreasChange.{AreasChange}
 use Rattle.hc_edits.specs.declared.changes.PresenceChange.{PresenceChange}
 use Rattle.hc_edits.specs.declared.prepared.Prepared.{Prepared}
@@ -26,20 +26,13 @@ use Rattle.hc_edits.specs.declared.prepared.Prepared.TheVariants.{Presence, Area
 use Rattle.hc_edits.specs.Changes.{areas_change, areas_changed, carried, change_by, has_alias, has_slave, place_at, place_in, presence_at, presence_change, slave_place, slaves_at, with_areas, with_present, with_slave}
 use Rattle.hc_edits.proofs.Found.{IsFirstAt, changed-alike, first-at, none-changed, once-changed, there}
 
-pairs-unmap : {X Y : Type 0} (R : Y → Y → Type 0) (f : X → Y) (xs : List X) → AllPairs R (map f xs) → AllPairs (λ a b. R (f a) (f b)) xs
-pairs-unmap R f [] pairs = AllPairs-nil (λ a b. R (f a) (f b))
-pairs-unmap R f (x ∷ xs) pairs =
-    AllPairs-cons (λ a b. R (f a) (f b)) x xs
-    (All-unmap (R (f x)) f xs (AllPairs-head R (f x) (map f xs) pairs))
-    (pairs-unmap R f xs (AllPairs-tail R (f x) (map f xs) pairs))
-
 -- the presence of a group
 
 presence-carried : (groups : List Declared) (alias : ℕ) (present : Bool) (change : PresenceChange) → lowest_fault (groups_of groups) ≡ None → presence_change groups alias present ≡ Some change →
     carried (Presence change) groups ≡ map (with_presence alias present) groups
 presence-carried groups alias present change none is =
     let at = mapped-some (presence_at groups present) (position (has_alias alias) groups) change is in
-    let aliases = pairs-unmap (λ (a b : Group). a.alias ≢ b.alias) (λ (d : Declared). d.group) groups (project-inside (groups_of groups) none).aliases in
+    let aliases = AllPairs-unmap (λ (a b : Group). a.alias ≢ b.alias) (λ (d : Declared). d.group) groups (project-inside (groups_of groups) none).aliases in
     ap (λ (c : PresenceChange). carried (Presence c) groups) (sym at.2)
     ∙ sym (once-changed (λ (d : Declared). d.group.alias) alias at.0 (with_present present) groups aliases (first-at (has_alias alias) at.0 groups at.1))
 
@@ -97,7 +90,7 @@ groups-with station area change (declared ∷ groups) (suc group) slave apart fi
     ∙ ap (λ (own : List Slave). with_all own declared ∷ map (with_slaves (with_area station area change)) groups)
     (sym (none-changed (λ (s : Slave). s.station) station (on_areas area change) slaves (All-from_none (has_address station) slaves first.0)))
 
-joined-some : {X Y : Type 0} (f : X → Option Y) (found : Option X) (y : Y) → option_and_then f found ≡ Some y → (x : X) × (found ≡ Some x) × (f x ≡ Some y)
+pub joined-some : {X Y : Type 0} (f : X → Option Y) (found : Option X) (y : Y) → option_and_then f found ≡ Some y → (x : X) × (found ≡ Some x) × (f x ≡ Some y)
 joined-some f None y is = cc
 joined-some f (Some x) y is = (x, refl, is)
 

@@ -1,5 +1,6 @@
 pub mod CarriedOut
 pub mod Changed
+pub mod Concerned
 pub mod Found
 pub mod Harmless
 pub mod Kept

@@ -2,6 +2,7 @@
 ghost use Rattle.std.specs.Prelude.{◌≡◌};
 ghost use Rattle.hc_records.specs.Lists.{changed_at};
 ghost use Rattle.hc_edits.specs.Changes.{carried, with_areas, with_slave};
+ghost use Rattle.hc_edits.specs.Rows.{SameRow};
 ghost use Rattle.hc_edits.specs.declared.prepared.Prepared.TheVariants.{Areas, Presence};
 
 use crate::changes::{AreasChange, PresenceChange};
@@ -13,6 +14,7 @@ use std::mem;
 pub(crate) fn turn(change: PresenceChange, groups: &mut Items<Declared>) -> PresenceChange
     ensures groups { groups.new ≡ carried (Presence change) groups.old }
     ensures back { carried (Presence result) groups.new ≡ groups.old }
+    ensures row { SameRow (Presence result) (Presence change) }
 {
     if groups.len() <= change.group {
         return change;
@@ -51,6 +53,7 @@ fn give_areas_in(declared: &mut Declared, slave: usize, areas: Items<Area>) -> I
 pub(crate) fn reassign(change: AreasChange, groups: &mut Items<Declared>) -> AreasChange
     ensures groups { groups.new ≡ carried (Areas change) groups.old }
     ensures back { carried (Areas result) groups.new ≡ groups.old }
+    ensures row { SameRow (Areas result) (Areas change) }
 {
     if groups.len() <= change.place.group {
         return change;

@@ -8,3 +8,4 @@ pub mod changes;
 pub mod faults;
 pub mod groups;
 pub mod prepared;
+mod rows;

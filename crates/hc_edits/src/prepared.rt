@@ -81,14 +81,19 @@ impl Prepared {
     ghost use Rattle.hc_records.specs.Project.{lowest_fault};
     ghost use Rattle.hc_edits.specs.Edits.{own_fault};
     ghost use Rattle.hc_edits.specs.Changes.{carried, change_by};
+    ghost use Rattle.hc_edits.specs.Rows.{ChangesRow, SameRow};
 
     /// What an edit changes of the groups of a project: carried out, it leaves the groups that the edit
-    /// leaves. The areas that a slave gets are taken into memory here. Otherwise the lowest fault that the
-    /// edit has by itself, judged before the first growth, or `Memory` where a growth was refused.
+    /// leaves, again a project's. The slaves that it concerns have ranks that follow one another, and each
+    /// other slave keeps its record, and whether it is present. The areas that a slave gets are taken into
+    /// memory here. Otherwise the lowest fault that the edit has by itself, judged before the first growth,
+    /// or `Memory` where a growth was refused. Either way the groups given stay as they are.
     pub fn of(alloc: Global, groups: &[Declared], edit: &Edit) -> Result<Prepared, EditFault>
         requires { lowest_fault (groups_of groups.now) ≡ None }
         ensures change { IfOk result (λ change. change_by groups.now edit.now ≡ Some change) }
         ensures groups { IfOk result (λ change. carried change groups.now ≡ groups_after groups.now edit.now) }
+        ensures kept { IfOk result (λ change. lowest_fault (groups_of (carried change groups.now)) ≡ None) }
+        ensures row { IfOk result (λ change. ChangesRow change groups.now) }
         ensures accepted { OnOk result (own_fault groups.now edit.now ≡ None) }
         ensures own { IfSome (own_fault groups.now edit.now) (λ fault. result ≡ Err fault) }
         ensures refused { IfErr result (λ fault. fault ≢ Memory → own_fault groups.now edit.now ≡ Some fault) }
@@ -101,10 +106,12 @@ impl Prepared {
     }
 
     /// Carries the change out in the groups that it was made of, where they stand, and gives the change
-    /// that leads back. It takes no memory. In other groups it changes the one at its place, if there is one.
+    /// that leads back, which concerns the same slaves. It takes no memory, and nothing can refuse it. In
+    /// other groups it changes the one at its place, if there is one.
     pub fn carry_out(self, groups: &mut Items<Declared>) -> Prepared
         ensures groups { groups.new ≡ carried self groups.old }
         ensures back { carried result groups.new ≡ groups.old }
+        ensures row { SameRow result self }
     {
         match self {
             Prepared::Presence(change) => Prepared::Presence(turn(change, groups)),

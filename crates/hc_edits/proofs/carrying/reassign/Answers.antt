@@ -1,4 +1,4 @@
-use Rattle.std.proofs.Common.{◌<◌, ◌≤◌, sym, arith, length}
+use Rattle.std.proofs.Common.{◌<◌, ◌≤◌, refl, sym, arith, length}
 use Rattle.hc_edits.specs.Changes.{with_slave}
 use Rattle.hc_edits.proofs.Set.{changed-outside, changed-set, set-back}
 use Rattle.hc_edits.proofs.carrying.reassign.Goals as goal
@@ -28,3 +28,9 @@ returns-clause-back c =
     let within : change.place.group < length c.args.groups.now = omega (arith, c.if-len-change.false, c.len.ensures) in
     set-back change.place.group (with_slave change.place.slave c.give_areas_in-areas.result) c.args.groups.now c.item_mut-declared.result.now c.give_areas_in-areas.new.declared within
     c.item_mut-declared.ensures.value c.give_areas_in-areas.ensures.back
+
+pub returns-then-len-change-clause-row : goal.returns-then-len-change-clause-row
+returns-then-len-change-clause-row c = record { first = refl; count = refl; row = λ groups. refl }
+
+pub returns-clause-row : goal.returns-clause-row
+returns-clause-row c = record { first = refl; count = refl; row = λ groups. refl }

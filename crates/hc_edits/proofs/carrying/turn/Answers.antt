@@ -1,4 +1,4 @@
-use Rattle.std.proofs.Common.{◌<◌, ◌≤◌, Bool, ap, sym, arith, length}
+use Rattle.std.proofs.Common.{◌<◌, ◌≤◌, refl, Bool, ap, sym, arith, length}
 use Rattle.hc_edits.specs.Changes.{with_present}
 use Rattle.hc_edits.proofs.Set.{changed-outside, changed-set, set-back}
 use Rattle.hc_edits.proofs.carrying.turn.Goals as goal
@@ -26,3 +26,9 @@ returns-clause-back c =
     let old = c.item_mut-declared.result.now in
     set-back c.args.change.group (with_present c.replace-present.result) c.args.groups.now old (with_present c.replace-present.new.dest old) within c.item_mut-declared.ensures.value
     (ap (λ (present : Bool). with_present present old) c.replace-present.ensures.value)
+
+pub returns-then-len-change-clause-row : goal.returns-then-len-change-clause-row
+returns-then-len-change-clause-row c = record { first = refl; count = refl; row = λ groups. refl }
+
+pub returns-clause-row : goal.returns-clause-row
+returns-clause-row c = record { first = refl; count = refl; row = λ groups. refl }
