@@ -4,7 +4,6 @@ use Rattle.std.specs.Prelude.{All, AllPairs, ◌==◌, map, option_and_then, pos
 use Rattle.std.specs.Option.{option_map_or}
 use Rattle.std.proofs.lemmas.Bool.{eqb-true, ne_eqb}
 use Rattle.std.proofs.lemmas.List.Elements.{All-weaker}
-use Rattle.std.proofs.lemmas.List.Kept.{AllPairs-cons}
 use Rattle.hc_records.specs.declared.records.Area.{Area}
 use Rattle.hc_records.specs.declared.records.Slave.{Slave}
 use Rattle.hc_records.specs.declared.records.Group.{Group}
@@ -18,7 +17,7 @@ use Rattle.hc_records.specs.Project.{lowest_fault}
 use Rattle.hc_records.proofs.lemmas.Finds.{mapped-some}
 use Rattle.hc_records.proofs.lemmas.Limits.{project-inside}
 use Rattle.hc_records.proofs.lemmas.Lines.{declared_slaves}
-use Rattle.hc_records.proofs.lemmas.Lists.{All-append_left, All-append_right, All-from_none, All-unmap, AllPairs-append_left, AllPairs-append_right, AllPairs-between, AllPairs-head, AllPairs-nil, AllPairs-tail, AllPairs-unmap}
+use Rattle.hc_records.proofs.lemmas.Lists.{All-append_left, All-append_right, All-from_none, AllPairs-append_left, AllPairs-append_right, AllPairs-between, AllPairs-unmap}
 use Rattle.hc_edits.specs.declared.changes.AreasChange.{AreasChange}
 use Rattle.hc_edits.specs.declared.changes.PresenceChange.{PresenceChange}
 use Rattle.hc_edits.specs.declared.prepared.Prepared.{Prepared}

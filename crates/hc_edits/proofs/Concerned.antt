@@ -1,6 +1,6 @@
 -- The slaves that a change concerns have ranks that follow one another, and the others stay as they were.
 use Rattle.std.proofs.Common.{◌≡◌, subst, ℕ, zero, suc, ◌+◌, Bool, true, false, List, [], ◌∷◌, ◌++◌, Option, Some, None, drop, length, take, refl, sym, ap, ◌∙◌, arith, length-append}
-use Rattle.std.specs.Prelude.{map, option_map, option_to_list, position, slice_get, sum_by}
+use Rattle.std.specs.Prelude.{option_map, option_to_list, position, slice_get, sum_by}
 use Rattle.std.specs.Option.{option_map_or}
 use Rattle.std.proofs.lemmas.Grind.{flat_map-append}
 use Rattle.std.proofs.lemmas.List.{append_assoc, length-map, length-take-le, map-append}
@@ -18,8 +18,8 @@ use Rattle.hc_edits.specs.declared.changes.AreasChange.{AreasChange}
 use Rattle.hc_edits.specs.declared.changes.PresenceChange.{PresenceChange}
 use Rattle.hc_edits.specs.declared.prepared.Prepared.{Prepared}
 use Rattle.hc_edits.specs.declared.prepared.Prepared.TheVariants.{Presence, Areas}
-use Rattle.hc_edits.specs.Changes.{areas_change, areas_changed, areas_at, carried, change_by, first_rank, has_alias, has_slave, place_at, place_in, presence_at, presence_change, slave_place, slaves_at, with_areas, with_present, with_slave}
-use Rattle.hc_edits.specs.Rows.{ChangesRow, Ranked, by_rank, group_of, named_by, ranked, row}
+use Rattle.hc_edits.specs.Changes.{areas_change, areas_changed, areas_at, carried, change_by, has_alias, has_slave, place_at, place_in, presence_at, presence_change, slave_place, slaves_at, with_areas, with_present, with_slave}
+use Rattle.hc_edits.specs.Rows.{ChangesRow, Ranked, by_rank, ranked, row}
 use Rattle.hc_edits.proofs.CarriedOut.{joined-some}
 use Rattle.hc_edits.proofs.Found.{first-at, there}
 
@@ -101,7 +101,7 @@ presence-concerned groups group present found at =
     let as_declared = ap (λ (found : Option Declared). option_map_or (λ (d : Declared). d.group.slaves) found []) at in
     let was : row (Presence change) groups ≡ ranked found.present slaves = ap (λ (found : Option Declared). option_map_or rank_all found []) at in
     let is : row (Presence change) (carried (Presence change) groups) ≡ ranked present slaves =
-        presence-row change groups ∙ ap (λ (found : Option Declared). option_map_or (λ (d : Declared). ranked present d.group.slaves) found []) at in
+    presence-row change groups ∙ ap (λ (found : Option Declared). option_map_or (λ (d : Declared). ranked present d.group.slaves) found []) at in
     let counted = rank-count front in
     record {
       front = by_rank front;
@@ -110,9 +110,9 @@ presence-concerned groups group present found at =
       count = ap length was ∙ length-map slaves (λ slave. record { present = found.present; slave = slave }) ∙ sym (ap length as_declared);
       many = ap length is ∙ length-map slaves (λ slave. record { present = present; slave = slave }) ∙ sym (ap length as_declared);
       before = ap by_rank (split-at group groups found at) ∙ by_rank-around front behind found
-        ∙ sym (ap (λ (row : List Ranked). by_rank front ++ (row ++ by_rank behind)) was);
+          ∙ sym (ap (λ (row : List Ranked). by_rank front ++ (row ++ by_rank behind)) was);
       after = ap by_rank (changed-split group (with_present present) groups found at) ∙ by_rank-around front behind (with_present present found)
-        ∙ sym (ap (λ (row : List Ranked). by_rank front ++ (row ++ by_rank behind)) is);
+          ∙ sym (ap (λ (row : List Ranked). by_rank front ++ (row ++ by_rank behind)) is);
     }
 
 among : (before front behind after : List Ranked) (one : Ranked) → before ++ ((front ++ one ∷ behind) ++ after) ≡ (before ++ front) ++ one ∷ (behind ++ after)
@@ -135,12 +135,12 @@ areas-concerned groups group slave areas found one at stands =
     let before = take slave slaves in
     let after = drop (suc slave) slaves in
     let was : row (Areas change) groups ≡ record { present = present; slave = one } ∷ [] =
-        ap (λ (found : Option Declared). option_map_or (λ (d : Declared). ranked d.present (option_to_list (slice_get d.group.slaves slave))) found []) at
-        ∙ ap (λ (found : Option Slave). ranked present (option_to_list found)) stands in
+    ap (λ (found : Option Declared). option_map_or (λ (d : Declared). ranked d.present (option_to_list (slice_get d.group.slaves slave))) found []) at
+    ∙ ap (λ (found : Option Slave). ranked present (option_to_list found)) stands in
     let is : row (Areas change) (carried (Areas change) groups) ≡ record { present = present; slave = with_areas areas one } ∷ [] =
-        areas-row change groups
-        ∙ ap (λ (found : Option Declared). option_map_or (given_row change) found []) at
-        ∙ ap (λ (found : Option Slave). ranked present (option_to_list (option_map (with_areas areas) found))) stands in
+    areas-row change groups
+    ∙ ap (λ (found : Option Declared). option_map_or (given_row change) found []) at
+    ∙ ap (λ (found : Option Slave). ranked present (option_to_list (option_map (with_areas areas) found))) stands in
     let counted = rank-count front in
     let both = length-append (by_rank front) (ranked present before) in
     let as_many = length-map {B = Ranked} before (λ slave. record { present = present; slave = slave }) in
@@ -153,15 +153,15 @@ areas-concerned groups group slave areas found one at stands =
       count = ap length was;
       many = ap length is;
       before = ap by_rank (split-at group groups found at)
-        ∙ by_rank-around front behind found
-        ∙ ap (λ (own : List Ranked). by_rank front ++ (own ++ by_rank behind)) (ap (ranked present) (split-at slave slaves one stands) ∙ ranked-around present before after one)
-        ∙ among (by_rank front) (ranked present before) (ranked present after) (by_rank behind) (record { present = present; slave = one })
-        ∙ sym (ap (λ (row : List Ranked). (by_rank front ++ ranked present before) ++ (row ++ (ranked present after ++ by_rank behind))) was);
+          ∙ by_rank-around front behind found
+          ∙ ap (λ (own : List Ranked). by_rank front ++ (own ++ by_rank behind)) (ap (ranked present) (split-at slave slaves one stands) ∙ ranked-around present before after one)
+          ∙ among (by_rank front) (ranked present before) (ranked present after) (by_rank behind) (record { present = present; slave = one })
+          ∙ sym (ap (λ (row : List Ranked). (by_rank front ++ ranked present before) ++ (row ++ (ranked present after ++ by_rank behind))) was);
       after = ap by_rank (changed-split group (with_slave slave areas) groups found at)
-        ∙ by_rank-around front behind (with_slave slave areas found)
-        ∙ ap (λ (own : List Ranked). by_rank front ++ (own ++ by_rank behind)) (ap (ranked present) (changed-split slave (with_areas areas) slaves one stands) ∙ ranked-around present before after (with_areas areas one))
-        ∙ among (by_rank front) (ranked present before) (ranked present after) (by_rank behind) (record { present = present; slave = with_areas areas one })
-        ∙ sym (ap (λ (row : List Ranked). (by_rank front ++ ranked present before) ++ (row ++ (ranked present after ++ by_rank behind))) is);
+          ∙ by_rank-around front behind (with_slave slave areas found)
+          ∙ ap (λ (own : List Ranked). by_rank front ++ (own ++ by_rank behind)) (ap (ranked present) (changed-split slave (with_areas areas) slaves one stands) ∙ ranked-around present before after (with_areas areas one))
+          ∙ among (by_rank front) (ranked present before) (ranked present after) (by_rank behind) (record { present = present; slave = with_areas areas one })
+          ∙ sym (ap (λ (row : List Ranked). (by_rank front ++ ranked present before) ++ (row ++ (ranked present after ++ by_rank behind))) is);
     }
 
 -- what an edit changes is a change of such slaves
