@@ -1,8 +1,14 @@
+pub mod CarriedOut
 pub mod Changed
+pub mod Concerned
+pub mod Found
 pub mod Harmless
 pub mod Kept
+pub mod Known
+pub mod Ranks
 pub mod Repeats
 pub mod Same
+pub mod Set
 pub mod Stations
 pub mod Unharmed
 pub mod lemmas

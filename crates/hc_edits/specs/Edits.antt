@@ -1,5 +1,5 @@
 -- What an edit asks of declared groups by itself, and what it changes in an area.
-use Rattle.std.specs.Prelude.{ℕ, Bool, List, [], ◌∷◌, Option, map}
+use Rattle.std.specs.Prelude.{ℕ, Bool, List, [], ◌∷◌, Option}
 use Rattle.hc_records.specs.declared.records.Area.{Area}
 use Rattle.hc_records.specs.declared.records.Declared.{Declared}
 use Rattle.hc_records.specs.declared.edit.Edit.{Edit}

@@ -78,7 +78,11 @@ fn area_after(
 }
 
 /// The areas of a slave with the one of the edit changed, all as they were where there is none.
-fn areas_after(alloc: Global, areas: &[Area], edit: &AreaEdit) -> Result<Items<Area>, AllocError>
+pub fn areas_after(
+    alloc: Global,
+    areas: &[Area],
+    edit: &AreaEdit,
+) -> Result<Items<Area>, AllocError>
     ensures { IfOk result (λ after. after ≡ changed_at edit.now.area (changed edit.now.change) areas.now) }
 {
     let mut after = Items::new(alloc);

@@ -3,5 +3,9 @@
 #![tactic(auto)]
 
 mod areas;
+mod carrying;
+pub mod changes;
 pub mod faults;
 pub mod groups;
+pub mod prepared;
+mod rows;

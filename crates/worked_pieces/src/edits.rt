@@ -5,6 +5,7 @@ ghost use Rattle.hc_records.specs.Line.{groups_of};
 
 use hc_edits::faults::own_fault;
 use hc_edits::groups::groups_after;
+use hc_edits::prepared::Prepared;
 use hc_records::edit::Edit;
 use hc_records::faults::EditFault;
 use hc_records::items::{Copied, Items};
@@ -250,5 +251,55 @@ fn a_tool_is_edited(rt: HostRuntime) -> Result<(), Fail> {
     assert_eq!(rt; tool(groups.as_slice()), Some((false, 1, 3)));
     assert!(rt; comes(rt.alloc(), groups.as_slice())?);
     assert_eq!(rt; tool(groups.as_slice()), Some((false, 1, 3)));
+    Ok(())
+}
+
+/// How many PDOs a slave's first area has assigned in the line, none where it has no area there.
+fn assigned(areas: &[Area]) -> Option<usize> {
+    let area = areas.first()?;
+    Some(area.assigned.len())
+}
+
+/// The rank of the first slave that a change concerns, how many there are, and how many PDOs its first area
+/// has assigned in the line before the change and after it.
+fn told(change: &Prepared, groups: &[Declared]) -> (u16, u16, Option<usize>, Option<usize>) {
+    let before = assigned(change.areas_before(groups, 0));
+    let after = assigned(change.areas_after(groups, 0));
+    (change.first(), change.slaves(), before, after)
+}
+
+/// What an edit without a fault of its own changes.
+fn prepared(alloc: Global, groups: &[Declared], edit: Edit) -> Result<Prepared, Fail>
+    requires { lowest_fault (groups_of groups.now) ≡ None }
+{
+    let change = Prepared::of(alloc, groups, &edit).ok().ok_or("a change")?;
+    Ok(change)
+}
+
+#[test]
+fn a_tool_comes_where_the_groups_stand(rt: HostRuntime) -> Result<(), Fail> {
+    let mut groups = drive_and_tool(rt.alloc())?;
+    let change = prepared(rt.alloc(), groups.as_slice(), Edit::Connect(100))?;
+    assert_eq!(rt; told(&change, groups.as_slice()), (2, 1, None, Some(1)));
+    let back = change.carry_out(&mut groups);
+    assert_eq!(rt; tool(groups.as_slice()), Some((true, 1, 3)));
+    assert_eq!(rt; told(&back, groups.as_slice()), (2, 1, Some(1), None));
+    let _change = back.carry_out(&mut groups);
+    assert_eq!(rt; tool(groups.as_slice()), Some((false, 1, 3)));
+    Ok(())
+}
+
+#[test]
+fn a_tool_falls_silent_where_the_groups_stand(rt: HostRuntime) -> Result<(), Fail> {
+    let opened = drive_and_tool(rt.alloc())?;
+    let mut groups = edited(rt.alloc(), opened.as_slice(), Edit::Connect(100))?;
+    let edit = remap(rt.alloc(), 2001, 0, &[])?;
+    let change = prepared(rt.alloc(), groups.as_slice(), edit)?;
+    assert_eq!(rt; told(&change, groups.as_slice()), (2, 1, Some(1), Some(0)));
+    let back = change.carry_out(&mut groups);
+    assert_eq!(rt; tool(groups.as_slice()), Some((true, 0, 3)));
+    assert_eq!(rt; told(&back, groups.as_slice()), (2, 1, Some(0), Some(1)));
+    let _change = back.carry_out(&mut groups);
+    assert_eq!(rt; tool(groups.as_slice()), Some((true, 1, 3)));
     Ok(())
 }
