@@ -1,5 +1,6 @@
 pub mod Firsts
 pub mod Hulls
+pub mod Keeping
 pub mod Repair
 pub mod Spans
 pub mod Starts
