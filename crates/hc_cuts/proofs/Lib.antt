@@ -2,6 +2,7 @@ pub mod Chain
 pub mod Counted
 pub mod Firsts
 pub mod Placed
+pub mod KeptBy
 pub mod Unsettled
 pub mod Repaired
 pub mod Searched

@@ -1,6 +1,7 @@
 pub mod Firsts
 pub mod Hulls
 pub mod Place
+pub mod Keeping
 pub mod Repair
 pub mod Spans
 pub mod Starts

@@ -4,6 +4,7 @@
 pub mod cuts;
 pub mod fold;
 pub mod hulls;
+pub mod keeping;
 pub mod laws;
 pub mod next;
 pub mod packing;

@@ -1,0 +1,31 @@
+-- Which datagrams of a task an edit keeps.
+use Rattle.std.specs.Prelude.{◌≡◌, ℕ, ◌+◌, ◌&&◌, not, Bool, false, List, [], ◌∷◌, ◌++◌, slice_get, slice_index_or}
+use Rattle.std.specs.Option.{option_map_or}
+use Rattle.hc_records.specs.declared.keys.Key.{Key}
+use Rattle.hc_records.specs.declared.keys.TheConstants.Key.{END}
+use Rattle.hc_records.specs.Keys.{same_key}
+use Rattle.hc_records.specs.TaskList.{Keyed}
+use Rattle.hc_records.specs.Boundaries.{Interval, boundaries, is_settled, spans}
+use Rattle.hc_cuts.specs.declared.hulls.Hulls.{Hulls}
+use Rattle.hc_cuts.specs.Repair.{meets_either}
+
+-- the datagram of a task's list with a number begins at a key
+abbrev pub begins_at : List Keyed → ℕ → Key → Bool
+begins_at list datagram key = option_map_or (same_key key) (slice_get (boundaries list) datagram) false
+
+-- a datagram of the new list is kept: its span is settled, and the old list's datagram with its number began at the same key
+abbrev pub is_kept : List Keyed → List Keyed → ℕ → Bool
+is_kept old new datagram =
+    option_map_or (λ span. is_settled old new span && begins_at old datagram span.0) (slice_get (spans (boundaries new)) datagram) false
+
+-- the same by the keys at which datagrams begin and by hulls
+
+abbrev pub span_from : List Key → ℕ → Key → Interval
+span_from starts datagram start = (start, slice_index_or (starts ++ END ∷ []) (datagram + 1) END)
+
+abbrev pub is_kept_by : Hulls → List Key → List Key → ℕ → Bool
+is_kept_by hulls old_starts new_starts datagram =
+    option_map_or
+    (λ start. option_map_or (same_key start) (slice_get old_starts datagram) false && not (meets_either hulls (span_from new_starts datagram start)))
+    (slice_get new_starts datagram)
+    false
