@@ -1,6 +1,6 @@
 -- The moved blocks are those of candidates.
 use Rattle.std.proofs.Common.{◌≡◌, ℕ, ◌*◌, ◌==◌, Bool, true, false, List, [], ◌∷◌, Contains, Option, Some, None, refl, sym, ap, subst, ◌∙◌}
-use Rattle.std.specs.Prelude.{All, AllPairs, cond, filter, find, map, not, option_map, ◌&&◌}
+use Rattle.std.specs.Prelude.{All, AllPairs, filter, map, not, option_map}
 use Rattle.std.specs.Option.{option_map_or}
 use Rattle.std.specs.List.{flat_map, list_any}
 use Rattle.std.specs.Str.{bytes_eq}

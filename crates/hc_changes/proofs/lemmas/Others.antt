@@ -28,7 +28,7 @@ contains-mapped f (y ∷ ys) x (suc k, within, is) = contains-behind (f x) (f y)
 
 -- a slave of a line is found by its rank
 
-never-both : (rank a b : ℕ) → a < b → a ≡ rank → b ≡ rank → ⊥
+pub never-both : (rank a b : ℕ) → a < b → a ≡ rank → b ≡ rank → ⊥
 never-both rank a b below is is' = omega arith
 
 pub member-found : (line : List Member) (member : Member) → AllPairs RanksBelow line → Contains line member → find (λ m. m.rank == member.rank) line ≡ Some member

@@ -1,5 +1,5 @@
 -- An area stands in its task's list exactly where it has a width.
-use Rattle.std.proofs.Common.{◌≡◌, ℕ, ◌==◌, ◌<◌, true, false, List, Contains, Option, Some, None, refl, sym, ap, subst, ◌∙◌, arith}
+use Rattle.std.proofs.Common.{◌≡◌, ℕ, ◌==◌, ◌<◌, true, List, Contains, Option, Some, refl, sym, ap, subst, ◌∙◌}
 use Rattle.std.specs.Prelude.{All, AllPairs, filter, find, nat_lt, ◌&&◌}
 use Rattle.std.specs.List.{enumerate_from, flat_map}
 use Rattle.std.proofs.lemmas.Bool.{and_from, and_parts, eq-eqb, eqb-true}
@@ -9,19 +9,16 @@ use Rattle.hc_records.specs.declared.records.Area.{Area}
 use Rattle.hc_records.specs.declared.records.Dir.{Dir}
 use Rattle.hc_records.specs.declared.records.Dir.TheVariants.{Out, In}
 use Rattle.hc_records.specs.Area.{width}
-use Rattle.hc_records.specs.Keys.{same_dir, same_key}
+use Rattle.hc_records.specs.Keys.{same_dir}
 use Rattle.hc_records.specs.Line.{Member}
 use Rattle.hc_records.specs.TaskList.{Keyed, Listed, belongs, keyed, slave_areas, task_areas, task_list}
-use Rattle.hc_records.specs.Packing.{Placed, opening, packed}
-use Rattle.hc_records.proofs.lemmas.Finds.{found-none}
-use Rattle.hc_records.proofs.lemmas.KeyOrder.{same_dir-refl, same_key-refl, same_key-same}
+use Rattle.hc_records.proofs.lemmas.KeyOrder.{same_dir-refl}
 use Rattle.hc_records.proofs.lemmas.Lines.{RanksBelow}
 use Rattle.hc_records.proofs.lemmas.Lists.{AllPairs-numbers, AllPairs-weaker}
-use Rattle.hc_records.proofs.lemmas.Packed.{area_of, packed-areas}
 use Rattle.hc_records.proofs.lemmas.Tasks.{listed, task-list-all}
 use Rattle.hc_changes.specs.Candidates.{LineArea, key_of}
-use Rattle.hc_changes.proofs.lemmas.Lists.{contains-filtered, contains-flat_map, find-only, found-among}
-use Rattle.hc_changes.proofs.lemmas.Others.{IsAreaOf, contains-mapped, map-piece, member-found, never-both}
+use Rattle.hc_changes.proofs.lemmas.Lists.{contains-filtered, contains-flat_map, find-only}
+use Rattle.hc_changes.proofs.lemmas.Others.{IsAreaOf, contains-mapped, member-found, never-both}
 
 by-dir : (dir : Dir) (task : ℕ) (line : List Member) (member : Member) (area : Listed) → Contains line member → Contains (slave_areas task dir member) area
     → Contains (task_areas task line) area
