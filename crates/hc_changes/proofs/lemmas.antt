@@ -1,8 +1,11 @@
 -- What the crates above cite, a file a subject.
+pub mod Bare
 pub mod Blocks
+pub mod Compared
 pub mod KeptSpans
 pub mod Lists
 pub mod Moved
+pub mod OneProject
 pub mod Others
 pub mod Ranks
 pub mod Slots

@@ -12,6 +12,7 @@ use Rattle.hc_records.specs.Image.{inside}
 use Rattle.hc_records.specs.Project.{lowest_fault}
 use Rattle.hc_records.specs.SpanLaws.{IsTaskList}
 use Rattle.hc_changes.specs.Candidates.{DifferAt, LineArea, blocks_of, candidates, is_kept, line_areas, moved_of, place_of}
+use Rattle.hc_changes.specs.Compared.{differing_of}
 use Rattle.hc_changes.specs.Edited.{is_named}
 
 -- a kept datagram carries the areas that it carried, each at its bit
@@ -48,3 +49,18 @@ MovedBlocksAreTold =
     (changed : ℕ → Bool) (old new : State) → lowest_fault (groups_of old.groups) ≡ None → lowest_fault (groups_of new.groups) ≡ None
     → DifferAt changed (line old) (line new)
     → moved_blocks (line old) (line new) ≡ flat_map (moved_of (line old) (line new)) (candidates changed (line old) (line new))
+
+-- a block of the new line was one of the old line exactly where its slave had it with its number there
+abbrev pub NumbersTellTheMoved : Type 0
+NumbersTellTheMoved =
+    (groups : List Declared) (edit : Edit) (found : LineArea) → lowest_fault (groups_of groups) ≡ None
+    → Contains (line_areas (line_from 1 (groups_after groups edit))) found
+    → moved_of (line_from 1 groups) (line_from 1 (groups_after groups edit)) found ≡ differing_of (line_from 1 groups) (line_from 1 (groups_after groups edit)) found
+
+-- so the blocks that an edit moved are those of the candidates that differ from the old line's blocks with their numbers
+abbrev pub MovedBlocksAreCompared : Type 0
+MovedBlocksAreCompared =
+    (groups : List Declared) (edit : Edit) → lowest_fault (groups_of groups) ≡ None → lowest_fault (groups_of (groups_after groups edit)) ≡ None
+    → moved_blocks (line_from 1 groups) (line_from 1 (groups_after groups edit))
+    ≡ flat_map (differing_of (line_from 1 groups) (line_from 1 (groups_after groups edit)))
+      (candidates (is_named groups edit) (line_from 1 groups) (line_from 1 (groups_after groups edit)))

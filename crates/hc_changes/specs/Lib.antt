@@ -1,3 +1,4 @@
 pub mod Candidates
+pub mod Compared
 pub mod Edited
 pub mod Laws

@@ -1,6 +1,6 @@
 //! What follows from the definitions of this crate: each function does nothing, and its contract is a
 //! law. Nobody calls it.
-ghost use Rattle.hc_changes.specs.Laws.{BlocksAreTheAreas, EditsChangeTheNamed, KeptAreasStay, KeptDatagramsStay, MovedBlocksAreTold, OtherAreasStood};
+ghost use Rattle.hc_changes.specs.Laws.{BlocksAreTheAreas, EditsChangeTheNamed, KeptAreasStay, KeptDatagramsStay, MovedBlocksAreCompared, MovedBlocksAreTold, NumbersTellTheMoved, OtherAreasStood};
 
 /// A datagram that an edit keeps carries the areas that it carried, each at its bit: so its length and its
 /// expected working counter stay too.
@@ -35,4 +35,16 @@ pub fn kept_areas_stay()
 /// line, in line and block order.
 pub fn moved_blocks_are_told()
     ensures { MovedBlocksAreTold }
+{}
+
+/// A block of an area of the new line was one of the old line exactly where the old line's slave with that
+/// rank had it with that number: comparing those two blocks alone is enough.
+pub fn numbers_tell_the_moved()
+    ensures { NumbersTellTheMoved }
+{}
+
+/// The blocks that an edit moved are those of the candidates that differ from the blocks which the old
+/// line's slaves had with their numbers, in line and block order.
+pub fn moved_blocks_are_compared()
+    ensures { MovedBlocksAreCompared }
 {}
