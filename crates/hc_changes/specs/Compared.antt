@@ -1,5 +1,5 @@
 -- What an area was in the old line, and which of its blocks differ: each is compared with the block that had its number.
-use Rattle.std.specs.Prelude.{ℕ, ◌==◌, if◌then◌else◌, List, [], ◌∷◌, find, slice_get, Option, option_and_then, option_map}
+use Rattle.std.specs.Prelude.{◌==◌, if◌then◌else◌, List, [], ◌∷◌, find, slice_get, Option, option_and_then, option_map}
 use Rattle.std.specs.Option.{option_map_or}
 use Rattle.hc_records.specs.Line.{Member}
 use Rattle.hc_registers.specs.Blocks.{LineBlock, same_block}

@@ -1,8 +1,8 @@
 -- A block that an area has was one of the old line exactly where it is the one that had its number.
 use Rattle.std.proofs.Common.{◌≡◌, ℕ, ◌+◌, ◌*◌, ◌<◌, ◌==◌, zero, suc, Bool, true, false, cond, List, [], ◌∷◌, ◌++◌, length, Contains, Option, Some, None, refl, sym, ap, subst, ◌∙◌, ⊎_elim, ◌⊎◌, inl, inr, arith}
-use Rattle.std.specs.Prelude.{◌≢◌, All, AllPairs, filter, find, map, not, option_and_then, option_map, slice_get}
+use Rattle.std.specs.Prelude.{All, AllPairs, find, map, not, option_and_then, option_map, slice_get}
 use Rattle.std.specs.Option.{option_map_or}
-use Rattle.std.specs.List.{enumerate_from, flat_map, list_any}
+use Rattle.std.specs.List.{flat_map, list_any}
 use Rattle.std.specs.Str.{bytes_eq}
 use Rattle.std.proofs.lemmas.Bool.{and_parts, eqb-true}
 use Rattle.std.proofs.lemmas.List.{length-map}
@@ -19,12 +19,11 @@ use Rattle.hc_records.specs.Project.{lowest_fault}
 use Rattle.hc_records.proofs.lemmas.Finds.{mapped-some}
 use Rattle.hc_records.proofs.lemmas.Lines.{RanksBelow, line-ascends}
 use Rattle.hc_records.proofs.lemmas.Slaves.{line-inside}
-use Rattle.hc_registers.specs.declared.registers.TheConstants.{FMMU_BLOCKS, FMMU_BLOCK_BYTES, SYNC_MANAGER_BLOCKS, SYNC_MANAGER_BLOCK_BYTES}
 use Rattle.hc_registers.specs.Blocks.{LineBlock, fmmu_block, line_blocks, mapping_of, moved_blocks, same_block, same_bytes, sync_manager_block}
 use Rattle.hc_changes.specs.Candidates.{LineArea, blocks_of, candidates, is_candidate, line_areas, moved_of}
-use Rattle.hc_changes.specs.Compared.{area_in, blocks_in, differing_of, unlike}
+use Rattle.hc_changes.specs.Compared.{area_in, differing_of, unlike}
 use Rattle.hc_changes.specs.Edited.{is_named}
-use Rattle.hc_changes.proofs.lemmas.Bare.{bare, bare_slave}
+use Rattle.hc_changes.proofs.lemmas.Bare.{bare}
 use Rattle.hc_changes.proofs.lemmas.Blocks.{blocks-of-areas}
 use Rattle.hc_changes.proofs.lemmas.Lists.{contains-behind, contains-first, contains-flat_map, contains-unfiltered, flat_map-piece, found-among}
 use Rattle.hc_changes.proofs.lemmas.Moved.{moved-told}

@@ -1,5 +1,5 @@
 -- The lines before and after an edit are of one project: a slave keeps its rank, and the areas of its record what no edit changes.
-use Rattle.std.proofs.Common.{◌≡◌, ℕ, ◌+◌, ◌-◌, ◌<◌, zero, suc, Bool, true, false, List, [], ◌∷◌, ◌++◌, length, Contains, Option, Some, None, refl, sym, ap, subst, ◌∙◌, ⊎_elim, inl, inr, arith, if◌then◌else◌}
+use Rattle.std.proofs.Common.{◌≡◌, ℕ, ◌+◌, ◌-◌, ◌<◌, zero, suc, Bool, true, false, List, [], ◌∷◌, length, Contains, Some, None, sym, ap, subst, ◌∙◌, ⊎_elim, inl, inr, arith, if◌then◌else◌}
 use Rattle.std.specs.Prelude.{◌≢◌, AllPairs, map, option_map, slice_get}
 use Rattle.std.specs.List.{enumerate_from}
 use Rattle.std.proofs.lemmas.Bool.{cases_order}
@@ -16,9 +16,8 @@ use Rattle.hc_records.proofs.lemmas.Finds.{mapped-some}
 use Rattle.hc_records.proofs.lemmas.Limits.{project-inside}
 use Rattle.hc_records.proofs.lemmas.Lines.{declared_slaves}
 use Rattle.hc_records.proofs.lemmas.Lists.{get-back, get-front}
-use Rattle.hc_changes.proofs.lemmas.Bare.{bare, bare_slave, edit-keeps}
+use Rattle.hc_changes.proofs.lemmas.Bare.{bare_slave, edit-keeps}
 use Rattle.hc_changes.proofs.lemmas.Lists.{contains-behind}
-use Rattle.hc_changes.proofs.lemmas.KeptSpans.{at-contained}
 
 -- elements that differ pairwise stand at one index each
 
