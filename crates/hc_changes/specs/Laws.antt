@@ -14,6 +14,7 @@ use Rattle.hc_records.specs.SpanLaws.{IsTaskList}
 use Rattle.hc_changes.specs.Candidates.{DifferAt, LineArea, blocks_of, candidates, is_kept, line_areas, moved_of, place_of}
 use Rattle.hc_changes.specs.Compared.{differing_of}
 use Rattle.hc_changes.specs.Edited.{is_named}
+use Rattle.hc_changes.specs.Rows.{TellsVariables, told_rows}
 
 -- a kept datagram carries the areas that it carried, each at its bit
 abbrev pub KeptDatagramsStay : Type 0
@@ -64,3 +65,10 @@ MovedBlocksAreCompared =
     → moved_blocks (line_from 1 groups) (line_from 1 (groups_after groups edit))
     ≡ flat_map (differing_of (line_from 1 groups) (line_from 1 (groups_after groups edit)))
       (candidates (is_named groups edit) (line_from 1 groups) (line_from 1 (groups_after groups edit)))
+
+-- the variables whose places an edit changed are told by the candidates and by the areas of the slaves that went
+abbrev pub VariablesAreTold : Type 0
+VariablesAreTold =
+    (groups : List Declared) (edit : Edit) → lowest_fault (groups_of groups) ≡ None → lowest_fault (groups_of (groups_after groups edit)) ≡ None
+    → TellsVariables (line_from 1 groups) (line_from 1 (groups_after groups edit))
+      (told_rows (is_named groups edit) (line_from 1 groups) (line_from 1 (groups_after groups edit)))

@@ -2,3 +2,4 @@ pub mod Candidates
 pub mod Compared
 pub mod Edited
 pub mod Laws
+pub mod Rows

@@ -1,6 +1,6 @@
 //! What follows from the definitions of this crate: each function does nothing, and its contract is a
 //! law. Nobody calls it.
-ghost use Rattle.hc_changes.specs.Laws.{BlocksAreTheAreas, EditsChangeTheNamed, KeptAreasStay, KeptDatagramsStay, MovedBlocksAreCompared, MovedBlocksAreTold, NumbersTellTheMoved, OtherAreasStood};
+ghost use Rattle.hc_changes.specs.Laws.{BlocksAreTheAreas, EditsChangeTheNamed, KeptAreasStay, KeptDatagramsStay, MovedBlocksAreCompared, MovedBlocksAreTold, NumbersTellTheMoved, OtherAreasStood, VariablesAreTold};
 
 /// A datagram that an edit keeps carries the areas that it carried, each at its bit: so its length and its
 /// expected working counter stay too.
@@ -47,4 +47,10 @@ pub fn numbers_tell_the_moved()
 /// line's slaves had with their numbers, in line and block order.
 pub fn moved_blocks_are_compared()
     ensures { MovedBlocksAreCompared }
+{}
+
+/// The variables whose places an edit changed are told by the candidates and by the areas of the slaves
+/// that went: each once, with its new place or none, and no other variable.
+pub fn variables_are_told()
+    ensures { VariablesAreTold }
 {}

@@ -116,7 +116,7 @@ pub record AreOfOneProject (old new : List Member) : Type 0 where
   pub ranks : (a b : Member) → Contains old a → Contains new b → a.slave.station ≡ b.slave.station → a.rank ≡ b.rank
 
 -- the declared slave at an index is the same before and after, but for what an edit changes
-kept-at : (olds news : List Slave) (i : ℕ) (slave : Slave) → map bare_slave news ≡ map bare_slave olds → slice_get news i ≡ Some slave
+pub kept-at : (olds news : List Slave) (i : ℕ) (slave : Slave) → map bare_slave news ≡ map bare_slave olds → slice_get news i ≡ Some slave
     → (before : Slave) × (slice_get olds i ≡ Some before) × (bare_slave before ≡ bare_slave slave)
 kept-at olds news i slave same at =
     mapped-some bare_slave (slice_get olds i) (bare_slave slave)
