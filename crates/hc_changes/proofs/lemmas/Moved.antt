@@ -24,7 +24,7 @@ use Rattle.hc_registers.specs.Blocks.{LineBlock, fmmu_block, line_blocks, mappin
 use Rattle.hc_changes.specs.Candidates.{DifferAt, LineArea, blocks_of, candidates, is_candidate, is_kept, is_recut, key_of, line_areas, moved_of, place_of}
 use Rattle.hc_changes.proofs.lemmas.Blocks.{blocks-of-areas}
 use Rattle.hc_changes.proofs.lemmas.Lists.{contains-flat_map, filter-flat_map, flat_map-kept, found-among}
-use Rattle.hc_changes.proofs.lemmas.Others.{IsAreaOf, contains-mapped, line-area, map-piece, others-stand}
+use Rattle.hc_changes.proofs.lemmas.Others.{IsAreaOf, area-stands, contains-mapped, line-area, map-piece, others-stand}
 use Rattle.hc_changes.proofs.lemmas.Standing.{kept-place}
 use Rattle.hc_changes.proofs.lemmas.Widths.{listed-wide, wide-listed}
 use Rattle.hc_records.specs.Area.{width}
@@ -104,16 +104,24 @@ stood-all found old at =
     (subst (λ (blocks : List LineBlock). Contains blocks block) (sym (blocks-of-areas old)) (contains-flat_map (blocks_of old) (line_areas old) found block at own))))
     (blocks_of old found) (All-contains_itself (blocks_of old found))
 
+-- an area that isn't a candidate stood where it stands
+pub unchanged-stand : (changed : ℕ → Bool) (old new : State) → lowest_fault (groups_of old.groups) ≡ None → lowest_fault (groups_of new.groups) ≡ None → DifferAt changed (line old) (line new)
+    → (found : LineArea) → Contains (line_areas (line new)) found → is_candidate changed (line old) (line new) found ≡ false
+    → IsAreaOf (line old) found × (place_of (line old) found ≡ place_of (line new) found)
+unchanged-stand changed old new was is differ found at other =
+    let parts = or_parts (changed found.member.rank) (is_recut (line old) (line new) found) other in
+    let stood = line-area (line old) found (others-stand changed (line old) (line new) (line-ascends 1 new.groups) differ found at parts.0) in
+    (stood,
+    same-place found (line old) (line new) (line-ascends 1 old.groups) (project-list old found.area.task was) (project-list new found.area.task is)
+    stood (line-area (line new) found at) parts.1)
+
 unmoved : (changed : ℕ → Bool) (old new : State) → lowest_fault (groups_of old.groups) ≡ None → lowest_fault (groups_of new.groups) ≡ None → DifferAt changed (line old) (line new)
     → (found : LineArea) → Contains (line_areas (line new)) found → is_candidate changed (line old) (line new) found ≡ false → moved_of (line old) (line new) found ≡ []
 unmoved changed old new was is differ found at other =
-    let parts = or_parts (changed found.member.rank) (is_recut (line old) (line new) found) other in
-    let stood = others-stand changed (line old) (line new) (line-ascends 1 new.groups) differ found at parts.0 in
-    let same = same-place found (line old) (line new) (line-ascends 1 old.groups) (project-list old found.area.task was) (project-list new found.area.task is)
-    (line-area (line old) found stood) (line-area (line new) found at) parts.1 in
+    let stood = unchanged-stand changed old new was is differ found at other in
     none-kept (λ block. not (list_any (same_block block) (line_blocks (line old)))) (blocks_of (line new) found)
     (subst (λ (blocks : List LineBlock). All (λ block. not (list_any (same_block block) (line_blocks (line old))) ≡ false) blocks)
-    (same-blocks found (line old) (line new) same) (stood-all found (line old) stood))
+    (same-blocks found (line old) (line new) stood.1) (stood-all found (line old) (area-stands (line old) found stood.0)))
 
 pub moved-told : (changed : ℕ → Bool) (old new : State) → lowest_fault (groups_of old.groups) ≡ None → lowest_fault (groups_of new.groups) ≡ None → DifferAt changed (line old) (line new)
     → moved_blocks (line old) (line new) ≡ flat_map (moved_of (line old) (line new)) (candidates changed (line old) (line new))
