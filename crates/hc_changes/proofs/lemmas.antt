@@ -13,5 +13,6 @@ pub mod Ranks
 pub mod Rows
 pub mod Slots
 pub mod Standing
+pub mod Tables
 pub mod Told
 pub mod Widths

@@ -3,3 +3,4 @@ pub mod Compared
 pub mod Edited
 pub mod Laws
 pub mod Rows
+pub mod Tables

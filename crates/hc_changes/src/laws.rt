@@ -1,6 +1,6 @@
 //! What follows from the definitions of this crate: each function does nothing, and its contract is a
 //! law. Nobody calls it.
-ghost use Rattle.hc_changes.specs.Laws.{BlocksAreTheAreas, EditsChangeTheNamed, KeptAreasStay, KeptDatagramsStay, MovedBlocksAreCompared, MovedBlocksAreTold, NumbersTellTheMoved, OtherAreasStood, VariablesAreTold};
+ghost use Rattle.hc_changes.specs.Laws.{BlocksAreTheAreas, EditsChangeTheNamed, KeptAreasStay, KeptDatagramsCarryTheSame, KeptDatagramsStay, MovedBlocksAreCompared, MovedBlocksAreTold, NumbersTellTheMoved, OtherAreasStood, SpansTellTheCarried, TablesAreLaidOut, UntouchedTasksStay, VariablesAreTold};
 
 /// A datagram that an edit keeps carries the areas that it carried, each at its bit: so its length and its
 /// expected working counter stay too.
@@ -53,4 +53,28 @@ pub fn moved_blocks_are_compared()
 /// that went: each once, with its new place or none, and no other variable.
 pub fn variables_are_told()
     ensures { VariablesAreTold }
+{}
+
+/// A task in whose list no width differs between the lines of two states of a project has the table that it
+/// had: its datagrams, their headers and expected working counters, and its parts.
+pub fn untouched_tasks_stay()
+    ensures { UntouchedTasksStay }
+{}
+
+/// A datagram that an edit keeps has the length in bytes and the expected working counter that it had; its
+/// offset in the image may be another one.
+pub fn kept_datagrams_carry_the_same()
+    ensures { KeptDatagramsCarryTheSame }
+{}
+
+/// The length and the expected working counter of a datagram are those that the areas of the span with its
+/// number make, packed from the span's boundary on.
+pub fn spans_tell_the_carried()
+    ensures { SpansTellTheCarried }
+{}
+
+/// The table of a task is had from the lengths and the expected working counters of its datagrams, in their
+/// order, and from the place of its first input area.
+pub fn tables_are_laid_out()
+    ensures { TablesAreLaidOut }
 {}
