@@ -1,17 +1,24 @@
 -- What follows from the definitions. Each is the contract of a function of `laws`.
-use Rattle.std.specs.Prelude.{◌≡◌, ℕ, true, List}
+use Rattle.std.specs.Prelude.{◌≡◌, ℕ, Bool, true, false, Contains, List, None, slice_get, Some}
 use Rattle.std.specs.List.{flat_map}
 use Rattle.hc_records.specs.declared.edit.Edit.{Edit}
 use Rattle.hc_records.specs.declared.records.Declared.{Declared}
 use Rattle.hc_records.specs.Edits.{groups_after}
-use Rattle.hc_records.specs.Line.{Member, line_from}
-use Rattle.hc_registers.specs.Blocks.{line_blocks}
-use Rattle.hc_records.specs.TaskList.{Keyed}
-use Rattle.hc_records.specs.Packing.{opening, packed}
+use Rattle.hc_records.specs.Line.{Member, State, groups_of, line, line_from}
+use Rattle.hc_registers.specs.Blocks.{line_blocks, moved_blocks}
+use Rattle.hc_records.specs.TaskList.{Keyed, task_list}
+use Rattle.hc_records.specs.Packing.{Placed, opening, packed}
 use Rattle.hc_records.specs.Image.{inside}
+use Rattle.hc_records.specs.Project.{lowest_fault}
+use Rattle.hc_records.specs.Boundaries.{Interval, boundaries, is_touched_task, spans}
 use Rattle.hc_records.specs.SpanLaws.{IsTaskList}
-use Rattle.hc_changes.specs.Candidates.{DifferAt, blocks_of, is_kept, line_areas}
+use Rattle.hc_cuts.specs.Walk.{span_places}
+use Rattle.hc_places.specs.Table.{task_table}
+use Rattle.hc_changes.specs.Candidates.{DifferAt, LineArea, blocks_of, candidates, is_kept, line_areas, moved_of, place_of}
+use Rattle.hc_changes.specs.Compared.{differing_of}
 use Rattle.hc_changes.specs.Edited.{is_named}
+use Rattle.hc_changes.specs.Rows.{TellsVariables, told_rows}
+use Rattle.hc_changes.specs.Tables.{carried_by, carried_of, first_input, table_by, task_carries}
 
 -- a kept datagram carries the areas that it carried, each at its bit
 abbrev pub KeptDatagramsStay : Type 0
@@ -27,3 +34,68 @@ BlocksAreTheAreas = (line : List Member) → line_blocks line ≡ flat_map (bloc
 abbrev pub EditsChangeTheNamed : Type 0
 EditsChangeTheNamed =
     (groups : List Declared) (edit : Edit) → DifferAt (is_named groups edit) (line_from 1 groups) (line_from 1 (groups_after groups edit))
+
+-- each area of a slave that didn't change, in a line of the same project, stood in the old line with its slave's rank and record
+abbrev pub OtherAreasStood : Type 0
+OtherAreasStood =
+    (changed : ℕ → Bool) (old new : State) (found : LineArea) → DifferAt changed (line old) (line new)
+    → Contains (line_areas (line new)) found → changed found.member.rank ≡ false → Contains (line_areas (line old)) found
+
+-- an area that stands in a kept datagram of a project's line stood there in the old line, at the same bit
+abbrev pub KeptAreasStay : Type 0
+KeptAreasStay =
+    (old new : State) (found : LineArea) (placed : Placed) → lowest_fault (groups_of old.groups) ≡ None → lowest_fault (groups_of new.groups) ≡ None
+    → place_of (line new) found ≡ Some placed → is_kept (task_list found.area.task (line old)) (task_list found.area.task (line new)) placed.datagram ≡ true
+    → place_of (line old) found ≡ Some placed
+
+-- between two lines of one project, the blocks that moved are those of the candidates that weren't blocks of the old line
+abbrev pub MovedBlocksAreTold : Type 0
+MovedBlocksAreTold =
+    (changed : ℕ → Bool) (old new : State) → lowest_fault (groups_of old.groups) ≡ None → lowest_fault (groups_of new.groups) ≡ None
+    → DifferAt changed (line old) (line new)
+    → moved_blocks (line old) (line new) ≡ flat_map (moved_of (line old) (line new)) (candidates changed (line old) (line new))
+
+-- a block of the new line was one of the old line exactly where its slave had it with its number there
+abbrev pub NumbersTellTheMoved : Type 0
+NumbersTellTheMoved =
+    (groups : List Declared) (edit : Edit) (found : LineArea) → lowest_fault (groups_of groups) ≡ None
+    → Contains (line_areas (line_from 1 (groups_after groups edit))) found
+    → moved_of (line_from 1 groups) (line_from 1 (groups_after groups edit)) found ≡ differing_of (line_from 1 groups) (line_from 1 (groups_after groups edit)) found
+
+-- so the blocks that an edit moved are those of the candidates that differ from the old line's blocks with their numbers
+abbrev pub MovedBlocksAreCompared : Type 0
+MovedBlocksAreCompared =
+    (groups : List Declared) (edit : Edit) → lowest_fault (groups_of groups) ≡ None → lowest_fault (groups_of (groups_after groups edit)) ≡ None
+    → moved_blocks (line_from 1 groups) (line_from 1 (groups_after groups edit))
+    ≡ flat_map (differing_of (line_from 1 groups) (line_from 1 (groups_after groups edit)))
+      (candidates (is_named groups edit) (line_from 1 groups) (line_from 1 (groups_after groups edit)))
+
+-- the variables whose places an edit changed are told by the candidates and by the areas of the slaves that went
+abbrev pub VariablesAreTold : Type 0
+VariablesAreTold =
+    (groups : List Declared) (edit : Edit) → lowest_fault (groups_of groups) ≡ None → lowest_fault (groups_of (groups_after groups edit)) ≡ None
+    → TellsVariables (line_from 1 groups) (line_from 1 (groups_after groups edit))
+      (told_rows (is_named groups edit) (line_from 1 groups) (line_from 1 (groups_after groups edit)))
+
+-- a task that no edit touched has the table that it had
+abbrev pub UntouchedTasksStay : Type 0
+UntouchedTasksStay =
+    (old new : State) (task : ℕ) → lowest_fault (groups_of old.groups) ≡ None → lowest_fault (groups_of new.groups) ≡ None
+    → is_touched_task (line old) (line new) task ≡ false → task_table (line new) task ≡ task_table (line old) task
+
+-- a kept datagram has the length and the expected working counter that it had
+abbrev pub KeptDatagramsCarryTheSame : Type 0
+KeptDatagramsCarryTheSame =
+    (old new : State) (task datagram : ℕ) → lowest_fault (groups_of old.groups) ≡ None → lowest_fault (groups_of new.groups) ≡ None
+    → is_kept (task_list task (line old)) (task_list task (line new)) datagram ≡ true → carried_by (line new) task datagram ≡ carried_by (line old) task datagram
+
+-- the span with a number tells what its datagram carries: the areas from its boundary on, packed alone, up to the first that doesn't fit
+abbrev pub SpansTellTheCarried : Type 0
+SpansTellTheCarried =
+    (state : State) (task datagram : ℕ) (span : Interval) → lowest_fault (groups_of state.groups) ≡ None
+    → slice_get (spans (boundaries (task_list task (line state)))) datagram ≡ Some span
+    → carried_by (line state) task datagram ≡ carried_of (span_places datagram span.0 (task_list task (line state)))
+
+-- the table of a task is had from what its datagrams carry and from its first input area
+abbrev pub TablesAreLaidOut : Type 0
+TablesAreLaidOut = (line : List Member) (task : ℕ) → task_table line task ≡ table_by task (task_carries line task) (first_input line task)

@@ -1,3 +1,6 @@
 pub mod Candidates
+pub mod Compared
 pub mod Edited
 pub mod Laws
+pub mod Rows
+pub mod Tables

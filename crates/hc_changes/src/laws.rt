@@ -1,6 +1,6 @@
 //! What follows from the definitions of this crate: each function does nothing, and its contract is a
 //! law. Nobody calls it.
-ghost use Rattle.hc_changes.specs.Laws.{BlocksAreTheAreas, EditsChangeTheNamed, KeptDatagramsStay};
+ghost use Rattle.hc_changes.specs.Laws.{BlocksAreTheAreas, EditsChangeTheNamed, KeptAreasStay, KeptDatagramsCarryTheSame, KeptDatagramsStay, MovedBlocksAreCompared, MovedBlocksAreTold, NumbersTellTheMoved, OtherAreasStood, SpansTellTheCarried, TablesAreLaidOut, UntouchedTasksStay, VariablesAreTold};
 
 /// A datagram that an edit keeps carries the areas that it carried, each at its bit: so its length and its
 /// expected working counter stay too.
@@ -17,4 +17,64 @@ pub fn blocks_are_the_areas()
 /// declared slave stands in the lines before and behind it with the same rank and record, or in neither.
 pub fn edits_change_the_named()
     ensures { EditsChangeTheNamed }
+{}
+
+/// An area of the new line whose slave didn't change was an area of the old line, of the same slave at
+/// the same index, with the same record.
+pub fn other_areas_stood()
+    ensures { OtherAreasStood }
+{}
+
+/// An area of a project's line that stands in a datagram which an edit keeps stood there before it, at
+/// the same bit.
+pub fn kept_areas_stay()
+    ensures { KeptAreasStay }
+{}
+
+/// The blocks that an edit moved are told by the candidates: those of each that weren't blocks of the old
+/// line, in line and block order.
+pub fn moved_blocks_are_told()
+    ensures { MovedBlocksAreTold }
+{}
+
+/// A block of an area of the new line was one of the old line exactly where the old line's slave with that
+/// rank had it with that number: comparing those two blocks alone is enough.
+pub fn numbers_tell_the_moved()
+    ensures { NumbersTellTheMoved }
+{}
+
+/// The blocks that an edit moved are those of the candidates that differ from the blocks which the old
+/// line's slaves had with their numbers, in line and block order.
+pub fn moved_blocks_are_compared()
+    ensures { MovedBlocksAreCompared }
+{}
+
+/// The variables whose places an edit changed are told by the candidates and by the areas of the slaves
+/// that went: each once, with its new place or none, and no other variable.
+pub fn variables_are_told()
+    ensures { VariablesAreTold }
+{}
+
+/// A task in whose list no width differs between the lines of two states of a project has the table that it
+/// had: its datagrams, their headers and expected working counters, and its parts.
+pub fn untouched_tasks_stay()
+    ensures { UntouchedTasksStay }
+{}
+
+/// A datagram that an edit keeps has the length in bytes and the expected working counter that it had; its
+/// offset in the image may be another one.
+pub fn kept_datagrams_carry_the_same()
+    ensures { KeptDatagramsCarryTheSame }
+{}
+
+/// The length and the expected working counter of a datagram are those that the areas of the span with its
+/// number make, packed from the span's boundary on.
+pub fn spans_tell_the_carried()
+    ensures { SpansTellTheCarried }
+{}
+
+/// The table of a task is had from the lengths and the expected working counters of its datagrams, in their
+/// order, and from the place of its first input area.
+pub fn tables_are_laid_out()
+    ensures { TablesAreLaidOut }
 {}

@@ -12,7 +12,7 @@ use Rattle.hc_records.proofs.lemmas.Projects.{project-few}
 use Rattle.hc_records.proofs.lemmas.Slaves.{IsSlaveInside, line-inside}
 use Rattle.hc_records.proofs.lemmas.Walks.{length-members_from}
 use Rattle.hc_places.specs.Parts.{IsConfigurable, IsListable}
-use Rattle.hc_places.proofs.Ranks.{counted-expected}
+use Rattle.hc_places.proofs.lemmas.Ranks.{counted-expected}
 use Rattle.hc_places.proofs.Widths.{HasOffers, line-offers}
 
 present-few : (present : Bool) (rank : ℕ) (slaves : List Slave) → length (members_from rank (if present then slaves else [])) ≤ length slaves

@@ -10,7 +10,6 @@ pub mod Merged
 pub mod Once
 pub mod Order
 pub mod Pairs
-pub mod Ranks
 pub mod Recuts
 pub mod Rising
 pub mod Roomy

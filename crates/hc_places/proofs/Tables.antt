@@ -21,7 +21,7 @@ use Rattle.hc_records.proofs.lemmas.Tasks.{listed}
 use Rattle.hc_places.specs.declared.table.Datagram.{Datagram}
 use Rattle.hc_places.specs.Table.{datagram_of, task_table}
 use Rattle.hc_places.specs.Parts.{AreSendable, IsConfigurable, IsListable, datagram_at, table_at}
-use Rattle.hc_places.proofs.Ranks.{expected-low}
+use Rattle.hc_places.proofs.lemmas.Ranks.{expected-low}
 
 -- the datagrams of a task that has at most 16 can be sent
 pub places-sendable : (task : ℕ) (line : List Member) → IsConfigurable line → datagram_count (task_places task line) ≤ MOST_DATAGRAMS → AreSendable (task_places task line)

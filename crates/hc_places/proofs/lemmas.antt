@@ -2,5 +2,6 @@
 pub mod Ascends
 pub mod Found
 pub mod Layouts
+pub mod Ranks
 pub mod Same
 pub mod Sorted

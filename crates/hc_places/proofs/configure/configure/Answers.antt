@@ -7,7 +7,7 @@ use Rattle.hc_records.specs.Line.{Member, line_from}
 use Rattle.hc_records.proofs.lemmas.Slaves.{project-counted}
 use Rattle.hc_places.specs.Layout.{AreInOrder, layout_of}
 use Rattle.hc_places.proofs.Configurable.{project-configurable}
-use Rattle.hc_places.proofs.Ranks.{places-in-order}
+use Rattle.hc_places.proofs.lemmas.Ranks.{places-in-order}
 use Rattle.hc_places.proofs.lemmas.Ascends.{table-ascends}
 use Rattle.hc_places.proofs.configure.configure.Goals as goal
 

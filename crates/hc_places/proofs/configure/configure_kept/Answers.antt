@@ -4,7 +4,7 @@ use Rattle.hc_records.specs.TaskList.{task_list}
 use Rattle.hc_records.specs.Line.{line_from}
 use Rattle.hc_places.specs.Layout.{AreInOrder}
 use Rattle.hc_places.proofs.Configurable.{project-configurable}
-use Rattle.hc_places.proofs.Ranks.{places-in-order}
+use Rattle.hc_places.proofs.lemmas.Ranks.{places-in-order}
 use Rattle.hc_places.proofs.lemmas.Ascends.{table-ascends}
 use Rattle.hc_places.proofs.configure.configure_kept.Goals as goal
 

@@ -1,10 +1,10 @@
 -- The keys of a datagram's areas, and the ranks of the line's slaves.
-use Rattle.std.proofs.Common.{◌≡◌, ℕ, ◌+◌, ◌<◌, ◌≤◌, ◌*◌, Bool, true, false, List, [], ◌∷◌, length, sym, arith}
+use Rattle.std.proofs.Common.{◌≡◌, ℕ, ◌+◌, ◌<◌, ◌≤◌, ◌*◌, Bool, true, false, List, length, sym, arith}
 use Rattle.std.specs.Prelude.{if◌then◌else◌, All, AllPairs, Contains, IsTrue, map, ◌==◌}
 use Rattle.std.specs.List.{enumerate_from}
 use Rattle.std.proofs.lemmas.List.{length-map}
 use Rattle.std.proofs.lemmas.List.Elements.{All-contains_itself, All-filter, All-map, All-weaker}
-use Rattle.std.proofs.lemmas.List.Kept.{AllPairs-cons, AllPairs-filter}
+use Rattle.std.proofs.lemmas.List.Kept.{AllPairs-filter}
 use Rattle.std.proofs.lemmas.List.Sums.{sum_by-le}
 use Rattle.hc_records.specs.Keys.{is_before}
 use Rattle.hc_records.specs.Line.{Member}
@@ -12,18 +12,13 @@ use Rattle.hc_records.specs.TaskList.{Keyed, belongs, keyed, task_list}
 use Rattle.hc_records.specs.Packing.{Placed, opening, packed}
 use Rattle.hc_records.specs.Image.{counter_share, expected_counter, inside, task_places}
 use Rattle.hc_records.specs.Laws.{Ascends}
-use Rattle.hc_records.proofs.lemmas.Lists.{All-unmap, AllPairs-head, AllPairs-map, AllPairs-nil, AllPairs-tail}
+use Rattle.hc_records.proofs.lemmas.Lists.{All-unmap, AllPairs-map, AllPairs-unmap}
 use Rattle.hc_records.proofs.lemmas.Lines.{RanksBelow}
 use Rattle.hc_records.proofs.lemmas.Packed.{area_of, packed-areas}
 use Rattle.hc_records.proofs.lemmas.Tasks.{listed, task-list-all}
 use Rattle.hc_registers.proofs.lemmas.Counting.{ascending-counted}
 use Rattle.hc_places.specs.Layout.{AreInOrder}
 use Rattle.hc_places.specs.Parts.{counted_inside, keys_inside}
-
-AllPairs-unmap : {X Y : Type 0} (R : Y → Y → Type 0) (f : X → Y) (xs : List X) → AllPairs R (map f xs) → AllPairs (λ x y. R (f x) (f y)) xs
-AllPairs-unmap R f [] pairs = AllPairs-nil (λ x y. R (f x) (f y))
-AllPairs-unmap R f (x ∷ xs) pairs =
-    AllPairs-cons (λ x y. R (f x) (f y)) x xs (All-unmap (R (f x)) f xs (AllPairs-head R (f x) (map f xs) pairs)) (AllPairs-unmap R f xs (AllPairs-tail R (f x) (map f xs) pairs))
 
 -- the places of a list whose keys ascend stand in order
 pub places-in-order : (list : List Keyed) → Ascends list → AreInOrder (packed opening list)

@@ -1,0 +1,134 @@
+-- The moved blocks are those of candidates.
+use Rattle.std.proofs.Common.{◌≡◌, ℕ, ◌*◌, ◌==◌, Bool, true, false, List, [], ◌∷◌, Contains, Option, Some, None, refl, sym, ap, subst, ◌∙◌}
+use Rattle.std.specs.Prelude.{All, AllPairs, filter, map, not, option_map}
+use Rattle.std.specs.Option.{option_map_or}
+use Rattle.std.specs.List.{flat_map, list_any}
+use Rattle.std.specs.Str.{bytes_eq}
+use Rattle.std.proofs.lemmas.Bool.{and_from, eq-eqb, not_from_true, or_parts}
+use Rattle.std.proofs.lemmas.List.Elements.{All-contains, All-head, All-tail, All-weaker, All-contains_itself}
+use Rattle.std.proofs.lemmas.List.Folds.{list_any_at}
+use Rattle.std.proofs.lemmas.Slice.Eq.{bytes_eq-Decides}
+use Rattle.hc_records.specs.declared.keys.Key.{Key}
+use Rattle.hc_records.specs.Keys.{same_key}
+use Rattle.hc_records.specs.Line.{Member, State, groups_of, line}
+use Rattle.hc_records.specs.TaskList.{Keyed, task_list}
+use Rattle.hc_records.specs.Packing.{Placed, opening, packed}
+use Rattle.hc_records.specs.Project.{lowest_fault}
+use Rattle.hc_records.specs.SpanLaws.{IsTaskList}
+use Rattle.hc_records.proofs.lemmas.Finds.{found-none}
+use Rattle.hc_records.proofs.lemmas.KeyOrder.{same_key-refl, same_key-same}
+use Rattle.hc_records.proofs.lemmas.Lines.{RanksBelow, line-ascends}
+use Rattle.hc_records.proofs.lemmas.Packed.{area_of, packed-areas}
+use Rattle.hc_records.proofs.lemmas.TaskLists.{project-list}
+use Rattle.hc_registers.specs.Blocks.{LineBlock, fmmu_block, line_blocks, mapping_at, moved_blocks, numbered, same_block, same_bytes, sync_manager_block}
+use Rattle.hc_changes.specs.Candidates.{DifferAt, LineArea, blocks_of, candidates, is_candidate, is_kept, is_recut, key_of, line_areas, moved_of, place_of}
+use Rattle.hc_changes.proofs.lemmas.Blocks.{blocks-of-areas}
+use Rattle.hc_changes.proofs.lemmas.Lists.{contains-flat_map, filter-flat_map, flat_map-kept, found-among}
+use Rattle.hc_changes.proofs.lemmas.Others.{IsAreaOf, area-stands, contains-mapped, line-area, map-piece, others-stand}
+use Rattle.hc_changes.proofs.lemmas.Standing.{kept-place}
+use Rattle.hc_changes.proofs.lemmas.Widths.{listed-wide, wide-listed}
+use Rattle.hc_records.specs.Area.{width}
+
+-- an area that stands nowhere stood nowhere
+
+none-twice : (found : LineArea) (old new : List Member) → AllPairs RanksBelow old → IsAreaOf old found → IsAreaOf new found → place_of new found ≡ None
+    → (was : Option Placed) → place_of old found ≡ was → was ≡ None
+none-twice found old new ranks of of' none None is = refl
+none-twice found old new ranks of of' none (Some placed) is =
+    let key = key_of found in
+    let task = found.area.task in
+    let stood = found-among (λ (p : Placed). same_key p.key key) (packed opening (task_list task old)) placed is in
+    let listed : Contains (task_list task old) (placed.key, placed.bits) =
+    subst (λ (l : List Keyed). Contains l (placed.key, placed.bits)) (packed-areas opening (task_list task old))
+    (contains-mapped area_of (packed opening (task_list task old)) placed stood.among) in
+    let wide = listed-wide old found task (placed.key, placed.bits) ranks of listed (same_key-same placed.key key stood.passes) in
+    let again : Contains (map area_of (packed opening (task_list task new))) (key, width found.area) =
+    subst (λ (l : List Keyed). Contains l (key, width found.area)) (sym (packed-areas opening (task_list task new))) (wide-listed new found of' wide) in
+    let here = map-piece area_of (packed opening (task_list task new)) (key, width found.area) again in
+    let same : here.0.key ≡ key = ap (λ (a : Keyed). a.0) here.2 in
+    let never : same_key here.0.key key ≡ false =
+    All-contains (λ (p : Placed). same_key p.key key ≡ false) (packed opening (task_list task new)) here.0
+    (found-none (λ (p : Placed). same_key p.key key) (packed opening (task_list task new)) none) here.1 in
+    let own : same_key here.0.key key ≡ true = subst (λ (k : Key). same_key here.0.key k ≡ true) same (same_key-refl here.0.key) in
+    cc
+
+-- an area that isn't recut stands where it stood
+
+kept-from : (kept : Bool) → not kept ≡ false → kept ≡ true
+kept-from true is = refl
+kept-from false is = cc
+
+place-by : (found : LineArea) (old new : List Member) → AllPairs RanksBelow old → IsTaskList (task_list found.area.task old) → IsTaskList (task_list found.area.task new)
+    → IsAreaOf old found → IsAreaOf new found → (place : Option Placed) → place_of new found ≡ place
+    → option_map_or (λ placed. not (is_kept (task_list found.area.task old) (task_list found.area.task new) placed.datagram)) place false ≡ false
+    → place_of old found ≡ place
+place-by found old new ranks list list' of of' None is still = none-twice found old new ranks of of' is (place_of old found) refl
+place-by found old new ranks list list' of of' (Some placed) is still =
+    kept-place (task_list found.area.task old) (task_list found.area.task new) (key_of found) placed list list' is
+    (kept-from (is_kept (task_list found.area.task old) (task_list found.area.task new) placed.datagram) still)
+
+pub same-place : (found : LineArea) (old new : List Member) → AllPairs RanksBelow old → IsTaskList (task_list found.area.task old) → IsTaskList (task_list found.area.task new)
+    → IsAreaOf old found → IsAreaOf new found → is_recut old new found ≡ false → place_of old found ≡ place_of new found
+same-place found old new ranks list list' of of' still = place-by found old new ranks list list' of of' (place_of new found) refl still
+
+-- so its blocks were blocks of the old line
+
+abbrev blocks_at : LineArea → Option Placed → List LineBlock
+blocks_at found place =
+    numbered found.member.slave.station (2 * found.index)
+    (sync_manager_block found.area ∷ fmmu_block found.index found.area (option_map (mapping_at found.area.task) place) ∷ [])
+
+same-blocks : (found : LineArea) (old new : List Member) → place_of old found ≡ place_of new found → blocks_of old found ≡ blocks_of new found
+same-blocks found old new same = ap (blocks_at found) same
+
+same_block-refl : (block : LineBlock) → same_block block block ≡ true
+same_block-refl found =
+    and_from (found.station == found.station) (same_bytes found.block found.block) (eq-eqb found.station found.station refl)
+    (and_from (found.block.register == found.block.register) (bytes_eq found.block.bytes found.block.bytes)
+    (eq-eqb found.block.register found.block.register refl) ((bytes_eq-Decides found.block.bytes found.block.bytes).1 refl))
+
+had : (blocks : List LineBlock) (block : LineBlock) → Contains blocks block → list_any (same_block block) blocks ≡ true
+had blocks block at =
+    list_any_at (same_block block) blocks at.0 block at.1 (subst (λ (b : LineBlock). same_block block b ≡ true) (sym at.2) (same_block-refl block))
+
+none-kept : {X : Type 0} (test : X → Bool) (xs : List X) → All (λ x. test x ≡ false) xs → filter test xs ≡ []
+none-kept test [] all = refl
+none-kept test (x ∷ xs) all = rw (All-head (λ x. test x ≡ false) x xs all) (none-kept test xs (All-tail (λ x. test x ≡ false) x xs all))
+
+stood-all : (found : LineArea) (old : List Member) → Contains (line_areas old) found
+    → All (λ block. not (list_any (same_block block) (line_blocks old)) ≡ false) (blocks_of old found)
+stood-all found old at =
+    All-weaker (Contains (blocks_of old found)) (λ block. not (list_any (same_block block) (line_blocks old)) ≡ false)
+    (λ block own. not_from_true (list_any (same_block block) (line_blocks old))
+    (had (line_blocks old) block
+    (subst (λ (blocks : List LineBlock). Contains blocks block) (sym (blocks-of-areas old)) (contains-flat_map (blocks_of old) (line_areas old) found block at own))))
+    (blocks_of old found) (All-contains_itself (blocks_of old found))
+
+-- an area that isn't a candidate stood where it stands
+pub unchanged-stand : (changed : ℕ → Bool) (old new : State) → lowest_fault (groups_of old.groups) ≡ None → lowest_fault (groups_of new.groups) ≡ None → DifferAt changed (line old) (line new)
+    → (found : LineArea) → Contains (line_areas (line new)) found → is_candidate changed (line old) (line new) found ≡ false
+    → IsAreaOf (line old) found × (place_of (line old) found ≡ place_of (line new) found)
+unchanged-stand changed old new was is differ found at other =
+    let parts = or_parts (changed found.member.rank) (is_recut (line old) (line new) found) other in
+    let stood = line-area (line old) found (others-stand changed (line old) (line new) (line-ascends 1 new.groups) differ found at parts.0) in
+    (stood,
+    same-place found (line old) (line new) (line-ascends 1 old.groups) (project-list old found.area.task was) (project-list new found.area.task is)
+    stood (line-area (line new) found at) parts.1)
+
+unmoved : (changed : ℕ → Bool) (old new : State) → lowest_fault (groups_of old.groups) ≡ None → lowest_fault (groups_of new.groups) ≡ None → DifferAt changed (line old) (line new)
+    → (found : LineArea) → Contains (line_areas (line new)) found → is_candidate changed (line old) (line new) found ≡ false → moved_of (line old) (line new) found ≡ []
+unmoved changed old new was is differ found at other =
+    let stood = unchanged-stand changed old new was is differ found at other in
+    none-kept (λ block. not (list_any (same_block block) (line_blocks (line old)))) (blocks_of (line new) found)
+    (subst (λ (blocks : List LineBlock). All (λ block. not (list_any (same_block block) (line_blocks (line old))) ≡ false) blocks)
+    (same-blocks found (line old) (line new) stood.1) (stood-all found (line old) (area-stands (line old) found stood.0)))
+
+pub moved-told : (changed : ℕ → Bool) (old new : State) → lowest_fault (groups_of old.groups) ≡ None → lowest_fault (groups_of new.groups) ≡ None → DifferAt changed (line old) (line new)
+    → moved_blocks (line old) (line new) ≡ flat_map (moved_of (line old) (line new)) (candidates changed (line old) (line new))
+moved-told changed old new was is differ =
+    let test : LineBlock → Bool = λ block. not (list_any (same_block block) (line_blocks (line old))) in
+    ap (filter test) (blocks-of-areas (line new))
+    ∙ filter-flat_map test (blocks_of (line new)) (line_areas (line new))
+    ∙ flat_map-kept (moved_of (line old) (line new)) (is_candidate changed (line old) (line new)) (line_areas (line new))
+    (All-weaker (Contains (line_areas (line new))) (λ found. is_candidate changed (line old) (line new) found ≡ false → moved_of (line old) (line new) found ≡ [])
+    (λ found at. unmoved changed old new was is differ found at) (line_areas (line new)) (All-contains_itself (line_areas (line new))))

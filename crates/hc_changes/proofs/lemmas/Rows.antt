@@ -1,0 +1,252 @@
+-- The rows of a line's table are those of its areas.
+use Rattle.std.proofs.Common.{◌≡◌, ℕ, ◌<◌, ◌≤◌, ◌==◌, zero, suc, Bool, true, List, [], ◌∷◌, length, Contains, Option, Some, None, refl, sym, ap, subst, ◌∙◌, ⊎_elim, arith}
+use Rattle.std.specs.Prelude.{All, AllPairs, filter, find, map, nat_lt, option_map, ◌&&◌}
+use Rattle.std.specs.Option.{option_map_or}
+use Rattle.std.specs.List.{enumerate_from, flat_map, zip}
+use Rattle.std.proofs.lemmas.Bool.{and_parts, eq-eqb, eqb-true}
+use Rattle.std.proofs.lemmas.List.{length-map}
+use Rattle.std.proofs.lemmas.List.Elements.{All-contains, All-contains_itself, Contains-append_cases, filter_passes}
+use Rattle.hc_records.specs.declared.limits.TheConstants.{TASKS}
+use Rattle.hc_records.specs.declared.keys.Key.{Key}
+use Rattle.hc_records.specs.declared.records.Area.{Area}
+use Rattle.hc_records.specs.declared.records.Declared.{Declared}
+use Rattle.hc_records.specs.declared.records.Dir.{Dir}
+use Rattle.hc_records.specs.declared.records.Dir.TheVariants.{Out, In}
+use Rattle.hc_records.specs.Area.{assigned_entries, width}
+use Rattle.hc_records.specs.Image.{VariablePlace, area_variables, task_places, task_variables, tasks, variables_from}
+use Rattle.hc_records.specs.Keys.{same_dir, same_key}
+use Rattle.hc_records.specs.Limits.{IsAreaInside, IsSlaveInside}
+use Rattle.hc_records.specs.Line.{Member, groups_of, line_from}
+use Rattle.hc_records.specs.Packing.{Placed, opening, packed}
+use Rattle.hc_records.specs.Project.{lowest_fault}
+use Rattle.hc_records.specs.TaskList.{Keyed, Listed, belongs, keyed, slave_areas, task_areas, task_list}
+use Rattle.hc_records.proofs.lemmas.Finds.{each-task, mapped-some}
+use Rattle.hc_records.proofs.lemmas.KeyOrder.{same_key-refl, same_key-same}
+use Rattle.hc_records.proofs.lemmas.Lines.{RanksBelow, line-ascends}
+use Rattle.hc_records.proofs.lemmas.Lists.{AllPairs-weaker}
+use Rattle.hc_records.proofs.lemmas.Packed.{area_of, packed-areas}
+use Rattle.hc_records.proofs.lemmas.Slaves.{line-inside}
+use Rattle.hc_records.proofs.lemmas.TaskLists.{project-list}
+use Rattle.hc_records.proofs.lemmas.Tasks.{listed}
+use Rattle.hc_records.proofs.lemmas.Variables.{IsPlaced, pairs-placed, task_pairs, zip-left, zip-right}
+use Rattle.hc_places.specs.Parts.{row_at}
+use Rattle.hc_places.specs.Table.{Row, by_number, place_in, table_of}
+use Rattle.hc_places.proofs.lemmas.Ascends.{table-ascends}
+use Rattle.hc_places.proofs.lemmas.Same.{same-dirs}
+use Rattle.hc_places.proofs.lemmas.Sorted.{filter-by_number, find-by_number}
+use Rattle.hc_changes.specs.Candidates.{LineArea, key_of, place_of}
+use Rattle.hc_changes.specs.Rows.{rows_of}
+use Rattle.hc_changes.proofs.lemmas.Compared.{area-found}
+use Rattle.hc_changes.proofs.lemmas.Few.{few, found-once, pairs-few, piece-few}
+use Rattle.hc_changes.proofs.lemmas.KeptSpans.{at-contained}
+use Rattle.hc_changes.proofs.lemmas.Lists.{contains-behind, contains-first, contains-flat_map, contains-unfiltered, flat_map-piece, found-among}
+use Rattle.hc_changes.proofs.lemmas.OneProject.{own-at}
+use Rattle.hc_changes.proofs.lemmas.Others.{IsAreaOf, map-piece, never-both}
+use Rattle.hc_changes.proofs.lemmas.Standing.{placed-found}
+
+-- elements that stand side by side
+
+zip-both : {X Y : Type 0} (xs : List X) (ys : List Y) (p : X × Y) → Contains (zip xs ys) p → Contains xs p.0 × Contains ys p.1
+zip-both xs ys p at =
+    (All-contains (λ q. Contains xs q.0) (zip xs ys) p (zip-left (Contains xs) xs ys (All-contains_itself xs)) at,
+    All-contains (λ q. Contains ys q.1) (zip xs ys) p (zip-right (Contains ys) xs ys (All-contains_itself ys)) at)
+
+zip-second : {X Y : Type 0} (xs : List X) (ys : List Y) (y : Y) → length xs ≡ length ys → Contains ys y → (x : X) × Contains (zip xs ys) (x, y)
+zip-second xs [] y same (k, within, is) = absurd (omega arith)
+zip-second [] (z ∷ ys) y same at = absurd (omega arith)
+zip-second {X} (x ∷ xs) (z ∷ ys) y same (zero, within, is) = (x, (0, omega arith, ap (λ (w : _). (x, w)) is))
+zip-second (x ∷ xs) (z ∷ ys) y same (suc k, within, is) =
+    let rest = zip-second xs ys y (omega arith) (k, omega arith, is) in
+    (rest.0, contains-behind (rest.0, y) (x, z) (zip xs ys) rest.1)
+
+-- an area of a task's list is one of the line
+record IsListed (line : List Member) (task : ℕ) (own : Listed) : Type 0 where
+  found : LineArea
+  of : IsAreaOf line found
+  key : key_of found ≡ own.key
+  area : found.area ≡ own.area
+  task_is : found.area.task ≡ task
+
+listed-by : (line : List Member) (task : ℕ) (dir : Dir) (own : Listed) → Contains (flat_map (slave_areas task dir) line) own → IsListed line task own
+listed-by line task dir own at =
+    let piece = flat_map-piece (slave_areas task dir) line own at in
+    let member = piece.element in
+    let test : ℕ × Area → Bool = λ e. belongs task dir e.1 in
+    let all = enumerate_from 0 member.slave.areas in
+    let e = map-piece (listed dir member.rank) (filter test all) own piece.own in
+    let belonging : belongs task dir e.0.1 ≡ true = All-contains (λ (x : ℕ × Area). test x ≡ true) (filter test all) e.0 (filter_passes test all) e.1 in
+    let parts = and_parts (e.0.1.task == task) (same_dir e.0.1.dir dir) (and_parts ((e.0.1.task == task) && same_dir e.0.1.dir dir) (nat_lt 0 (width e.0.1)) belonging).0 in
+    let towards : e.0.1.dir ≡ dir = same-dirs e.0.1.dir dir parts.1 in
+    subst (λ (l : Listed). IsListed line task l) e.2
+    (record {
+      found = record { member = member; index = e.0.0; area = e.0.1 };
+      of = record { member = piece.among; own = contains-unfiltered test all e.0 e.1 };
+      key = ap (λ (d : Dir). record { dir = d; rank = member.rank; area = e.0.0 }) towards;
+      area = refl;
+      task_is = eqb-true e.0.1.task task parts.0;
+    })
+
+listed-area : (line : List Member) (task : ℕ) (own : Listed) → Contains (task_areas task line) own → IsListed line task own
+listed-area line task own at =
+    ⊎_elim (listed-by line task Out own) (listed-by line task In own) (Contains-append_cases (flat_map (slave_areas task Out) line) (flat_map (slave_areas task In) line) own at)
+
+-- areas of a line that stand alike are one
+pub one-line-area : (line : List Member) (a b : LineArea) → AllPairs RanksBelow line → IsAreaOf line a → IsAreaOf line b → a.member.rank ≡ b.member.rank → a.index ≡ b.index → a ≡ b
+one-line-area line a b ranks of of' rank index =
+    let same : Some a ≡ Some b = sym (area-found line b a ranks of rank index) ∙ area-found line b b ranks of' refl refl in
+    cc
+
+-- the rows of an area at a place
+abbrev rows_with : ℕ → Area → Placed → List Row
+rows_with task area placed = map (row_at task placed.datagram area.dir) (variables_from placed.bit (assigned_entries area))
+
+-- an area that stands in a line stands there as its task has it
+record IsPairOf (line : List Member) (found : LineArea) : Type 0 where
+  pair : Listed × Placed
+  among : Contains (task_pairs line found.area.task) pair
+  rows : area_variables found.area.task pair ≡ rows_of line found
+
+places-length : (task : ℕ) (line : List Member) → length (task_areas task line) ≡ length (task_places task line)
+places-length task line =
+    sym (length-map (task_areas task line) keyed) ∙ ap length (sym (packed-areas opening (task_list task line))) ∙ length-map (task_places task line) area_of
+
+placed-pair : (line : List Member) (found : LineArea) (placed : Placed) → AllPairs RanksBelow line → IsAreaOf line found → place_of line found ≡ Some placed → IsPairOf line found
+placed-pair line found placed ranks of is =
+    let task = found.area.task in
+    let stood = found-among (λ (p : Placed). same_key p.key (key_of found)) (task_places task line) placed is in
+    let pair = zip-second (task_areas task line) (task_places task line) placed (places-length task line) stood.among in
+    let both = zip-both (task_areas task line) (task_places task line) (pair.0, placed) pair.1 in
+    let own = listed-area line task pair.0 both.0 in
+    let key : key_of own.found ≡ key_of found =
+    own.key ∙ sym (All-contains IsPlaced (task_pairs line task) (pair.0, placed) (pairs-placed line task) pair.1).key ∙ same_key-same placed.key (key_of found) stood.passes in
+    let one = one-line-area line own.found found ranks own.of of (ap (λ (k : Key). k.rank) key) (ap (λ (k : Key). k.area) key) in
+    let area : pair.0.area ≡ found.area = sym own.area ∙ ap (λ (f : LineArea). f.area) one in
+    record {
+      pair = (pair.0, placed);
+      among = pair.1;
+      rows = ap (λ (a : Area). rows_with task a placed) area
+      ∙ sym (ap (λ (p : Option Placed). option_map_or (λ q. area_variables task (record { key = key_of found; area = found.area }, q)) p []) is);
+    }
+
+-- the rows of all tasks
+abbrev line_rows : List Member → List Row
+line_rows line = flat_map (task_variables line) tasks
+
+abbrev pub of_variable : ℕ → Row → Bool
+of_variable variable row = row.0 == variable
+
+-- a row of an area of a line
+pub record IsRowOf (line : List Member) (row : Row) : Type 0 where
+  pub found : LineArea
+  pub of : IsAreaOf line found
+  pub own : Contains (rows_of line found) row
+
+-- what is known of the rows of a line
+pub record HasRows (line : List Member) : Type 0 where
+  pub ranks : AllPairs RanksBelow line
+  pub few_rows : (found : LineArea) (variable : ℕ) → IsAreaOf line found → few (of_variable variable) (rows_of line found) ≤ 1
+  pub placed : (found : LineArea) (row : Row) → IsAreaOf line found → Contains (rows_of line found) row → place_in (table_of line) row.0 ≡ Some row.1
+  pub stands : (variable : ℕ) (place : VariablePlace) → place_in (table_of line) variable ≡ Some place → IsRowOf line (variable, place)
+
+module _ (groups : List Declared) (none : lowest_fault (groups_of groups) ≡ None) where
+  table-few : (variable : ℕ) → few (of_variable variable) (line_rows (line_from 1 groups)) ≤ 1
+  table-few variable =
+      let rows = line_rows (line_from 1 groups) in
+      let same : few (of_variable variable) (by_number rows) ≡ few (of_variable variable) rows = ap length (filter-by_number variable rows) in
+      let most = pairs-few (of_variable variable) (by_number rows)
+      (AllPairs-weaker (λ a b. a.0 < b.0) (λ a b. of_variable variable a ≡ true → of_variable variable b ≡ true → ⊥)
+      (λ a b below is is'. never-both variable a.0 b.0 below (eqb-true a.0 variable is) (eqb-true b.0 variable is')) (by_number rows) (table-ascends groups none)) in
+      omega arith
+
+  own-task : (found : LineArea) → IsAreaOf (line_from 1 groups) found → Contains tasks found.area.task
+  own-task found of =
+      let slave = found.member.slave in
+      let inside = All-contains (λ (m : Member). IsSlaveInside m.slave) (line_from 1 groups) found.member (line-inside groups none) of.member in
+      let area = All-contains IsAreaInside slave.areas found.area inside.areas (at-contained slave.areas found.index found.area (own-at slave.areas (found.index, found.area) of.own)) in
+      each-task (Contains tasks) (All-contains_itself tasks) found.area.task area.task
+
+  -- the rows of an area are rows of the line, each variable's once
+  few-by : (found : LineArea) (placed : Option Placed) (variable : ℕ) → IsAreaOf (line_from 1 groups) found → place_of (line_from 1 groups) found ≡ placed → few (of_variable variable) (rows_of (line_from 1 groups) found) ≤ 1
+  few-by found None variable of is =
+      let line = line_from 1 groups in
+      let nothing : rows_of line found ≡ [] = ap (λ (p : Option Placed). option_map_or (λ q. area_variables found.area.task (record { key = key_of found; area = found.area }, q)) p []) is in
+      let zero_few : few (of_variable variable) (rows_of line found) ≡ 0 = ap (few (of_variable variable)) nothing in
+      omega arith
+  few-by found (Some placed) variable of is =
+      let line = line_from 1 groups in
+      let own = placed-pair line found placed (line-ascends 1 groups) of is in
+      let one = piece-few (of_variable variable) (area_variables found.area.task) (task_pairs line found.area.task) own.pair own.among in
+      let two = piece-few (of_variable variable) (task_variables line) tasks found.area.task (own-task found of) in
+      let most = table-few variable in
+      let same : few (of_variable variable) (area_variables found.area.task own.pair) ≡ few (of_variable variable) (rows_of line found) = ap (few (of_variable variable)) own.rows in
+      omega arith
+
+  rows-few : (found : LineArea) (variable : ℕ) → IsAreaOf (line_from 1 groups) found → few (of_variable variable) (rows_of (line_from 1 groups) found) ≤ 1
+  rows-few found variable of = few-by found (place_of (line_from 1 groups) found) variable of refl
+
+  row-by : (found : LineArea) (placed : Option Placed) (row : Row) → IsAreaOf (line_from 1 groups) found → place_of (line_from 1 groups) found ≡ placed → Contains (rows_of (line_from 1 groups) found) row
+      → Contains (line_rows (line_from 1 groups)) row
+  row-by found None row of is at =
+      let line = line_from 1 groups in
+      let nothing : rows_of line found ≡ [] = ap (λ (p : Option Placed). option_map_or (λ q. area_variables found.area.task (record { key = key_of found; area = found.area }, q)) p []) is in
+      absurd (never (subst (λ (rows : List Row). Contains rows row) nothing at))
+    where
+      never : Contains [] row → ⊥
+      never (k, within, is) = omega arith
+  row-by found (Some placed) row of is at =
+      let line = line_from 1 groups in
+      let own = placed-pair line found placed (line-ascends 1 groups) of is in
+      contains-flat_map (task_variables line) tasks found.area.task row (own-task found of)
+      (contains-flat_map (area_variables found.area.task) (task_pairs line found.area.task) own.pair row own.among (subst (λ (rows : List Row). Contains rows row) (sym own.rows) at))
+
+  -- a row of an area is its variable's place
+  row-placed : (found : LineArea) (row : Row) → IsAreaOf (line_from 1 groups) found → Contains (rows_of (line_from 1 groups) found) row → place_in (table_of (line_from 1 groups)) row.0 ≡ Some row.1
+  row-placed found row of at =
+      let rows = line_rows (line_from 1 groups) in
+      ap (option_map (λ (r : Row). r.1))
+      (find-by_number row.0 rows
+      ∙ found-once (of_variable row.0) rows row (table-few row.0) (row-by found (place_of (line_from 1 groups) found) row of refl at) (eq-eqb row.0 row.0 refl))
+
+  -- and a variable with a place has a row of an area
+
+  row-of : (row : Row) → Contains (line_rows (line_from 1 groups)) row → IsRowOf (line_from 1 groups) row
+  row-of row at =
+      let line = line_from 1 groups in
+      let piece = flat_map-piece (task_variables line) tasks row at in
+      let task = piece.element in
+      let inner = flat_map-piece (area_variables task) (task_pairs line task) row piece.own in
+      let pair = inner.element in
+      let both = zip-both (task_areas task line) (task_places task line) pair inner.among in
+      let own = listed-area line task pair.0 both.0 in
+      let placed = All-contains IsPlaced (task_pairs line task) pair (pairs-placed line task) inner.among in
+      let key : pair.1.key ≡ key_of own.found = placed.key ∙ sym own.key in
+      let stands : find (λ (p : Placed). same_key p.key (key_of own.found)) (task_places task line) ≡ Some pair.1 =
+      placed-found (task_list task line) (key_of own.found) pair.1 (project-list (record { groups = groups; epoch = 0 }) task none) both.1
+      (subst (λ (k : Key). same_key pair.1.key k ≡ true) key (same_key-refl pair.1.key)) in
+      let here : place_of line own.found ≡ Some pair.1 =
+      subst (λ (t : ℕ). find (λ (p : Placed). same_key p.key (key_of own.found)) (task_places t line) ≡ Some pair.1) (sym own.task_is) stands in
+      let rows : area_variables task pair ≡ rows_of line own.found =
+      ap (λ (t : ℕ). rows_with t pair.0.area pair.1) (sym own.task_is)
+      ∙ ap (λ (a : Area). rows_with own.found.area.task a pair.1) (sym own.area)
+      ∙ sym (ap (λ (p : Option Placed). option_map_or (λ q. area_variables own.found.area.task (record { key = key_of own.found; area = own.found.area }, q)) p []) here) in
+      record { found = own.found; of = own.of; own = subst (λ (all : List Row). Contains all row) rows inner.own }
+
+  place-row : (variable : ℕ) (place : VariablePlace) → place_in (table_of (line_from 1 groups)) variable ≡ Some place → IsRowOf (line_from 1 groups) (variable, place)
+  place-row variable place is =
+      let rows = line_rows (line_from 1 groups) in
+      let row = mapped-some (λ (r : Row). r.1) (find (of_variable variable) (by_number rows)) place is in
+      let found = found-among (of_variable variable) rows row.0 (sym (find-by_number variable rows) ∙ row.1) in
+      let same : row.0 ≡ (variable, place) = pair-same row.0 variable place (eqb-true row.0.0 variable found.passes) row.2 in
+      row-of (variable, place) (subst (λ (r : Row). Contains rows r) same found.among)
+    where
+      pair-same : (r : Row) (n : ℕ) (p : VariablePlace) → r.0 ≡ n → r.1 ≡ p → r ≡ (n, p)
+      pair-same r n p first second = ap (λ (m : ℕ). (m, r.1)) first ∙ ap (λ (q : VariablePlace). (n, q)) second
+
+pub line-rows : (groups : List Declared) → lowest_fault (groups_of groups) ≡ None → HasRows (line_from 1 groups)
+line-rows groups none =
+    record {
+      ranks = line-ascends 1 groups;
+      few_rows = rows-few groups none;
+      placed = row-placed groups none;
+      stands = place-row groups none;
+    }
