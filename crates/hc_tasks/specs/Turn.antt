@@ -16,6 +16,12 @@ pub record AreLines (first : ℕ) (before after old new : List (List Area)) : Ty
   pub old_line : IsLine old
   pub new_line : IsLine new
 
+-- there are two such lines
+pub record HasLines (first : ℕ) (before after : List (List Area)) : Type 0 where
+  pub old : List (List Area)
+  pub new : List (List Area)
+  pub lines : AreLines first before after old new
+
 -- so many tasks from one on are kept of the old line, and none of them needs more than 16 datagrams
 pub record IsTurn (count task : ℕ) (kept : List Kept) (first : ℕ) (before after old new : List (List Area)) : Type 0 where
   pub lines : AreLines first before after old new

@@ -4,6 +4,8 @@
 
 pub mod areas;
 pub mod laws;
+pub mod starts;
 pub mod tasks;
+pub mod touched;
 mod turning;
 mod widths;

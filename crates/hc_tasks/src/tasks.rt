@@ -2,6 +2,7 @@
 ghost use Rattle.std.specs.Prelude.{◌≡◌, [], IfOk, replicate};
 
 use crate::areas::SlaveAreas;
+use crate::starts::LineStarts;
 use crate::turning::turn_tasks;
 use hc_bitsum::steps::Steps;
 use hc_cuts::cuts::Cuts;
@@ -45,7 +46,7 @@ fn absent_slaves<'a>(alloc: Global, slaves: usize) -> Result<Vec<SlaveAreas<'a>>
 
 impl LineCuts {
     ghost use Rattle.hc_records.specs.declared.records.Area.{Area};
-    ghost use Rattle.std.specs.Prelude.{◌≡◌, ◌≢◌, ◌+◌, ◌*◌, ◌<◌, ◌≤◌, List, [], IfErr, IfOk, None, OnErr, OnOk, Some, length, option_map, replicate};
+    ghost use Rattle.std.specs.Prelude.{◌≡◌, ◌≢◌, ◌+◌, ◌*◌, ◌<◌, ◌≤◌, List, [], IfErr, IfOk, None, OnErr, OnOk, Some, map, option_map, replicate};
     ghost use Rattle.hc_records.specs.Packing.{opening, packed};
     ghost use Rattle.hc_records.specs.declared.faults.EditFault.TheVariants.{Memory, TooManyDatagrams};
     ghost use Rattle.hc_records.specs.declared.limits.TheConstants.{MOST_DATAGRAMS, MOST_SLAVES, TASKS};
@@ -147,5 +148,12 @@ impl LineCuts {
         ensures { (line : List (List Area)) → self.now ≡ line_kept line → result ≡ place_of key (list_by task line) }
     {
         self.tasks[usize::from(task)].place(key)
+    }
+
+    /// A copy of the boundaries of the eight tasks, to be compared with later ones. It takes no memory.
+    pub fn copied_starts(&self) -> LineStarts
+        ensures { result ≡ map (λ kept. kept.starts) self.now }
+    {
+        LineStarts::of(self.tasks.as_slice())
     }
 }

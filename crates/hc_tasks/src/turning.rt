@@ -10,6 +10,7 @@ ghost use Rattle.hc_tasks.specs.Recut.{recut_by, recut_from, touched_by, touched
 ghost use Rattle.hc_tasks.specs.Turn.{AreLines, HasTaskTurn, HasTree, HasTurn, IsTaskTurn, IsTurn};
 
 use crate::areas::SlaveAreas;
+use crate::touched::touched_hulls;
 use crate::widths::set_widths;
 use arrayvec::ArrayVec;
 use hc_bitsum::steps::Steps;
@@ -40,7 +41,8 @@ fn turn_task<L: Ledger>(
     ensures least { IfOk result (λ recut. steps.old + recut ≤ steps.new) }
     ensures most { IfOk result (λ recut. steps.new ≤ steps.old + most_read * recut) }
 {
-    let hulls = set_widths(cuts, task, first, before, after);
+    set_widths(cuts, task, first, before, after);
+    let hulls = touched_hulls(task, first, before, after);
     if hulls.are_none() {
         return Ok(0);
     }

@@ -1,12 +1,7 @@
-use Rattle.hc_cuts.specs.Hulls.{TakeIn}
 use Rattle.hc_tasks.specs.Widths.{IsSetTo}
 use Rattle.hc_tasks.proofs.Setting.{with_areas}
-use Rattle.hc_tasks.proofs.Taking.{below}
 use Rattle.hc_tasks.proofs.widths.set_slave.Given as goal
 
 -- the widths of the areas so far are set
 abbrev pub invariant-loop-area : goal.invariant-loop-area
-invariant-loop-area l = record {
-  set : IsSetTo l.fn.cuts l.cuts (with_areas l.task l.rank l.area l.new l.fn.cuts);
-  taken : TakeIn l.fn.hulls l.hulls (below l.task l.rank l.area l.old l.new);
-}
+invariant-loop-area l = IsSetTo l.fn.cuts l.cuts (with_areas l.task l.rank l.area l.new l.fn.cuts)

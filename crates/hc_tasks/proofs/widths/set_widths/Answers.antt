@@ -1,35 +1,25 @@
 use Rattle.std.proofs.Common.{◌≡◌, ◌+◌, ℕ, List, length, arith, ap, sym, subst, ◌∙◌}
 use Rattle.hc_bitsum.specs.Tree.{Tree}
-use Rattle.hc_cuts.specs.Hulls.{AreHulls}
-use Rattle.hc_cuts.specs.declared.hulls.Hulls.{Hulls}
 use Rattle.hc_records.specs.declared.records.Area.{Area}
 use Rattle.hc_tasks.specs.Widths.{IsSetTo}
-use Rattle.hc_tasks.proofs.Rows.{lines-behind, lines-front, new-at, old-at, ranks-next, row-kept, row-within, slaves-next}
+use Rattle.hc_tasks.proofs.Rows.{lines-behind, lines-front, new-at, old-at, row-kept, row-within, slaves-next}
 use Rattle.hc_tasks.proofs.Setting.{slaves-begin, slaves-end, slaves-was, up_to}
-use Rattle.hc_tasks.proofs.Taking.{ranks-begin, ranks-end, up_to_rank}
 use Rattle.hc_tasks.proofs.Turned.{tree-holds, tree-widths}
 use Rattle.hc_tasks.proofs.lemmas.Turning.{back-lines}
 use Rattle.hc_tasks.proofs.widths.set_widths.Goals as goal
 
 pub loop-i-init : goal.loop-i-init
-loop-i-init c = record {
-  set = λ old new lines is.
-      let none : length lines.front ≡ length lines.front + 0 = omega arith in
-      subst (λ (n : ℕ). IsSetTo c.args.cuts.now c.args.cuts.now (up_to c.args.task n old new)) none
-      (slaves-begin c.args.task (length lines.front) old new c.args.cuts.now (tree-holds c.args.task old c.args.cuts.now.tree lines.old_line is)
-      (tree-widths c.args.task old c.args.cuts.now.tree is) (lines-front c.args.first c.args.before.now c.args.after.now old new lines));
-  taken = λ old new lines.
-      let none : length lines.front ≡ length lines.front + 0 = omega arith in
-      subst (λ (n : ℕ). AreHulls (up_to_rank c.args.task n old new) c.none-hulls.result) none
-      (subst (λ (hulls : Hulls). AreHulls (up_to_rank c.args.task (length lines.front) old new) hulls) (sym c.none-hulls.ensures)
-      (ranks-begin c.args.task (length lines.front) old new (lines-front c.args.first c.args.before.now c.args.after.now old new lines)));
-}
+loop-i-init c = λ old new lines is.
+    let none : length lines.front ≡ length lines.front + 0 = omega arith in
+    subst (λ (n : ℕ). IsSetTo c.args.cuts.now c.args.cuts.now (up_to c.args.task n old new)) none
+    (slaves-begin c.args.task (length lines.front) old new c.args.cuts.now (tree-holds c.args.task old c.args.cuts.now.tree lines.old_line is)
+    (tree-widths c.args.task old c.args.cuts.now.tree is) (lines-front c.args.first c.args.before.now c.args.after.now old new lines))
 
 pub set_slave-requires-clause-last : goal.set_slave-requires-clause-last
 set_slave-requires-clause-last c =
     let within = c.loop-i-test.true in
     let r = c.requires in
-    let set = c.loop-i.invariant.set r.old r.new r.lines r.holds in
+    let set = c.loop-i.invariant r.old r.new r.lines r.holds in
     let slaves = set.slaves ∙ ap (λ (t : Tree). t.slaves) r.holds in
     let low = row-within c.args.first c.args.before.now c.args.after.now r.old r.new r.lines in
     omega (arith, within, slaves, low)
@@ -37,7 +27,7 @@ set_slave-requires-clause-last c =
 pub set_slave-requires-clause-holds : goal.set_slave-requires-clause-holds
 set_slave-requires-clause-holds c =
     let r = c.requires in
-    (c.loop-i.invariant.set r.old r.new r.lines r.holds).holds
+    (c.loop-i.invariant r.old r.new r.lines r.holds).holds
 
 pub set_slave-requires-clause-old : goal.set_slave-requires-clause-old
 set_slave-requires-clause-old c =
@@ -67,33 +57,18 @@ set_slave-requires-clause-was c key here =
     let rank = r.lines.rank in
     slaves-was c.args.task (length r.lines.front + c.loop-i.i) r.old r.new c.as_slice.result.now c.args.cuts.now c.loop-i.cuts
     (old-at c.args.first c.args.before.now c.args.after.now r.old r.new r.lines c.loop-i.i c.as_slice.result.now c.index-before-i.result c.as_slice.ensures c.index-before-i.is (omega arith))
-    (c.loop-i.invariant.set r.old r.new r.lines r.holds) key (omega (arith, here, rank))
+    (c.loop-i.invariant r.old r.new r.lines r.holds) key (omega (arith, here, rank))
 
 pub loop-i-preserved : goal.loop-i-preserved
-loop-i-preserved c =
+loop-i-preserved c = λ old new lines is.
     let within = c.loop-i-test.true in
-    record {
-      set = λ old new lines is.
-          slaves-next c.args.task c.args.first c.loop-i.i c.args.before.now c.args.after.now old new lines c.as_slice-in-loop-i.result.now c.args.cuts.now c.loop-i.cuts c.set_slave.new.cuts
-          (new-at c.args.first c.args.before.now c.args.after.now old new lines c.loop-i.i c.as_slice-in-loop-i.result.now c.index-after-i.result c.as_slice-in-loop-i.ensures c.index-after-i.is (omega arith))
-          (c.loop-i.invariant.set old new lines is) c.set_slave.ensures.widths;
-      taken = λ old new lines.
-          ranks-next c.args.task c.args.first c.loop-i.i c.args.before.now c.args.after.now old new lines c.as_slice.result.now c.as_slice-in-loop-i.result.now c.loop-i.hulls c.set_slave.new.hulls
-          (old-at c.args.first c.args.before.now c.args.after.now old new lines c.loop-i.i c.as_slice.result.now c.index-before-i.result c.as_slice.ensures c.index-before-i.is (omega arith))
-          (new-at c.args.first c.args.before.now c.args.after.now old new lines c.loop-i.i c.as_slice-in-loop-i.result.now c.index-after-i.result c.as_slice-in-loop-i.ensures c.index-after-i.is (omega arith))
-          (c.loop-i.invariant.taken old new lines) c.set_slave.ensures.taken;
-    }
+    slaves-next c.args.task c.args.first c.loop-i.i c.args.before.now c.args.after.now old new lines c.as_slice-in-loop-i.result.now c.args.cuts.now c.loop-i.cuts c.set_slave.new.cuts
+    (new-at c.args.first c.args.before.now c.args.after.now old new lines c.loop-i.i c.as_slice-in-loop-i.result.now c.index-after-i.result c.as_slice-in-loop-i.ensures c.index-after-i.is (omega arith))
+    (c.loop-i.invariant old new lines is) c.set_slave.ensures
 
-pub returns-clause-widths : goal.returns-clause-widths
-returns-clause-widths c = λ old new lines is.
+pub returns : goal.returns
+returns c = λ old new lines is.
     let past = c.loop-i-test.false in
     slaves-end c.args.task (length lines.front + c.loop-i.i) old new c.args.cuts.now c.loop-i.cuts
     (λ rank high. lines-behind c.args.first c.args.before.now c.args.after.now old new lines rank (omega (arith, past, high)))
-    (c.loop-i.invariant.set old new lines is)
-
-pub returns-clause-touched : goal.returns-clause-touched
-returns-clause-touched c = λ old new lines.
-    let past = c.loop-i-test.false in
-    ranks-end c.args.task (length lines.front + c.loop-i.i) old new c.loop-i.hulls
-    (λ rank high. lines-behind c.args.first c.args.before.now c.args.after.now old new lines rank (omega (arith, past, high)))
-    (c.loop-i.invariant.taken old new lines)
+    (c.loop-i.invariant old new lines is)

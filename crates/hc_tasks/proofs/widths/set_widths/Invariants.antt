@@ -1,18 +1,13 @@
 use Rattle.std.proofs.Common.{◌≡◌, ◌+◌, List, length}
 use Rattle.hc_records.specs.declared.records.Area.{Area}
-use Rattle.hc_cuts.specs.Hulls.{AreHulls}
 use Rattle.hc_tasks.specs.Kept.{tree_by}
 use Rattle.hc_tasks.specs.Turn.{AreLines}
 use Rattle.hc_tasks.specs.Widths.{IsSetTo}
 use Rattle.hc_tasks.proofs.Setting.{up_to}
-use Rattle.hc_tasks.proofs.Taking.{up_to_rank}
 use Rattle.hc_tasks.proofs.widths.set_widths.Given as goal
 
 -- the widths of the slaves so far are set
 abbrev pub invariant-loop-i : goal.invariant-loop-i
-invariant-loop-i l = record {
-  set :
-      (old new : List (List Area)) (lines : AreLines l.first l.before l.after old new) → l.fn.cuts.tree ≡ tree_by l.task old
-      → IsSetTo l.fn.cuts l.cuts (up_to l.task (length lines.front + l.i) old new);
-  taken : (old new : List (List Area)) (lines : AreLines l.first l.before l.after old new) → AreHulls (up_to_rank l.task (length lines.front + l.i) old new) l.hulls;
-}
+invariant-loop-i l =
+    (old new : List (List Area)) (lines : AreLines l.first l.before l.after old new) → l.fn.cuts.tree ≡ tree_by l.task old
+    → IsSetTo l.fn.cuts l.cuts (up_to l.task (length lines.front + l.i) old new)
