@@ -56,8 +56,8 @@ returns-in-Err-clause-unchanged g t c =
     let p = parts c.args.task c.args.first c.args.before.now c.args.after.now r.old r.new c.args.tasks.now s.result.0.now s.result.1.now c.index-these-0-2.result s.ensures.value s.ensures.front_len r.turn in
     let q = parts c.args.task c.args.first c.args.before.now c.args.after.now r.old r.new c.args.tasks.now s.result.0.now s.result.1.now c.index-these-0.result s.ensures.value s.ensures.front_len r.turn in
     let holds =
-        ap (λ (k : Kept). k.tree)
-        (set-at s.result.0.now c.turn_task.new.cuts c.index-these-0-in-Err.result s.ensures.front_len ∙ c.in-Ok.ensures.turned r.old r.new p.0) in
+    ap (λ (k : Kept). k.tree)
+    (set-at s.result.0.now c.turn_task.new.cuts c.index-these-0-in-Err.result s.ensures.front_len ∙ c.in-Ok.ensures.turned r.old r.new p.0) in
     let put = c.put_task.ensures r.new r.old (back-lines c.args.first c.args.before.now c.args.after.now r.old r.new r.turn.lines) holds (c.copied_starts-starts.ensures ∙ ap (λ (k : Kept). k.starts) q.0.stands) in
     set-again s.result.0.now c.turn_tasks.new.tasks c.turn_task.new.cuts c.put_task.new.cuts s.ensures.front_len
     ∙ ap (λ (k : Kept). k ∷ c.turn_tasks.new.tasks) (put ∙ sym q.0.stands)

@@ -14,8 +14,8 @@ invariant_of-self g c =
     let s = c.as_mut_slice in
     let own = eight-turn c.args.self.now s.result.now c.args.first c.args.before.now c.args.after.now r.old r.new (s.ensures.value ∙ c.self.view_is) (ap length s.ensures.value ∙ c.self.invariant.0) r.turn in
     let p =
-        given-back c.self.inside.tasks.len c.self.inside.tasks.items s.result.now c.turn_tasks.new.tasks c.turn_tasks.result r.new c.self.inside.tasks.ok.0 s.ensures.value c.self.invariant
-        (c.turn_tasks.ensures.turned r.old r.new own) c.turn_tasks.ensures.unchanged in
+    given-back c.self.inside.tasks.len c.self.inside.tasks.items s.result.now c.turn_tasks.new.tasks c.turn_tasks.result r.new c.self.inside.tasks.ok.0 s.ensures.value c.self.invariant
+    (c.turn_tasks.ensures.turned r.old r.new own) c.turn_tasks.ensures.unchanged in
     subst (λ (ks : List Kept). (length ks ≡ 8) × All IsCut ks) (sym p.0) (p.1, p.2)
 
 pub returns-clause-turned : goal.returns-clause-turned
@@ -23,8 +23,8 @@ returns-clause-turned g c = λ old new turn.
     let s = c.as_mut_slice in
     let own = eight-turn c.args.self.now s.result.now c.args.first c.args.before.now c.args.after.now old new (s.ensures.value ∙ c.self.view_is) (ap length s.ensures.value ∙ c.self.invariant.0) turn in
     let p =
-        given-back c.self.inside.tasks.len c.self.inside.tasks.items s.result.now c.turn_tasks.new.tasks c.turn_tasks.result new c.self.inside.tasks.ok.0 s.ensures.value c.self.invariant
-        (c.turn_tasks.ensures.turned old new own) c.turn_tasks.ensures.unchanged in
+    given-back c.self.inside.tasks.len c.self.inside.tasks.items s.result.now c.turn_tasks.new.tasks c.turn_tasks.result new c.self.inside.tasks.ok.0 s.ensures.value c.self.invariant
+    (c.turn_tasks.ensures.turned old new own) c.turn_tasks.ensures.unchanged in
     on_ok_weaker c.turn_tasks.result (λ is. p.0 ∙ is ∙ ap (λ (n : ℕ). kept_from n 0 new) (ap length s.ensures.value ∙ c.self.invariant.0)) (c.turn_tasks.ensures.turned old new own)
 
 pub returns-clause-accepted : goal.returns-clause-accepted
