@@ -1,9 +1,9 @@
 -- Tasks in a row that are turned, or put back.
 use Rattle.std.specs.Prelude.{All, Err, None, Ok, OnErr, OnOk, Option, Result, Some, drop, replicate, slice_index_or, slice_set, take}
 use Rattle.std.proofs.Common.{◌≡◌, ℕ, suc, ◌+◌, Bool, true, false, if◌then◌else◌, List, [], ◌∷◌, ◌++◌, length, refl, sym, ap, subst, ◌∙◌, arith, length-append}
+use Rattle.std.proofs.Math.Seq.{take-append_seam}
 use Rattle.hc_records.specs.declared.records.Area.{Area}
 use Rattle.hc_cuts.specs.Starts.{Kept}
-use Rattle.std.proofs.Math.Seq.{take-append_seam}
 use Rattle.hc_tasks.specs.Kept.{IsCut, IsLine, crowded_from, is_crowded, kept_by, kept_from, line_kept, tree_by}
 use Rattle.hc_tasks.specs.Turn.{AreLines, IsTaskTurn, IsTurn}
 use Rattle.hc_tasks.specs.Widths.{IsSetTo}
