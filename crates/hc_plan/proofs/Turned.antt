@@ -11,7 +11,6 @@ use Rattle.hc_records.specs.Line.{State, groups_of, line_from}
 use Rattle.hc_records.specs.Project.{lowest_fault}
 use Rattle.hc_edits.specs.Edits.{own_fault}
 use Rattle.hc_tasks.specs.Areas.{areas_by_rank}
-use Rattle.hc_cuts.specs.Starts.{Kept}
 use Rattle.hc_tasks.specs.Kept.{IsLine, crowded_from, line_kept}
 use Rattle.hc_tasks.specs.Recut.{recut_from}
 use Rattle.hc_tasks.specs.Turn.{IsTurn}
@@ -50,12 +49,12 @@ turn-refused state edit new after task is second none crowded =
     ∙ ap (option_map TooManyDatagrams) (same-crowded new after second ∙ crowded))
 
 -- the tasks of a project's line are turned by an edit
-pub edit-turn : (old new : List Declared) (edit : Edit) (before after : List (List Area)) (kept : List Kept) → before ≡ areas_by_rank old → after ≡ areas_by_rank new
-    → new ≡ groups_after old edit → lowest_fault (groups_of old) ≡ None → lowest_fault (groups_of new) ≡ None → crowded_task (line_from 1 old) ≡ None
-    → kept ≡ line_kept (areas_by_rank old) → IsTurn 8 0 kept 1 before after before after
-edit-turn old new edit before after kept first second is none nor fits stand =
-    whole-turn kept before after (is-line old before first none) (is-line new after second nor) (as-many old new before after edit first second is)
-    (stand ∙ ap (λ (s : List (List Area)). line_kept s) (sym first)) (line-fits old before first fits)
+pub edit-turn : (old new : List Declared) (edit : Edit) (before after : List (List Area)) → before ≡ areas_by_rank old → after ≡ areas_by_rank new → new ≡ groups_after old edit
+    → lowest_fault (groups_of old) ≡ None → lowest_fault (groups_of new) ≡ None → crowded_task (line_from 1 old) ≡ None
+    → IsTurn 8 0 (line_kept (areas_by_rank old)) 1 before after before after
+edit-turn old new edit before after first second is none nor fits =
+    whole-turn (line_kept (areas_by_rank old)) before after (is-line old before first none) (is-line new after second nor) (as-many old new before after edit first second is)
+    (ap (λ (s : List (List Area)). line_kept s) (sym first)) (line-fits old before first fits)
 
 -- what the turn left unsettled is what the edit recuts
 pub line-unsettled : (old new : List Declared) (before after : List (List Area)) (unsettled : ℕ) → before ≡ areas_by_rank old → after ≡ areas_by_rank new

@@ -1,16 +1,15 @@
 -- Tasks in a row that are turned, or put back.
 use Rattle.std.specs.Prelude.{All, Err, None, Ok, OnErr, OnOk, Option, Result, Some, drop, replicate, slice_index_or, slice_set, take}
 use Rattle.std.proofs.Common.{◌≡◌, ℕ, suc, ◌+◌, Bool, true, false, if◌then◌else◌, List, [], ◌∷◌, ◌++◌, length, refl, sym, ap, subst, ◌∙◌, arith, length-append}
-use Rattle.hc_records.specs.declared.records.Area.{Area}
-use Rattle.hc_bitsum.specs.Tree.{Tree}
-use Rattle.hc_cuts.specs.Starts.{Kept}
 use Rattle.std.proofs.Math.Seq.{take-append_seam}
+use Rattle.hc_records.specs.declared.records.Area.{Area}
+use Rattle.hc_cuts.specs.Starts.{Kept}
 use Rattle.hc_tasks.specs.Kept.{IsCut, IsLine, crowded_from, is_crowded, kept_by, kept_from, line_kept, tree_by}
 use Rattle.hc_tasks.specs.Turn.{AreLines, IsTaskTurn, IsTurn}
 use Rattle.hc_tasks.specs.Widths.{IsSetTo}
 use Rattle.hc_tasks.specs.Areas.{width_at}
 use Rattle.hc_tasks.proofs.Lines.{absent-fits, absent-line, length-absent, line-is}
-use Rattle.hc_tasks.proofs.Turned.{kept-is, set-tree}
+use Rattle.hc_tasks.proofs.Turned.{set-tree}
 use Rattle.hc_tasks.proofs.lemmas.Turning.{whole-turn}
 
 pub as-long : (first : ℕ) (before after old new : List (List Area)) → AreLines first before after old new → length new ≡ length old

@@ -5,7 +5,7 @@ use Rattle.hc_bitsum.specs.Tree.{Tree}
 use Rattle.hc_cuts.specs.Starts.{Kept}
 use Rattle.hc_tasks.specs.Kept.{IsLine, crowded_from, is_crowded, kept_by, kept_from, tree_by}
 
--- the slaves in a row, the first of which has a rank, have some areas in the old line and others in the new one; each other slave has the same in both
+-- slaves in a row, the first of which has the rank `first`, have the areas `before` in the old line and `after` in the new one; each other slave has the same in both
 pub record AreLines (first : ℕ) (before after old new : List (List Area)) : Type 0 where
   pub front : List (List Area)
   pub behind : List (List Area)
@@ -53,7 +53,7 @@ pub record HasTaskTurn (task : ℕ) (kept : Kept) (first : ℕ) (before after : 
   pub new : List (List Area)
   pub turn : IsTaskTurn task kept first before after old new
 
--- there are two such lines, and a tree holds a task of the old one
+-- two lines that differ so, and a tree holds the task's areas in the old one
 pub record HasTree (task : ℕ) (tree : Tree) (first : ℕ) (before after : List (List Area)) : Type 0 where
   pub old : List (List Area)
   pub new : List (List Area)

@@ -69,14 +69,14 @@ impl LineCuts {
         Ok(LineCuts { tasks })
     }
 
-    /// Turns the tasks of a line into those of another line, which differs in the areas of slaves in a row:
-    /// the first of these has a rank, and they have some areas before and others after. The areas and
-    /// boundaries are then those of the other line, and the answer is how many spans of touched tasks aren't
-    /// settled. Otherwise the lowest task that needs more than 16 datagrams, and all is as it was. None of
-    /// the old line's tasks needs more. The work is that of these slaves and of the tasks in which a width
-    /// of theirs differs: each span that isn't settled takes 1 to 104 steps and nothing else takes any, and
-    /// where a task needs too many datagrams, at most 16 searches are made in each task in which a width
-    /// differs. It takes no memory.
+    /// Turns the tasks of a line into those of another one, which differs in the areas of slaves in a row:
+    /// `first` is the rank of the first of them, at least 1, and each of them has the areas of `before` in
+    /// the old line and those of `after` in the new one. None of the old line's tasks needs more than 16
+    /// datagrams, so a turn back, with `before` and `after` swapped, is never refused. The areas and
+    /// boundaries are then those of the new line, and the answer is how many spans of touched tasks aren't
+    /// settled. Otherwise the lowest task of the new line that needs more than 16 datagrams, and all is as
+    /// it was. Each span that isn't settled takes 1 to 104 steps, and nothing else takes any; a turn that is
+    /// refused takes at most 16 times 104 for each task in which a width differs. It takes no memory.
     pub fn turn<L: Ledger>(
         &mut self,
         first: u16,

@@ -1,6 +1,6 @@
 //! The tasks of a line turned into those of another: widths that differ are set, and the boundaries of a task
 //! in which one does are repaired. Where a task would need too many datagrams, it and those before it are
-//! put back.
+//! put back, and those behind it aren't looked at.
 ghost use Rattle.std.specs.Prelude.{◌≡◌, ◌+◌, ◌*◌, ◌≤◌, IfErr, IfOk, List, None, OnErr, OnOk, Some, false, length, true};
 ghost use Rattle.hc_records.specs.declared.limits.TheConstants.{MOST_DATAGRAMS};
 ghost use Rattle.hc_records.specs.declared.records.Area.{Area};
@@ -20,8 +20,8 @@ use hc_records::keys::Key;
 use std::sync::ledger::Ledger;
 
 /// Turns a task, and answers how many of its spans aren't settled. `TooManyDatagrams` where it would need
-/// more than 16; it is then as it was. Where no width differs, no step is taken, and otherwise 1 to 104 for
-/// each of these spans.
+/// more than 16; it is then as it was. Each of these spans takes 1 to 104 steps, and nothing else takes any;
+/// a refusal takes at most 16 times 104.
 fn turn_task<L: Ledger>(
     cuts: &mut Cuts,
     task: u8,

@@ -1,6 +1,6 @@
 -- Turns to other lines, and back.
 use Rattle.std.specs.Prelude.{None}
-use Rattle.std.proofs.Common.{◌≡◌, ℕ, List, [], ◌++◌, length, refl, sym, append-nil}
+use Rattle.std.proofs.Common.{◌≡◌, ℕ, List, [], length, refl, sym, append-nil}
 use Rattle.hc_records.specs.declared.records.Area.{Area}
 use Rattle.hc_cuts.specs.Starts.{Kept}
 use Rattle.hc_tasks.specs.Kept.{IsLine, crowded_from, line_kept}

@@ -1,5 +1,4 @@
-use Rattle.std.proofs.Common.{◌≡◌, sym, ◌∙◌}
-use Rattle.std.specs.Prelude.{None, Some}
+use Rattle.std.proofs.Common.{sym, ◌∙◌}
 use Rattle.hc_plan.proofs.turning.turn_back.Goals as goal
 
 pub turn-requires : goal.turn-requires
