@@ -107,8 +107,8 @@ presence-concerned groups group present found at =
       front = by_rank front;
       behind = by_rank behind;
       first = omega (arith, counted);
-      count = ap length was ∙ length-map slaves (λ slave. record { present = found.present; slave = slave }) ∙ sym (ap length as_declared);
-      many = ap length is ∙ length-map slaves (λ slave. record { present = present; slave = slave }) ∙ sym (ap length as_declared);
+      many_before = ap length was ∙ length-map slaves (λ slave. record { present = found.present; slave = slave }) ∙ sym (ap length as_declared);
+      many_after = ap length is ∙ length-map slaves (λ slave. record { present = present; slave = slave }) ∙ sym (ap length as_declared);
       before = ap by_rank (split-at group groups found at) ∙ by_rank-around front behind found
           ∙ sym (ap (λ (row : List Ranked). by_rank front ++ (row ++ by_rank behind)) was);
       after = ap by_rank (changed-split group (with_present present) groups found at) ∙ by_rank-around front behind (with_present present found)
@@ -150,8 +150,8 @@ areas-concerned groups group slave areas found one at stands =
       front = by_rank front ++ ranked present before;
       behind = ranked present after ++ by_rank behind;
       first = omega (arith, counted, both, as_many, taken);
-      count = ap length was;
-      many = ap length is;
+      many_before = ap length was;
+      many_after = ap length is;
       before = ap by_rank (split-at group groups found at)
           ∙ by_rank-around front behind found
           ∙ ap (λ (own : List Ranked). by_rank front ++ (own ++ by_rank behind)) (ap (ranked present) (split-at slave slaves one stands) ∙ ranked-around present before after one)

@@ -21,38 +21,43 @@ ranked present slaves = map (λ slave. record { present = present; slave = slave
 abbrev pub by_rank : List Declared → List Ranked
 by_rank groups = flat_map (λ declared. ranked declared.present declared.group.slaves) groups
 
--- the areas that such a slave has in the line
+-- the areas that such a slave has in the line: none where its group isn't present
 abbrev pub areas_in_line : Ranked → List Area
 areas_in_line slave = if slave.present then slave.slave.areas else []
 
--- the slaves that a change concerns: those of the group that comes or goes, or the one that gets other areas
+-- The slaves that a change concerns: those of the group that comes or goes, or the one that gets other areas.
 
+-- the rank of the first
 abbrev pub first_of : Prepared → ℕ
 first_of (Presence change) = change.first
 first_of (Areas change) = change.place.rank
 
+-- how many they are
 abbrev pub count_of : Prepared → ℕ
 count_of (Presence change) = change.slaves
 count_of (Areas change) = 1
 
+-- the place of their group
 abbrev pub group_of : Prepared → ℕ
 group_of (Presence change) = change.group
 group_of (Areas change) = change.place.group
 
+-- which of the slaves of that group they are
 abbrev pub named_by : Prepared → List Slave → List Slave
 named_by (Presence change) slaves = slaves
 named_by (Areas change) slaves = option_to_list (slice_get slaves change.place.slave)
 
+-- they themselves; none where the groups have no such place
 abbrev pub row : Prepared → List Declared → List Ranked
 row change groups = option_map_or (λ declared. ranked declared.present (named_by change declared.group.slaves)) (slice_get groups (group_of change)) []
 
--- their ranks follow one another, and each other slave has the same before the change and after it
+-- their ranks follow one another, and each other slave is the same, and as present, before the change and after it
 pub record ChangesRow (change : Prepared) (groups : List Declared) : Type 0 where
   pub front : List Ranked
   pub behind : List Ranked
   pub first : first_of change ≡ length front + 1
-  pub count : length (row change groups) ≡ count_of change
-  pub many : length (row change (carried change groups)) ≡ count_of change
+  pub many_before : length (row change groups) ≡ count_of change
+  pub many_after : length (row change (carried change groups)) ≡ count_of change
   pub before : by_rank groups ≡ front ++ (row change groups ++ behind)
   pub after : by_rank (carried change groups) ≡ front ++ (row change (carried change groups) ++ behind)
 
