@@ -1,5 +1,5 @@
 -- How the table of a task is had from what each of its datagrams carries.
-use Rattle.std.specs.Prelude.{ℕ, ◌+◌, ◌-◌, ◌/◌, List, [], ◌∷◌, find, fold, map, max, None, Option, take}
+use Rattle.std.specs.Prelude.{ℕ, ◌+◌, ◌-◌, ◌/◌, List, [], ◌∷◌, find, map, None, Option, take}
 use Rattle.std.specs.Option.{option_map_or}
 use Rattle.std.specs.List.{range_with_len}
 use Rattle.hc_records.specs.declared.records.Dir.TheVariants.{In}

@@ -1,12 +1,11 @@
 -- The rows of a line's table are those of its areas.
 use Rattle.std.proofs.Common.{◌≡◌, ℕ, ◌<◌, ◌≤◌, ◌==◌, zero, suc, Bool, true, List, [], ◌∷◌, length, Contains, Option, Some, None, refl, sym, ap, subst, ◌∙◌, ⊎_elim, arith}
-use Rattle.std.specs.Prelude.{All, AllPairs, filter, find, map, nat_lt, option_map, ◌&&◌}
+use Rattle.std.specs.Prelude.{AllPairs, filter, find, map, nat_lt, option_map, ◌&&◌}
 use Rattle.std.specs.Option.{option_map_or}
 use Rattle.std.specs.List.{enumerate_from, flat_map, zip}
 use Rattle.std.proofs.lemmas.Bool.{and_parts, eq-eqb, eqb-true}
 use Rattle.std.proofs.lemmas.List.{length-map}
 use Rattle.std.proofs.lemmas.List.Elements.{All-contains, All-contains_itself, Contains-append_cases, filter_passes}
-use Rattle.hc_records.specs.declared.limits.TheConstants.{TASKS}
 use Rattle.hc_records.specs.declared.keys.Key.{Key}
 use Rattle.hc_records.specs.declared.records.Area.{Area}
 use Rattle.hc_records.specs.declared.records.Declared.{Declared}
@@ -17,9 +16,9 @@ use Rattle.hc_records.specs.Image.{VariablePlace, area_variables, task_places, t
 use Rattle.hc_records.specs.Keys.{same_dir, same_key}
 use Rattle.hc_records.specs.Limits.{IsAreaInside, IsSlaveInside}
 use Rattle.hc_records.specs.Line.{Member, groups_of, line_from}
-use Rattle.hc_records.specs.Packing.{Placed, opening, packed}
+use Rattle.hc_records.specs.Packing.{Placed, opening}
 use Rattle.hc_records.specs.Project.{lowest_fault}
-use Rattle.hc_records.specs.TaskList.{Keyed, Listed, belongs, keyed, slave_areas, task_areas, task_list}
+use Rattle.hc_records.specs.TaskList.{Listed, belongs, keyed, slave_areas, task_areas, task_list}
 use Rattle.hc_records.proofs.lemmas.Finds.{each-task, mapped-some}
 use Rattle.hc_records.proofs.lemmas.KeyOrder.{same_key-refl, same_key-same}
 use Rattle.hc_records.proofs.lemmas.Lines.{RanksBelow, line-ascends}
@@ -39,7 +38,7 @@ use Rattle.hc_changes.specs.Rows.{rows_of}
 use Rattle.hc_changes.proofs.lemmas.Compared.{area-found}
 use Rattle.hc_changes.proofs.lemmas.Few.{few, found-once, pairs-few, piece-few}
 use Rattle.hc_changes.proofs.lemmas.KeptSpans.{at-contained}
-use Rattle.hc_changes.proofs.lemmas.Lists.{contains-behind, contains-first, contains-flat_map, contains-unfiltered, flat_map-piece, found-among}
+use Rattle.hc_changes.proofs.lemmas.Lists.{contains-behind, contains-flat_map, contains-unfiltered, flat_map-piece, found-among}
 use Rattle.hc_changes.proofs.lemmas.OneProject.{own-at}
 use Rattle.hc_changes.proofs.lemmas.Others.{IsAreaOf, map-piece, never-both}
 use Rattle.hc_changes.proofs.lemmas.Standing.{placed-found}

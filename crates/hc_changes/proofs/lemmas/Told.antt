@@ -1,8 +1,8 @@
 -- The variables whose places differ are told by the areas that an edit may have changed.
-use Rattle.std.proofs.Common.{◌≡◌, ℕ, ◌<◌, ◌≤◌, ◌==◌, Bool, true, false, cond, List, [], ◌∷◌, ◌++◌, Contains, Option, Some, None, refl, sym, ap, subst, ◌∙◌, ⊎_elim, inl, inr, ◌⊎◌, arith}
+use Rattle.std.proofs.Common.{◌≡◌, ℕ, ◌<◌, ◌≤◌, ◌==◌, Bool, true, false, cond, List, [], ◌++◌, Contains, Option, Some, None, refl, sym, ap, subst, ◌∙◌, ⊎_elim, arith}
 use Rattle.std.specs.Prelude.{All, AllPairs, filter, find, is_none, map, not, option_map, slice_get}
 use Rattle.std.specs.Option.{option_map_or}
-use Rattle.std.specs.List.{enumerate_from, flat_map}
+use Rattle.std.specs.List.{enumerate_from}
 use Rattle.std.proofs.lemmas.Bool.{eq-eqb, eqb-true}
 use Rattle.std.proofs.lemmas.Option.{slice_get-map}
 use Rattle.std.proofs.lemmas.List.Elements.{All-contains, All-contains_itself, All-map, All-weaker, Contains-append_cases, Contains-append_left, Contains-append_right, filter_passes}
@@ -22,7 +22,7 @@ use Rattle.hc_records.proofs.lemmas.Finds.{mapped-some}
 use Rattle.hc_places.specs.Swap.{ChangedRow, new_place, same_found}
 use Rattle.hc_places.specs.Table.{Row, place_in, table_of}
 use Rattle.hc_places.proofs.lemmas.Same.{found-same}
-use Rattle.hc_changes.specs.Candidates.{LineArea, areas_of, candidates, is_candidate, key_of, line_areas, place_of, slave_of}
+use Rattle.hc_changes.specs.Candidates.{LineArea, areas_of, candidates, is_candidate, key_of, line_areas, slave_of}
 use Rattle.hc_changes.specs.Compared.{area_in}
 use Rattle.hc_changes.specs.Edited.{is_named}
 use Rattle.hc_changes.specs.Rows.{TellsVariables, changes_of, coming, going, gone, place_among, rows_in, rows_of, told_rows}
