@@ -76,7 +76,7 @@ untouched-list old new is is' none =
     width-by old new key (find (λ area. same_key area.0 key) old) (find (λ area. same_key area.0 key) new)
     (All-append_left (λ area. is_touched old new area.0 ≡ false) old new all) (All-append_right (λ area. is_touched old new area.0 ≡ false) old new all) refl refl)
 
-no-length : {X : Type 0} (xs : List X) → nat_lt 0 (length xs) ≡ false → xs ≡ []
+pub no-length : {X : Type 0} (xs : List X) → nat_lt 0 (length xs) ≡ false → xs ≡ []
 no-length [] is = refl
 no-length (x ∷ xs) is = let never : 0 < 0 = grind (arith, nat_tests) in absurd (omega arith)
 
