@@ -1,5 +1,5 @@
 -- What follows from the definitions. Each is the contract of a function of `laws`.
-use Rattle.std.specs.Prelude.{◌≡◌, ℕ, Bool, true, false, Contains, List, None, slice_get, Some}
+use Rattle.std.specs.Prelude.{◌≡◌, ◌↔◌, ℕ, Bool, true, false, AllPairs, Contains, List, map, None, slice_get, Some}
 use Rattle.std.specs.List.{flat_map}
 use Rattle.hc_records.specs.declared.edit.Edit.{Edit}
 use Rattle.hc_records.specs.declared.records.Declared.{Declared}
@@ -8,17 +8,19 @@ use Rattle.hc_records.specs.Line.{Member, State, groups_of, line, line_from}
 use Rattle.hc_registers.specs.Blocks.{line_blocks, moved_blocks}
 use Rattle.hc_records.specs.TaskList.{Keyed, task_list}
 use Rattle.hc_records.specs.Packing.{Placed, opening, packed}
-use Rattle.hc_records.specs.Image.{inside}
+use Rattle.hc_records.specs.Image.{inside, task_places}
 use Rattle.hc_records.specs.Project.{lowest_fault}
 use Rattle.hc_records.specs.Boundaries.{Interval, boundaries, is_touched_task, spans}
 use Rattle.hc_records.specs.SpanLaws.{IsTaskList}
 use Rattle.hc_cuts.specs.Walk.{span_places}
-use Rattle.hc_places.specs.Table.{task_table}
-use Rattle.hc_changes.specs.Candidates.{DifferAt, LineArea, blocks_of, candidates, is_kept, line_areas, moved_of, place_of}
+use Rattle.hc_places.specs.Swap.{ChangedTask, SaysWhatDiffers}
+use Rattle.hc_places.specs.Table.{table_of, task_table}
+use Rattle.hc_changes.specs.Candidates.{DifferAt, LineArea, blocks_of, candidates, is_kept, is_recut, key_of, line_areas, moved_of, place_of}
 use Rattle.hc_changes.specs.Compared.{differing_of}
 use Rattle.hc_changes.specs.Edited.{is_named}
-use Rattle.hc_changes.specs.Rows.{TellsVariables, told_rows}
-use Rattle.hc_changes.specs.Tables.{carried_by, carried_of, first_input, table_by, task_carries}
+use Rattle.hc_changes.specs.Listed.{Precedes, pair_of}
+use Rattle.hc_changes.specs.Rows.{TellsVariables, gone, told_rows}
+use Rattle.hc_changes.specs.Tables.{TellsTasks, carried_by, carried_of, first_input, table_by, task_carries}
 
 -- a kept datagram carries the areas that it carried, each at its bit
 abbrev pub KeptDatagramsStay : Type 0
@@ -99,3 +101,54 @@ SpansTellTheCarried =
 -- the table of a task is had from what its datagrams carry and from its first input area
 abbrev pub TablesAreLaidOut : Type 0
 TablesAreLaidOut = (line : List Member) (task : ℕ) → task_table line task ≡ table_by task (task_carries line task) (first_input line task)
+
+-- no area of a task that no edit touched is recut
+abbrev pub UntouchedAreasStay : Type 0
+UntouchedAreasStay =
+    (old new : State) (found : LineArea) → lowest_fault (groups_of old.groups) ≡ None → lowest_fault (groups_of new.groups) ≡ None
+    → is_touched_task (line old) (line new) found.area.task ≡ false → is_recut (line old) (line new) found ≡ false
+
+-- the recut areas of a line are those in datagrams that weren't kept
+pub record IsRecutAt (old new : List Member) (task : ℕ) (placed : Placed) : Type 0 where
+  pub found : LineArea
+  pub stands : Contains (line_areas new) found
+  pub in_task : found.area.task ≡ task
+  pub key : key_of found ≡ placed.key
+  pub recut : is_recut old new found ≡ true
+
+abbrev pub UnkeptDatagramsAreRecut : Type 0
+UnkeptDatagramsAreRecut =
+    (old : List Member) (new : State) (task : ℕ) (placed : Placed) → lowest_fault (groups_of new.groups) ≡ None
+    → Contains (task_places task (line new)) placed → is_kept (task_list task old) (task_list task (line new)) placed.datagram ≡ false
+    → IsRecutAt old (line new) task placed
+
+-- and each of them stands there
+pub record IsUnkeptAt (old new : List Member) (found : LineArea) : Type 0 where
+  pub placed : Placed
+  pub stands : Contains (task_places found.area.task new) placed
+  pub key : placed.key ≡ key_of found
+  pub unkept : is_kept (task_list found.area.task old) (task_list found.area.task new) placed.datagram ≡ false
+
+abbrev pub RecutAreasAreUnkept : Type 0
+RecutAreasAreUnkept = (old new : List Member) (found : LineArea) → is_recut old new found ≡ true → IsUnkeptAt old new found
+
+-- areas of slaves that went are of changed ones
+abbrev pub GoneAreChanged : Type 0
+GoneAreChanged =
+    (changed : ℕ → Bool) (old new : State) (found : LineArea) → DifferAt changed (line old) (line new)
+    → Contains (gone (line old) (line new)) found → changed found.member.rank ≡ true
+
+-- a list in line and record order with the candidates' ranks and indexes and no others is theirs
+abbrev pub CandidatesAreListed : Type 0
+CandidatesAreListed =
+    (changed : ℕ → Bool) (old : List Member) (new : State) (pairs : List (ℕ × ℕ)) → AllPairs Precedes pairs
+    → ((pair : ℕ × ℕ) → Contains pairs pair ↔ Contains (map pair_of (candidates changed old (line new))) pair)
+    → pairs ≡ map pair_of (candidates changed old (line new))
+
+-- tasks that tell the touched ones whose tables differ, with the told variables, say what differs between the tables of the two lines
+abbrev pub SwapsAreTold : Type 0
+SwapsAreTold =
+    (groups : List Declared) (edit : Edit) (tasks : List ChangedTask) → lowest_fault (groups_of groups) ≡ None → lowest_fault (groups_of (groups_after groups edit)) ≡ None
+    → TellsTasks (line_from 1 groups) (line_from 1 (groups_after groups edit)) tasks
+    → SaysWhatDiffers (table_of (line_from 1 groups)) (table_of (line_from 1 (groups_after groups edit)))
+      (record { tasks = tasks; rows = told_rows (is_named groups edit) (line_from 1 groups) (line_from 1 (groups_after groups edit)) })

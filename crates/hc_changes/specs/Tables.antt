@@ -1,15 +1,18 @@
 -- How the table of a task is had from what each of its datagrams carries.
-use Rattle.std.specs.Prelude.{ℕ, ◌+◌, ◌-◌, ◌/◌, List, [], ◌∷◌, find, fold, map, max, None, Option, take}
+use Rattle.std.specs.Prelude.{◌≡◌, ℕ, ◌+◌, ◌-◌, ◌/◌, ◌<◌, ◌==◌, true, false, All, List, [], ◌∷◌, find, map, None, Option, option_map, Some, take}
 use Rattle.std.specs.Option.{option_map_or}
 use Rattle.std.specs.List.{range_with_len}
 use Rattle.hc_records.specs.declared.records.Dir.TheVariants.{In}
+use Rattle.hc_records.specs.declared.limits.TheConstants.{TASKS}
+use Rattle.hc_records.specs.Boundaries.{is_touched_task}
 use Rattle.hc_records.specs.Keys.{same_dir}
 use Rattle.hc_records.specs.Line.{Member}
 use Rattle.hc_records.specs.Packing.{Placed}
 use Rattle.hc_records.specs.Image.{datagram_count, datagram_length, end_of, expected_counter, logical_address, task_places}
 use Rattle.hc_registers.specs.Counting.{counted_from}
 use Rattle.hc_places.specs.declared.table.Datagram.{Datagram}
-use Rattle.hc_places.specs.Table.{TaskTable}
+use Rattle.hc_places.specs.Swap.{ChangedTask, IsNewTask}
+use Rattle.hc_places.specs.Table.{TaskTable, task_table}
 
 -- what the areas of a datagram make of it: its length in bytes, and its expected working counter
 pub record Carried : Type 0 where
@@ -56,3 +59,14 @@ table_by task carries first = record {
 
 abbrev pub first_input : List Member → ℕ → Option Placed
 first_input line task = find (λ area. same_dir area.key.dir In) (task_places task line)
+
+-- the table that some tasks' tables have for a task
+abbrev pub told_table : List ChangedTask → ℕ → Option TaskTable
+told_table tasks task = option_map (λ changed. changed.1) (find (λ changed. changed.0 == task) tasks)
+
+-- tasks with tables tell the touched tasks of the eight whose tables differ between two lines, each with its new table, and no other
+pub record TellsTasks (old new : List Member) (tasks : List ChangedTask) : Type 0 where
+  pub eight : All (λ changed. changed.0 < TASKS) tasks
+  pub touched : (task : ℕ) → task < TASKS → is_touched_task old new task ≡ true
+      → IsNewTask (Some (task_table old task)) (Some (task_table new task)) (told_table tasks task)
+  pub untouched : (task : ℕ) → task < TASKS → is_touched_task old new task ≡ false → told_table tasks task ≡ None

@@ -1,6 +1,6 @@
 //! What follows from the definitions of this crate: each function does nothing, and its contract is a
 //! law. Nobody calls it.
-ghost use Rattle.hc_changes.specs.Laws.{BlocksAreTheAreas, EditsChangeTheNamed, KeptAreasStay, KeptDatagramsCarryTheSame, KeptDatagramsStay, MovedBlocksAreCompared, MovedBlocksAreTold, NumbersTellTheMoved, OtherAreasStood, SpansTellTheCarried, TablesAreLaidOut, UntouchedTasksStay, VariablesAreTold};
+ghost use Rattle.hc_changes.specs.Laws.{BlocksAreTheAreas, CandidatesAreListed, EditsChangeTheNamed, GoneAreChanged, KeptAreasStay, KeptDatagramsCarryTheSame, KeptDatagramsStay, MovedBlocksAreCompared, MovedBlocksAreTold, NumbersTellTheMoved, OtherAreasStood, RecutAreasAreUnkept, SpansTellTheCarried, SwapsAreTold, TablesAreLaidOut, UnkeptDatagramsAreRecut, UntouchedAreasStay, UntouchedTasksStay, VariablesAreTold};
 
 /// A datagram that an edit keeps carries the areas that it carried, each at its bit: so its length and its
 /// expected working counter stay too.
@@ -77,4 +77,38 @@ pub fn spans_tell_the_carried()
 /// order, and from the place of its first input area.
 pub fn tables_are_laid_out()
     ensures { TablesAreLaidOut }
+{}
+
+/// No area of a task in whose list no width differs is recut: the candidates are areas of the changed slaves
+/// and of touched tasks.
+pub fn untouched_areas_stay()
+    ensures { UntouchedAreasStay }
+{}
+
+/// Each area in a datagram that an edit doesn't keep is an area of the line that is recut.
+pub fn unkept_datagrams_are_recut()
+    ensures { UnkeptDatagramsAreRecut }
+{}
+
+/// Each area that is recut stands in a datagram of its task that isn't kept.
+pub fn recut_areas_are_unkept()
+    ensures { RecutAreasAreUnkept }
+{}
+
+/// An area of the old line whose slave isn't in the new one is of a changed slave.
+pub fn gone_are_changed()
+    ensures { GoneAreChanged }
+{}
+
+/// A list of ranks and indexes, in line and record order, that has those of the candidates and no others is
+/// theirs, however it was made.
+pub fn candidates_are_listed()
+    ensures { CandidatesAreListed }
+{}
+
+/// A list of touched tasks whose tables differ, with their new ones, and the told variables say what differs
+/// between the tables of the lines before and behind an edit: a swap made of them leads from the one to the
+/// other.
+pub fn swaps_are_told()
+    ensures { SwapsAreTold }
 {}

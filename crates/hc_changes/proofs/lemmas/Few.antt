@@ -1,11 +1,11 @@
 -- Lists of which at most one element passes a test.
-use Rattle.std.proofs.Common.{◌≡◌, ℕ, ◌+◌, ◌<◌, ◌≤◌, zero, suc, Bool, true, false, cond, List, [], ◌∷◌, ◌++◌, length, Contains, refl, sym, ap, subst, ◌∙◌, arith}
+use Rattle.std.proofs.Common.{◌≡◌, ℕ, ◌+◌, ◌<◌, ◌≤◌, zero, suc, Bool, true, false, cond, List, [], ◌∷◌, ◌++◌, length, Contains, refl, ap, ◌∙◌, arith}
 use Rattle.std.specs.Prelude.{All, AllPairs, Some, filter, find, map}
 use Rattle.std.specs.List.{flat_map}
 use Rattle.std.proofs.lemmas.List.{length-append}
 use Rattle.std.proofs.lemmas.List.Elements.{All-contains, All-head, All-tail, filter-append, filter_passes}
 use Rattle.hc_records.proofs.lemmas.Lists.{AllPairs-head, AllPairs-tail}
-use Rattle.hc_changes.proofs.lemmas.Lists.{contains-behind, contains-filtered, contains-first, contains-unfiltered, flat_map-piece}
+use Rattle.hc_changes.proofs.lemmas.Lists.{contains-filtered, contains-first, contains-unfiltered, flat_map-piece}
 
 abbrev pub few : {X : Type 0} → (X → Bool) → List X → ℕ
 few test xs = length (filter test xs)

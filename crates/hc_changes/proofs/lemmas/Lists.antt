@@ -29,6 +29,10 @@ flat_map-flat_map g f [] = refl
 flat_map-flat_map g f (x ∷ xs) =
     flat_map-append g (f x) (flat_map f xs) ∙ ap (λ (zs : List _). flat_map g (f x) ++ zs) (flat_map-flat_map g f xs)
 
+-- what holds of everything holds of the elements of a list
+pub all-of : {X : Type 0} (P : X → Type 0) (xs : List X) → ((x : X) → P x) → All P xs
+all-of P xs each k d within = each _
+
 -- what a list contains
 
 pub contains-first : {X : Type 0} (x : X) (xs : List X) → Contains (x ∷ xs) x

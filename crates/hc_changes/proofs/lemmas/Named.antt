@@ -1,5 +1,5 @@
 -- In a project each variable is offered by one area alone, before an edit and behind it.
-use Rattle.std.proofs.Common.{◌≡◌, ℕ, ◌+◌, ◌<◌, zero, suc, List, [], ◌∷◌, ◌++◌, Contains, Option, Some, None, refl, sym, ap, subst, ◌∙◌, ⊎_elim, inl, inr, ◌==◌, arith}
+use Rattle.std.proofs.Common.{◌≡◌, ℕ, ◌+◌, ◌<◌, zero, suc, List, [], ◌∷◌, Contains, Option, Some, None, refl, sym, ap, subst, ◌∙◌, ⊎_elim, inl, inr, ◌==◌, arith}
 use Rattle.std.specs.Prelude.{◌≢◌, All, AllPairs, find, map, option_map, slice_get}
 use Rattle.std.specs.Option.{option_map_or}
 use Rattle.std.specs.List.{cons_option, flat_map}
@@ -16,7 +16,7 @@ use Rattle.hc_records.specs.Edits.{groups_after}
 use Rattle.hc_records.specs.Image.{area_variables, variables_from}
 use Rattle.hc_records.specs.Line.{Member, groups_of, line_from}
 use Rattle.hc_records.specs.Packing.{Placed}
-use Rattle.hc_records.specs.Project.{area_names, entry_names, lowest_fault, pdo_names, slave_names, slaves_of}
+use Rattle.hc_records.specs.Project.{area_names, entry_names, lowest_fault, pdo_names, slave_names}
 use Rattle.hc_records.proofs.lemmas.Finds.{mapped-some}
 use Rattle.hc_records.proofs.lemmas.Limits.{project-inside}
 use Rattle.hc_records.proofs.lemmas.Lines.{declared_slaves}
@@ -25,7 +25,7 @@ use Rattle.hc_places.specs.Parts.{row_at}
 use Rattle.hc_places.specs.Table.{Row}
 use Rattle.hc_changes.specs.Candidates.{LineArea, key_of, place_of}
 use Rattle.hc_changes.specs.Rows.{rows_of}
-use Rattle.hc_changes.proofs.lemmas.Bare.{bare, bare_slave, edit-keeps}
+use Rattle.hc_changes.proofs.lemmas.Bare.{bare, edit-keeps}
 use Rattle.hc_changes.proofs.lemmas.KeptSpans.{at-contained}
 use Rattle.hc_changes.proofs.lemmas.Lists.{contains-behind, contains-first, contains-flat_map, flat_map-piece, found-among}
 use Rattle.hc_changes.proofs.lemmas.OneProject.{kept-at, line-declared, own-at}

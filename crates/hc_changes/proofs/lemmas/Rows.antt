@@ -1,12 +1,11 @@
 -- The rows of a line's table are those of its areas.
 use Rattle.std.proofs.Common.{◌≡◌, ℕ, ◌<◌, ◌≤◌, ◌==◌, zero, suc, Bool, true, List, [], ◌∷◌, length, Contains, Option, Some, None, refl, sym, ap, subst, ◌∙◌, ⊎_elim, arith}
-use Rattle.std.specs.Prelude.{All, AllPairs, filter, find, map, nat_lt, option_map, ◌&&◌}
+use Rattle.std.specs.Prelude.{AllPairs, filter, find, map, nat_lt, option_map, ◌&&◌}
 use Rattle.std.specs.Option.{option_map_or}
 use Rattle.std.specs.List.{enumerate_from, flat_map, zip}
 use Rattle.std.proofs.lemmas.Bool.{and_parts, eq-eqb, eqb-true}
 use Rattle.std.proofs.lemmas.List.{length-map}
 use Rattle.std.proofs.lemmas.List.Elements.{All-contains, All-contains_itself, Contains-append_cases, filter_passes}
-use Rattle.hc_records.specs.declared.limits.TheConstants.{TASKS}
 use Rattle.hc_records.specs.declared.keys.Key.{Key}
 use Rattle.hc_records.specs.declared.records.Area.{Area}
 use Rattle.hc_records.specs.declared.records.Declared.{Declared}
@@ -17,9 +16,9 @@ use Rattle.hc_records.specs.Image.{VariablePlace, area_variables, task_places, t
 use Rattle.hc_records.specs.Keys.{same_dir, same_key}
 use Rattle.hc_records.specs.Limits.{IsAreaInside, IsSlaveInside}
 use Rattle.hc_records.specs.Line.{Member, groups_of, line_from}
-use Rattle.hc_records.specs.Packing.{Placed, opening, packed}
+use Rattle.hc_records.specs.Packing.{Placed, opening}
 use Rattle.hc_records.specs.Project.{lowest_fault}
-use Rattle.hc_records.specs.TaskList.{Keyed, Listed, belongs, keyed, slave_areas, task_areas, task_list}
+use Rattle.hc_records.specs.TaskList.{Listed, belongs, keyed, slave_areas, task_areas, task_list}
 use Rattle.hc_records.proofs.lemmas.Finds.{each-task, mapped-some}
 use Rattle.hc_records.proofs.lemmas.KeyOrder.{same_key-refl, same_key-same}
 use Rattle.hc_records.proofs.lemmas.Lines.{RanksBelow, line-ascends}
@@ -39,7 +38,7 @@ use Rattle.hc_changes.specs.Rows.{rows_of}
 use Rattle.hc_changes.proofs.lemmas.Compared.{area-found}
 use Rattle.hc_changes.proofs.lemmas.Few.{few, found-once, pairs-few, piece-few}
 use Rattle.hc_changes.proofs.lemmas.KeptSpans.{at-contained}
-use Rattle.hc_changes.proofs.lemmas.Lists.{contains-behind, contains-first, contains-flat_map, contains-unfiltered, flat_map-piece, found-among}
+use Rattle.hc_changes.proofs.lemmas.Lists.{contains-behind, contains-flat_map, contains-unfiltered, flat_map-piece, found-among}
 use Rattle.hc_changes.proofs.lemmas.OneProject.{own-at}
 use Rattle.hc_changes.proofs.lemmas.Others.{IsAreaOf, map-piece, never-both}
 use Rattle.hc_changes.proofs.lemmas.Standing.{placed-found}
@@ -127,6 +126,50 @@ placed-pair line found placed ranks of is =
       rows = ap (λ (a : Area). rows_with task a placed) area
       ∙ sym (ap (λ (p : Option Placed). option_map_or (λ q. area_variables task (record { key = key_of found; area = found.area }, q)) p []) is);
     }
+
+-- an area in its task's places is one of the line, and stands there
+record IsPlacedArea (line : List Member) (task : ℕ) (own : Area) (placed : Placed) : Type 0 where
+  found : LineArea
+  of : IsAreaOf line found
+  in_task : found.area.task ≡ task
+  area : found.area ≡ own
+  key : key_of found ≡ placed.key
+  place : place_of line found ≡ Some placed
+
+pair-area : (groups : List Declared) → lowest_fault (groups_of groups) ≡ None → (task : ℕ) (pair : Listed × Placed) → Contains (task_pairs (line_from 1 groups) task) pair
+    → IsPlacedArea (line_from 1 groups) task pair.0.area pair.1
+pair-area groups none task pair at =
+    let line = line_from 1 groups in
+    let both = zip-both (task_areas task line) (task_places task line) pair at in
+    let own = listed-area line task pair.0 both.0 in
+    let placed = All-contains IsPlaced (task_pairs line task) pair (pairs-placed line task) at in
+    let key : pair.1.key ≡ key_of own.found = placed.key ∙ sym own.key in
+    let stands : find (λ (p : Placed). same_key p.key (key_of own.found)) (task_places task line) ≡ Some pair.1 =
+    placed-found (task_list task line) (key_of own.found) pair.1 (project-list (record { groups = groups; epoch = 0 }) task none) both.1
+    (subst (λ (k : Key). same_key pair.1.key k ≡ true) key (same_key-refl pair.1.key)) in
+    record {
+      found = own.found;
+      of = own.of;
+      in_task = own.task_is;
+      area = own.area;
+      key = sym key;
+      place = subst (λ (t : ℕ). find (λ (p : Placed). same_key p.key (key_of own.found)) (task_places t line) ≡ Some pair.1) (sym own.task_is) stands;
+    }
+
+-- and so is each area that has a place in the task
+pub record StandsPlaced (line : List Member) (task : ℕ) (placed : Placed) : Type 0 where
+  pub found : LineArea
+  pub of : IsAreaOf line found
+  pub in_task : found.area.task ≡ task
+  pub key : key_of found ≡ placed.key
+  pub place : place_of line found ≡ Some placed
+
+pub placed-area : (groups : List Declared) → lowest_fault (groups_of groups) ≡ None → (task : ℕ) (placed : Placed) → Contains (task_places task (line_from 1 groups)) placed → StandsPlaced (line_from 1 groups) task placed
+placed-area groups none task placed at =
+    let line = line_from 1 groups in
+    let pair = zip-second (task_areas task line) (task_places task line) placed (places-length task line) at in
+    let own = pair-area groups none task (pair.0, placed) pair.1 in
+    record { found = own.found; of = own.of; in_task = own.in_task; key = own.key; place = own.place }
 
 -- the rows of all tasks
 abbrev line_rows : List Member → List Row
@@ -216,19 +259,11 @@ module _ (groups : List Declared) (none : lowest_fault (groups_of groups) ≡ No
       let task = piece.element in
       let inner = flat_map-piece (area_variables task) (task_pairs line task) row piece.own in
       let pair = inner.element in
-      let both = zip-both (task_areas task line) (task_places task line) pair inner.among in
-      let own = listed-area line task pair.0 both.0 in
-      let placed = All-contains IsPlaced (task_pairs line task) pair (pairs-placed line task) inner.among in
-      let key : pair.1.key ≡ key_of own.found = placed.key ∙ sym own.key in
-      let stands : find (λ (p : Placed). same_key p.key (key_of own.found)) (task_places task line) ≡ Some pair.1 =
-      placed-found (task_list task line) (key_of own.found) pair.1 (project-list (record { groups = groups; epoch = 0 }) task none) both.1
-      (subst (λ (k : Key). same_key pair.1.key k ≡ true) key (same_key-refl pair.1.key)) in
-      let here : place_of line own.found ≡ Some pair.1 =
-      subst (λ (t : ℕ). find (λ (p : Placed). same_key p.key (key_of own.found)) (task_places t line) ≡ Some pair.1) (sym own.task_is) stands in
+      let own = pair-area groups none task pair inner.among in
       let rows : area_variables task pair ≡ rows_of line own.found =
-      ap (λ (t : ℕ). rows_with t pair.0.area pair.1) (sym own.task_is)
+      ap (λ (t : ℕ). rows_with t pair.0.area pair.1) (sym own.in_task)
       ∙ ap (λ (a : Area). rows_with own.found.area.task a pair.1) (sym own.area)
-      ∙ sym (ap (λ (p : Option Placed). option_map_or (λ q. area_variables own.found.area.task (record { key = key_of own.found; area = own.found.area }, q)) p []) here) in
+      ∙ sym (ap (λ (p : Option Placed). option_map_or (λ q. area_variables own.found.area.task (record { key = key_of own.found; area = own.found.area }, q)) p []) own.place) in
       record { found = own.found; of = own.of; own = subst (λ (all : List Row). Contains all row) rows inner.own }
 
   place-row : (variable : ℕ) (place : VariablePlace) → place_in (table_of (line_from 1 groups)) variable ≡ Some place → IsRowOf (line_from 1 groups) (variable, place)

@@ -1,6 +1,6 @@
 -- The tables of tasks: which stay, and what they are had from.
-use Rattle.std.proofs.Common.{◌≡◌, ℕ, ◌+◌, ◌-◌, ◌/◌, ◌==◌, ◌<◌, ◌≤◌, zero, suc, Bool, true, false, List, [], ◌∷◌, ◌++◌, length, Contains, Option, Some, None, refl, sym, ap, subst, ◌∙◌, arith, cond, if◌then◌else◌}
-use Rattle.std.specs.Prelude.{All, filter, find, fold, map, max, nat_lt, not, slice_get, take}
+use Rattle.std.proofs.Common.{◌≡◌, ℕ, ◌+◌, ◌-◌, ◌/◌, ◌==◌, ◌<◌, ◌≤◌, zero, suc, Bool, true, false, List, [], ◌∷◌, ◌++◌, length, Option, Some, None, refl, sym, ap, subst, ◌∙◌, arith, cond, if◌then◌else◌}
+use Rattle.std.specs.Prelude.{All, filter, find, fold, map, max, nat_lt, not, slice_get}
 use Rattle.std.specs.Option.{option_map_or}
 use Rattle.std.specs.List.{range_with_len}
 use Rattle.std.proofs.lemmas.Bool.{eqb-true}
@@ -10,7 +10,7 @@ use Rattle.std.proofs.lemmas.List.Elements.{All-contains, All-cons, All-nil}
 use Rattle.hc_records.specs.declared.keys.Key.{Key}
 use Rattle.hc_records.specs.declared.records.Dir.TheVariants.{In}
 use Rattle.hc_records.specs.Boundaries.{Interval, boundaries, is_touched, is_touched_task, spans, touched, width_in}
-use Rattle.hc_records.specs.Image.{datagram_count, datagram_length, datagram_offset, end_of, expected_counter, first_byte, image_length, inside, output_length, task_places}
+use Rattle.hc_records.specs.Image.{datagram_count, datagram_length, datagram_offset, end_of, first_byte, image_length, inside, output_length, task_places}
 use Rattle.hc_records.specs.Keys.{same_dir, same_key}
 use Rattle.hc_records.specs.Line.{Member, State, groups_of, line}
 use Rattle.hc_records.specs.Packing.{Front, Placed, behind, fits, opening, packed}
@@ -76,7 +76,7 @@ untouched-list old new is is' none =
     width-by old new key (find (λ area. same_key area.0 key) old) (find (λ area. same_key area.0 key) new)
     (All-append_left (λ area. is_touched old new area.0 ≡ false) old new all) (All-append_right (λ area. is_touched old new area.0 ≡ false) old new all) refl refl)
 
-no-length : {X : Type 0} (xs : List X) → nat_lt 0 (length xs) ≡ false → xs ≡ []
+pub no-length : {X : Type 0} (xs : List X) → nat_lt 0 (length xs) ≡ false → xs ≡ []
 no-length [] is = refl
 no-length (x ∷ xs) is = let never : 0 < 0 = grind (arith, nat_tests) in absurd (omega arith)
 
@@ -87,10 +87,6 @@ untouched-lists old new task was is none =
     (no-length (touched (task_list task (line old)) (task_list task (line new))) none)
 
 -- what the areas of a datagram make of it is told by their keys, widths and bits
-
-carried-parts : (a b c d : ℕ) → a ≡ c → b ≡ d → record { length = a; expected = b } ≡ record { length = c; expected = d }
-carried-parts a b c d length expected =
-    ap (λ (n : ℕ). record { length = n; expected = b }) length ∙ ap (λ (n : ℕ). record { length = c; expected = n }) expected
 
 end-seen : (end : ℕ) (areas : List Placed) → fold (λ e area. max e (area.bit + area.bits)) end areas ≡ fold (λ e seen. max e (seen.1.1 + seen.1.0)) end (map seen_area areas)
 end-seen end [] = refl
@@ -189,18 +185,20 @@ module _ (line : List Member) (task : ℕ) where
       let part = take-map-range_with_len (carried_by line task) 0 (datagram_count places) area.datagram (omega arith) in
       ap (λ (n : ℕ). n + area.bit / 8) (sym (ap bytes_of part ∙ bytes-first area.datagram))
 
-  table-parts : (datagrams others : List Datagram) (image outputs bytes some : ℕ) → datagrams ≡ others → image ≡ bytes → outputs ≡ some
-      → record { datagrams = datagrams; outputs = outputs; inputs = image - outputs } ≡ record { datagrams = others; outputs = some; inputs = bytes - some }
-  table-parts datagrams others image outputs bytes some first second third =
-      ap (λ (list : List Datagram). record { datagrams = list; outputs = outputs; inputs = image - outputs }) first
-      ∙ ap (λ (n : ℕ). record { datagrams = others; outputs = outputs; inputs = n - outputs }) second
-      ∙ ap (λ (n : ℕ). record { datagrams = others; outputs = n; inputs = bytes - n }) third
+  abbrev parted : List Datagram → ℕ → ℕ → TaskTable
+  parted datagrams outputs image = record { datagrams = datagrams; outputs = outputs; inputs = image - outputs }
+
+  table-parts : (datagrams others : List Datagram) (outputs some image bytes : ℕ) → datagrams ≡ others → outputs ≡ some → image ≡ bytes → parted datagrams outputs image ≡ parted others some bytes
+  table-parts datagrams others outputs some image bytes first second third =
+      ap (λ (list : List Datagram). parted list outputs image) first
+      ∙ ap (λ (n : ℕ). parted others n image) second
+      ∙ ap (λ (n : ℕ). parted others some n) third
 
   pub table-laid : task_table line task ≡ table_by task (task_carries line task) (first_input line task)
   table-laid =
-      table-parts (map (datagram_of line task) (range_with_len 0 (datagram_count places))) (laid_out task 0 0 (task_carries line task)) (image_length places) (output_length places)
-      (bytes_of (task_carries line task)) (output_bytes (task_carries line task) (first_input line task))
-      (all-laid 0 (datagram_count places)) (sym (bytes-first (datagram_count places))) (outputs-by (first_input line task) refl)
+      table-parts (map (datagram_of line task) (range_with_len 0 (datagram_count places))) (laid_out task 0 0 (task_carries line task))
+      (output_length places) (output_bytes (task_carries line task) (first_input line task)) (image_length places) (bytes_of (task_carries line task))
+      (all-laid 0 (datagram_count places)) (outputs-by (first_input line task) refl) (sym (bytes-first (datagram_count places)))
 
 -- a task that no edit touched has the datagrams that it had
 

@@ -1,8 +1,8 @@
 -- The variables whose places differ are told by the areas that an edit may have changed.
-use Rattle.std.proofs.Common.{◌≡◌, ℕ, ◌<◌, ◌≤◌, ◌==◌, Bool, true, false, cond, List, [], ◌∷◌, ◌++◌, Contains, Option, Some, None, refl, sym, ap, subst, ◌∙◌, ⊎_elim, inl, inr, ◌⊎◌, arith}
+use Rattle.std.proofs.Common.{◌≡◌, ℕ, ◌<◌, ◌≤◌, ◌==◌, Bool, true, false, cond, List, [], ◌++◌, Contains, Option, Some, None, refl, sym, ap, subst, ◌∙◌, ⊎_elim, inl, inr, arith}
 use Rattle.std.specs.Prelude.{All, AllPairs, filter, find, is_none, map, not, option_map, slice_get}
 use Rattle.std.specs.Option.{option_map_or}
-use Rattle.std.specs.List.{enumerate_from, flat_map}
+use Rattle.std.specs.List.{enumerate_from}
 use Rattle.std.proofs.lemmas.Bool.{eq-eqb, eqb-true}
 use Rattle.std.proofs.lemmas.Option.{slice_get-map}
 use Rattle.std.proofs.lemmas.List.Elements.{All-contains, All-contains_itself, All-map, All-weaker, Contains-append_cases, Contains-append_left, Contains-append_right, filter_passes}
@@ -22,17 +22,18 @@ use Rattle.hc_records.proofs.lemmas.Finds.{mapped-some}
 use Rattle.hc_places.specs.Swap.{ChangedRow, new_place, same_found}
 use Rattle.hc_places.specs.Table.{Row, place_in, table_of}
 use Rattle.hc_places.proofs.lemmas.Same.{found-same}
-use Rattle.hc_changes.specs.Candidates.{LineArea, areas_of, candidates, is_candidate, key_of, line_areas, place_of, slave_of}
+use Rattle.hc_changes.specs.Candidates.{LineArea, areas_of, candidates, is_candidate, key_of, line_areas, slave_of}
 use Rattle.hc_changes.specs.Compared.{area_in}
 use Rattle.hc_changes.specs.Edited.{is_named}
 use Rattle.hc_changes.specs.Rows.{TellsVariables, changes_of, coming, going, gone, place_among, rows_in, rows_of, told_rows}
 use Rattle.hc_changes.proofs.lemmas.Bare.{bare}
 use Rattle.hc_changes.proofs.lemmas.Compared.{StoodAt, area-found, area-stood}
 use Rattle.hc_changes.proofs.lemmas.Few.{few, found-once, joined-few, mapped-few, pieces-few}
-use Rattle.hc_changes.proofs.lemmas.Lists.{contains-filtered, contains-flat_map, contains-unfiltered, flat_map-piece, found-among}
+use Rattle.hc_changes.proofs.lemmas.Lists.{all-of, contains-filtered, contains-flat_map, contains-unfiltered, flat_map-piece, found-among}
 use Rattle.hc_changes.proofs.lemmas.Moved.{unchanged-stand}
 use Rattle.hc_changes.proofs.lemmas.Named.{StandAlike, StandsAmong, names, new-among, old-among, one-place, row-named}
 use Rattle.hc_changes.proofs.lemmas.OneProject.{AreOfOneProject, at-own, edit-one-project, own-at}
+use Rattle.hc_changes.proofs.lemmas.Ordered.{InOrder, areas-ordered}
 use Rattle.hc_changes.proofs.lemmas.Others.{IsAreaOf, area-stands, contains-mapped, line-area, map-piece, member-found}
 use Rattle.hc_changes.proofs.lemmas.Ranks.{edits-differ}
 use Rattle.hc_changes.proofs.lemmas.Rows.{HasRows, IsRowOf, line-rows, of_variable, one-line-area}
@@ -85,31 +86,15 @@ same-place-none old new answer same at =
 
 -- areas of a line stand each at its own place
 
-abbrev pub Differ : LineArea → LineArea → Type 0
+abbrev Differ : LineArea → LineArea → Type 0
 Differ a b = a.member.rank ≡ b.member.rank → a.index ≡ b.index → ⊥
 
-abbrev made : Member → ℕ × Area → LineArea
-made member e = record { member = member; index = e.0; area = e.1 }
+apart : (a b : LineArea) → InOrder a b → Differ a b
+apart a b (inl below) rank index = omega arith
+apart a b (inr (same, below)) rank index = omega arith
 
-all-of : {X : Type 0} (P : X → Type 0) (xs : List X) → ((x : X) → P x) → All P xs
-all-of P xs each k d within = each _
-
-numbers-differ : (member : Member) (a b : ℕ × Area) → a.0 < b.0 → Differ (made member a) (made member b)
-numbers-differ member a b below rank index = omega arith
-
-members-differ : (x y : Member) (a b : ℕ × Area) → RanksBelow x y → Differ (made x a) (made y b)
-members-differ x y a b below rank index = omega arith
-
-pub areas-differ : (line : List Member) → AllPairs RanksBelow line → AllPairs Differ (line_areas line)
-areas-differ line ranks =
-    AllPairs-flat_map Differ RanksBelow areas_of
-    (λ member. AllPairs-map Differ (made member) (enumerate_from 0 member.slave.areas)
-    (AllPairs-weaker (λ a b. a.0 < b.0) (λ a b. Differ (made member a) (made member b)) (numbers-differ member) (enumerate_from 0 member.slave.areas) (AllPairs-numbers 0 member.slave.areas)))
-    (λ x y below. All-map (λ a. All (Differ a) (areas_of y)) (made x) (enumerate_from 0 x.slave.areas)
-    (all-of (λ e. All (Differ (made x e)) (areas_of y)) (enumerate_from 0 x.slave.areas)
-    (λ e. All-map (Differ (made x e)) (made y) (enumerate_from 0 y.slave.areas)
-    (all-of (λ e'. Differ (made x e) (made y e')) (enumerate_from 0 y.slave.areas) (λ e'. members-differ x y e e' below)))))
-    line ranks
+areas-differ : (line : List Member) → AllPairs RanksBelow line → AllPairs Differ (line_areas line)
+areas-differ line ranks = AllPairs-weaker InOrder Differ apart (line_areas line) (areas-ordered line ranks)
 
 -- a slave of a line has its record there
 pub slave-there : (line : List Member) (member : Member) → AllPairs RanksBelow line → Contains line member → slave_of line member.rank ≡ Some member.slave
