@@ -61,7 +61,7 @@ fn touch_slave(hulls: &mut Hulls, task: u8, rank: u16, old: &[Area], new: &[Area
 /// where no width does. It takes no memory.
 pub fn touched_hulls(task: u8, first: u16, before: &[SlaveAreas], after: &[SlaveAreas]) -> Hulls
     requires { HasLines first before.now after.now }
-    ensures { (old new : List (List Area)) → AreLines first before.now after.now old new → AreHulls (differs_at task old new) result }
+    ensures { (old new : List (List Area)) → AreLines first before.now after.now old new → AreHulls (is_touched (list_by task old) (list_by task new)) result }
 {
     let mut hulls = Hulls::none();
     for i in 0..before.len() {
