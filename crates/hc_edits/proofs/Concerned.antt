@@ -19,7 +19,7 @@ use Rattle.hc_edits.specs.declared.changes.PresenceChange.{PresenceChange}
 use Rattle.hc_edits.specs.declared.prepared.Prepared.{Prepared}
 use Rattle.hc_edits.specs.declared.prepared.Prepared.TheVariants.{Presence, Areas}
 use Rattle.hc_edits.specs.Changes.{areas_change, areas_changed, areas_at, carried, change_by, has_alias, has_slave, place_at, place_in, presence_at, presence_change, slave_place, slaves_at, with_areas, with_present, with_slave}
-use Rattle.hc_edits.specs.Rows.{ChangesRow, Ranked, by_rank, ranked, row}
+use Rattle.hc_edits.specs.Rows.{ChangesRow, Ranked, by_rank, given_row, ranked, row}
 use Rattle.hc_edits.proofs.CarriedOut.{joined-some}
 use Rattle.hc_edits.proofs.Found.{first-at, there}
 
@@ -55,11 +55,6 @@ pub presence-row : (change : PresenceChange) (groups : List Declared) →
 presence-row change groups =
     ap (λ (found : Option Declared). option_map_or (λ (d : Declared). ranked d.present d.group.slaves) found []) (get-changed change.group (with_present change.present) groups)
     ∙ or-mapped (with_present change.present) (λ (d : Declared). ranked d.present d.group.slaves) (slice_get groups change.group) []
-
--- the slaves of which one gets its areas
-abbrev pub given_row : AreasChange → Declared → List Ranked
-given_row change declared =
-    ranked declared.present (option_to_list (option_map (with_areas change.areas) (slice_get declared.group.slaves change.place.slave)))
 
 given-alike : (change : AreasChange) (found : Option Declared) →
     option_map_or (λ (d : Declared). ranked d.present (option_to_list (slice_get d.group.slaves change.place.slave))) (option_map (with_slave change.place.slave change.areas) found) []

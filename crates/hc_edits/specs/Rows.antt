@@ -1,13 +1,14 @@
 -- Which slaves a change concerns, by their ranks, and what it makes of their areas in the line.
-use Rattle.std.specs.Prelude.{◌≡◌, ℕ, ◌+◌, Bool, if◌then◌else◌, List, [], ◌++◌, length, map, option_to_list, slice_get}
+use Rattle.std.specs.Prelude.{◌≡◌, ℕ, ◌+◌, Bool, if◌then◌else◌, List, [], ◌++◌, length, map, option_map, option_to_list, slice_get}
 use Rattle.std.specs.List.{flat_map}
 use Rattle.std.specs.Option.{option_map_or}
 use Rattle.hc_records.specs.declared.records.Area.{Area}
 use Rattle.hc_records.specs.declared.records.Slave.{Slave}
 use Rattle.hc_records.specs.declared.records.Declared.{Declared}
+use Rattle.hc_edits.specs.declared.changes.AreasChange.{AreasChange}
 use Rattle.hc_edits.specs.declared.prepared.Prepared.{Prepared}
 use Rattle.hc_edits.specs.declared.prepared.Prepared.TheVariants.{Presence, Areas}
-use Rattle.hc_edits.specs.Changes.{carried}
+use Rattle.hc_edits.specs.Changes.{carried, with_areas}
 
 -- a declared slave, and whether its group is present
 pub record Ranked : Type 0 where
@@ -24,6 +25,10 @@ by_rank groups = flat_map (λ declared. ranked declared.present declared.group.s
 -- the areas that such a slave has in the line: none where its group isn't present
 abbrev pub areas_in_line : Ranked → List Area
 areas_in_line slave = if slave.present then slave.slave.areas else []
+
+-- those of the slave at an index among some; none where there is no such slave
+abbrev pub nth_areas : List Ranked → ℕ → List Area
+nth_areas slaves index = option_map_or areas_in_line (slice_get slaves index) []
 
 -- The slaves that a change concerns: those of the group that comes or goes, or the one that gets other areas.
 
@@ -50,6 +55,11 @@ named_by (Areas change) slaves = option_to_list (slice_get slaves change.place.s
 -- they themselves; none where the groups have no such place
 abbrev pub row : Prepared → List Declared → List Ranked
 row change groups = option_map_or (λ declared. ranked declared.present (named_by change declared.group.slaves)) (slice_get groups (group_of change)) []
+
+-- the slave of a group that gets other areas, with these
+abbrev pub given_row : AreasChange → Declared → List Ranked
+given_row change declared =
+    ranked declared.present (option_to_list (option_map (with_areas change.areas) (slice_get declared.group.slaves change.place.slave)))
 
 -- their ranks follow one another, and each other slave is the same, and as present, before the change and after it
 pub record ChangesRow (change : Prepared) (groups : List Declared) : Type 0 where

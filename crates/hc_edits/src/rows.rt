@@ -1,9 +1,8 @@
 //! Which slaves a change concerns, by their ranks, and which areas they have in the line before it is
 //! carried out and after. Nothing here takes memory.
-ghost use Rattle.std.specs.Prelude.{◌≡◌, [], if◌then◌else◌, option_map, option_to_list, slice_get};
+ghost use Rattle.std.specs.Prelude.{◌≡◌, [], if◌then◌else◌, slice_get};
 ghost use Rattle.std.specs.Option.{option_map_or};
-ghost use Rattle.hc_edits.specs.Changes.{with_areas};
-ghost use Rattle.hc_edits.specs.Rows.{areas_in_line, ranked};
+ghost use Rattle.hc_edits.specs.Rows.{given_row, nth_areas, ranked};
 
 use crate::changes::{AreasChange, PresenceChange};
 use crate::prepared::Prepared;
@@ -22,7 +21,7 @@ fn line_areas_at<'a>(slaves: &'a [Slave], slave: usize, present: bool) -> &'a [A
 
 /// The areas that the slave at a place in its group has in the line once the group comes or goes.
 fn present_after<'a>(change: &PresenceChange, groups: &'a [Declared], slave: usize) -> &'a [Area]
-    ensures { result.now ≡ option_map_or areas_in_line (slice_get (option_map_or (λ declared. ranked change.now.present declared.group.slaves) (slice_get groups.now change.now.group) []) slave) [] }
+    ensures { result.now ≡ nth_areas (option_map_or (λ declared. ranked change.now.present declared.group.slaves) (slice_get groups.now change.now.group) []) slave }
 {
     match groups.get(change.group) {
         Some(declared) => line_areas_at(declared.group.slaves.as_slice(), slave, change.present),
@@ -33,7 +32,7 @@ fn present_after<'a>(change: &PresenceChange, groups: &'a [Declared], slave: usi
 /// The areas that a change of areas gives its slave in this group, the one with index 0: all of them where
 /// the group is present.
 fn given_in<'a>(change: &'a AreasChange, declared: &Declared, index: usize) -> &'a [Area]
-    ensures { result.now ≡ option_map_or areas_in_line (slice_get (ranked declared.now.present (option_to_list (option_map (with_areas change.now.areas) (slice_get declared.now.group.slaves change.now.place.slave)))) index) [] }
+    ensures { result.now ≡ nth_areas (given_row change.now declared.now) index }
 {
     match declared.group.slaves.as_slice().get(change.place.slave) {
         Some(_) if index == 0 && declared.present => change.areas.as_slice(),
@@ -43,7 +42,7 @@ fn given_in<'a>(change: &'a AreasChange, declared: &Declared, index: usize) -> &
 
 /// The same in the group where the slave stands.
 fn given_after<'a>(change: &'a AreasChange, groups: &[Declared], index: usize) -> &'a [Area]
-    ensures { result.now ≡ option_map_or areas_in_line (slice_get (option_map_or (λ declared. ranked declared.present (option_to_list (option_map (with_areas change.now.areas) (slice_get declared.group.slaves change.now.place.slave)))) (slice_get groups.now change.now.place.group) []) index) [] }
+    ensures { result.now ≡ nth_areas (option_map_or (given_row change.now) (slice_get groups.now change.now.place.group) []) index }
 {
     match groups.get(change.place.group) {
         Some(declared) => given_in(change, declared, index),
@@ -52,10 +51,9 @@ fn given_after<'a>(change: &'a AreasChange, groups: &[Declared], index: usize) -
 }
 
 impl Prepared {
-    ghost use Rattle.std.specs.Prelude.{◌≡◌, [], slice_get};
-    ghost use Rattle.std.specs.Option.{option_map_or};
+    ghost use Rattle.std.specs.Prelude.{◌≡◌};
     ghost use Rattle.hc_edits.specs.Changes.{carried};
-    ghost use Rattle.hc_edits.specs.Rows.{areas_in_line, count_of, first_of, group_of, named_by, ranked, row};
+    ghost use Rattle.hc_edits.specs.Rows.{count_of, first_of, group_of, named_by, nth_areas, ranked, row};
 
     /// The rank of the first of the slaves that this change concerns, counted from 1 over all declared
     /// slaves; those of the others follow.
@@ -92,7 +90,7 @@ impl Prepared {
     /// The areas in the line of one of the slaves that this change concerns in a group, by its index among
     /// them.
     fn areas_in<'a>(&self, declared: &'a Declared, index: usize) -> &'a [Area]
-        ensures { result.now ≡ option_map_or areas_in_line (slice_get (ranked declared.now.present (named_by self.now declared.now.group.slaves)) index) [] }
+        ensures { result.now ≡ nth_areas (ranked declared.now.present (named_by self.now declared.now.group.slaves)) index }
     {
         let slaves = declared.group.slaves.as_slice();
         match self {
@@ -108,7 +106,7 @@ impl Prepared {
     /// index among them from 0, in record order. None where its group isn't present, and where there is no
     /// such slave.
     pub fn areas_before<'a>(&self, groups: &'a [Declared], index: usize) -> &'a [Area]
-        ensures { result.now ≡ option_map_or areas_in_line (slice_get (row self.now groups.now) index) [] }
+        ensures { result.now ≡ nth_areas (row self.now groups.now) index }
     {
         match groups.get(self.group()) {
             Some(declared) => self.areas_in(declared, index),
@@ -119,7 +117,7 @@ impl Prepared {
     /// The areas that the slave with the index has in the line once this change is carried out in these
     /// groups, which stay as they are here.
     pub fn areas_after<'a>(&'a self, groups: &'a [Declared], index: usize) -> &'a [Area]
-        ensures { result.now ≡ option_map_or areas_in_line (slice_get (row self.now (carried self.now groups.now)) index) [] }
+        ensures { result.now ≡ nth_areas (row self.now (carried self.now groups.now)) index }
     {
         match self {
             Prepared::Presence(change) => present_after(change, groups, index),

@@ -1,7 +1,5 @@
 use Rattle.std.proofs.Common.{List, sym, ap, ◌∙◌}
-use Rattle.std.specs.Prelude.{[], slice_get}
-use Rattle.std.specs.Option.{option_map_or}
-use Rattle.hc_edits.specs.Rows.{Ranked, areas_in_line}
+use Rattle.hc_edits.specs.Rows.{Ranked, nth_areas}
 use Rattle.hc_edits.proofs.Concerned.{areas-row, presence-row}
 use Rattle.hc_edits.proofs.prepared.Prepared.areas_after.Goals as goal
 
@@ -9,10 +7,10 @@ pub returns-in-Presence : goal.returns-in-Presence
 returns-in-Presence c =
     rw c.in-Presence.is
     (c.present_after.ensures
-    ∙ sym (ap (λ (row : List Ranked). option_map_or areas_in_line (slice_get row c.args.index) []) (presence-row c.in-Presence.change c.args.groups.now)))
+    ∙ sym (ap (λ (row : List Ranked). nth_areas row c.args.index) (presence-row c.in-Presence.change c.args.groups.now)))
 
 pub returns-in-Areas : goal.returns-in-Areas
 returns-in-Areas c =
     rw c.in-Areas.is
     (c.given_after.ensures
-    ∙ sym (ap (λ (row : List Ranked). option_map_or areas_in_line (slice_get row c.args.index) []) (areas-row c.in-Areas.change c.args.groups.now)))
+    ∙ sym (ap (λ (row : List Ranked). nth_areas row c.args.index) (areas-row c.in-Areas.change c.args.groups.now)))
