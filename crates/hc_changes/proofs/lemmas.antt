@@ -11,6 +11,7 @@ pub mod Named
 pub mod OneProject
 pub mod Ordered
 pub mod Others
+pub mod Outlooks
 pub mod Ranks
 pub mod Rows
 pub mod Slots
