@@ -1,18 +1,10 @@
-use Rattle.std.proofs.Common.{◌≡◌, ◌+◌, ◌++◌, List, [], ◌∷◌, slice_index_or, refl, sym, ap, subst, ◌∙◌, arith, append_assoc}
-use Rattle.hc_records.specs.declared.keys.Key.{Key}
+use Rattle.std.proofs.Common.{◌+◌, ◌++◌, List, [], ◌∷◌, slice_index_or, refl, sym, ap, ◌∙◌, arith, append_assoc}
 use Rattle.hc_records.specs.declared.keys.TheConstants.Key.{START, END}
-use Rattle.hc_records.specs.Boundaries.{boundaries}
 use Rattle.hc_records.specs.Packing.{Placed, opening, packed}
 use Rattle.hc_cuts.specs.Starts.{Kept}
 use Rattle.hc_cuts.specs.Walk.{span_places}
-use Rattle.hc_cuts.proofs.Whole.{is-span_at, places_from, spans-begin, spans-end}
+use Rattle.hc_cuts.proofs.Whole.{is-span_at, own-boundaries, places_from, spans-begin, spans-end}
 use Rattle.hc_cuts.proofs.cuts.Cuts.places.Goals as goal
-
--- the boundaries, as the caller has them and as they are kept
-own-boundaries : (kept own : Kept) (starts : List Key) → own ≡ kept → starts ≡ own.starts → kept.starts ++ END ∷ [] ≡ boundaries kept.tree.list
-    → starts ++ END ∷ [] ≡ boundaries own.tree.list
-own-boundaries kept own starts same are all =
-    ap (λ (keys : List Key). keys ++ END ∷ []) are ∙ subst (λ (k : Kept). k.starts ++ END ∷ [] ≡ boundaries k.tree.list) (sym same) all
 
 pub loop-i-init : goal.loop-i-init
 loop-i-init g c =
