@@ -1,5 +1,6 @@
 -- What the crates above cite, a file a subject.
 pub mod Ascends
 pub mod Found
+pub mod Loads
 pub mod Same
 pub mod Sorted

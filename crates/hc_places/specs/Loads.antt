@@ -54,17 +54,19 @@ with_load task table load = record {
   inputs = table.inputs + (load.length - load.outputs);
 }
 
--- the table of so many datagrams of a task, from the first one on
+-- the table of so many datagrams of a task, from the first one on, and that of all
 abbrev pub loaded : ℕ → List Placed → ℕ → TaskTable
 loaded task areas zero = no_datagrams
 loaded task areas (suc datagram) = with_load task (loaded task areas datagram) (load_in areas datagram)
+
+abbrev pub table_at : ℕ → List Placed → TaskTable
+table_at task areas = loaded task areas (datagram_count areas)
 
 -- the table of a task of a project's line is put together from what its datagrams hold, in their order
 abbrev pub TablesAreLoaded : Type 0
 TablesAreLoaded =
     (groups : List Declared) (task : ℕ) → lowest_fault (groups_of groups) ≡ None
-    → task_table (line_from 1 groups) task
-    ≡ loaded task (task_places task (line_from 1 groups)) (datagram_count (task_places task (line_from 1 groups)))
+    → task_table (line_from 1 groups) task ≡ table_at task (task_places task (line_from 1 groups))
 
 -- what a table tells of it: a datagram's outputs are its bytes before the end of the task's outputs
 
@@ -78,9 +80,11 @@ told_of table datagram = record {
 abbrev pub no_load : Load
 no_load = record { length = 0; expected = 0; outputs = 0 }
 
+abbrev pub load_in_table : TaskTable → ℕ → Load
+load_in_table table datagram = option_map_or (told_of table) (slice_get table.datagrams datagram) no_load
+
 abbrev pub load_told : Table → ℕ → ℕ → Load
-load_told table task datagram =
-    option_map_or (λ found. option_map_or (told_of found) (slice_get found.datagrams datagram) no_load) (slice_get table.tasks task) no_load
+load_told table task datagram = option_map_or (λ found. load_in_table found datagram) (slice_get table.tasks task) no_load
 
 -- it is what the datagram holds
 abbrev pub TablesTellLoads : Type 0
