@@ -7,4 +7,5 @@ pub mod Others
 pub mod Ranks
 pub mod Slots
 pub mod Standing
+pub mod Tables
 pub mod Widths

@@ -1,6 +1,7 @@
 //! What follows from the definitions of this crate: each function does nothing, and its contract is a
 //! law. Nobody calls it.
 ghost use Rattle.hc_changes.specs.Laws.{BlocksAreTheAreas, EditsChangeTheNamed, KeptAreasStay, KeptDatagramsStay, MovedBlocksAreTold, OtherAreasStood};
+ghost use Rattle.hc_changes.specs.Tables.{OldTablesTellKept, UntouchedTablesStay};
 
 /// A datagram that an edit keeps carries the areas that it carried, each at its bit: so its length and its
 /// expected working counter stay too.
@@ -35,4 +36,15 @@ pub fn kept_areas_stay()
 /// line, in line and block order.
 pub fn moved_blocks_are_told()
     ensures { MovedBlocksAreTold }
+{}
+
+/// The table of a project's line tells what a datagram holds that an edit keeps: its length, its expected
+/// working counter, and its bytes before the first input.
+pub fn old_tables_tell_kept()
+    ensures { OldTablesTellKept }
+{}
+
+/// A task in which no width differs has the same table in both lines of a project.
+pub fn untouched_tables_stay()
+    ensures { UntouchedTablesStay }
 {}

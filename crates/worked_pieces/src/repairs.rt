@@ -16,7 +16,7 @@ use std::marker::Brand;
 use std::sync::ledger::{Blank, Ledger};
 use std::test::Fail;
 
-fn out(rank: u16) -> Key {
+pub(crate) fn out(rank: u16) -> Key {
     Key {
         dir: Dir::Out,
         rank,
@@ -24,7 +24,7 @@ fn out(rank: u16) -> Key {
     }
 }
 
-fn input(rank: u16) -> Key {
+pub(crate) fn input(rank: u16) -> Key {
     Key {
         dir: Dir::In,
         rank,
@@ -200,7 +200,7 @@ fn a_refused_repair_leaves_the_boundaries(rt: HostRuntime) -> Result<(), Fail> {
 }
 
 /// The next of a row of numbers that is the same each time.
-fn draw(seed: &mut u32) -> u32 {
+pub(crate) fn draw(seed: &mut u32) -> u32 {
     *seed = seed.wrapping_mul(1664525).wrapping_add(1013904223);
     *seed >> 8
 }

@@ -1,5 +1,7 @@
 //! Tasks whose datagrams are found by searches in a tree of sums.
-ghost use Rattle.std.specs.Prelude.{◌≡◌, IfOk};
+ghost use Rattle.std.specs.Prelude.{◌≡◌, ◌∷◌, ◌++◌, [], IfOk, OnOk};
+ghost use Rattle.hc_records.specs.Boundaries.{boundaries};
+ghost use Rattle.hc_records.specs.declared.keys.TheConstants.Key.{END};
 ghost use Rattle.hc_bitsum.specs.Tree.{CanBegin};
 
 use hc_bitsum::steps::Steps;
@@ -29,7 +31,7 @@ fn set(cuts: &mut Cuts, key: Key, bits: u16)
 }
 
 /// A task of 17 slaves with these areas.
-fn task_of(alloc: Global, list: &[(Key, u16)]) -> Result<Cuts, AllocError>
+pub(crate) fn task_of(alloc: Global, list: &[(Key, u16)]) -> Result<Cuts, AllocError>
     ensures { IfOk result (λ cuts. cuts.tree.slaves ≡ 17) }
 {
     let mut cuts = Cuts::new(alloc, 17)?;
@@ -39,19 +41,22 @@ fn task_of(alloc: Global, list: &[(Key, u16)]) -> Result<Cuts, AllocError>
     Ok(cuts)
 }
 
-/// A cut whose steps nobody reads.
+/// A cut of a task from the front.
 fn cut_counted<L: Ledger>(cuts: &mut Cuts, blank: Blank) -> Result<(), TooManyDatagrams>
     requires name { blank.name ≡ L.name }
     requires parts { blank.parts ≡ L.parts }
     requires one { L.parts ≡ 1 }
-    ensures { cuts.new.tree ≡ cuts.old.tree }
+    ensures areas { cuts.new.tree ≡ cuts.old.tree }
+    ensures starts { OnOk result (cuts.new.starts ++ END ∷ [] ≡ boundaries cuts.new.tree.list) }
 {
     let mut steps: Steps<L> = Steps::start(blank);
     cuts.cut(&mut steps)
 }
 
-fn cut(cuts: &mut Cuts) -> Result<(), TooManyDatagrams>
-    ensures { cuts.new.tree ≡ cuts.old.tree }
+/// The same, whose steps nobody reads.
+pub(crate) fn cut(cuts: &mut Cuts) -> Result<(), TooManyDatagrams>
+    ensures areas { cuts.new.tree ≡ cuts.old.tree }
+    ensures starts { OnOk result (cuts.new.starts ++ END ∷ [] ≡ boundaries cuts.new.tree.list) }
 {
     cut_counted::<Brand>(cuts, Blank::new(1))
 }
