@@ -1,5 +1,4 @@
-use Rattle.std.proofs.Common.{◌≡◌, ◌+◌, ◌/◌, ◌≤◌, ◌∙◌, sym, arith}
-use Rattle.std.specs.Prelude.{Some, find}
+use Rattle.std.proofs.Common.{◌+◌, ◌/◌, ◌≤◌, ◌∙◌, sym, arith}
 use Rattle.hc_records.specs.Image.{inside}
 use Rattle.hc_records.specs.Keys.{same_dir}
 use Rattle.hc_records.specs.declared.records.Dir.TheVariants.{In}
