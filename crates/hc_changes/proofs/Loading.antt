@@ -1,13 +1,14 @@
 -- A task's table put together a datagram at a time, as long as its boundaries go.
-use Rattle.std.proofs.Common.{◌≡◌, ◌∙◌, ap, ℕ, zero, suc, ◌+◌, ◌<◌, ◌≤◌, Bool, true, false, List, [], ◌∷◌, length, refl, sym, arith}
-use Rattle.std.specs.Prelude.{All, None, min, nat_lt}
+use Rattle.std.proofs.Common.{◌≡◌, ◌∙◌, ap, ℕ, zero, suc, ◌+◌, ◌*◌, ◌<◌, ◌≤◌, Bool, true, false, List, [], ◌∷◌, length, refl, sym, arith, length-append}
+use Rattle.std.specs.Prelude.{All, None, min, nat_lt, slice_index_or}
 use Rattle.std.proofs.Math.Nat.{min-eq_left, min-eq_right}
 use Rattle.std.proofs.lemmas.Bool.{ltb-false, ltb-true}
+use Rattle.hc_records.specs.declared.limits.TheConstants.{MOST_DATAGRAM_BYTES}
 use Rattle.hc_records.specs.declared.records.Declared.{Declared}
 use Rattle.hc_records.specs.declared.keys.Key.{Key}
 use Rattle.hc_records.specs.declared.keys.TheConstants.Key.{START}
 use Rattle.hc_records.specs.Boundaries.{later_keys}
-use Rattle.hc_records.specs.Image.{datagram_count, inside, task_places}
+use Rattle.hc_records.specs.Image.{datagram_count, inside, logical_address, task_places}
 use Rattle.hc_records.specs.Laws.{IsPackable}
 use Rattle.hc_records.specs.Line.{groups_of, line_from}
 use Rattle.hc_records.specs.Packing.{Placed, opening, packed}
@@ -16,13 +17,17 @@ use Rattle.hc_records.specs.TaskList.{Keyed, task_list}
 use Rattle.hc_records.proofs.lemmas.Cuts.{count-later_keys}
 use Rattle.hc_records.proofs.lemmas.Lengths.{length-sendable}
 use Rattle.hc_cuts.proofs.lemmas.Datagrams.{inside-none}
+use Rattle.hc_cuts.specs.Starts.{Kept}
 use Rattle.hc_tasks.specs.Areas.{areas_by_rank, list_by}
 use Rattle.hc_tasks.specs.Kept.{starts_by}
 use Rattle.hc_tasks.proofs.lemmas.Told.{task-listed}
 use Rattle.hc_places.specs.declared.loads.Load.{Load}
-use Rattle.hc_places.specs.Loads.{load_in, load_of, loaded, with_load}
-use Rattle.hc_places.specs.Table.{TaskTable, task_table}
+use Rattle.hc_places.specs.declared.table.Datagram.{Datagram}
+use Rattle.hc_places.specs.Loads.{IsLoad, load_in, load_of, loaded, with_load}
+use Rattle.hc_places.specs.Table.{Table, TaskTable, task_table}
 use Rattle.hc_places.proofs.lemmas.Lines.{table-loaded}
+use Rattle.hc_changes.specs.Candidates.{is_kept}
+use Rattle.hc_changes.specs.Tables.{AreKept, IsEdited}
 use Rattle.hc_changes.proofs.lemmas.Tables.{task-list}
 
 -- so many datagrams of a task, or all where it has fewer
@@ -84,3 +89,54 @@ all-loaded groups task number starts table none stand all is =
     let many = keys-many (task_list task (line_from 1 groups)) (task-list groups task none).packable in
     let last : min number (datagram_count areas) ≡ datagram_count areas = omega arith in
     is ∙ ap (loaded task areas) last ∙ sym (table-loaded groups task none)
+
+-- what is known of the table of the datagrams so far
+pub record AreLoaded (old : Table) (trees : List Kept) (task : ℕ) (kept : List Bool) (number : ℕ) (table : TaskTable) : Type 0 where
+  pub stand :
+      (before after : List Declared) → IsEdited before after old trees → AreKept before after task kept
+      → table ≡ loaded_up_to task (task_places task (line_from 1 after)) number
+  pub count : length table.datagrams ≤ number
+  pub short : table.outputs + table.inputs ≤ length table.datagrams * MOST_DATAGRAM_BYTES
+
+-- and of what the next one holds
+abbrev IsNext : Table → List Kept → ℕ → Bool → ℕ → Load → Type 0
+IsNext old trees task says number load =
+    (before after : List Declared) → IsEdited before after old trees
+    → (says ≡ true → is_kept (task_list task (line_from 1 before)) (task_list task (line_from 1 after)) number ≡ true)
+    → load ≡ load_in (task_places task (line_from 1 after)) number
+
+pub adds-some : (old : Table) (trees : List Kept) (task : ℕ) (kept : List Bool) (number : ℕ) (table : TaskTable) (says : Bool) (load : Load)
+    → AreLoaded old trees task kept number table → says ≡ slice_index_or kept number false → IsNext old trees task says number load → IsLoad load → 0 < load.length
+    → AreLoaded old trees task kept (number + 1) (with_load task table load)
+adds-some old trees task kept number table says load are said next is some =
+    let many = length-append table.datagrams ((with-made task table load) ∷ []) in
+    let count = are.count in
+    let short = are.short in
+    let most = is.most in
+    let part = is.part in
+    record {
+      stand = λ before after edited all.
+          next-some task (task_list task (line_from 1 after)) number table load (are.stand before after edited all) (next before after edited (λ test. all number (sym said ∙ test))) some;
+      count = omega arith;
+      short = omega arith;
+    }
+  where
+    with-made : ℕ → TaskTable → Load → Datagram
+    with-made task' table' load' = record {
+      address = logical_address task' (length table'.datagrams);
+      length = load'.length;
+      expected = load'.expected;
+      offset = table'.outputs + table'.inputs;
+    }
+
+pub adds-none : (old : Table) (trees : List Kept) (task : ℕ) (kept : List Bool) (number : ℕ) (table : TaskTable) (says : Bool) (load : Load)
+    → AreLoaded old trees task kept number table → says ≡ slice_index_or kept number false → IsNext old trees task says number load → load.length ≤ 0
+    → AreLoaded old trees task kept (number + 1) table
+adds-none old trees task kept number table says load are said next none =
+    let count = are.count in record {
+      stand = λ before after edited all.
+          next-none task (task_list task (line_from 1 after)) number table load (task-list after task edited.line.project).packable (are.stand before after edited all)
+          (next before after edited (λ test. all number (sym said ∙ test))) (omega arith);
+      count = omega arith;
+      short = are.short;
+    }

@@ -35,13 +35,13 @@ pub record AreTreesOf (groups : List Declared) (trees : List Kept) : Type 0 wher
 
 pub record AreOfLine (trees : List Kept) : Type 0 where
   pub groups : List Declared
-  pub trees : AreTreesOf groups trees
+  pub line : AreTreesOf groups trees
 
 -- the table of a project's line before an edit, and the trees of the line after it
 pub record IsEdited (before after : List Declared) (old : Table) (trees : List Kept) : Type 0 where
   pub project : lowest_fault (groups_of before) ≡ None
   pub table : old ≡ table_of (line_from 1 before)
-  pub trees : AreTreesOf after trees
+  pub line : AreTreesOf after trees
 
 -- each datagram of a task that is said to be kept is
 abbrev pub AreKept : List Declared → List Declared → ℕ → List Bool → Type 0

@@ -21,22 +21,22 @@ use hc_tasks::tasks::LineCuts;
 use std::alloc::{AllocError, Global};
 use std::sync::ledger::Ledger;
 
-/// What a datagram of a task holds: a kept one what it held.
+/// What a datagram of a task holds: one that stays, as a kept one does, what it held.
 fn load_in<L: Ledger>(
     alloc: Global,
     cuts: &LineCuts,
     old: &Places,
-    is_kept: bool,
+    stays: bool,
     task: u8,
     number: u16,
     steps: &mut Steps<L>,
 ) -> Result<Load, AllocError>
     requires task { task < TASKS }
     requires line { AreOfLine cuts.now }
-    ensures value { IfOk result (λ load. (before after : List Declared) → IsEdited before after old.now cuts.now → (is_kept ≡ true → is_kept (task_list task (line_from 1 before)) (task_list task (line_from 1 after)) number ≡ true) → load ≡ load_in (task_places task (line_from 1 after)) number) }
+    ensures value { IfOk result (λ load. (before after : List Declared) → IsEdited before after old.now cuts.now → (stays ≡ true → is_kept (task_list task (line_from 1 before)) (task_list task (line_from 1 after)) number ≡ true) → load ≡ load_in (task_places task (line_from 1 after)) number) }
     ensures low { IfOk result IsLoad }
 {
-    if is_kept {
+    if stays {
         return Ok(old.load(task, number));
     }
     let areas = cuts.datagram(alloc, task, number, steps)?;
@@ -48,7 +48,7 @@ fn says_kept(kept: &[bool], number: usize) -> bool
     ensures { result ≡ slice_index_or kept.now number false }
 {
     match kept.get(number) {
-        Some(is_kept) => *is_kept,
+        Some(stays) => *stays,
         None => false,
     }
 }
@@ -68,8 +68,8 @@ fn new_table<L: Ledger>(
 {
     let mut table = TaskTable::empty();
     for number in 0..cuts.starts(task).len() {
-        let is_kept = says_kept(kept, number);
-        let load = load_in(alloc, cuts, old, is_kept, task, number as u16, steps)?;
+        let stays = says_kept(kept, number);
+        let load = load_in(alloc, cuts, old, stays, task, number as u16, steps)?;
         if load.length > 0 {
             table.add(task, load);
         }

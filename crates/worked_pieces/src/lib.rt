@@ -23,3 +23,5 @@ mod registers;
 mod repairs;
 #[cfg(test)]
 mod searches;
+#[cfg(test)]
+mod tables;

@@ -2,7 +2,7 @@
 use Rattle.std.proofs.Common.{◌≡◌, ◌∙◌, ap, ℕ, ◌==◌, ◌<◌, Bool, true, false, not, List, [], ◌∷◌, ◌++◌, length, refl, sym, subst, arith}
 use Rattle.std.specs.Prelude.{Contains, Option, Some, None, find, map, nat_lt}
 use Rattle.std.specs.Option.{option_map_or}
-use Rattle.std.proofs.lemmas.Bool.{eqb-true}
+use Rattle.std.proofs.lemmas.Bool.{eqb-true, ltb-false}
 use Rattle.std.proofs.lemmas.List.Elements.{Contains-append_left, Contains-append_right}
 use Rattle.hc_records.specs.declared.keys.Key.{Key}
 use Rattle.hc_records.specs.declared.limits.TheConstants.{TASKS}
@@ -44,7 +44,7 @@ kept-told old new task datagram none none' low kept =
 
 no-keys : (keys : List Key) → nat_lt 0 (length keys) ≡ false → keys ≡ []
 no-keys [] none = refl
-no-keys (key ∷ keys) none = cc
+no-keys (key ∷ keys) none = let few = ltb-false 0 (length (key ∷ keys)) none in absurd (omega arith)
 
 lacks-by : (list : List Keyed) (key : Key) (found : Option Keyed) → find (λ area. same_key area.0 key) list ≡ found
     → ((area : Keyed) → Contains list area → area.0 ≡ key → ⊥) → option_map_or (λ (area : Keyed). area.1) found 0 ≡ 0
