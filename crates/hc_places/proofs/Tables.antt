@@ -1,6 +1,6 @@
 -- The table of a task of a line, by the places of its areas.
-use Rattle.std.proofs.Common.{◌≡◌, ◌∙◌, ℕ, suc, Bool, true, false, cond, ◌<◌, ◌≤◌, ◌*◌, List, [], ◌∷◌, length, refl, ap, arith, length-append}
-use Rattle.std.specs.Prelude.{All, filter, map}
+use Rattle.std.proofs.Common.{◌≡◌, ◌∙◌, ℕ, suc, Bool, true, false, cond, ◌<◌, ◌≤◌, ◌*◌, List, [], ◌∷◌, length, refl, arith, length-append}
+use Rattle.std.specs.Prelude.{All, filter}
 use Rattle.std.specs.List.{enumerate_from, flat_map, range_with_len}
 use Rattle.std.proofs.lemmas.List.{length-map}
 use Rattle.std.proofs.lemmas.List.Elements.{All-weaker}

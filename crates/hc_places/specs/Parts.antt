@@ -1,6 +1,5 @@
 -- What is worked out from the places of a task's areas.
 use Rattle.std.specs.Prelude.{◌≡◌, ◌≢◌, ℕ, ◌<◌, ◌≤◌, All, List, None, length, map}
-use Rattle.std.specs.List.{range_with_len}
 use Rattle.hc_records.specs.declared.limits.TheConstants.{MOST_AREA_BITS, MOST_AREAS, MOST_DATAGRAMS, MOST_SLAVES}
 use Rattle.hc_records.specs.declared.keys.Key.{Key}
 use Rattle.hc_records.specs.declared.records.Dir.{Dir}
@@ -10,12 +9,11 @@ use Rattle.hc_records.specs.Area.{width}
 use Rattle.hc_records.specs.Line.{Member}
 use Rattle.hc_records.specs.TaskList.{task_list}
 use Rattle.hc_records.specs.Packing.{Placed}
-use Rattle.hc_records.specs.Image.{datagram_count, datagram_length, datagram_offset, expected_counter, input_length, inside, logical_address, output_length, task_places}
+use Rattle.hc_records.specs.Image.{datagram_count, datagram_length, expected_counter, inside, task_places}
 use Rattle.hc_records.specs.Laws.{Ascends, IsDatagramLength, IsPackable, LiesInside}
 use Rattle.hc_registers.specs.Counting.{counted_from}
-use Rattle.hc_places.specs.declared.table.Datagram.{Datagram}
 use Rattle.hc_places.specs.Ranges.{OffersBits}
-use Rattle.hc_places.specs.Table.{Row, TaskTable}
+use Rattle.hc_places.specs.Table.{Row}
 
 -- the keys of the areas that lie in a datagram
 abbrev pub keys_inside : ℕ → List Placed → List Key

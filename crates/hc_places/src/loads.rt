@@ -136,7 +136,10 @@ impl TaskTable {
             Some(datagram) => Load {
                 length: datagram.length,
                 expected: datagram.expected,
-                outputs: self.outputs.saturating_sub(datagram.offset).min(datagram.length),
+                outputs: self
+                    .outputs
+                    .saturating_sub(datagram.offset)
+                    .min(datagram.length),
             },
             None => Load::default(),
         }

@@ -59,12 +59,7 @@ fn carries(
 
 #[test]
 fn a_datagram_carries_its_areas_alone(rt: HostRuntime) -> Result<(), Fail> {
-    let list = [
-        (out(1), 8 * 1485),
-        (out(2), 8),
-        (out(3), 1),
-        (input(1), 4),
-    ];
+    let list = [(out(1), 8 * 1485), (out(2), 8), (out(3), 1), (input(1), 4)];
     let mut cuts = task_of(rt.alloc(), &list)?;
     let done = cut(&mut cuts).is_ok();
     assert!(rt; done);

@@ -8,7 +8,7 @@ use Rattle.hc_records.specs.declared.records.Dir.{Dir}
 use Rattle.hc_records.specs.declared.records.Dir.TheVariants.{Out}
 use Rattle.hc_records.specs.declared.keys.Key.{Key}
 use Rattle.hc_records.specs.TaskList.{Keyed}
-use Rattle.hc_records.specs.Packing.{Front, Placed, behind, beginning, fits, opening, packed, placed_at}
+use Rattle.hc_records.specs.Packing.{Front, Placed, behind, beginning, fits, opening, packed}
 use Rattle.hc_records.specs.Image.{datagram_count, inside}
 use Rattle.hc_records.specs.Boundaries.{Interval, boundaries, spans}
 use Rattle.hc_records.specs.SpanLaws.{IsTaskList, areas_from, carried, seen_area}

@@ -1,9 +1,9 @@
 -- The tables of the tasks of a project's line, and what is known of their datagrams.
-use Rattle.std.proofs.Common.{◌≡◌, ◌∙◌, ap, ℕ, ◌<◌, ◌≤◌, Bool, true, false, cond, List, [], ◌∷◌, refl, sym, subst, arith}
+use Rattle.std.proofs.Common.{◌≡◌, ◌∙◌, ap, ℕ, ◌<◌, Bool, true, false, cond, List, [], ◌∷◌, refl, sym, subst, arith}
 use Rattle.std.specs.Prelude.{All, None, filter, ◌==◌}
 use Rattle.std.proofs.lemmas.List.Elements.{All-filter}
 use Rattle.hc_records.specs.declared.records.Declared.{Declared}
-use Rattle.hc_records.specs.Image.{datagram_count, datagram_length, inside, task_places}
+use Rattle.hc_records.specs.Image.{inside, task_places}
 use Rattle.hc_records.specs.Laws.{LiesInside}
 use Rattle.hc_records.specs.Line.{groups_of, line_from}
 use Rattle.hc_records.specs.Packing.{Placed, opening, packed}

@@ -1,14 +1,14 @@
 -- What the datagrams of a task hold, and its table put together from that.
-use Rattle.std.proofs.Common.{◌≡◌, ◌∙◌, ap, ℕ, zero, suc, ◌+◌, ◌-◌, ◌*◌, ◌/◌, ◌<◌, ◌≤◌, Bool, true, false, cond, List, [], ◌∷◌, ◌++◌, length, refl, sym, subst, arith, length-append}
-use Rattle.std.specs.Prelude.{All, Option, Some, None, find, if◌then◌else◌, map, min, nat_lt, option_map, slice_get, ◌&&◌, ◌==◌, ◌||◌}
+use Rattle.std.proofs.Common.{◌≡◌, ◌∙◌, ap, ℕ, zero, suc, ◌+◌, ◌-◌, ◌*◌, ◌/◌, ◌<◌, ◌≤◌, Bool, true, false, cond, List, [], ◌∷◌, ◌++◌, length, refl, sym, subst, arith}
+use Rattle.std.specs.Prelude.{All, Option, Some, None, find, if◌then◌else◌, map, min, nat_lt, option_map, slice_get, ◌==◌}
 use Rattle.std.specs.Option.{option_map_or}
 use Rattle.std.specs.List.{range_with_len}
 use Rattle.std.proofs.Math.Nat.{min-eq_left, min-eq_right, min-le_right}
-use Rattle.std.proofs.lemmas.Bool.{eqb-false, eqb-true, leb-false, leb-true, ltb-false, ltb-true, or_right}
+use Rattle.std.proofs.lemmas.Bool.{eqb-false, eqb-true, ltb-false, ltb-true, or_right}
 use Rattle.std.proofs.lemmas.List.Elements.{All-filter, All-head, All-tail, All-weaker}
 use Rattle.std.proofs.lemmas.List.FromFn.{get_or-map-range_with_len, length-map-range_with_len, map-range_with_len_more}
 use Rattle.std.proofs.lemmas.Option.{slice_get-get_or, slice_get-map, slice_get_past}
-use Rattle.hc_records.specs.declared.limits.TheConstants.{MOST_AREA_BITS, MOST_DATAGRAM_BYTES, TASKS}
+use Rattle.hc_records.specs.declared.limits.TheConstants.{TASKS}
 use Rattle.hc_records.specs.declared.records.Declared.{Declared}
 use Rattle.hc_records.specs.declared.records.Dir.{Dir}
 use Rattle.hc_records.specs.declared.records.Dir.TheVariants.{Out, In}
@@ -17,10 +17,10 @@ use Rattle.hc_records.specs.Line.{Member, groups_of, line_from}
 use Rattle.hc_records.specs.Project.{lowest_fault}
 use Rattle.hc_records.specs.TaskList.{Keyed, task_list}
 use Rattle.hc_records.specs.Packing.{Front, Placed, beginning, behind, fits, next_byte, opening, packed, placed_at}
-use Rattle.hc_records.specs.Image.{datagram_count, datagram_length, datagram_offset, end_of, image_length, inside, logical_address, output_length, task_places, tasks}
-use Rattle.hc_records.specs.Laws.{Ascends, KeepsToItsPart, LiesInside}
+use Rattle.hc_records.specs.Image.{datagram_count, datagram_length, datagram_offset, end_of, inside, logical_address, output_length, task_places, tasks}
+use Rattle.hc_records.specs.Laws.{Ascends, KeepsToItsPart}
 use Rattle.hc_records.proofs.lemmas.Finds.{found-none}
-use Rattle.hc_records.proofs.lemmas.Greatest.{greatest-all, greatest-most}
+use Rattle.hc_records.proofs.lemmas.Greatest.{greatest-most}
 use Rattle.hc_records.proofs.lemmas.Lengths.{bit_behind}
 use Rattle.hc_records.proofs.lemmas.Packed.{place}
 use Rattle.hc_records.proofs.lemmas.Parts.{EndsInDatagram, ends-in-datagram, outputs-first}

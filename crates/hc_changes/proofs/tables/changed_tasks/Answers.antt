@@ -1,5 +1,5 @@
-use Rattle.std.proofs.Common.{◌≡◌, ◌∙◌, ℕ, List, subst}
-use Rattle.std.specs.Prelude.{Option, Vec, find, option_map, slice_get, ◌==◌}
+use Rattle.std.proofs.Common.{◌∙◌, ℕ, List, subst}
+use Rattle.std.specs.Prelude.{Option, find, option_map, slice_get, ◌==◌}
 use Rattle.std.proofs.lemmas.Result.{IfOk-weaker}
 use Rattle.hc_records.specs.declared.records.Declared.{Declared}
 use Rattle.hc_records.specs.Line.{line_from}

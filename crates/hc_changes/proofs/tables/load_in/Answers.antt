@@ -1,4 +1,4 @@
-use Rattle.std.proofs.Common.{◌≡◌, ◌∙◌, ap, List, subst, sym}
+use Rattle.std.proofs.Common.{◌∙◌, ap, List, subst, sym}
 use Rattle.std.specs.Prelude.{All, ◌<◌}
 use Rattle.hc_records.specs.Laws.{LiesInside}
 use Rattle.hc_records.specs.Packing.{Placed}

@@ -1,4 +1,4 @@
-use Rattle.std.proofs.Common.{arith, refl}
+use Rattle.std.proofs.Common.{arith}
 use Rattle.hc_tasks.specs.Areas.{areas_by_rank}
 use Rattle.hc_changes.proofs.Loading.{adds-none, adds-some, all-loaded}
 use Rattle.hc_changes.proofs.tables.new_table.Goals as goal

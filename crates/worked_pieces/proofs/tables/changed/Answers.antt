@@ -1,6 +1,6 @@
-use Rattle.std.proofs.Common.{List, ◌∙◌, ap, subst, sym}
+use Rattle.std.proofs.Common.{List, ◌∙◌, subst, sym}
 use Rattle.hc_records.specs.declared.records.Area.{Area}
-use Rattle.hc_tasks.specs.Kept.{IsLine, line_kept}
+use Rattle.hc_tasks.specs.Kept.{IsLine}
 use Rattle.hc_tasks.proofs.lemmas.Projects.{project-line}
 use Rattle.worked_pieces.proofs.tables.changed.Goals as goal
 
