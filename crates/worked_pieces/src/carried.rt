@@ -62,11 +62,13 @@ fn a_datagram_carries_its_areas_alone(rt: HostRuntime) -> Result<(), Fail> {
     let list = [(out(1), 8 * 1485), (out(2), 8), (out(3), 1), (input(1), 4)];
     let mut cuts = task_of(rt.alloc(), &list)?;
     let done = cut(&mut cuts).is_ok();
-    assert!(rt; done);
     let first = [(out(1), 0), (out(2), 8 * 1485)];
     let second = [(out(3), 0), (input(1), 8)];
-    assert!(rt; carries(rt.alloc(), &cuts, 0, &first)?);
-    assert!(rt; carries(rt.alloc(), &cuts, 1, &second)?);
-    assert!(rt; carries(rt.alloc(), &cuts, 2, &[])?);
+    let alloc = rt.alloc();
+    assert!(rt;
+        done && carries(alloc, &cuts, 0, &first)?
+            && carries(alloc, &cuts, 1, &second)?
+            && carries(alloc, &cuts, 2, &[])?
+    );
     Ok(())
 }

@@ -11,6 +11,7 @@ use hc_changes::tables::changed_tasks;
 use hc_places::configure::configure;
 use hc_places::swap::ChangedTask;
 use hc_places::table::{Datagram, Places, TaskTable};
+use hc_records::faults::EditFault;
 use hc_records::project::Project;
 use hc_records::records::Declared;
 use hc_tasks::areas::areas_by_rank;
@@ -28,7 +29,7 @@ fn changed<L: Ledger>(
     groups: &[Declared],
     all_kept: bool,
     blank: Blank,
-) -> Result<Vec<ChangedTask>, Fail>
+) -> Result<Vec<ChangedTask>, EditFault>
     requires name { blank.name ≡ L.name }
     requires parts { blank.parts ≡ L.parts }
     requires one { L.parts ≡ 1 }
@@ -36,9 +37,7 @@ fn changed<L: Ledger>(
 {
     let mut steps: Steps<L> = Steps::start(blank);
     let slaves = areas_by_rank(alloc, groups)?;
-    let cuts = LineCuts::open(alloc, slaves.as_slice(), &mut steps)
-        .ok()
-        .ok_or("few datagrams")?;
+    let cuts = LineCuts::open(alloc, slaves.as_slice(), &mut steps)?;
     let kept = [[all_kept; 16]; 8];
     let changed = changed_tasks(alloc, &cuts, old, &kept, &mut steps)?;
     Ok(changed)
@@ -55,7 +54,10 @@ fn with_tool(alloc: Global, comes: bool) -> Result<Vec<ChangedTask>, Fail> {
         .ok_or("few datagrams")?;
     let absent = if comes { NONE } else { TOOL };
     let after = present(alloc, project.groups(), absent)?;
-    changed::<Brand>(alloc, &old.places, after.as_slice(), !comes, Blank::new(1))
+    let changed = changed::<Brand>(alloc, &old.places, after.as_slice(), !comes, Blank::new(1))
+        .ok()
+        .ok_or("few datagrams")?;
+    Ok(changed)
 }
 
 /// Whether these are task 0 alone, with one datagram of outputs of this length and expected counter.
