@@ -1,9 +1,10 @@
 -- What follows from the definitions. Each is the contract of a function of `laws`.
-use Rattle.std.specs.Prelude.{◌≡◌, ℕ, Bool, true, false, Contains, List, None, Some}
+use Rattle.std.specs.Prelude.{◌≡◌, ℕ, Bool, true, false, All, Contains, List, None, Some, map}
 use Rattle.std.specs.List.{flat_map}
 use Rattle.hc_records.specs.declared.edit.Edit.{Edit}
+use Rattle.hc_records.specs.declared.records.Area.{Area}
 use Rattle.hc_records.specs.declared.records.Declared.{Declared}
-use Rattle.hc_records.specs.Edits.{groups_after}
+use Rattle.hc_records.specs.Edits.{crowded_task, groups_after}
 use Rattle.hc_records.specs.Line.{Member, State, groups_of, line, line_from}
 use Rattle.hc_registers.specs.Blocks.{line_blocks, moved_blocks}
 use Rattle.hc_records.specs.TaskList.{Keyed, task_list}
@@ -11,8 +12,10 @@ use Rattle.hc_records.specs.Packing.{Placed, opening, packed}
 use Rattle.hc_records.specs.Image.{inside}
 use Rattle.hc_records.specs.Project.{lowest_fault}
 use Rattle.hc_records.specs.SpanLaws.{IsTaskList}
-use Rattle.hc_changes.specs.Candidates.{DifferAt, LineArea, blocks_of, candidates, is_kept, line_areas, moved_of, place_of}
+use Rattle.hc_places.specs.Table.{table_of}
+use Rattle.hc_changes.specs.Candidates.{DifferAt, LineArea, blocks_of, candidate_of, candidates, is_kept, line_areas, moved_of, place_of}
 use Rattle.hc_changes.specs.Edited.{is_named}
+use Rattle.hc_changes.specs.Rows.{IsChange, StandsInside, TellPlaces, changed_rows, variables_by_rank}
 
 -- a kept datagram carries the areas that it carried, each at its bit
 abbrev pub KeptDatagramsStay : Type 0
@@ -48,3 +51,20 @@ MovedBlocksAreTold =
     (changed : ℕ → Bool) (old new : State) → lowest_fault (groups_of old.groups) ≡ None → lowest_fault (groups_of new.groups) ≡ None
     → DifferAt changed (line old) (line new)
     → moved_blocks (line old) (line new) ≡ flat_map (moved_of (line old) (line new)) (candidates changed (line old) (line new))
+
+-- an edit leaves each declared slave the variables that it offers
+abbrev pub EditsKeepTheVariables : Type 0
+EditsKeepTheVariables = (groups : List Declared) (edit : Edit) → variables_by_rank (groups_after groups edit) ≡ variables_by_rank groups
+
+-- where no task of a project's line needs more than 16 datagrams, each of its areas stands in one of them
+abbrev pub CandidatesStandInside : Type 0
+CandidatesStandInside =
+    (state : State) → lowest_fault (groups_of state.groups) ≡ None → crowded_task (line state) ≡ None
+    → All (λ found. StandsInside (candidate_of (line state) found)) (line_areas (line state))
+
+-- between two states of one project the variables that stand elsewhere, appear or go are those that the candidates and the changed slaves tell, each with its new place or none
+abbrev pub ChangedRowsAreTold : Type 0
+ChangedRowsAreTold =
+    (changed : ℕ → Bool) (before after : List (List Area)) (old new : State) → IsChange changed before after old new
+    → TellPlaces (table_of (line old)) (table_of (line new))
+    (changed_rows (table_of (line old)) (map (candidate_of (line new)) (candidates changed (line old) (line new))) before after)

@@ -1,3 +1,4 @@
 pub mod Candidates
 pub mod Edited
 pub mod Laws
+pub mod Rows

@@ -1,6 +1,6 @@
 //! What follows from the definitions of this crate: each function does nothing, and its contract is a
 //! law. Nobody calls it.
-ghost use Rattle.hc_changes.specs.Laws.{BlocksAreTheAreas, EditsChangeTheNamed, KeptAreasStay, KeptDatagramsStay, MovedBlocksAreTold, OtherAreasStood};
+ghost use Rattle.hc_changes.specs.Laws.{BlocksAreTheAreas, CandidatesStandInside, ChangedRowsAreTold, EditsChangeTheNamed, EditsKeepTheVariables, KeptAreasStay, KeptDatagramsStay, MovedBlocksAreTold, OtherAreasStood};
 
 /// A datagram that an edit keeps carries the areas that it carried, each at its bit: so its length and its
 /// expected working counter stay too.
@@ -35,4 +35,22 @@ pub fn kept_areas_stay()
 /// line, in line and block order.
 pub fn moved_blocks_are_told()
     ensures { MovedBlocksAreTold }
+{}
+
+/// An edit leaves each declared slave the variables that its areas offer: it changes which of them are
+/// assigned, and in which tasks.
+pub fn edits_keep_the_variables()
+    ensures { EditsKeepTheVariables }
+{}
+
+/// Where no task of a project's line needs more than 16 datagrams, each area of the line that has a place
+/// stands in one of the 16, its bits within the datagram's.
+pub fn candidates_stand_inside()
+    ensures { CandidatesStandInside }
+{}
+
+/// Between two states of one project, the variables that stand elsewhere, appear or go are told by the
+/// candidates and by the areas of the slaves that changed: each once, with its new place or none.
+pub fn changed_rows_are_told()
+    ensures { ChangedRowsAreTold }
 {}

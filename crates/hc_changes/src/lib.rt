@@ -3,4 +3,6 @@
 //! and tables are to be made from these.
 #![tactic(auto)]
 
+pub mod candidates;
 pub mod laws;
+pub mod rows;

@@ -7,7 +7,6 @@ pub mod Founds
 pub mod Leading
 pub mod Members
 pub mod Merged
-pub mod Once
 pub mod Order
 pub mod Pairs
 pub mod Ranks
@@ -19,7 +18,6 @@ pub mod Sendable
 pub mod Spread
 pub mod Swapped
 pub mod Tables
-pub mod Totals
 pub mod Walked
 pub mod Widths
 pub mod lemmas
