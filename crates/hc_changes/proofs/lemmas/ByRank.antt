@@ -129,8 +129,9 @@ slaves-offer present (slave ∷ slaves) areas names behind (suc i) = slaves-offe
 
 slots-offer : (groups : List Declared) (i : ℕ) → Offers (slice_index_or (areas_by_rank groups) i []) (slice_index_or (variables_by_rank groups) i [])
 slots-offer [] i area variable (k, within, is) own = absurd (omega arith)
-slots-offer (declared ∷ groups) i = slaves-offer declared.present declared.group.slaves (areas_by_rank groups) (variables_by_rank groups) (slots-offer groups) i
+slots-offer (declared ∷ groups) i area variable at own =
+    slaves-offer declared.present declared.group.slaves (areas_by_rank groups) (variables_by_rank groups) (slots-offer groups) i area variable at own
 
 pub rank-offers : (groups : List Declared) (rank : ℕ) → Offers (areas_at (areas_by_rank groups) rank) (slice_index_or ([] ∷ variables_by_rank groups) rank [])
 rank-offers groups zero area variable (k, within, is) own = absurd (omega arith)
-rank-offers groups (suc i) = slots-offer groups i
+rank-offers groups (suc i) area variable at own = slots-offer groups i area variable at own
