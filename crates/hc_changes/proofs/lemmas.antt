@@ -12,7 +12,7 @@ pub mod Names
 pub mod Others
 pub mod Places
 pub mod Ranks
+pub mod RowsTold
 pub mod Slots
 pub mod Standing
-pub mod Told
 pub mod Widths

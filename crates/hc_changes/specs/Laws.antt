@@ -15,7 +15,7 @@ use Rattle.hc_records.specs.SpanLaws.{IsTaskList}
 use Rattle.hc_places.specs.Table.{table_of}
 use Rattle.hc_changes.specs.Candidates.{DifferAt, LineArea, blocks_of, candidate_of, candidates, is_kept, line_areas, moved_of, place_of}
 use Rattle.hc_changes.specs.Edited.{is_named}
-use Rattle.hc_changes.specs.Rows.{IsChange, StandsInside, TellPlaces, changed_rows, variables_by_rank}
+use Rattle.hc_changes.specs.ChangedRows.{IsChange, StandsInside, TellPlaces, changed_rows, variables_by_rank}
 
 -- a kept datagram carries the areas that it carried, each at its bit
 abbrev pub KeptDatagramsStay : Type 0

@@ -1,4 +1,4 @@
 pub mod Candidates
+pub mod ChangedRows
 pub mod Edited
 pub mod Laws
-pub mod Rows

@@ -18,10 +18,10 @@ use std::alloc::{AllocError, Global};
 use std::test::Fail;
 
 /// An alias that no group has.
-const NONE: u16 = 1;
+pub(crate) const NONE: u16 = 1;
 
 /// The alias of the tool that comes and goes.
-const TOOL: u16 = 9;
+pub(crate) const TOOL: u16 = 9;
 
 /// An output area of task 0 at a sync manager, with one PDO of these entries, which is assigned.
 fn area(alloc: Global, sm: u8, entries: &[Entry]) -> Result<Area, AllocError> {
@@ -42,7 +42,7 @@ fn area(alloc: Global, sm: u8, entries: &[Entry]) -> Result<Area, AllocError> {
 }
 
 /// Copies of the groups, all present but one with an alias.
-fn present(alloc: Global, groups: &[Group], absent: u16) -> Result<Vec<Declared>, AllocError>
+pub(crate) fn present(alloc: Global, groups: &[Group], absent: u16) -> Result<Vec<Declared>, AllocError>
     ensures { IfOk result (λ declared. map (λ one. one.group) declared.items ≡ groups.now) }
 {
     let mut declared = Vec::new(alloc);
@@ -99,7 +99,7 @@ fn one_slave(
 
 /// The mandatory slave writes variable 7 of 3 bits, a tool behind it variable 6 of 3 bits, and a
 /// module behind both variable 8 of 5 bits.
-fn tool_and_module(alloc: Global) -> Result<Items<Group>, AllocError> {
+pub(crate) fn tool_and_module(alloc: Global) -> Result<Items<Group>, AllocError> {
     let mut groups = Items::new(alloc);
     groups.push(one_slave(alloc, 0, 1001, 7, 3)?)?;
     groups.push(one_slave(alloc, TOOL, 1002, 6, 3)?)?;

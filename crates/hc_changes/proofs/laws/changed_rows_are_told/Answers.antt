@@ -1,4 +1,4 @@
-use Rattle.hc_changes.proofs.lemmas.Told.{rows-told}
+use Rattle.hc_changes.proofs.lemmas.RowsTold.{rows-told}
 use Rattle.hc_changes.proofs.laws.changed_rows_are_told.Goals as goal
 
 pub returns : goal.returns

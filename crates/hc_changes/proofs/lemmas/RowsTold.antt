@@ -20,7 +20,7 @@ use Rattle.hc_places.proofs.lemmas.Once.{of_row, own}
 use Rattle.hc_places.proofs.lemmas.Same.{found-same}
 use Rattle.hc_places.proofs.lemmas.Totals.{total, total-append, total-flat_map, total-less, total-map, total-zip}
 use Rattle.hc_changes.specs.Candidates.{DifferAt, LineArea, candidate_of, candidates, is_candidate, is_recut, line_areas, place_of}
-use Rattle.hc_changes.specs.Rows.{IsChange, TellPlaces, area_variables_of, assigned_variables, changed_rows, gone_rows, gone_variables, is_assigned, is_new_row, moved_rows, rows_of, variables_by_rank}
+use Rattle.hc_changes.specs.ChangedRows.{IsChange, TellPlaces, area_variables_of, assigned_variables, changed_rows, gone_rows, gone_variables, is_assigned, is_new_row, moved_rows, rows_of, variables_by_rank}
 use Rattle.hc_changes.proofs.lemmas.ByRank.{area-at-rank, area-of-rank, rank-offers}
 use Rattle.hc_changes.proofs.lemmas.Counted.{candidates-once, counted, counted-none, filtered-less, offered-once, one-rank, ranks-once}
 use Rattle.hc_changes.proofs.lemmas.InARow.{areas-in-row, contains-pair, rank-index, zip-piece}
