@@ -96,11 +96,7 @@ fn is_among(variable: VarId, variables: &[VarId]) -> bool
 }
 
 /// Adds the variables before that aren't among those after.
-fn add_gone(
-    rows: &mut Vec<ChangedRow>,
-    before: &[VarId],
-    after: &[VarId],
-) -> Result<(), AllocError>
+fn add_gone(rows: &mut Vec<ChangedRow>, before: &[VarId], after: &[VarId]) -> Result<(), AllocError>
     ensures { OnOk result (rows.new.items ≡ rows.old.items ++ map (λ variable. (variable, None)) (filter (λ variable. not (list_any (λ other. other == variable) after.now)) before.now)) }
 {
     for variable in before {

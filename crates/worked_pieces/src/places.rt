@@ -42,7 +42,11 @@ fn area(alloc: Global, sm: u8, entries: &[Entry]) -> Result<Area, AllocError> {
 }
 
 /// Copies of the groups, all present but one with an alias.
-pub(crate) fn present(alloc: Global, groups: &[Group], absent: u16) -> Result<Vec<Declared>, AllocError>
+pub(crate) fn present(
+    alloc: Global,
+    groups: &[Group],
+    absent: u16,
+) -> Result<Vec<Declared>, AllocError>
     ensures { IfOk result (λ declared. map (λ one. one.group) declared.items ≡ groups.now) }
 {
     let mut declared = Vec::new(alloc);

@@ -82,6 +82,7 @@ assigned-at variable areas is = among-at variable (assigned_variables areas) is
         → (list_any (λ x. x == variable) names ≡ true → Contains names variable) → Contains (other ∷ names) variable
     at-by true other names test some later = (0, omega arith, eqb-true other variable test)
     at-by false other names test some later = let rest = later some in (suc rest.0, let low = rest.1 in omega arith, rest.2)
+
     among-at : (variable' : ℕ) (names : List ℕ) → list_any (λ x. x == variable) names ≡ true → Contains names variable
     among-at variable' [] some = cc
     among-at variable' (other ∷ names) some = at-by (other == variable) other names refl some (among-at variable' names)
@@ -227,9 +228,11 @@ gone-told : (changed : ℕ → Bool) (before after : List (List Area)) (old new 
     → Contains (assigned_variables (slice_index_or before i [])) variable → is_assigned variable (slice_index_or after i []) ≡ false → IsTold variable (gone_rows before after)
 gone-told changed before after old new change i variable within carried gone =
     let pair : List Area × List Area = (slice_index_or before i [], slice_index_or after i []) in
-    let own = contains-filtered (λ v. not (is_assigned v (slice_index_or after i []))) (assigned_variables (slice_index_or before i [])) variable carried (ap not gone) in
-    (None, contains-mapped gone_row (flat_map gone_variables (zip before after)) variable
-    (contains-flat_map gone_variables (zip before after) pair variable (contains-pair [] before after i change.areas.many within) own))
+    let own = contains-filtered (λ v. not (is_assigned v (slice_index_or after i []))) (assigned_variables (slice_index_or before i [])) variable carried (ap not gone) in (
+      None,
+      contains-mapped gone_row (flat_map gone_variables (zip before after)) variable
+          (contains-flat_map gone_variables (zip before after) pair variable (contains-pair [] before after i change.areas.many within) own),
+    )
 
 goes-by : (changed : ℕ → Bool) (before after : List (List Area)) (old new : State) → IsChange changed before after old new → (i variable : ℕ) → i < length before
     → place_in (table new) variable ≡ None → Contains (assigned_variables (slice_index_or before i [])) variable
