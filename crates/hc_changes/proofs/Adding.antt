@@ -1,13 +1,15 @@
 -- What is added to a list while another is gone along.
-use Rattle.std.proofs.Common.{◌≡◌, ℕ, zero, suc, ◌+◌, ◌<◌, Bool, true, false, cond, List, [], ◌∷◌, ◌++◌, drop, length, get_or, refl, sym, ap, ◌∙◌, append_assoc, arith, if◌then◌else◌}
-use Rattle.std.specs.Prelude.{None, filter, map}
+use Rattle.std.proofs.Common.{◌≡◌, ℕ, zero, suc, ◌+◌, ◌<◌, Bool, true, false, cond, List, [], ◌∷◌, ◌++◌, drop, length, get_or, refl, sym, ap, subst, ◌∙◌, append_assoc, arith, if◌then◌else◌}
+use Rattle.std.specs.Prelude.{All, None, Some, filter, map}
 use Rattle.std.specs.List.{filter_map, flat_map, zip}
 use Rattle.std.proofs.lemmas.List.Elements.{filter_map-append}
 use Rattle.hc_records.specs.declared.records.Area.{Area}
 use Rattle.hc_records.specs.Area.{Entry}
+use Rattle.hc_records.specs.Packing.{Placed}
 use Rattle.hc_records.specs.Project.{entry_names}
 use Rattle.hc_places.specs.Swap.{ChangedRow}
-use Rattle.hc_changes.specs.ChangedRows.{gone_rows, gone_variables}
+use Rattle.hc_changes.specs.Candidates.{Candidate}
+use Rattle.hc_changes.specs.ChangedRows.{HoldsArea, StandsInside, gone_rows, gone_variables}
 
 next-dropped : {X : Type 0} (xs : List X) (i : ℕ) (d : X) → i < length xs → drop i xs ≡ get_or xs i d ∷ drop (i + 1) xs
 next-dropped [] i d within = absurd (omega arith)
@@ -85,3 +87,10 @@ gone-added before after i was is had has all within same first second adds so_fa
     ∙ append_assoc had (map (λ v. (v, None)) (gone_variables (was, is))) (gone_rows (drop (i + 1) before) (drop (i + 1) after))
     ∙ ap (λ (rows : List ChangedRow). had ++ rows) (sym (gone-next before after i was is within same first second))
     ∙ so_far
+
+-- a candidate that is met, and its place
+pub stands-at : (candidates : List Candidate) (i : ℕ) (candidate : Candidate) (placed : Placed) → All StandsInside candidates → i < length candidates
+    → candidate ≡ get_or candidates i candidate → candidate.place ≡ Some placed → HoldsArea candidate.area placed
+stands-at candidates i candidate placed all within is place =
+    let own : StandsInside candidate = subst (λ (c : Candidate). StandsInside c) (sym is) (all i candidate within) in
+    own placed place
