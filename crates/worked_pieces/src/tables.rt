@@ -65,19 +65,17 @@ fn is_task(changed: &[ChangedTask], length: u16, expected: u16) -> bool
     requires some { 1 ≤ length }
     requires most { length ≤ MOST_DATAGRAM_BYTES }
 {
-    match changed {
-        [(0, table)] => {
-            let mut datagrams = ArrayVec::new();
-            datagrams.push(Datagram {
-                address: 0x0100_0000,
-                length,
-                expected,
-                offset: 0,
-            });
-            table.is_same(&TaskTable::of(datagrams, length, 0))
-        }
-        _ => false,
+    if changed.len() != 1 || changed[0].0 != 0 {
+        return false;
     }
+    let mut datagrams = ArrayVec::new();
+    datagrams.push(Datagram {
+        address: 0x0100_0000,
+        length,
+        expected,
+        offset: 0,
+    });
+    changed[0].1.is_same(&TaskTable::of(datagrams, length, 0))
 }
 
 #[test]
