@@ -88,11 +88,11 @@ fn slave_variables(alloc: Global, slave: &SlaveAreas) -> Result<Vec<VarId>, Allo
     Ok(variables)
 }
 
-/// Whether a variable isn't among others.
-fn is_gone(variable: VarId, after: &[VarId]) -> bool
-    ensures { result ≡ not (list_any (λ other. other == variable) after.now) }
+/// Whether a variable is among others.
+fn is_among(variable: VarId, variables: &[VarId]) -> bool
+    ensures { result ≡ list_any (λ other. other == variable) variables.now }
 {
-    !after.iter().any(|other| *other == variable)
+    variables.iter().any(|other| *other == variable)
 }
 
 /// Adds the variables before that aren't among those after.
@@ -100,7 +100,7 @@ fn add_gone(rows: &mut Vec<ChangedRow>, before: &[VarId], after: &[VarId]) -> Re
     ensures { OnOk result (rows.new.items ≡ rows.old.items ++ map (λ variable. (variable, None)) (filter (λ variable. not (list_any (λ other. other == variable) after.now)) before.now)) }
 {
     for variable in before {
-        if is_gone(*variable, after) {
+        if !is_among(*variable, after) {
             rows.push((*variable, None))?;
         }
     }
