@@ -21,3 +21,5 @@ mod registers;
 mod repairs;
 #[cfg(test)]
 mod searches;
+#[cfg(test)]
+mod swaps;
