@@ -23,3 +23,5 @@ mod repairs;
 mod searches;
 #[cfg(test)]
 mod standing;
+#[cfg(test)]
+mod swaps;

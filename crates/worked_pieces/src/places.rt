@@ -7,9 +7,7 @@ ghost use Rattle.hc_places.specs.Table.{variables_in};
 
 use hc_places::configure::{Configured, configure};
 use hc_places::layout::Layout;
-use hc_places::swap::Swap;
 use hc_places::table::{Datagram, Place, Places};
-use hc_records::edit::Edit;
 use hc_records::items::{Copied, Items};
 use hc_records::keys::Key;
 use hc_records::project::Project;
@@ -18,13 +16,13 @@ use std::alloc::{AllocError, Global};
 use std::test::Fail;
 
 /// An alias that no group has.
-const NONE: u16 = 1;
+pub const NONE: u16 = 1;
 
 /// The alias of the tool that comes and goes.
-const TOOL: u16 = 9;
+pub const TOOL: u16 = 9;
 
 /// An output area of task 0 at a sync manager, with one PDO of these entries, which is assigned.
-fn area(alloc: Global, sm: u8, entries: &[Entry]) -> Result<Area, AllocError> {
+pub fn area(alloc: Global, sm: u8, entries: &[Entry]) -> Result<Area, AllocError> {
     let mut offered = Items::new(alloc);
     offered.push(Pdo {
         index: 0x1600,
@@ -85,7 +83,7 @@ fn one_area(alloc: Global, station: u16, variable: u32, bits: u8) -> Result<Slav
 }
 
 /// A group of one such slave.
-fn one_slave(
+pub fn one_slave(
     alloc: Global,
     alias: u16,
     station: u16,
@@ -99,7 +97,7 @@ fn one_slave(
 
 /// The mandatory slave writes variable 7 of 3 bits, a tool behind it variable 6 of 3 bits, and a
 /// module behind both variable 8 of 5 bits.
-fn tool_and_module(alloc: Global) -> Result<Items<Group>, AllocError> {
+pub fn tool_and_module(alloc: Global) -> Result<Items<Group>, AllocError> {
     let mut groups = Items::new(alloc);
     groups.push(one_slave(alloc, 0, 1001, 7, 3)?)?;
     groups.push(one_slave(alloc, TOOL, 1002, 6, 3)?)?;
@@ -108,7 +106,7 @@ fn tool_and_module(alloc: Global) -> Result<Items<Group>, AllocError> {
 }
 
 /// The line of groups, all present but one with an alias.
-fn configured(alloc: Global, groups: Items<Group>, absent: u16) -> Result<Configured, Fail> {
+pub fn configured(alloc: Global, groups: Items<Group>, absent: u16) -> Result<Configured, Fail> {
     let project = Project::checked(alloc, groups).ok().ok_or("a project")?;
     let declared = present(alloc, project.groups(), absent)?;
     let configured = configure(alloc, declared.as_slice())
@@ -118,7 +116,7 @@ fn configured(alloc: Global, groups: Items<Group>, absent: u16) -> Result<Config
 }
 
 /// The place of an output variable in the first datagram of task 0.
-fn output(bit: u16, bits: u8) -> Place
+pub fn output(bit: u16, bits: u8) -> Place
     requires some { 1 ≤ bits }
     requires most { bits ≤ MOST_ENTRY_BITS }
     requires inside { bit + bits ≤ MOST_AREA_BITS }
@@ -169,7 +167,7 @@ fn is_placed(layout: &Layout, rank: u16, area: u8, bit: u16) -> bool {
 
 /// Whether the only datagram of task 0 has this length and this expected counter, and is the task's
 /// outputs.
-fn has_datagram(places: &Places, length: u16, expected: u16) -> bool {
+pub fn has_datagram(places: &Places, length: u16, expected: u16) -> bool {
     let datagram = Datagram {
         address: 0x0100_0000,
         length,
@@ -267,111 +265,5 @@ fn tables_are_walked(rt: HostRuntime) -> Result<(), Fail> {
     let alloc = rt.alloc();
     let places = configured(alloc, two_slaves(alloc)?, NONE)?.places;
     assert!(rt; is_walked(alloc, &places)?);
-    Ok(())
-}
-
-/// Whether a variable has this first bit, or has no place.
-fn stands_at(places: &Places, number: u32, bit: Option<u16>) -> bool {
-    let Some(variable) = VarId::new(number) else {
-        return false;
-    };
-    match places.place(variable) {
-        Some(place) => bit == Some(place.bit),
-        None => bit.is_none(),
-    }
-}
-
-/// The table of the mandatory slave, the tool and the module: 3, 3 and 5 bits, and three slaves that
-/// write.
-fn has_tool(places: &Places) -> bool {
-    stands_at(places, 7, Some(0))
-        && stands_at(places, 6, Some(3))
-        && stands_at(places, 8, Some(6))
-        && has_datagram(places, 2, 6)
-}
-
-/// The table of the mandatory slave and the module: 3 and 5 bits, and two slaves that write.
-fn has_no_tool(places: &Places) -> bool {
-    stands_at(places, 7, Some(0))
-        && stands_at(places, 6, None)
-        && stands_at(places, 8, Some(3))
-        && has_datagram(places, 1, 4)
-}
-
-/// How many variables an edit changes that leads from one table to the next, and a copy of the first
-/// with the changes.
-fn swapped(
-    alloc: Global,
-    edit: Edit,
-    old: &Places,
-    new: &Places,
-) -> Result<(u32, Places), AllocError> {
-    let swap = Swap::between(alloc, &edit, old, new)?;
-    let mut places = old.copied(alloc)?;
-    places.swap(alloc, &swap)?;
-    Ok((swap.places(), places))
-}
-
-/// The variables whose place differs, with their new first bits.
-fn changed(
-    alloc: Global,
-    old: &Places,
-    new: &Places,
-) -> Result<Vec<(u32, Option<u16>)>, AllocError> {
-    let swap = Swap::between(alloc, &Edit::Disconnect(TOOL), old, new)?;
-    let mut changed = Vec::new(alloc);
-    for (variable, place) in swap.changes() {
-        changed.push((variable.number(), place.map(|place| place.bit)))?;
-    }
-    Ok(changed)
-}
-
-/// The table of the line with the tool, or without it.
-fn table(alloc: Global, absent: u16) -> Result<Places, Fail> {
-    Ok(configured(alloc, tool_and_module(alloc)?, absent)?.places)
-}
-
-/// Whether the tool's going changes two variables, those that it had and those behind it.
-fn goes(alloc: Global, with: &Places, without: &Places) -> Result<bool, AllocError> {
-    let (count, places) = swapped(alloc, Edit::Disconnect(TOOL), with, without)?;
-    Ok(
-        count == 2
-            && has_no_tool(&places)
-            && changed(alloc, with, without)?.as_slice() == [(6, None), (8, Some(3))].as_slice(),
-    )
-}
-
-#[test]
-fn a_tool_goes(rt: HostRuntime) -> Result<(), Fail> {
-    let with = table(rt.alloc(), NONE)?;
-    let without = table(rt.alloc(), TOOL)?;
-    assert!(rt; has_tool(&with) && goes(rt.alloc(), &with, &without)?);
-    Ok(())
-}
-
-/// Whether the tool's coming changes two variables.
-fn comes(alloc: Global, without: &Places, with: &Places) -> Result<bool, AllocError> {
-    let (count, places) = swapped(alloc, Edit::Connect(TOOL), without, with)?;
-    Ok(count == 2 && has_tool(&places))
-}
-
-#[test]
-fn a_tool_comes(rt: HostRuntime) -> Result<(), Fail> {
-    let without = table(rt.alloc(), TOOL)?;
-    let with = table(rt.alloc(), NONE)?;
-    assert!(rt; has_no_tool(&without) && comes(rt.alloc(), &without, &with)?);
-    Ok(())
-}
-
-/// Whether a swap between a table and itself changes nothing and names its edit.
-fn names_its_edit(alloc: Global, places: &Places) -> Result<bool, AllocError> {
-    let swap = Swap::between(alloc, &Edit::Connect(TOOL), places, places)?;
-    Ok(swap.places() == 0 && matches!(swap.edit(), Edit::Connect(TOOL)))
-}
-
-#[test]
-fn a_swap_names_its_edit(rt: HostRuntime) -> Result<(), Fail> {
-    let places = table(rt.alloc(), NONE)?;
-    assert!(rt; names_its_edit(rt.alloc(), &places)?);
     Ok(())
 }
