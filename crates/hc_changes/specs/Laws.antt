@@ -1,7 +1,8 @@
 -- What follows from the definitions. Each is the contract of a function of `laws`.
-use Rattle.std.specs.Prelude.{◌≡◌, ◌↔◌, ℕ, Bool, true, false, AllPairs, Contains, List, map, None, slice_get, Some}
+use Rattle.std.specs.Prelude.{◌≡◌, ◌↔◌, ◌<◌, ℕ, Bool, true, false, AllPairs, Contains, List, map, None, Some}
 use Rattle.std.specs.List.{flat_map}
 use Rattle.hc_records.specs.declared.edit.Edit.{Edit}
+use Rattle.hc_records.specs.declared.limits.TheConstants.{TASKS}
 use Rattle.hc_records.specs.declared.records.Declared.{Declared}
 use Rattle.hc_records.specs.Edits.{groups_after}
 use Rattle.hc_records.specs.Line.{Member, State, groups_of, line, line_from}
@@ -10,9 +11,9 @@ use Rattle.hc_records.specs.TaskList.{Keyed, task_list}
 use Rattle.hc_records.specs.Packing.{Placed, opening, packed}
 use Rattle.hc_records.specs.Image.{inside, task_places}
 use Rattle.hc_records.specs.Project.{lowest_fault}
-use Rattle.hc_records.specs.Boundaries.{Interval, boundaries, is_touched_task, spans}
+use Rattle.hc_records.specs.Boundaries.{is_touched_task}
 use Rattle.hc_records.specs.SpanLaws.{IsTaskList}
-use Rattle.hc_cuts.specs.Walk.{span_places}
+use Rattle.hc_places.specs.Loads.{load_in, load_told}
 use Rattle.hc_places.specs.Swap.{ChangedTask, SaysWhatDiffers}
 use Rattle.hc_places.specs.Table.{table_of, task_table}
 use Rattle.hc_cuts.specs.Keeping.{is_kept}
@@ -21,7 +22,7 @@ use Rattle.hc_changes.specs.Compared.{differing_of}
 use Rattle.hc_changes.specs.Edited.{is_named}
 use Rattle.hc_changes.specs.Listed.{Precedes, pair_of}
 use Rattle.hc_changes.specs.Rows.{TellsVariables, gone, told_rows}
-use Rattle.hc_changes.specs.Tables.{TellsTasks, carried_by, carried_of, first_input, table_by, task_carries}
+use Rattle.hc_changes.specs.Tables.{TellsTasks}
 
 -- a kept datagram carries the areas that it carried, each at its bit
 abbrev pub KeptDatagramsStay : Type 0
@@ -88,22 +89,12 @@ UntouchedTasksStay =
     (old new : State) (task : ℕ) → lowest_fault (groups_of old.groups) ≡ None → lowest_fault (groups_of new.groups) ≡ None
     → is_touched_task (line old) (line new) task ≡ false → task_table (line new) task ≡ task_table (line old) task
 
--- a kept datagram has the length and the expected working counter that it had
-abbrev pub KeptDatagramsCarryTheSame : Type 0
-KeptDatagramsCarryTheSame =
-    (old new : State) (task datagram : ℕ) → lowest_fault (groups_of old.groups) ≡ None → lowest_fault (groups_of new.groups) ≡ None
-    → is_kept (task_list task (line old)) (task_list task (line new)) datagram ≡ true → carried_by (line new) task datagram ≡ carried_by (line old) task datagram
-
--- the span with a number tells what its datagram carries: the areas from its boundary on, packed alone, up to the first that doesn't fit
-abbrev pub SpansTellTheCarried : Type 0
-SpansTellTheCarried =
-    (state : State) (task datagram : ℕ) (span : Interval) → lowest_fault (groups_of state.groups) ≡ None
-    → slice_get (spans (boundaries (task_list task (line state)))) datagram ≡ Some span
-    → carried_by (line state) task datagram ≡ carried_of (span_places datagram span.0 (task_list task (line state)))
-
--- the table of a task is had from what its datagrams carry and from its first input area
-abbrev pub TablesAreLaidOut : Type 0
-TablesAreLaidOut = (line : List Member) (task : ℕ) → task_table line task ≡ table_by task (task_carries line task) (first_input line task)
+-- the old table tells what a kept datagram holds
+abbrev pub OldTablesTellKept : Type 0
+OldTablesTellKept =
+    (old new : List Declared) (task datagram : ℕ) → lowest_fault (groups_of old) ≡ None → lowest_fault (groups_of new) ≡ None → task < TASKS
+    → is_kept (task_list task (line_from 1 old)) (task_list task (line_from 1 new)) datagram ≡ true
+    → load_told (table_of (line_from 1 old)) task datagram ≡ load_in (task_places task (line_from 1 new)) datagram
 
 -- no area of a task that no edit touched is recut
 abbrev pub UntouchedAreasStay : Type 0

@@ -1,6 +1,6 @@
 //! What follows from the definitions of this crate: each function does nothing, and its contract is a
 //! law. Nobody calls it.
-ghost use Rattle.hc_changes.specs.Laws.{BlocksAreTheAreas, CandidatesAreListed, EditsChangeTheNamed, GoneAreChanged, KeptAreasStay, KeptDatagramsCarryTheSame, KeptDatagramsStay, MovedBlocksAreCompared, MovedBlocksAreTold, NumbersTellTheMoved, OtherAreasStood, RecutAreasAreUnkept, SpansTellTheCarried, SwapsAreTold, TablesAreLaidOut, UnkeptDatagramsAreRecut, UntouchedAreasStay, UntouchedTasksStay, VariablesAreTold};
+ghost use Rattle.hc_changes.specs.Laws.{BlocksAreTheAreas, CandidatesAreListed, EditsChangeTheNamed, GoneAreChanged, KeptAreasStay, KeptDatagramsStay, MovedBlocksAreCompared, MovedBlocksAreTold, NumbersTellTheMoved, OldTablesTellKept, OtherAreasStood, RecutAreasAreUnkept, SwapsAreTold, UnkeptDatagramsAreRecut, UntouchedAreasStay, UntouchedTasksStay, VariablesAreTold};
 
 /// A datagram that an edit keeps carries the areas that it carried, each at its bit: so its length and its
 /// expected working counter stay too.
@@ -61,22 +61,10 @@ pub fn untouched_tasks_stay()
     ensures { UntouchedTasksStay }
 {}
 
-/// A datagram that an edit keeps has the length in bytes and the expected working counter that it had; its
-/// offset in the image may be another one.
-pub fn kept_datagrams_carry_the_same()
-    ensures { KeptDatagramsCarryTheSame }
-{}
-
-/// The length and the expected working counter of a datagram are those that the areas of the span with its
-/// number make, packed from the span's boundary on.
-pub fn spans_tell_the_carried()
-    ensures { SpansTellTheCarried }
-{}
-
-/// The table of a task is had from the lengths and the expected working counters of its datagrams, in their
-/// order, and from the place of its first input area.
-pub fn tables_are_laid_out()
-    ensures { TablesAreLaidOut }
+/// The table of a project's line tells what a datagram holds that an edit keeps: its length, its expected
+/// working counter, and its bytes before the first input.
+pub fn old_tables_tell_kept()
+    ensures { OldTablesTellKept }
 {}
 
 /// No area of a task in whose list no width differs is recut: the candidates are areas of the changed slaves

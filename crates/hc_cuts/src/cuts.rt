@@ -1,7 +1,7 @@
 //! The areas of a task and the keys at which its datagrams begin, kept together.
 ghost use Rattle.std.specs.Prelude.{◌≡◌, ◌+◌, ◌*◌, ◌<◌, ◌≤◌, ◌∷◌, ◌++◌, [], IfOk, OnErr, OnOk, length, slice_index_or};
 ghost use Rattle.hc_records.specs.Boundaries.{boundaries};
-ghost use Rattle.hc_records.specs.Image.{datagram_count};
+ghost use Rattle.hc_records.specs.Image.{datagram_count, inside};
 ghost use Rattle.hc_records.specs.Packing.{opening, packed};
 ghost use Rattle.hc_records.specs.declared.keys.TheConstants.Key.{END};
 ghost use Rattle.hc_records.specs.declared.limits.TheConstants.{MOST_DATAGRAMS};
@@ -87,7 +87,7 @@ pub(crate) fn end_of(starts: &[Key], i: usize) -> Key
 
 impl Cuts {
     ghost use Rattle.std.specs.Prelude.{◌≡◌, ◌+◌, ◌*◌, ◌≤◌, ◌∷◌, ◌++◌, List, [], IfOk, OnErr, OnOk, length};
-    ghost use Rattle.hc_records.specs.declared.limits.TheConstants.{MOST_AREA_BITS, MOST_SLAVES};
+    ghost use Rattle.hc_records.specs.declared.limits.TheConstants.{MOST_AREA_BITS, MOST_DATAGRAMS, MOST_SLAVES};
     ghost use Rattle.hc_records.specs.TaskList.{Keyed};
     ghost use Rattle.hc_records.specs.Boundaries.{is_touched, unsettled_spans};
     ghost use Rattle.hc_bitsum.specs.Tree.{HasPlace, HoldsTaskList, with_width};
@@ -123,7 +123,8 @@ impl Cuts {
     /// The boundaries that were last worked out but the last one, `Key::END`: `Key::START`, at which
     /// the first datagram begins if there is one, and the keys at which the later ones do.
     pub fn starts(&self) -> &[Key]
-        ensures { result.now ≡ self.now.starts }
+        ensures starts { result.now ≡ self.now.starts }
+        ensures few { length result.now ≤ MOST_DATAGRAMS }
     {
         &self.starts
     }
@@ -220,6 +221,29 @@ impl Cuts {
         let (starts, count) = repaired_starts(&self.tree, &self.starts, hulls, steps)?;
         self.starts = starts;
         Ok(count)
+    }
+
+    /// The areas of one of its datagrams with their places, in key order; none where it has no datagram with
+    /// that number. The boundaries are those of its areas, as `cut` leaves them; the areas of the datagram
+    /// alone are walked in the tree. `AllocError` where a growth was refused.
+    pub fn datagram<L: Ledger>(
+        &self,
+        alloc: Global,
+        number: u16,
+        steps: &mut Steps<L>,
+    ) -> Result<Vec<Placed>, AllocError>
+        requires { self.now.starts ++ END ∷ [] ≡ boundaries self.now.tree.list }
+        ensures { IfOk result (λ places. places.items ≡ inside number (packed opening self.now.tree.list)) }
+    {
+        let mut places = Vec::new(alloc);
+        let starts = self.starts.as_slice();
+        let first = usize::from(number);
+        if first >= starts.len() {
+            return Ok(places);
+        }
+        let span = (starts[first], end_of(starts, first));
+        add_span(&mut places, &self.tree, span, number, steps)?;
+        Ok(places)
     }
 
     /// The areas of the task with their places, in key order: packed one after another from the empty

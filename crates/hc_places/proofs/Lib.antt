@@ -14,7 +14,6 @@ pub mod Recuts
 pub mod Rising
 pub mod Roomy
 pub mod Said
-pub mod Sendable
 pub mod Spread
 pub mod Swapped
 pub mod Tables

@@ -2,6 +2,8 @@
 pub mod Ascends
 pub mod Found
 pub mod Layouts
+pub mod Lines
+pub mod Loads
 pub mod Ranks
 pub mod Same
 pub mod Sorted

@@ -1,5 +1,6 @@
 pub mod Found
 pub mod Layout
+pub mod Loads
 pub mod Parts
 pub mod Ranges
 pub mod Recut

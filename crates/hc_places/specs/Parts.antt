@@ -1,6 +1,5 @@
--- The table of a task from the places of its areas, as it is worked out.
+-- What is worked out from the places of a task's areas.
 use Rattle.std.specs.Prelude.{◌≡◌, ◌≢◌, ℕ, ◌<◌, ◌≤◌, All, List, None, length, map}
-use Rattle.std.specs.List.{range_with_len}
 use Rattle.hc_records.specs.declared.limits.TheConstants.{MOST_AREA_BITS, MOST_AREAS, MOST_DATAGRAMS, MOST_SLAVES}
 use Rattle.hc_records.specs.declared.keys.Key.{Key}
 use Rattle.hc_records.specs.declared.records.Dir.{Dir}
@@ -10,12 +9,11 @@ use Rattle.hc_records.specs.Area.{width}
 use Rattle.hc_records.specs.Line.{Member}
 use Rattle.hc_records.specs.TaskList.{task_list}
 use Rattle.hc_records.specs.Packing.{Placed}
-use Rattle.hc_records.specs.Image.{datagram_count, datagram_length, datagram_offset, expected_counter, input_length, inside, logical_address, output_length, task_places}
+use Rattle.hc_records.specs.Image.{datagram_count, datagram_length, expected_counter, inside, task_places}
 use Rattle.hc_records.specs.Laws.{Ascends, IsDatagramLength, IsPackable, LiesInside}
 use Rattle.hc_registers.specs.Counting.{counted_from}
-use Rattle.hc_places.specs.declared.table.Datagram.{Datagram}
 use Rattle.hc_places.specs.Ranges.{OffersBits}
-use Rattle.hc_places.specs.Table.{Row, TaskTable}
+use Rattle.hc_places.specs.Table.{Row}
 
 -- the keys of the areas that lie in a datagram
 abbrev pub keys_inside : ℕ → List Placed → List Key
@@ -24,24 +22,6 @@ keys_inside d areas = map (λ area. area.key) (inside d areas)
 -- what the areas of a datagram add to its working counter, in their order
 abbrev pub counted_inside : ℕ → List Placed → ℕ
 counted_inside d areas = counted_from None (keys_inside d areas)
-
-abbrev pub datagram_at : ℕ → List Placed → ℕ → Datagram
-datagram_at task areas d = record {
-  address = logical_address task d;
-  length = datagram_length areas d;
-  expected = counted_inside d areas;
-  offset = datagram_offset areas d;
-}
-
-abbrev pub datagrams_of : ℕ → List Placed → List Datagram
-datagrams_of task areas = map (datagram_at task areas) (range_with_len 0 (datagram_count areas))
-
-abbrev pub table_at : ℕ → List Placed → TaskTable
-table_at task areas = record {
-  datagrams = datagrams_of task areas;
-  outputs = output_length areas;
-  inputs = input_length areas;
-}
 
 -- the row of a variable of an area, with its first bit and its bits
 abbrev pub row_at : ℕ → ℕ → Dir → ℕ × (ℕ × ℕ) → Row

@@ -73,7 +73,8 @@ impl Draft {
     ghost use Rattle.hc_records.specs.TaskList.{keyed};
     ghost use Rattle.hc_records.specs.declared.limits.TheConstants.{MOST_DATAGRAMS, TASKS};
     ghost use Rattle.hc_places.specs.Found.{IsFoundSuiting, found_variables};
-    ghost use Rattle.hc_places.specs.Parts.{AreSendable, IsConfigurable, IsRefusal, table_at};
+    ghost use Rattle.hc_places.specs.Loads.{table_at};
+    ghost use Rattle.hc_places.specs.Parts.{AreSendable, IsConfigurable, IsRefusal};
     ghost use Rattle.hc_places.specs.Ranges.{OffersBits};
     ghost use Rattle.hc_places.specs.Table.{task_table};
 

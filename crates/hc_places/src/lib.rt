@@ -10,6 +10,7 @@ pub mod datagram_variables;
 mod datagrams;
 pub mod laws;
 pub mod layout;
+pub mod loads;
 pub mod recut;
 pub mod room;
 pub mod swap;

@@ -46,7 +46,8 @@ fn absent_slaves<'a>(alloc: Global, slaves: usize) -> Result<Vec<SlaveAreas<'a>>
 
 impl LineCuts {
     ghost use Rattle.hc_records.specs.declared.records.Area.{Area};
-    ghost use Rattle.std.specs.Prelude.{◌≡◌, ◌≢◌, ◌+◌, ◌*◌, ◌<◌, ◌≤◌, List, [], IfErr, IfOk, None, OnErr, OnOk, Some, map, option_map, replicate};
+    ghost use Rattle.std.specs.Prelude.{◌≡◌, ◌≢◌, ◌+◌, ◌*◌, ◌<◌, ◌≤◌, List, [], IfErr, IfOk, None, OnErr, OnOk, Some, length, map, option_map, replicate};
+    ghost use Rattle.hc_records.specs.Image.{inside};
     ghost use Rattle.hc_records.specs.Packing.{opening, packed};
     ghost use Rattle.hc_records.specs.declared.faults.EditFault.TheVariants.{Memory, TooManyDatagrams};
     ghost use Rattle.hc_records.specs.declared.limits.TheConstants.{MOST_DATAGRAMS, MOST_SLAVES, TASKS};
@@ -121,9 +122,25 @@ impl LineCuts {
     /// datagram begins if there is one, and the keys at which the later ones do. It takes no memory.
     pub fn starts(&self, task: u8) -> &[Key]
         requires { task < TASKS }
-        ensures { (line : List (List Area)) → self.now ≡ line_kept line → result.now ≡ starts_by task line }
+        ensures starts { (line : List (List Area)) → self.now ≡ line_kept line → result.now ≡ starts_by task line }
+        ensures few { length result.now ≤ MOST_DATAGRAMS }
     {
         self.tasks[usize::from(task)].starts()
+    }
+
+    /// The areas of a datagram of a task, 0 to 7, with their places, in key order; none where the task has no
+    /// datagram with that number. `AllocError` where a growth was refused.
+    pub fn datagram<L: Ledger>(
+        &self,
+        alloc: Global,
+        task: u8,
+        number: u16,
+        steps: &mut Steps<L>,
+    ) -> Result<Vec<Placed>, AllocError>
+        requires { task < TASKS }
+        ensures { IfOk result (λ places. (line : List (List Area)) → self.now ≡ line_kept line → places.items ≡ inside number (packed opening (list_by task line))) }
+    {
+        self.tasks[usize::from(task)].datagram(alloc, number, steps)
     }
 
     /// The areas of a task with their places, in key order. `AllocError` where a growth was refused.

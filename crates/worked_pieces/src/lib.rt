@@ -4,6 +4,8 @@
 #![tactic(auto)]
 
 #[cfg(test)]
+mod carried;
+#[cfg(test)]
 mod cuts;
 #[cfg(test)]
 mod edits;
@@ -25,3 +27,5 @@ mod searches;
 mod standing;
 #[cfg(test)]
 mod swaps;
+#[cfg(test)]
+mod tables;

@@ -40,7 +40,11 @@ pub fn area(alloc: Global, sm: u8, entries: &[Entry]) -> Result<Area, AllocError
 }
 
 /// Copies of the groups, all present but one with an alias.
-fn present(alloc: Global, groups: &[Group], absent: u16) -> Result<Vec<Declared>, AllocError>
+pub(crate) fn present(
+    alloc: Global,
+    groups: &[Group],
+    absent: u16,
+) -> Result<Vec<Declared>, AllocError>
     ensures { IfOk result (λ declared. map (λ one. one.group) declared.items ≡ groups.now) }
 {
     let mut declared = Vec::new(alloc);

@@ -26,7 +26,7 @@ use Rattle.hc_places.specs.Table.{Row}
 use Rattle.hc_changes.specs.Candidates.{LineArea, key_of, place_of}
 use Rattle.hc_changes.specs.Rows.{rows_of}
 use Rattle.hc_changes.proofs.lemmas.Bare.{bare, edit-keeps}
-use Rattle.hc_changes.proofs.lemmas.KeptSpans.{at-contained}
+use Rattle.hc_cuts.proofs.lemmas.Datagrams.{at-contained}
 use Rattle.hc_changes.proofs.lemmas.Lists.{contains-behind, contains-first, contains-flat_map, flat_map-piece, found-among}
 use Rattle.hc_changes.proofs.lemmas.OneProject.{kept-at, line-declared, own-at}
 use Rattle.hc_changes.proofs.lemmas.Others.{IsAreaOf, StandAlike, map-piece}

@@ -37,7 +37,7 @@ use Rattle.hc_changes.specs.Candidates.{LineArea, key_of, place_of}
 use Rattle.hc_changes.specs.Rows.{rows_of}
 use Rattle.hc_changes.proofs.lemmas.Compared.{area-found}
 use Rattle.hc_changes.proofs.lemmas.Few.{few, found-once, pairs-few, piece-few}
-use Rattle.hc_changes.proofs.lemmas.KeptSpans.{at-contained}
+use Rattle.hc_cuts.proofs.lemmas.Datagrams.{at-contained}
 use Rattle.hc_changes.proofs.lemmas.Lists.{contains-behind, contains-flat_map, contains-unfiltered, flat_map-piece, found-among}
 use Rattle.hc_changes.proofs.lemmas.OneProject.{own-at}
 use Rattle.hc_changes.proofs.lemmas.Others.{IsAreaOf, map-piece, never-both}
