@@ -1,10 +1,11 @@
 -- What follows from the definitions. Each is the contract of a function of `laws`.
-use Rattle.std.specs.Prelude.{◌≡◌, ◌↔◌, ◌<◌, ℕ, Bool, true, false, AllPairs, Contains, List, map, None, Some}
+use Rattle.std.specs.Prelude.{◌≡◌, ◌↔◌, ◌<◌, ℕ, Bool, true, false, All, AllPairs, Contains, List, map, None, Some}
 use Rattle.std.specs.List.{flat_map}
 use Rattle.hc_records.specs.declared.edit.Edit.{Edit}
 use Rattle.hc_records.specs.declared.limits.TheConstants.{TASKS}
+use Rattle.hc_records.specs.declared.records.Area.{Area}
 use Rattle.hc_records.specs.declared.records.Declared.{Declared}
-use Rattle.hc_records.specs.Edits.{groups_after}
+use Rattle.hc_records.specs.Edits.{crowded_task, groups_after}
 use Rattle.hc_records.specs.Line.{Member, State, groups_of, line, line_from}
 use Rattle.hc_registers.specs.Blocks.{line_blocks, moved_blocks}
 use Rattle.hc_records.specs.TaskList.{Keyed, task_list}
@@ -14,15 +15,13 @@ use Rattle.hc_records.specs.Project.{lowest_fault}
 use Rattle.hc_records.specs.Boundaries.{is_touched_task}
 use Rattle.hc_records.specs.SpanLaws.{IsTaskList}
 use Rattle.hc_places.specs.Loads.{load_in, load_told}
-use Rattle.hc_places.specs.Swap.{ChangedTask, SaysWhatDiffers}
 use Rattle.hc_places.specs.Table.{table_of, task_table}
 use Rattle.hc_cuts.specs.Keeping.{is_kept}
-use Rattle.hc_changes.specs.Candidates.{DifferAt, LineArea, blocks_of, candidates, is_recut, key_of, line_areas, moved_of, place_of}
+use Rattle.hc_changes.specs.Candidates.{DifferAt, LineArea, blocks_of, candidate_of, candidates, is_recut, key_of, line_areas, moved_of, place_of}
 use Rattle.hc_changes.specs.Compared.{differing_of}
 use Rattle.hc_changes.specs.Edited.{is_named}
 use Rattle.hc_changes.specs.Listed.{Precedes, pair_of}
-use Rattle.hc_changes.specs.Rows.{TellsVariables, gone, told_rows}
-use Rattle.hc_changes.specs.Tables.{TellsTasks}
+use Rattle.hc_changes.specs.ChangedRows.{IsChange, StandsInside, TellPlaces, changed_rows, variables_by_rank}
 
 -- a kept datagram carries the areas that it carried, each at its bit
 abbrev pub KeptDatagramsStay : Type 0
@@ -75,14 +74,6 @@ MovedBlocksAreCompared =
     ≡ flat_map (differing_of (line_from 1 groups) (line_from 1 (groups_after groups edit)))
     (candidates changed (line_from 1 groups) (line_from 1 (groups_after groups edit)))
 
--- the variables whose places an edit changed are told by the candidates, by any such ranks, and by the areas of the slaves that went
-abbrev pub VariablesAreTold : Type 0
-VariablesAreTold =
-    (changed : ℕ → Bool) (groups : List Declared) (edit : Edit) → lowest_fault (groups_of groups) ≡ None → lowest_fault (groups_of (groups_after groups edit)) ≡ None
-    → DifferAt changed (line_from 1 groups) (line_from 1 (groups_after groups edit))
-    → TellsVariables (line_from 1 groups) (line_from 1 (groups_after groups edit))
-    (told_rows changed (line_from 1 groups) (line_from 1 (groups_after groups edit)))
-
 -- a task that no edit touched has the table that it had
 abbrev pub UntouchedTasksStay : Type 0
 UntouchedTasksStay =
@@ -126,12 +117,6 @@ pub record IsUnkeptAt (old new : List Member) (found : LineArea) : Type 0 where
 abbrev pub RecutAreasAreUnkept : Type 0
 RecutAreasAreUnkept = (old new : List Member) (found : LineArea) → is_recut old new found ≡ true → IsUnkeptAt old new found
 
--- areas of slaves that went are of changed ones
-abbrev pub GoneAreChanged : Type 0
-GoneAreChanged =
-    (changed : ℕ → Bool) (old new : State) (found : LineArea) → DifferAt changed (line old) (line new)
-    → Contains (gone (line old) (line new)) found → changed found.member.rank ≡ true
-
 -- a list in line and record order with the candidates' ranks and indexes and no others is theirs
 abbrev pub CandidatesAreListed : Type 0
 CandidatesAreListed =
@@ -139,11 +124,19 @@ CandidatesAreListed =
     → ((pair : ℕ × ℕ) → Contains pairs pair ↔ Contains (map pair_of (candidates changed old (line new))) pair)
     → pairs ≡ map pair_of (candidates changed old (line new))
 
--- tasks that tell the touched ones whose tables differ, with the told variables, say what differs between the tables of the two lines
-abbrev pub SwapsAreTold : Type 0
-SwapsAreTold =
-    (changed : ℕ → Bool) (groups : List Declared) (edit : Edit) (tasks : List ChangedTask) → lowest_fault (groups_of groups) ≡ None → lowest_fault (groups_of (groups_after groups edit)) ≡ None
-    → DifferAt changed (line_from 1 groups) (line_from 1 (groups_after groups edit))
-    → TellsTasks (line_from 1 groups) (line_from 1 (groups_after groups edit)) tasks
-    → SaysWhatDiffers (table_of (line_from 1 groups)) (table_of (line_from 1 (groups_after groups edit)))
-    (record { tasks = tasks; rows = told_rows changed (line_from 1 groups) (line_from 1 (groups_after groups edit)) })
+-- an edit leaves each declared slave the variables that it offers
+abbrev pub EditsKeepTheVariables : Type 0
+EditsKeepTheVariables = (groups : List Declared) (edit : Edit) → variables_by_rank (groups_after groups edit) ≡ variables_by_rank groups
+
+-- where no task of a project's line needs more than 16 datagrams, each of its areas stands in one of them
+abbrev pub CandidatesStandInside : Type 0
+CandidatesStandInside =
+    (state : State) → lowest_fault (groups_of state.groups) ≡ None → crowded_task (line state) ≡ None
+    → All (λ found. StandsInside (candidate_of (line state) found)) (line_areas (line state))
+
+-- between two states of one project the variables that stand elsewhere, appear or go are those that the candidates and the changed slaves tell, each with its new place or none
+abbrev pub ChangedRowsAreTold : Type 0
+ChangedRowsAreTold =
+    (changed : ℕ → Bool) (before after : List (List Area)) (old new : State) → IsChange changed before after old new
+    → TellPlaces (table_of (line old)) (table_of (line new))
+    (changed_rows (table_of (line old)) (map (candidate_of (line new)) (candidates changed (line old) (line new))) before after)

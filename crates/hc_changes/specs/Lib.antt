@@ -1,7 +1,7 @@
 pub mod Candidates
+pub mod ChangedRows
 pub mod Compared
 pub mod Edited
 pub mod Laws
 pub mod Listed
-pub mod Rows
 pub mod Tables

@@ -13,17 +13,6 @@ use Rattle.hc_tasks.specs.Kept.{line_kept}
 use Rattle.hc_places.specs.Swap.{ChangedTask, IsNewTask}
 use Rattle.hc_places.specs.Table.{Table, TaskTable, table_of, task_table}
 
--- the table that some tasks' tables have for a task
-abbrev pub told_table : List ChangedTask → ℕ → Option TaskTable
-told_table tasks task = option_map (λ changed. changed.1) (find (λ changed. changed.0 == task) tasks)
-
--- tasks with tables tell the touched tasks of the eight whose tables differ between two lines, each with its new table, and no other
-pub record TellsTasks (old new : List Member) (tasks : List ChangedTask) : Type 0 where
-  pub eight : All (λ changed. changed.0 < TASKS) tasks
-  pub touched : (task : ℕ) → task < TASKS → is_touched_task old new task ≡ true
-      → IsNewTask (Some (task_table old task)) (Some (task_table new task)) (told_table tasks task)
-  pub untouched : (task : ℕ) → task < TASKS → is_touched_task old new task ≡ false → told_table tasks task ≡ None
-
 -- the trees of a project's line
 pub record AreTreesOf (groups : List Declared) (trees : List Kept) : Type 0 where
   pub project : lowest_fault (groups_of groups) ≡ None

@@ -3,5 +3,7 @@
 //! and tables are to be made from these.
 #![tactic(auto)]
 
+pub mod candidates;
 pub mod laws;
+pub mod rows;
 pub mod tables;

@@ -7,7 +7,6 @@ pub mod Founds
 pub mod Leading
 pub mod Members
 pub mod Merged
-pub mod Once
 pub mod Order
 pub mod Pairs
 pub mod Recuts
@@ -17,7 +16,6 @@ pub mod Said
 pub mod Spread
 pub mod Swapped
 pub mod Tables
-pub mod Totals
 pub mod Walked
 pub mod Widths
 pub mod lemmas

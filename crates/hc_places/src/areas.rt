@@ -33,13 +33,6 @@ impl<'a> Listed<'a> {
     ghost use Rattle.hc_records.specs.TaskList.{keyed};
     ghost use Rattle.hc_records.specs.declared.limits.TheConstants.{MOST_AREA_BITS};
 
-    /// An area with its key.
-    pub(crate) fn of(key: Key, area: &'a Area) -> Listed<'a>
-        ensures { result ≡ record { key = key; area = area.now } }
-    {
-        Listed { key, area }
-    }
-
     /// The area's record.
     pub(crate) fn area(&self) -> &'a Area
         ensures { result.now ≡ self.now.area }

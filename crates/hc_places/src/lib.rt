@@ -15,4 +15,4 @@ pub mod recut;
 pub mod room;
 pub mod swap;
 pub mod table;
-mod variables;
+pub mod variables;

@@ -6,6 +6,8 @@
 #[cfg(test)]
 mod carried;
 #[cfg(test)]
+mod changes;
+#[cfg(test)]
 mod cuts;
 #[cfg(test)]
 mod edits;

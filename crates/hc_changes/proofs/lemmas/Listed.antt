@@ -30,13 +30,11 @@ use Rattle.hc_cuts.specs.Keeping.{begins_at, is_kept}
 use Rattle.hc_changes.specs.Candidates.{DifferAt, LineArea, candidates, is_candidate, is_recut, key_of, line_areas, place_of, slave_of}
 use Rattle.hc_changes.specs.Listed.{Precedes, pair_of}
 use Rattle.hc_changes.specs.Laws.{IsRecutAt, IsUnkeptAt}
-use Rattle.hc_changes.specs.Rows.{gone}
 use Rattle.hc_changes.proofs.lemmas.Lists.{contains-behind, contains-first, contains-unfiltered, found-among}
 use Rattle.hc_changes.proofs.lemmas.Ordered.{InOrder, areas-ordered}
 use Rattle.hc_changes.proofs.lemmas.Others.{area-stands, line-area}
-use Rattle.hc_changes.proofs.lemmas.Rows.{placed-area}
+use Rattle.hc_changes.proofs.lemmas.PlacedAreas.{placed-area}
 use Rattle.hc_changes.proofs.lemmas.Tables.{no-length, untouched-lists}
-use Rattle.hc_changes.proofs.lemmas.Told.{slave-there}
 
 -- a datagram of a list is kept by the same list
 
@@ -87,23 +85,6 @@ untouched-areas old new found was is none =
     let counted : placed.datagram + 1 ≤ datagram_count (packed opening after) =
     All-contains (λ (p : Placed). p.datagram + 1 ≤ datagram_count (packed opening after)) (packed opening after) placed (greatest-all (λ (p : Placed). p.datagram + 1) 0 (packed opening after)) here.among in
     ap (λ (list : List Keyed). is_kept list after placed.datagram) same ∙ own-kept after placed.datagram (project-list new task is) nothing (omega arith))
-
--- areas of slaves that went are of changed ones
-
-went-by : (here : Bool) (rank : ℕ) (changed : ℕ → Bool) (old new : List Member) (slave : Slave) → changed rank ≡ here → DifferAt changed old new → slave_of old rank ≡ Some slave
-    → is_none (slave_of new rank) ≡ true → here ≡ true
-went-by true rank changed old new slave is differ stood none = refl
-went-by false rank changed old new slave is differ stood none =
-    let stays : is_none (slave_of new rank) ≡ false = ap is_none (sym (differ rank is) ∙ stood) in
-    sym stays ∙ none
-
-pub gone-changed : (changed : ℕ → Bool) (old new : List Member) (found : LineArea) → AllPairs RanksBelow old → DifferAt changed old new → Contains (gone old new) found → changed found.member.rank ≡ true
-gone-changed changed old new found ranks differ at =
-    let test : LineArea → Bool = λ f. is_none (slave_of new f.member.rank) in
-    let stood = contains-unfiltered test (line_areas old) found at in
-    went-by (changed found.member.rank) found.member.rank changed old new found.member.slave refl differ
-    (slave-there old found.member ranks (line-area old found stood).member)
-    (All-contains (λ (f : LineArea). test f ≡ true) (gone old new) found (filter_passes test (line_areas old)) at)
 
 -- two lists in order with the same elements are the same
 

@@ -27,17 +27,17 @@ use Rattle.hc_records.proofs.lemmas.Projects.{project-assigned, project-names}
 use Rattle.hc_records.proofs.lemmas.Tasks.{listed}
 use Rattle.hc_places.specs.Table.{Row}
 use Rattle.hc_places.specs.Parts.{row_at}
-use Rattle.hc_places.proofs.Totals.{total, total-append, total-enumerate, total-filter, total-flat_map, total-less, total-map, total-plus, total-same, total-swap, total-within, total-zero, total-zip}
+use Rattle.hc_places.proofs.lemmas.Totals.{total, total-append, total-enumerate, total-filter, total-flat_map, total-less, total-map, total-plus, total-same, total-swap, total-within, total-zero, total-zip}
 
 -- how often a variable stands at a number, in an entry, in an area's assigned entries, in a row, in an area's offered entries
 
 abbrev pub own : ℕ → ℕ → ℕ
 own variable number = cond (variable == number) 1 0
 
-abbrev held : ℕ → Entry → ℕ
+abbrev pub held : ℕ → Entry → ℕ
 held variable entry = option_map_or (own variable) entry.0 0
 
-abbrev weight : ℕ → Area → ℕ
+abbrev pub weight : ℕ → Area → ℕ
 weight variable area = total (held variable) (assigned_entries area)
 
 abbrev pub of_row : ℕ → Row → ℕ
@@ -67,7 +67,7 @@ once-by : (same : Bool) (k value x : ℕ) (xs : List ℕ) → (k == x) ≡ same 
 once-by true k value x xs test none rest = let zero = none-equal k value x xs none (eqb-true k x test) in omega arith
 once-by false k value x xs test none rest = omega arith
 
-once : (k value : ℕ) (xs : List ℕ) → has_repeat xs ≡ false → total (λ i. cond (k == i) value 0) xs ≤ value
+pub once : (k value : ℕ) (xs : List ℕ) → has_repeat xs ≡ false → total (λ i. cond (k == i) value 0) xs ≤ value
 once k value [] none = omega arith
 once k value (x ∷ xs) none =
     let parts = or_parts (list_any (λ y. y == x) xs) (has_repeat xs) none in
@@ -113,7 +113,7 @@ entries-total variable bit (entry ∷ entries) =
     entry-total variable bit entry.1 entry.0 (variables_from (bit + entry.1) entries)
     ∙ ap (λ (n : ℕ). held variable entry + n) (entries-total variable (bit + entry.1) entries)
 
-rows-total : (variable task : ℕ) (pair : Listed × Placed) → total (of_row variable) (area_variables task pair) ≡ weight variable pair.0.area
+pub rows-total : (variable task : ℕ) (pair : Listed × Placed) → total (of_row variable) (area_variables task pair) ≡ weight variable pair.0.area
 rows-total variable task pair =
     total-map (of_row variable) (row_at task pair.1.datagram pair.0.area.dir) (variables_from pair.1.bit (assigned_entries pair.0.area))
     ∙ entries-total variable pair.1.bit (assigned_entries pair.0.area)
@@ -171,7 +171,7 @@ tasks-area variable area =
     let all = once area.task (weight variable area) tasks refl in
     omega arith
 
-abbrev of_areas : ℕ → Slave → ℕ
+abbrev pub of_areas : ℕ → Slave → ℕ
 of_areas variable slave = total (weight variable) slave.areas
 
 tasks-slave : (variable : ℕ) (slave : Slave) → total (λ task. total (shares variable task) slave.areas) tasks ≤ of_areas variable slave
@@ -202,7 +202,7 @@ present-total : (f : Slave → ℕ) (present : Bool) (rank : ℕ) (slaves : List
 present-total f true rank slaves = let all = members-total f rank slaves in omega arith
 present-total f false rank slaves = omega arith
 
-line-declared : (f : Slave → ℕ) (rank : ℕ) (groups : List Declared) → total (λ (m : Member). f m.slave) (line_from rank groups) ≤ total f (declared_slaves groups)
+pub line-declared : (f : Slave → ℕ) (rank : ℕ) (groups : List Declared) → total (λ (m : Member). f m.slave) (line_from rank groups) ≤ total f (declared_slaves groups)
 line-declared f rank [] = omega arith
 line-declared f rank (declared ∷ groups) =
     let slaves = declared.group.slaves in
@@ -219,7 +219,7 @@ name-total : (variable : ℕ) (name : Option ℕ) (rest : List ℕ) → total (o
 name-total variable None rest = omega arith
 name-total variable (Some name) rest = refl
 
-entry-names : (variable : ℕ) (entries : List Entry) → total (own variable) (entry_names entries) ≡ total (held variable) entries
+pub entry-names : (variable : ℕ) (entries : List Entry) → total (own variable) (entry_names entries) ≡ total (held variable) entries
 entry-names variable [] = refl
 entry-names variable (entry ∷ entries) = name-total variable entry.0 (entry_names entries) ∙ ap (λ (n : ℕ). held variable entry + n) (entry-names variable entries)
 
@@ -258,17 +258,24 @@ project-assigns groups none =
     All-flat_map (λ (slave : Slave). All AssignsOnce slave.areas) (λ (group : Group). group.slaves) groups
     (λ i d below. slaves-assign _ (All-from_none (λ (group : Group). list_any (λ (slave : Slave). list_any has_unknown_pdo slave.areas) group.slaves) groups none i d below))
 
--- a variable has one row at most
-pub variable-once : (groups : List Declared) → lowest_fault (map (λ declared. declared.group) groups) ≡ None → (variable : ℕ)
-    → total (of_row variable) (flat_map (task_variables (line_from 1 groups)) tasks) ≤ 1
-variable-once groups none variable =
+-- each variable has one assigned entry at most among all declared slaves
+pub declared-once : (groups : List Declared) → lowest_fault (map (λ declared. declared.group) groups) ≡ None → (variable : ℕ)
+    → total (of_areas variable) (declared_slaves groups) ≤ 1
+declared-once groups none variable =
     let slaves = declared_slaves groups in
     let assigns = project-assigns (map (λ declared. declared.group) groups) (project-assigned (map (λ declared. declared.group) groups) none) in
-    let line = tasks-line variable (line_from 1 groups) in
-    let declared = line-declared (of_areas variable) 1 groups in
     let less = total-within (of_areas variable) (λ (slave : Slave). total (offers variable) slave.areas) slaves
     (λ i d below. total-within (weight variable) (offers variable) (slice_index_or slaves i d).areas
     (λ j e under. area-once variable (slice_index_or (slice_index_or slaves i d).areas j e) (assigns i d below j e under))) in
     let names = slave-names variable slaves in
     let one = once variable 1 (slave_names slaves) (project-names (map (λ declared. declared.group) groups) none) in
+    omega arith
+
+-- and one row at most
+pub variable-once : (groups : List Declared) → lowest_fault (map (λ declared. declared.group) groups) ≡ None → (variable : ℕ)
+    → total (of_row variable) (flat_map (task_variables (line_from 1 groups)) tasks) ≤ 1
+variable-once groups none variable =
+    let line = tasks-line variable (line_from 1 groups) in
+    let declared = line-declared (of_areas variable) 1 groups in
+    let once_declared = declared-once groups none variable in
     omega arith

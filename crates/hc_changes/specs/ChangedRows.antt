@@ -1,0 +1,86 @@
+-- Which variables of a line an edit changes, told by the candidates and by the slaves that change.
+use Rattle.std.specs.Prelude.{◌≡◌, ℕ, ◌+◌, ◌==◌, ◌<◌, ◌≤◌, not, Bool, true, List, [], ◌++◌, filter, find, length, map, Option, None, Some, option_map}
+use Rattle.std.specs.List.{flat_map, list_any, zip}
+use Rattle.std.specs.Option.{option_map_or}
+use Rattle.hc_records.specs.declared.limits.TheConstants.{MOST_AREA_BITS, MOST_DATAGRAMS, TASKS}
+use Rattle.hc_records.specs.declared.records.Area.{Area}
+use Rattle.hc_records.specs.declared.records.Declared.{Declared}
+use Rattle.hc_records.specs.Area.{assigned_entries, width}
+use Rattle.hc_records.specs.Line.{State, groups_of, line}
+use Rattle.hc_records.specs.Packing.{Placed}
+use Rattle.hc_records.specs.Project.{area_names, entry_names, lowest_fault}
+use Rattle.hc_tasks.specs.Areas.{areas_by_rank}
+use Rattle.hc_places.specs.Found.{area_rows}
+use Rattle.hc_places.specs.Ranges.{OffersBits}
+use Rattle.hc_places.specs.Swap.{AreOnce, ChangedRow, new_place, same_found}
+use Rattle.hc_places.specs.Table.{Row, Table, place_in}
+use Rattle.hc_changes.specs.Candidates.{Candidate, DifferAt}
+
+-- the variables of a candidate with their places; none where it stands nowhere
+abbrev pub rows_of : Candidate → List Row
+rows_of candidate = option_map_or (area_rows candidate.area.task candidate.area) candidate.place []
+
+-- a variable stands elsewhere in a table, or nowhere
+abbrev pub is_new_row : Table → Row → Bool
+is_new_row table row = not (same_found (place_in table row.0) (Some row.1))
+
+-- the new places of the candidates' variables that stood elsewhere, or nowhere
+abbrev pub moved_rows : Table → List Row → List ChangedRow
+moved_rows old rows = map (λ row. (row.0, Some row.1)) (filter (is_new_row old) rows)
+
+-- the variables that an area's assigned PDOs carry, and those of the areas of a slave
+abbrev pub area_variables_of : Area → List ℕ
+area_variables_of area = entry_names (assigned_entries area)
+
+abbrev pub assigned_variables : List Area → List ℕ
+assigned_variables areas = flat_map area_variables_of areas
+
+abbrev pub is_assigned : ℕ → List Area → Bool
+is_assigned variable areas = list_any (λ other. other == variable) (assigned_variables areas)
+
+-- those of a slave's areas before that its areas after don't carry
+abbrev pub gone_variables : List Area × List Area → List ℕ
+gone_variables slave = filter (λ variable. not (is_assigned variable slave.1)) (assigned_variables slave.0)
+
+abbrev pub gone_rows : List (List Area) → List (List Area) → List ChangedRow
+gone_rows before after = map (λ variable. (variable, None)) (flat_map gone_variables (zip before after))
+
+-- what an edit changes of an old table: the candidates' variables that stand elsewhere, then the variables that go with the changed slaves' areas
+abbrev pub changed_rows : Table → List Candidate → List (List Area) → List (List Area) → List ChangedRow
+changed_rows old candidates before after = moved_rows old (flat_map rows_of candidates) ++ gone_rows before after
+
+-- a place lies in one of 16 datagrams of one of the eight tasks, and holds the area, whose entries have 1 to 64 bits
+pub record HoldsArea (area : Area) (placed : Placed) : Type 0 where
+  pub task : area.task < TASKS
+  pub datagram : placed.datagram < MOST_DATAGRAMS
+  pub inside : placed.bit + width area ≤ MOST_AREA_BITS
+  pub offers : OffersBits area
+
+abbrev pub StandsInside : Candidate → Type 0
+StandsInside candidate = (placed : Placed) → candidate.place ≡ Some placed → HoldsArea candidate.area placed
+
+-- the variables that each declared slave offers, by rank
+abbrev pub variables_by_rank : List Declared → List (List ℕ)
+variables_by_rank groups = flat_map (λ declared. map (λ slave. area_names slave.areas) declared.group.slaves) groups
+
+-- the slaves that change are among some in a row, which have these areas before and those after; each other slave has the same in both lines
+pub record DifferInARow (changed : ℕ → Bool) (before after old new : List (List Area)) : Type 0 where
+  pub front : List (List Area)
+  pub behind : List (List Area)
+  pub many : length after ≡ length before
+  pub was : old ≡ front ++ (before ++ behind)
+  pub is : new ≡ front ++ (after ++ behind)
+  pub ranks : (rank : ℕ) → changed rank ≡ true → (length front < rank) × (rank ≤ length front + length before)
+
+-- two states of one project, between which some slaves change
+pub record IsChange (changed : ℕ → Bool) (before after : List (List Area)) (old new : State) : Type 0 where
+  pub was_project : lowest_fault (groups_of old.groups) ≡ None
+  pub is_project : lowest_fault (groups_of new.groups) ≡ None
+  pub variables : variables_by_rank new.groups ≡ variables_by_rank old.groups
+  pub slaves : DifferAt changed (line old) (line new)
+  pub areas : DifferInARow changed before after (areas_by_rank old.groups) (areas_by_rank new.groups)
+
+-- rows say of each variable whose place differs between two tables its new place or none, once, and nothing of any other
+pub record TellPlaces (old new : Table) (rows : List ChangedRow) : Type 0 where
+  pub once : AreOnce rows
+  pub says : (variable : ℕ) → option_map (λ changed. changed.1) (find (λ changed. changed.0 == variable) rows) ≡ new_place (place_in old variable) (place_in new variable)
