@@ -16,6 +16,7 @@ pub mod Names
 pub mod OneProject
 pub mod Ordered
 pub mod Others
+pub mod Outlooks
 pub mod PlacedAreas
 pub mod Places
 pub mod Ranks

@@ -4,4 +4,5 @@ pub mod Compared
 pub mod Edited
 pub mod Laws
 pub mod Listed
+pub mod Outlook
 pub mod Tables

@@ -5,5 +5,6 @@
 
 pub mod candidates;
 pub mod laws;
+pub mod outlook;
 pub mod rows;
 pub mod tables;
