@@ -17,6 +17,7 @@ use Rattle.hc_tasks.specs.Areas.{areas_at, areas_by_rank}
 use Rattle.hc_tasks.specs.Turn.{AreLines}
 use Rattle.hc_tasks.proofs.lemmas.Projects.{project-line}
 use Rattle.hc_changes.specs.Candidates.{DifferAt, slave_of}
+use Rattle.hc_changes.specs.Edited.{HasEdit}
 use Rattle.hc_changes.specs.Outlook.{IsOutlook, Outlook, changes, outlook_of}
 use Rattle.hc_changes.proofs.lemmas.Ranks.{line-slots, none-below}
 use Rattle.hc_changes.proofs.lemmas.Slots.{slot, slots}
@@ -115,9 +116,10 @@ change-differs groups change it (suc i) unchanged =
     ∙ sym (line-slots 1 after i)
     ∙ sym (ap (slave_of (line_from 1 after)) rank)
 
-pub change-outlook : (groups : List Declared) (change : Prepared) → lowest_fault (groups_of groups) ≡ None → lowest_fault (groups_of (carried change groups)) ≡ None → ChangesRow change groups →
+pub change-outlook : (groups : List Declared) (change : Prepared) → HasEdit groups (carried change groups) → lowest_fault (groups_of groups) ≡ None → lowest_fault (groups_of (carried change groups)) ≡ None → ChangesRow change groups →
     IsOutlook (outlook_of change groups)
-change-outlook groups change was is it = record {
+change-outlook groups change edited was is it = record {
+  edited = edited;
   was_project = was;
   is_project = is;
   lines = change-lines groups change was is it;
