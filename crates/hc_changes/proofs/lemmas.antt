@@ -12,6 +12,7 @@ pub mod KeptSpans
 pub mod Listed
 pub mod Lists
 pub mod Moved
+pub mod MovedNames
 pub mod Names
 pub mod OneProject
 pub mod Ordered

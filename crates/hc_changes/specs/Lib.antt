@@ -4,5 +4,6 @@ pub mod Compared
 pub mod Edited
 pub mod Laws
 pub mod Listed
+pub mod Moved
 pub mod Outlook
 pub mod Tables
