@@ -53,7 +53,7 @@ merged (changed ∷ others) rows = with_changed changed (merged others rows)
 
 -- a changed variable keeps its row: it has one, and a new place
 abbrev pub keeps_row : List Row → ChangedRow → Bool
-keeps_row rows changed = is_some changed.1 && is_some (find (λ row. row.0 == changed.0) rows)
+keeps_row rows changed = is_some (find (λ row. row.0 == changed.0) rows) && is_some changed.1
 
 -- so each changed variable does: none appears or goes
 abbrev pub KeepRows : List Row → List ChangedRow → Type 0
