@@ -1,6 +1,6 @@
 -- Rows that are overwritten where they stand are merged, where each changed variable keeps its row.
 use Rattle.std.proofs.Common.{◌≡◌, ◌∙◌, ap, ℕ, suc, ◌+◌, ◌<◌, Bool, true, false, cond, List, [], ◌∷◌, drop, drop-cons, get_or, length, map, refl, sym, subst, arith}
-use Rattle.std.specs.Prelude.{All, AllPairs, IsTrue, Option, Some, None, find, is_some, option_map, unwrap_or, ◌==◌, ◌&&◌}
+use Rattle.std.specs.Prelude.{IsTrue, Option, Some, None, find, is_some, option_map, unwrap_or, ◌==◌, ◌&&◌}
 use Rattle.std.proofs.lemmas.Bool.{cond-true, cond-false, eq-eqb, eqb-true}
 use Rattle.std.proofs.lemmas.Bool.Decides.{nat_tests}
 use Rattle.std.proofs.lemmas.List.Elements.{All-head, All-tail, All-weaker}

@@ -192,14 +192,15 @@ fn change_rows(rows: &mut Vec<Row>, changed: &[ChangedRow], room: Option<Vec<Row
 }
 
 impl Places {
-    ghost use Rattle.std.specs.Prelude.{◌≡◌, IfOk, OnErr, OnOk};
+    ghost use Rattle.std.specs.Prelude.{◌≡◌, IfOk, None, Ok, OnErr, OnOk};
     ghost use Rattle.hc_places.specs.Room.{IsRoomFor};
-    ghost use Rattle.hc_places.specs.Swap.{swapped};
+    ghost use Rattle.hc_places.specs.Swap.{KeepRows, swapped};
 
     /// The memory that `carry_out` will take for a swap of this table: none where no variable appears or
     /// goes. `AllocError` where a growth was refused.
     pub fn room_for(&self, alloc: Global, swap: &Swap) -> Result<Room, AllocError>
-        ensures { IfOk result (IsRoomFor swap.now.change self.now) }
+        ensures room { IfOk result (IsRoomFor swap.now.change self.now) }
+        ensures without { KeepRows self.now.variables swap.now.change.rows → result ≡ Ok None }
     {
         let changed = swap.changes();
         let rows = self.variables();

@@ -1,4 +1,4 @@
-use Rattle.std.proofs.Common.{◌≡◌, ◌∙◌, ◌≤◌, ap, length, List, [], subst, sym}
+use Rattle.std.proofs.Common.{◌∙◌, ◌≤◌, ap, length, List, subst, sym}
 use Rattle.std.specs.Prelude.{vec_capacity}
 use Rattle.std.specs.Option.{MatchOption}
 use Rattle.hc_places.specs.Table.{Row}
