@@ -145,5 +145,5 @@ pub overwritten-more : (changed : List ChangedRow) (rows next : List Row) (index
 overwritten-more changed rows next index change within is made =
     let more : suc index ≡ index + 1 = omega arith in
     let first : drop index changed ≡ change ∷ drop (index + 1) changed =
-        drop-cons changed index change within ∙ ap (λ (c : ChangedRow). c ∷ drop (suc index) changed) (sym is) ∙ ap (λ (n : ℕ). change ∷ drop n changed) more in
+    drop-cons changed index change within ∙ ap (λ (c : ChangedRow). c ∷ drop (suc index) changed) (sym is) ∙ ap (λ (n : ℕ). change ∷ drop n changed) more in
     ap (overwritten (drop (index + 1) changed)) made ∙ sym (ap (λ (l : List ChangedRow). overwritten l rows) first)

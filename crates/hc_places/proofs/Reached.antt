@@ -41,12 +41,12 @@ pub below-reached : (rows : List Row) (variable reach count : ℕ) → count ≤
 below-reached rows variable reach count bound below behind =
     let size = length-take reach rows in
     let kept : (k : ℕ) (d : Row) → k < reach → nat_lt (get_or (take reach rows) k d).0 variable ≡ nat_lt (get_or rows k d).0 variable =
-        λ k d inside. ap (λ (row : Row). nat_lt row.0 variable) (get_or-take reach rows k d inside) in (
+    λ k d inside. ap (λ (row : Row). nat_lt row.0 variable) (get_or-take reach rows k d inside) in (
       (λ k d low high. sym (kept k d (omega (arith, size, bound, high))) ∙ below.0 k d low high),
       (λ k d low high. by-order k reach
-      (λ t inside. sym (kept k d inside) ∙ below.1 k d low (omega (arith, size, inside, high)))
-      (λ t u past. behind k d (omega (arith, past)) high)
-      (λ t u same. behind k d (omega (arith, same)) high)),
+          (λ t inside. sym (kept k d inside) ∙ below.1 k d low (omega (arith, size, inside, high)))
+          (λ t u past. behind k d (omega (arith, past)) high)
+          (λ t u same. behind k d (omega (arith, same)) high)),
     )
 
 -- those behind some lower ones are the rest of all
@@ -55,15 +55,15 @@ pub below-behind : (rows : List Row) (variable front count : ℕ) → front ≤ 
 below-behind rows variable front count within lower below =
     let size = length-drop front rows in
     let kept : (k : ℕ) (d : Row) → front ≤ k → nat_lt (get_or (drop front rows) (k - front) d).0 variable ≡ nat_lt (get_or rows k d).0 variable =
-        λ k d past.
-            let at : front + (k - front) ≡ k = omega (arith, past) in
-            ap (λ (row : Row). nat_lt row.0 variable) (get_or-drop front rows (k - front) d) ∙ ap (λ (n : ℕ). nat_lt (get_or rows n d).0 variable) at in
+    λ k d past.
+    let at : front + (k - front) ≡ k = omega (arith, past) in
+    ap (λ (row : Row). nat_lt row.0 variable) (get_or-drop front rows (k - front) d) ∙ ap (λ (n : ℕ). nat_lt (get_or rows n d).0 variable) at in
     let rest : (k : ℕ) (d : Row) → front ≤ k → k < front + count → nat_lt (get_or rows k d).0 variable ≡ true =
-        λ k d past high. sym (kept k d past) ∙ below.0 (k - front) d (omega arith) (omega (arith, past, high)) in (
+    λ k d past high. sym (kept k d past) ∙ below.0 (k - front) d (omega arith) (omega (arith, past, high)) in (
       (λ k d low high. by-order k front
-      (λ t inside. lt-ltb (get_or rows k d).0 variable (lower k d low inside))
-      (λ t u past. rest k d (omega (arith, past)) high)
-      (λ t u same. rest k d (omega (arith, same)) high)),
+          (λ t inside. lt-ltb (get_or rows k d).0 variable (lower k d low inside))
+          (λ t u past. rest k d (omega (arith, past)) high)
+          (λ t u same. rest k d (omega (arith, same)) high)),
       (λ k d low high. sym (kept k d (omega (arith, low))) ∙ below.1 (k - front) d (omega (arith, low)) (omega (arith, size, low, high))),
     )
 
