@@ -7,7 +7,7 @@ use Rattle.hc_records.specs.Area.{Entry}
 use Rattle.hc_records.specs.Packing.{Placed}
 use Rattle.hc_records.specs.Project.{entry_names}
 use Rattle.hc_changes.specs.Candidates.{Candidate}
-use Rattle.hc_changes.specs.ChangedRows.{HoldsArea, StandsInside}
+use Rattle.hc_changes.specs.Rows.{HoldsArea, StandsInside}
 
 next-dropped : {X : Type 0} (xs : List X) (i : ℕ) (d : X) → i < length xs → drop i xs ≡ get_or xs i d ∷ drop (i + 1) xs
 next-dropped [] i d within = absurd (omega arith)
