@@ -1,9 +1,9 @@
 pub mod Candidates
-pub mod ChangedRows
 pub mod Compared
 pub mod Edited
 pub mod Laws
 pub mod Listed
 pub mod Moved
 pub mod Outlook
+pub mod Rows
 pub mod Tables
