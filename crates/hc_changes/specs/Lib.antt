@@ -2,6 +2,7 @@ pub mod Candidates
 pub mod ChangedRows
 pub mod Compared
 pub mod Edited
+pub mod Found
 pub mod Laws
 pub mod Listed
 pub mod Outlook

@@ -1,0 +1,25 @@
+use Rattle.std.proofs.Common.{rules, ◌≡◌, ◌+◌, ◌<◌, ◌≤◌, ℕ, IfOk, map, ◌++◌, [], OnOk, false, if◌then◌else◌, length, not, option_to_list, ◌-◌, ◌*◌, ◌/◌, ◌%◌, Bool, true, nat_eq, nat_lt, List, ◌∷◌, slice_index_or, slice_set, bit_and, bit_or, Fits, w8, w32, w64, Bor, MutBor}
+use Rattle.hc_records.specs.Line.{line_from}
+use Rattle.hc_tasks.specs.Areas.{areas_by_rank, areas_at}
+use Rattle.hc_tasks.specs.Keeping.{StandsBefore}
+use Rattle.hc_tasks.specs.Kept.{line_kept}
+use Rattle.hc_changes.specs.Candidates.{candidate_of, candidates}
+use Rattle.hc_changes.specs.Outlook.{changes}
+use Rattle.std.specs.Option.{option_map_or}
+use Rattle.hc_records.specs.TaskList.{task_list}
+use Rattle.hc_records.specs.declared.limits.TheConstants.{TASKS}
+use Rattle.hc_cuts.specs.Keeping.{is_kept}
+use Rattle.hc_changes.specs.Found.{IsGroupAt, LieWithin, area_found, areas_found, found_below, rank_found, station_at}
+use Rattle.hc_changes.proofs.finding.Sight.judge.Goals as goal
+
+-- src/finding.rt:112:13
+pub returns-then-not-is_touched : goal.returns-then-not-is_touched
+returns-then-not-is_touched c = ?
+
+-- src/finding.rt:116:13
+pub returns-then-not-is_recut : goal.returns-then-not-is_recut
+returns-then-not-is_recut c = ?
+
+-- src/finding.rt:106:5
+pub returns : goal.returns
+returns c = ?
