@@ -1,17 +1,21 @@
-use Rattle.std.proofs.Common.{rules, ◌≡◌, ◌+◌, ◌<◌, ◌≤◌, ℕ, IfOk, map, ◌++◌, [], OnOk, false, if◌then◌else◌, length, not, option_to_list, ◌-◌, ◌*◌, ◌/◌, ◌%◌, Bool, true, nat_eq, nat_lt, List, ◌∷◌, slice_index_or, slice_set, bit_and, bit_or, Fits, w8, w32, w64, Bor, MutBor}
-use Rattle.hc_records.specs.Line.{line_from}
-use Rattle.hc_tasks.specs.Areas.{areas_by_rank, areas_at}
-use Rattle.hc_tasks.specs.Keeping.{StandsBefore}
-use Rattle.hc_tasks.specs.Kept.{line_kept}
-use Rattle.hc_changes.specs.Candidates.{candidate_of, candidates}
-use Rattle.hc_changes.specs.Outlook.{changes}
+use Rattle.std.proofs.Common.{◌≡◌, ◌∙◌, ℕ, Bool, false, Option, Some, ap, sym, subst}
+use Rattle.std.specs.Prelude.{not}
 use Rattle.std.specs.Option.{option_map_or}
+use Rattle.hc_records.specs.Line.{line_from}
+use Rattle.hc_records.specs.Packing.{Placed}
 use Rattle.hc_records.specs.TaskList.{task_list}
-use Rattle.hc_records.specs.declared.limits.TheConstants.{TASKS}
 use Rattle.hc_cuts.specs.Keeping.{is_kept}
-use Rattle.hc_changes.specs.Found.{IsGroupAt, LieWithin, area_found, areas_found, found_below, rank_found, station_at}
+use Rattle.hc_changes.specs.Found.{IsSight}
+use Rattle.hc_changes.specs.Outlook.{Outlook}
+use Rattle.hc_changes.proofs.lemmas.Finding.{kept-is}
 use Rattle.hc_changes.proofs.finding.Sight.is_recut.Goals as goal
 
--- src/finding.rt:94:5
 pub returns-in-Some : goal.returns-in-Some
-returns-in-Some c = ?
+returns-in-Some c =
+    let it = c.args.self.now in
+    let task = c.args.task in
+    let kept : ℕ → Bool = λ number. is_kept (task_list task (line_from 1 it.old)) (task_list task (line_from 1 it.new)) number in
+    let sight : IsSight it c.self.inside.before.now c.self.inside.cuts.now =
+        subst (λ (o : Outlook). IsSight o c.self.inside.before.now c.self.inside.cuts.now) c.self.view_is c.self.invariant in
+    ap not (kept-is it c.self.inside.before.now c.self.inside.cuts.now sight task c.datagram.result c.is_kept.result c.is_kept.ensures ∙ ap kept c.datagram.ensures)
+    ∙ sym (ap (λ (place : Option Placed). option_map_or (λ (placed : Placed). not (kept placed.datagram)) place false) c.in-Some.is)
