@@ -4,6 +4,8 @@ pub mod Blocks
 pub mod ByRank
 pub mod Compared
 pub mod Counted
+pub mod Few
+pub mod Finding
 pub mod InARow
 pub mod Inside
 pub mod Keeping
