@@ -4,7 +4,6 @@ pub mod Blocks
 pub mod ByRank
 pub mod Compared
 pub mod Counted
-pub mod Few
 pub mod Finding
 pub mod InARow
 pub mod Inside
