@@ -119,7 +119,7 @@ pub fn moved_names(
     requires candidates { found.now ≡ map (candidate_of (line_from 1 outlook.now.new)) (candidates (changes outlook.now) (line_from 1 outlook.now.old) (line_from 1 outlook.now.new)) }
     ensures { IfOk result (λ names. names.items ≡ map name_of (moved_blocks (line_from 1 outlook.now.old) (line_from 1 outlook.now.new))) }
 {
-    // what is known of an outlook is told where it is asked
+    // says that an edit leads from a project's groups to a project's
     let _ = outlook.groups();
     let mut names = Vec::new(alloc);
     for candidate in found {
