@@ -1,7 +1,6 @@
 //! The register blocks that an edit moves, by the candidates: each block of one is compared with the block
 //! that its slave had with that number.
-ghost use Rattle.std.specs.Prelude.{◌≡◌, ◌++◌, ◌<◌, All, IfOk, OnOk, map};
-ghost use Rattle.std.specs.List.{flat_map};
+ghost use Rattle.std.specs.Prelude.{◌≡◌, ◌++◌, ◌<◌, IfOk, OnOk, map};
 ghost use Rattle.std.specs.Option.{ForSome};
 ghost use Rattle.hc_records.specs.declared.limits.TheConstants.{MOST_AREAS, TASKS};
 ghost use Rattle.hc_records.specs.Line.{line_from};
@@ -120,7 +119,7 @@ pub fn moved_names(
     requires candidates { found.now ≡ map (candidate_of (line_from 1 outlook.now.new)) (candidates (changes outlook.now) (line_from 1 outlook.now.old) (line_from 1 outlook.now.new)) }
     ensures { IfOk result (λ names. names.items ≡ map name_of (moved_blocks (line_from 1 outlook.now.old) (line_from 1 outlook.now.new))) }
 {
-    // what is known of an outlook is told where it is asked
+    // says that an edit leads from a project's groups to a project's
     let _ = outlook.groups();
     let mut names = Vec::new(alloc);
     for candidate in found {

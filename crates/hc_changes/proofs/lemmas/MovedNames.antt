@@ -5,25 +5,23 @@ use Rattle.std.specs.List.{flat_map}
 use Rattle.std.specs.Option.{option_map_or}
 use Rattle.std.proofs.lemmas.Bool.{eq-eqb}
 use Rattle.std.proofs.lemmas.List.{map-append}
-use Rattle.std.proofs.lemmas.List.Elements.{All-cons, All-contains, All-contains_itself, All-head, All-nil, All-tail, All-weaker}
+use Rattle.std.proofs.lemmas.List.Elements.{All-contains, All-contains_itself, All-map, All-weaker}
 use Rattle.std.proofs.lemmas.List.Folds.{flat_map-map}
 use Rattle.std.proofs.lemmas.Option.{slice_get_within}
 use Rattle.hc_records.specs.declared.keys.Key.{Key}
 use Rattle.hc_records.specs.declared.records.Area.{Area}
 use Rattle.hc_records.specs.declared.records.Declared.{Declared}
 use Rattle.hc_records.specs.declared.records.Slave.{Slave}
-use Rattle.hc_records.specs.Area.{width}
 use Rattle.hc_records.specs.Image.{task_places}
 use Rattle.hc_records.specs.Keys.{same_key}
 use Rattle.hc_records.specs.Laws.{IsPackable}
 use Rattle.hc_records.specs.Limits.{IsAreaInside, IsSlaveInside}
-use Rattle.hc_records.specs.Line.{Member, State, groups_of, line_from}
+use Rattle.hc_records.specs.Line.{Member, groups_of, line_from}
 use Rattle.hc_records.specs.Packing.{Placed, opening}
 use Rattle.hc_records.specs.Project.{lowest_fault}
 use Rattle.hc_records.specs.TaskList.{Keyed, task_list}
 use Rattle.hc_records.proofs.lemmas.Finds.{mapped-some}
 use Rattle.hc_records.proofs.lemmas.KeyOrder.{same_key-same}
-use Rattle.hc_records.proofs.lemmas.Lines.{line-ascends}
 use Rattle.hc_records.proofs.lemmas.Lists.{All-unmap}
 use Rattle.hc_records.proofs.lemmas.Packable.{project-packable}
 use Rattle.hc_records.proofs.lemmas.Packed.{area_of, packed-areas}
@@ -34,11 +32,11 @@ use Rattle.hc_tasks.specs.Areas.{area_in, areas_at, areas_by_rank, list_by}
 use Rattle.hc_tasks.proofs.lemmas.Told.{place-told}
 use Rattle.hc_places.specs.Found.{IsFoundSuiting, SuitsPlace}
 use Rattle.hc_places.proofs.lemmas.Rows.{task-suits}
-use Rattle.hc_changes.specs.Candidates.{Candidate, DifferAt, LineArea, blocks_of, candidate_of, candidates, is_candidate, key_of, line_areas, place_of, slave_of}
-use Rattle.hc_changes.specs.Compared.{blocks_in, counterpart, differing_of, unlike}
+use Rattle.hc_changes.specs.Candidates.{Candidate, DifferAt, LineArea, blocks_of, candidate_of, candidates, is_candidate, key_of, line_areas, place_of}
+use Rattle.hc_changes.specs.Compared.{counterpart, differing_of, unlike}
 use Rattle.hc_changes.specs.Moved.{HasBitsOf, IsOfLine, IsWritable, area_before, differ_from, mapping_by, name_of, names_if, names_moved, place_before, two_blocks}
 use Rattle.hc_changes.specs.Outlook.{IsOutlook, Outlook, changes}
-use Rattle.hc_changes.proofs.lemmas.ByRank.{area-named, area-ranked, areas-of-rank}
+use Rattle.hc_changes.proofs.lemmas.ByRank.{area-named, areas-of-rank}
 use Rattle.hc_changes.proofs.lemmas.Compared.{StoodAt, all-compared, area-stood, flat_map-among}
 use Rattle.hc_changes.proofs.lemmas.Lists.{contains-unfiltered, found-among}
 use Rattle.hc_changes.proofs.lemmas.OneProject.{AreOfOneProject, edit-one-project, own-at}
@@ -161,7 +159,7 @@ module _ (it : Outlook) (one : AreOfOneProject (line_from 1 it.old) (line_from 1
       let station : found.member.slave.station ≡ was.member.slave.station =
       sym (ap (λ (p : ℕ × List Area). p.0) (one.alike was.member found.member stood.of.member of.member stood.rank)) in
       let names : RegisterBlock → List (ℕ × ℕ) = λ second.
-          names_if candidate (differ_from (two_blocks found.index found.area candidate.place) (sync_manager_block was.area, second)) in
+      names_if candidate (differ_from (two_blocks found.index found.area candidate.place) (sync_manager_block was.area, second)) in
       let had : LineBlock = record { station = was.member.slave.station; number = 2 * was.index; block = sync_manager_block was.area } in
       let second_had : LineBlock = record { station = was.member.slave.station; number = 2 * was.index + 1; block = fmmu_block was.index was.area (mapping_of old was.area.task (key_of was)) } in
       let has : LineBlock = record { station = found.member.slave.station; number = 2 * found.index; block = sync_manager_block found.area } in
@@ -211,10 +209,6 @@ moved-named it is = all-names it (edited-one-project it is) (changes it) (edited
 
 -- each candidate is an area of the new line
 
-each-mapped : {X Y : Type 0} (f : X → Y) (P : Y → Type 0) (xs : List X) → All (λ x. P (f x)) xs → All P (map f xs)
-each-mapped f P [] each = All-nil P
-each-mapped f P (x ∷ xs) each = All-cons P (f x) (map f xs) (All-head (λ y. P (f y)) x xs each) (each-mapped f P xs (All-tail (λ y. P (f y)) x xs each))
-
 pub candidate-stands : (it : Outlook) (found : List Candidate) (i : ℕ) (candidate : Candidate)
     → found ≡ map (candidate_of (line_from 1 it.new)) (candidates (changes it) (line_from 1 it.old) (line_from 1 it.new)) → i < length found → candidate ≡ get_or found i candidate
     → IsOfLine (line_from 1 it.new) candidate
@@ -223,7 +217,7 @@ candidate-stands it found i candidate is within met =
     let all = candidates (changes it) (line_from 1 it.old) new in
     let each : All (IsOfLine new) found =
     subst (λ (own : List Candidate). All (IsOfLine new) own) (sym is)
-    (each-mapped (candidate_of new) (IsOfLine new) all
+    (All-map (IsOfLine new) (candidate_of new) all
     (All-weaker (Contains all) (λ f. IsOfLine new (candidate_of new f))
     (λ f at. record { found = f; stands = contains-unfiltered (is_candidate (changes it) (line_from 1 it.old) new) (line_areas new) f at; is = refl })
     all (All-contains_itself all))) in
