@@ -1,5 +1,5 @@
 -- What is told of an edit, its tasks' tables and its rows, is what differs between the tables before and after it.
-use Rattle.std.proofs.Common.{◌≡◌, ℕ, ◌+◌, ◌<◌, ◌≤◌, ◌==◌, true, Contains, List, None, length, sym, ap, subst, ◌∙◌, arith}
+use Rattle.std.proofs.Common.{◌≡◌, ℕ, ◌+◌, ◌==◌, Contains, List, None, length, sym, ap, subst, ◌∙◌}
 use Rattle.std.specs.Prelude.{All, find, nat_lt, not, option_map, slice_get}
 use Rattle.std.proofs.lemmas.Bool.{and_parts, ltb-false, ltb-true, not-true}
 use Rattle.std.proofs.lemmas.List.Elements.{All-contains, All-contains_itself, All-map, All-weaker}
