@@ -1,16 +1,11 @@
-use Rattle.std.proofs.Common.{◌≡◌, ◌+◌, ◌<◌, ◌≤◌, ℕ, IfOk, map, ◌++◌, [], OnOk, false, if◌then◌else◌, length, not, option_to_list, ◌-◌, ◌*◌}
-use Rattle.hc_records.specs.Line.{line_from}
-use Rattle.hc_tasks.specs.Areas.{areas_by_rank, areas_at}
-use Rattle.hc_tasks.specs.Keeping.{StandsBefore}
-use Rattle.hc_tasks.specs.Kept.{line_kept}
-use Rattle.hc_changes.specs.Candidates.{candidate_of, candidates}
-use Rattle.hc_changes.specs.Outlook.{changes}
-use Rattle.std.specs.Option.{option_map_or}
-use Rattle.hc_records.specs.TaskList.{task_list}
-use Rattle.hc_records.specs.declared.limits.TheConstants.{TASKS}
-use Rattle.hc_cuts.specs.Keeping.{is_kept}
-use Rattle.hc_changes.specs.Found.{IsGroupAt, LieWithin, area_found, areas_found, found_below, rank_found, station_at}
+use Rattle.std.proofs.Common.{◌≡◌, ◌++◌, drop}
+use Rattle.hc_tasks.specs.Areas.{areas_at, areas_by_rank}
+use Rattle.hc_changes.specs.Found.{areas_found}
 use Rattle.hc_changes.proofs.finding.Sight.add_slave.Given as goal
 
+-- the candidates so far, and those among the areas that are left, are all
 abbrev pub invariant-loop-i : goal.invariant-loop-i
-invariant-loop-i l = ?
+invariant-loop-i l = record {
+  areas : l.areas ≡ areas_at (areas_by_rank l.self.new) l.rank;
+  found : l.found.items ++ areas_found l.self l.slave.station l.rank l.i (drop l.i l.areas) ≡ l.fn.found.items ++ areas_found l.self l.slave.station l.rank 0 l.areas;
+}
