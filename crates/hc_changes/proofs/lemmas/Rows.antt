@@ -2,7 +2,7 @@
 use Rattle.std.proofs.Common.{◌≡◌, ℕ, suc, ◌+◌, ◌-◌, ◌<◌, ◌≤◌, ◌==◌, Bool, true, false, cond, List, [], ◌∷◌, ◌++◌, Contains, Option, Some, None, length, refl, sym, ap, subst, ◌∙◌, arith}
 use Rattle.std.specs.Prelude.{All, filter, find, map, not, option_map, slice_index_or, ◌||◌}
 use Rattle.std.specs.List.{flat_map, list_any, zip}
-use Rattle.std.proofs.lemmas.Bool.{eq-eqb, eqb-true, or_parts}
+use Rattle.std.proofs.lemmas.Bool.{eq-eqb, eqb-true, not-true, or_parts}
 use Rattle.std.proofs.lemmas.List.Elements.{All-append, All-contains, All-contains_itself, All-map, All-weaker, Contains-append_left, Contains-append_right, filter_passes}
 use Rattle.std.proofs.lemmas.List.Folds.{list_any_at}
 use Rattle.hc_records.specs.declared.records.Area.{Area}
@@ -66,10 +66,6 @@ found-stands changed old new none row at =
     let made = map-piece (candidate_of (line new)) all piece.element piece.among in
     let among = contains-unfiltered (is_candidate changed (line old) (line new)) (line_areas (line new)) made.0 made.1 in
     area-stands-at new none made.0 (line-area (line new) made.0 among) row (subst (λ (c : _). Contains (rows_of c) row) (sym made.2) piece.own)
-
-not-true : (b : Bool) → not b ≡ true → b ≡ false
-not-true true is = cc
-not-true false is = refl
 
 moved-right : (changed : ℕ → Bool) (old new : State) → lowest_fault (groups_of new.groups) ≡ None → All (IsRight (table old) (table new)) (moved_rows (table old) (found_rows changed old new))
 moved-right changed old new none =
