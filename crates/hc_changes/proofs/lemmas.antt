@@ -6,6 +6,7 @@ pub mod Compared
 pub mod Counted
 pub mod Few
 pub mod Finding
+pub mod FoundAll
 pub mod FoundRanks
 pub mod InARow
 pub mod Inside

@@ -81,11 +81,11 @@ impl<'b, 'a> Model for Sight<'b, 'a> {
 }
 
 impl<'b, 'a> Sight<'b, 'a> {
-    ghost use Rattle.std.specs.Prelude.{◌≡◌, ◌+◌, ◌<◌, ◌++◌, [], OnOk, false, if◌then◌else◌, length, not, option_to_list};
+    ghost use Rattle.std.specs.Prelude.{◌≡◌, ◌+◌, ◌<◌, ◌≤◌, ◌++◌, [], OnOk, false, if◌then◌else◌, length, not, option_to_list};
     ghost use Rattle.std.specs.Option.{option_map_or};
     ghost use Rattle.hc_records.specs.Line.{line_from};
     ghost use Rattle.hc_records.specs.TaskList.{task_list};
-    ghost use Rattle.hc_records.specs.declared.limits.TheConstants.{TASKS};
+    ghost use Rattle.hc_records.specs.declared.limits.TheConstants.{MOST_SLAVES, TASKS};
     ghost use Rattle.hc_cuts.specs.Keeping.{is_kept};
     ghost use Rattle.hc_tasks.specs.Areas.{areas_at, areas_by_rank};
     ghost use Rattle.hc_changes.specs.Found.{IsGroupAt, LieWithin, area_found, areas_found, found_below, rank_found, station_at};
@@ -156,6 +156,7 @@ impl<'b, 'a> Sight<'b, 'a> {
         ranks: Ranks,
     ) -> Result<(), AllocError>
         requires group { IsGroupAt self.now.old first declared.now }
+        requires few { first + length declared.now.group.slaves ≤ MOST_SLAVES + 1 }
         requires ranks { LieWithin self.now ranks.low ranks.high }
         requires so_far { found.old.items ≡ found_below self.now first }
         ensures { OnOk result (found.new.items ≡ found_below self.now (first + length declared.now.group.slaves)) }
