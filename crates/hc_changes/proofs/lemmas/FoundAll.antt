@@ -4,6 +4,7 @@ use Rattle.std.specs.Prelude.{filter, map, slice_index_or}
 use Rattle.std.specs.List.{enumerate_from, flat_map}
 use Rattle.std.proofs.lemmas.Grind.{flat_map-append}
 use Rattle.std.proofs.lemmas.List.{length-map, map-append}
+use Rattle.std.proofs.lemmas.List.Elements.{filter-append}
 use Rattle.hc_records.specs.declared.records.Area.{Area}
 use Rattle.hc_records.specs.declared.records.Declared.{Declared}
 use Rattle.hc_records.specs.declared.records.Slave.{Slave}
@@ -17,11 +18,10 @@ use Rattle.hc_changes.specs.Found.{area_by, area_found, areas_found, found_among
 use Rattle.hc_changes.specs.Outlook.{IsOutlook, Outlook, changes}
 use Rattle.hc_changes.proofs.lemmas.Bare.{bare_slave, edit-keeps}
 use Rattle.hc_changes.proofs.lemmas.FoundRanks.{many-stations}
-use Rattle.hc_changes.proofs.lemmas.Others.{filter-append}
 
 -- lists by index, one behind another
 
-gather : {X : Type 0} → (ℕ → List X) → ℕ → List X
+abbrev gather : {X : Type 0} → (ℕ → List X) → ℕ → List X
 gather f zero = []
 gather f (suc n) = gather f n ++ f n
 
@@ -36,7 +36,7 @@ below-gather it (suc n) = ap (λ (first : List Candidate). first ++ rank_found i
 
 -- the candidates among the areas of slaves in a row, by their station addresses
 
-row_found : Outlook → ℕ → List ℕ → List (List Area) → List Candidate
+abbrev row_found : Outlook → ℕ → List ℕ → List (List Area) → List Candidate
 row_found it first [] slaves = []
 row_found it first (station ∷ named) [] = []
 row_found it first (station ∷ named) (areas ∷ slaves) = areas_found it station first 0 areas ++ row_found it (first + 1) named slaves

@@ -1,5 +1,5 @@
 -- The candidates by ranks are those of the line: an area, a slave and a group at a time.
-use Rattle.std.proofs.Common.{◌≡◌, ℕ, zero, suc, ◌+◌, ◌-◌, ◌<◌, ◌≤◌, List, [], ◌∷◌, ◌++◌, Contains, None, append-nil, length, length-append, drop, drop-cons, refl, sym, ap, subst, ◌∙◌, append_assoc, arith}
+use Rattle.std.proofs.Common.{◌≡◌, ℕ, zero, suc, ◌+◌, ◌-◌, ◌<◌, ◌≤◌, List, [], ◌∷◌, ◌++◌, Contains, None, append-nil, length, length-append, drop, drop-cons, take, refl, sym, ap, subst, ◌∙◌, append_assoc, arith}
 use Rattle.std.specs.Prelude.{if◌then◌else◌, map, slice_index_or}
 use Rattle.std.proofs.lemmas.Grind.{flat_map-append}
 use Rattle.std.proofs.lemmas.List.{length-map}
@@ -166,3 +166,47 @@ behind-passed it low high first to end within order out =
     let here : first + (rank - first) ≡ rank = omega (arith, above) in
     out (rank - first) (omega (arith, above)) (omega (arith, above, below, order)) (omega (arith, here, under)))))
     ∙ ap (found_below it) all
+
+-- the groups one by one
+
+split-at : {X : Type 0} (xs : List X) (i : ℕ) (x : X) → i < length xs → x ≡ slice_index_or xs i x → xs ≡ take i xs ++ (x ∷ drop (i + 1) xs)
+split-at [] i x within is = absurd (omega arith)
+split-at (y ∷ xs) zero x within is = ap (λ (first : _). first ∷ xs) (sym is)
+split-at (y ∷ xs) (suc i) x within is =
+    let next : suc i + 1 ≡ suc (i + 1) = omega arith in
+    ap (λ (rest : List _). y ∷ rest) (split-at xs i x (omega arith) is) ∙ sym (ap (λ (n : ℕ). (y ∷ take i xs) ++ (x ∷ drop n (y ∷ xs))) next)
+
+pub group-at : (groups : List Declared) (first i : ℕ) (declared : Declared) → first ≡ length (areas_by_rank (take i groups)) + 1 → i < length groups
+    → declared ≡ slice_index_or groups i declared → IsGroupAt groups first declared
+group-at groups first i declared rank within is =
+    record { front = take i groups; behind = drop (i + 1) groups; stands = split-at groups i declared within is; rank = rank }
+
+pub taken-all : {X : Type 0} (xs : List X) (n : ℕ) → length xs ≤ n → take n xs ≡ xs
+taken-all [] zero past = refl
+taken-all [] (suc n) past = refl
+taken-all (x ∷ xs) zero past = absurd (omega arith)
+taken-all (x ∷ xs) (suc n) past = ap (λ (rest : List _). x ∷ rest) (taken-all xs n (omega arith))
+
+-- no slave has a rank above all of them
+
+past-none : {X : Type 0} (xs : List (List X)) (n : ℕ) → length xs ≤ n → slice_index_or xs n [] ≡ []
+past-none [] n past = refl
+past-none (x ∷ xs) zero past = absurd (omega arith)
+past-none (x ∷ xs) (suc n) past = past-none xs n (omega arith)
+
+above-none : (it : Outlook) (rank : ℕ) → length (areas_by_rank it.new) < rank → rank_found it rank ≡ []
+unfolding rank_found areas_found
+above-none it zero above = absurd (omega arith)
+above-none it (suc i) above = ap (areas_found it (station_at it.old (suc i)) (suc i) 0) (past-none (areas_by_rank it.new) i (omega arith))
+
+pub all-within : (it : Outlook) → IsOutlook it → LieWithin it 0 65535
+all-within it is rank out =
+    let few = is.lines.new_line.few in
+    above-none it rank (either-above (length (areas_by_rank it.new)) rank few (λ low. out (omega arith) low))
+  where
+    either-above : (count rank : ℕ) → count ≤ MOST_SLAVES → (rank ≤ 65535 → ⊥) → count < rank
+    either-above count rank few out = omega (arith, few, out)
+
+pub none-yet : (it : Outlook) → found_below it 1 ≡ []
+unfolding found_below rank_found areas_found
+none-yet it = refl

@@ -1,37 +1,57 @@
-use Rattle.std.proofs.Common.{rules, ◌≡◌, ◌+◌, ◌<◌, ◌≤◌, ℕ, IfOk, map, ◌++◌, [], OnOk, false, if◌then◌else◌, length, not, option_to_list, ◌-◌, ◌*◌, ◌/◌, ◌%◌, Bool, true, nat_eq, nat_lt, List, ◌∷◌, slice_index_or, slice_set, bit_and, bit_or, Fits, w8, w32, w64, Bor, MutBor}
-use Rattle.hc_records.specs.Line.{line_from}
-use Rattle.hc_tasks.specs.Areas.{areas_by_rank, areas_at}
-use Rattle.hc_tasks.specs.Keeping.{StandsBefore}
-use Rattle.hc_tasks.specs.Kept.{line_kept}
-use Rattle.hc_changes.specs.Candidates.{candidate_of, candidates}
-use Rattle.hc_changes.specs.Outlook.{changes}
-use Rattle.std.specs.Option.{option_map_or}
-use Rattle.hc_records.specs.TaskList.{task_list}
-use Rattle.hc_records.specs.declared.limits.TheConstants.{MOST_SLAVES, TASKS}
-use Rattle.hc_cuts.specs.Keeping.{is_kept}
-use Rattle.hc_changes.specs.Found.{IsGroupAt, LieWithin, area_found, areas_found, found_below, rank_found, station_at}
+use Rattle.std.proofs.Common.{◌≡◌, ◌∙◌, ◌+◌, ◌<◌, ◌≤◌, ℕ, List, length, ap, refl, subst, sym, take, arith}
+use Rattle.std.specs.Prelude.{slice_index_or}
+use Rattle.hc_records.specs.declared.records.Declared.{Declared}
+use Rattle.hc_tasks.specs.Areas.{areas_by_rank}
+use Rattle.hc_changes.specs.Found.{IsGroupAt, found_below}
+use Rattle.hc_changes.specs.Outlook.{IsOutlook}
+use Rattle.hc_changes.proofs.lemmas.FoundAll.{found-all}
+use Rattle.hc_changes.proofs.lemmas.FoundRanks.{group-at, group-low, none-yet, taken-all}
 use Rattle.hc_changes.proofs.finding.Sight.all.Goals as goal
 
--- src/finding.rt:179:9
 pub loop-declared-init : goal.loop-declared-init
-loop-declared-init c = ?
+loop-declared-init c = record { first = refl; found = c.new-found.ensures.items ∙ sym (none-yet c.args.self.now) }
 
--- src/finding.rt:180:13
 pub add_group-requires-clause-group : goal.add_group-requires-clause-group
-add_group-requires-clause-group c = ?
+add_group-requires-clause-group c =
+    let groups = c.requires.groups in
+    let i = c.loop-declared.declared-index in
+    let declared = c.declared-item.result in
+    group-at c.args.self.now.old c.loop-declared.first i declared c.loop-declared.invariant.first (omega (arith, c.loop-declared-test.true, ap length groups))
+    (c.declared-item.is ∙ ap (λ (all : List Declared). slice_index_or all i declared) groups)
 
--- src/finding.rt:180:13
 pub add_group-requires-clause-few : goal.add_group-requires-clause-few
-add_group-requires-clause-few c = ?
+add_group-requires-clause-few c =
+    let groups = c.requires.groups in
+    let i = c.loop-declared.declared-index in
+    let declared = c.declared-item.result in
+    group-low c.args.self.now c.loop-declared.first declared c.requires.known
+    (group-at c.args.self.now.old c.loop-declared.first i declared c.loop-declared.invariant.first (omega (arith, c.loop-declared-test.true, ap length groups))
+    (c.declared-item.is ∙ ap (λ (all : List Declared). slice_index_or all i declared) groups))
 
--- src/finding.rt:181:22
 pub overflow_cast-first : goal.overflow_cast-first
-overflow_cast-first c = ?
+overflow_cast-first c =
+    let groups = c.requires.groups in
+    let i = c.loop-declared.declared-index in
+    let declared = c.declared-item.result in
+    let low = group-low c.args.self.now c.loop-declared.first declared c.requires.known
+    (group-at c.args.self.now.old c.loop-declared.first i declared c.loop-declared.invariant.first (omega (arith, c.loop-declared-test.true, ap length groups))
+    (c.declared-item.is ∙ ap (λ (all : List Declared). slice_index_or all i declared) groups)) in
+    omega (arith, low, c.len.ensures)
 
--- src/finding.rt:181:13
 pub overflow_add-first : goal.overflow_add-first
-overflow_add-first c = ?
+overflow_add-first c =
+    let groups = c.requires.groups in
+    let i = c.loop-declared.declared-index in
+    let declared = c.declared-item.result in
+    let low = group-low c.args.self.now c.loop-declared.first declared c.requires.known
+    (group-at c.args.self.now.old c.loop-declared.first i declared c.loop-declared.invariant.first (omega (arith, c.loop-declared-test.true, ap length groups))
+    (c.declared-item.is ∙ ap (λ (all : List Declared). slice_index_or all i declared) groups)) in
+    omega (arith, low, c.len.ensures)
 
--- src/finding.rt:173:5
 pub returns : goal.returns
-returns c = ?
+returns c =
+    let it = c.args.self.now in
+    let past : length it.old ≤ c.loop-declared.declared-index = omega (arith, c.loop-declared-test.false, ap length c.requires.groups) in
+    c.loop-declared.invariant.found
+    ∙ found-all it c.loop-declared.first c.requires.known
+    (c.loop-declared.invariant.first ∙ ap (λ (all : List Declared). length (areas_by_rank all) + 1) (taken-all it.old c.loop-declared.declared-index past))
