@@ -5,6 +5,7 @@ pub mod ByRank
 pub mod Compared
 pub mod Counted
 pub mod Finding
+pub mod FoundAll
 pub mod FoundRanks
 pub mod InARow
 pub mod Inside

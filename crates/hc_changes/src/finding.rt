@@ -81,14 +81,15 @@ impl<'b, 'a> Model for Sight<'b, 'a> {
 }
 
 impl<'b, 'a> Sight<'b, 'a> {
-    ghost use Rattle.std.specs.Prelude.{◌≡◌, ◌+◌, ◌<◌, ◌++◌, [], OnOk, false, if◌then◌else◌, length, not, option_to_list};
+    ghost use Rattle.std.specs.Prelude.{◌≡◌, ◌+◌, ◌<◌, ◌≤◌, ◌++◌, [], OnOk, false, if◌then◌else◌, length, not, option_to_list};
     ghost use Rattle.std.specs.Option.{option_map_or};
     ghost use Rattle.hc_records.specs.Line.{line_from};
     ghost use Rattle.hc_records.specs.TaskList.{task_list};
-    ghost use Rattle.hc_records.specs.declared.limits.TheConstants.{TASKS};
+    ghost use Rattle.hc_records.specs.declared.limits.TheConstants.{MOST_SLAVES, TASKS};
     ghost use Rattle.hc_cuts.specs.Keeping.{is_kept};
     ghost use Rattle.hc_tasks.specs.Areas.{areas_at, areas_by_rank};
     ghost use Rattle.hc_changes.specs.Found.{IsGroupAt, LieWithin, area_found, areas_found, found_below, rank_found, station_at};
+    ghost use Rattle.hc_changes.specs.Outlook.{IsOutlook};
 
     /// Whether an area of a task with a place, if it has one, stands in a datagram that isn't kept.
     fn is_recut(&self, task: u8, place: &Option<Placed>) -> bool
@@ -156,6 +157,7 @@ impl<'b, 'a> Sight<'b, 'a> {
         ranks: Ranks,
     ) -> Result<(), AllocError>
         requires group { IsGroupAt self.now.old first declared.now }
+        requires few { first + length declared.now.group.slaves ≤ MOST_SLAVES + 1 }
         requires ranks { LieWithin self.now ranks.low ranks.high }
         requires so_far { found.old.items ≡ found_below self.now first }
         ensures { OnOk result (found.new.items ≡ found_below self.now (first + length declared.now.group.slaves)) }
@@ -168,14 +170,22 @@ impl<'b, 'a> Sight<'b, 'a> {
         Ok(())
     }
 
-    /// The candidates, which all stand between two ranks, in line and record order.
-    fn all(&self, alloc: Global, ranks: Ranks) -> Result<Vec<Candidate<'a>>, AllocError>
+    /// The candidates, which all stand between two ranks, in line and record order, by the declared groups
+    /// before the edit.
+    fn all(
+        &self,
+        alloc: Global,
+        groups: &'a [Declared],
+        ranks: Ranks,
+    ) -> Result<Vec<Candidate<'a>>, AllocError>
+        requires groups { groups.now ≡ self.now.old }
+        requires known { IsOutlook self.now }
         requires ranks { LieWithin self.now ranks.low ranks.high }
         ensures { IfOk result (λ found. found.items ≡ map (candidate_of (line_from 1 self.now.new)) (candidates (changes self.now) (line_from 1 self.now.old) (line_from 1 self.now.new))) }
     {
         let mut found = Vec::new(alloc);
         let mut first = 1;
-        for declared in self.outlook.groups() {
+        for declared in groups {
             self.add_group(&mut found, first, declared, ranks)?;
             first += declared.group.slaves.len() as u16;
         }
@@ -197,10 +207,11 @@ pub fn candidates<'a>(
     requires cuts { cuts.now ≡ line_kept (areas_by_rank outlook.now.new) }
     ensures { IfOk result (λ found. found.items ≡ map (candidate_of (line_from 1 outlook.now.new)) (candidates (changes outlook.now) (line_from 1 outlook.now.old) (line_from 1 outlook.now.new))) }
 {
+    let groups = outlook.groups();
     let sight = Sight {
         outlook,
         before,
         cuts,
     };
-    sight.all(alloc, Ranks::ALL)
+    sight.all(alloc, groups, Ranks::ALL)
 }
