@@ -3,6 +3,7 @@
 #![tactic(auto)]
 
 pub mod blocks;
+mod laid;
 pub mod laws;
 mod moved;
 pub mod plan;
