@@ -10,6 +10,7 @@ use Rattle.hc_edits.specs.Rows.{areas_in_line, first_of, row}
 use Rattle.hc_tasks.specs.Areas.{areas_by_rank}
 use Rattle.hc_tasks.specs.Turn.{AreLines}
 use Rattle.hc_changes.specs.Candidates.{DifferAt}
+use Rattle.hc_changes.specs.Edited.{HasEdit}
 
 -- the declared groups before the edit and after it, and the slaves that it concerns: the rank of the first, and the areas that each has in the line before and after
 pub record Outlook : Type 0 where
@@ -33,8 +34,9 @@ outlook_of change groups = record {
 abbrev pub changes : Outlook → ℕ → Bool
 changes outlook rank = not (nat_lt rank outlook.first) && nat_lt rank (outlook.first + length outlook.before)
 
--- the groups are a project's before and after, and the lines differ in the areas of these slaves alone
+-- an edit leads from the groups of a project to the new ones, which are a project's again, and the lines differ in the areas of these slaves alone
 pub record IsOutlook (outlook : Outlook) : Type 0 where
+  pub edited : HasEdit outlook.old outlook.new
   pub was_project : lowest_fault (groups_of outlook.old) ≡ None
   pub is_project : lowest_fault (groups_of outlook.new) ≡ None
   pub lines : AreLines outlook.first outlook.before outlook.after (areas_by_rank outlook.old) (areas_by_rank outlook.new)

@@ -84,6 +84,7 @@ impl<'a> Outlook<'a> {
     ghost use Rattle.hc_edits.specs.Changes.{carried};
     ghost use Rattle.hc_edits.specs.Rows.{ChangesRow};
     ghost use Rattle.hc_tasks.specs.Areas.{areas_at, areas_by_rank};
+    ghost use Rattle.hc_changes.specs.Edited.{HasEdit};
     ghost use Rattle.hc_changes.specs.Outlook.{changes, outlook_of};
 
     /// What a prepared edit makes of the line of the groups of a project, which it leaves a project's.
@@ -93,6 +94,7 @@ impl<'a> Outlook<'a> {
         groups: &'a [Declared],
         change: &'a Prepared,
     ) -> Result<Outlook<'a>, AllocError>
+        requires edited { HasEdit groups.now (carried change.now groups.now) }
         requires was { lowest_fault (groups_of groups.now) ≡ None }
         requires is { lowest_fault (groups_of (carried change.now groups.now)) ≡ None }
         requires row { ChangesRow change.now groups.now }

@@ -1,8 +1,6 @@
 -- The slaves that a change concerns are those in which the lines before it and after it differ.
-use Rattle.std.proofs.Common.{◌≡◌, ℕ, zero, suc, ◌+◌, ◌<◌, ◌≤◌, Bool, true, false, not, List, [], ◌∷◌, ◌++◌, Option, Some, None, length, take, refl, sym, ap, ◌∙◌, arith, if◌then◌else◌}
-use Rattle.std.specs.Prelude.{◌&&◌, map, nat_lt, slice_get, slice_index_or}
-use Rattle.std.specs.Option.{option_map_or}
-use Rattle.std.proofs.Math.Seq.{take-length}
+use Rattle.std.proofs.Common.{◌≡◌, ℕ, zero, suc, ◌+◌, ◌<◌, ◌≤◌, Bool, true, false, not, List, [], ◌∷◌, ◌++◌, Option, None, length, take, refl, sym, ap, ◌∙◌, arith, if◌then◌else◌}
+use Rattle.std.specs.Prelude.{◌&&◌, map, nat_lt, slice_index_or}
 use Rattle.std.proofs.lemmas.Bool.{le-ltb, lt-ltb}
 use Rattle.std.proofs.lemmas.List.{length-map, map-append}
 use Rattle.hc_records.specs.declared.records.Area.{Area}
@@ -12,11 +10,12 @@ use Rattle.hc_records.specs.Line.{groups_of, line_from}
 use Rattle.hc_records.specs.Project.{lowest_fault}
 use Rattle.hc_edits.specs.declared.prepared.Prepared.{Prepared}
 use Rattle.hc_edits.specs.Changes.{carried}
-use Rattle.hc_edits.specs.Rows.{ChangesRow, Ranked, areas_in_line, by_rank, count_of, first_of, nth_areas, ranked, row}
+use Rattle.hc_edits.specs.Rows.{ChangesRow, Ranked, areas_in_line, by_rank, first_of, nth_areas, ranked, row}
 use Rattle.hc_tasks.specs.Areas.{areas_at, areas_by_rank}
 use Rattle.hc_tasks.specs.Turn.{AreLines}
 use Rattle.hc_tasks.proofs.lemmas.Projects.{project-line}
 use Rattle.hc_changes.specs.Candidates.{DifferAt, slave_of}
+use Rattle.hc_changes.specs.Edited.{HasEdit}
 use Rattle.hc_changes.specs.Outlook.{IsOutlook, Outlook, changes, outlook_of}
 use Rattle.hc_changes.proofs.lemmas.Ranks.{line-slots, none-below}
 use Rattle.hc_changes.proofs.lemmas.Slots.{slot, slots}
@@ -99,14 +98,14 @@ change-differs groups change it (suc i) unchanged =
     let own_many = length-map {B = Option Slave} (row change groups) seat in
     let areas_many = length-map {B = List Area} (row change groups) areas_in_line in
     let many : length (map seat (row change after)) ≡ length (map seat (row change groups)) =
-        length-map (row change after) seat ∙ it.many_after ∙ sym it.many_before ∙ sym own_many in
+    length-map (row change after) seat ∙ it.many_after ∙ sym it.many_before ∙ sym own_many in
     let out : length (map seat it.front) ≤ i → i < length (map seat it.front) + length (map seat (row change groups)) → ⊥ = (λ low high.
-        let among : changes (outlook_of change groups) (suc i) ≡ true =
-            inside-by (nat_lt (suc i) (first_of change)) (nat_lt (suc i) (first_of change + length (map areas_in_line (row change groups))))
-            (le-ltb (suc i) (first_of change) (omega (arith, first, front_many, low)))
-            (lt-ltb (suc i) (first_of change + length (map areas_in_line (row change groups))) (omega (arith, first, front_many, own_many, areas_many, high))) in
-        let both : true ≡ false = sym among ∙ unchanged in
-        cc) in
+    let among : changes (outlook_of change groups) (suc i) ≡ true =
+    inside-by (nat_lt (suc i) (first_of change)) (nat_lt (suc i) (first_of change + length (map areas_in_line (row change groups))))
+    (le-ltb (suc i) (first_of change) (omega (arith, first, front_many, low)))
+    (lt-ltb (suc i) (first_of change + length (map areas_in_line (row change groups))) (omega (arith, first, front_many, own_many, areas_many, high))) in
+    let both : true ≡ false = sym among ∙ unchanged in
+    cc) in
     ap (slave_of (line_from 1 groups)) rank
     ∙ line-slots 1 groups i
     ∙ ap (λ (list : List (Option Slave)). slice_index_or list i None) (slots-told groups ∙ around seat (by_rank groups) it.front (row change groups) it.behind it.before)
@@ -115,9 +114,10 @@ change-differs groups change it (suc i) unchanged =
     ∙ sym (line-slots 1 after i)
     ∙ sym (ap (slave_of (line_from 1 after)) rank)
 
-pub change-outlook : (groups : List Declared) (change : Prepared) → lowest_fault (groups_of groups) ≡ None → lowest_fault (groups_of (carried change groups)) ≡ None → ChangesRow change groups →
+pub change-outlook : (groups : List Declared) (change : Prepared) → HasEdit groups (carried change groups) → lowest_fault (groups_of groups) ≡ None → lowest_fault (groups_of (carried change groups)) ≡ None → ChangesRow change groups →
     IsOutlook (outlook_of change groups)
-change-outlook groups change was is it = record {
+change-outlook groups change edited was is it = record {
+  edited = edited;
   was_project = was;
   is_project = is;
   lines = change-lines groups change was is it;
@@ -126,10 +126,15 @@ change-outlook groups change was is it = record {
 
 -- what these slaves have in the line, and the others
 
+own-at : {X : Type 0} (one behind : List X) (i : ℕ) (none : X) → i < length one → slice_index_or (one ++ behind) i none ≡ slice_index_or one i none
+own-at [] behind i none within = absurd (omega arith)
+own-at (x ∷ one) behind zero none within = refl
+own-at (x ∷ one) behind (suc i) none within = own-at one behind i none (omega arith)
+
 inside-at : {X : Type 0} (front one behind : List X) (i : ℕ) (none : X) → i < length one → slice_index_or (front ++ (one ++ behind)) (length front + i) none ≡ slice_index_or one i none
-inside-at [] [] behind i none within = absurd (omega arith)
-inside-at [] (x ∷ one) behind zero none within = refl
-inside-at [] (x ∷ one) behind (suc i) none within = inside-at [] one behind i none (omega arith)
+inside-at [] one behind i none within =
+    let next : 0 + i ≡ i = omega arith in
+    ap (λ (n : ℕ). slice_index_or (one ++ behind) n none) next ∙ own-at one behind i none within
 inside-at (x ∷ front) one behind i none within =
     let next : suc (length front) + i ≡ suc (length front + i) = omega arith in
     ap (λ (n : ℕ). slice_index_or (x ∷ (front ++ (one ++ behind))) n none) next ∙ inside-at front one behind i none within
@@ -157,11 +162,11 @@ other-at it is (suc i) unchanged =
     let lines = is.lines in
     let begins = lines.rank in
     let out : length lines.front ≤ i → i < length lines.front + length it.before → ⊥ = (λ low high.
-        let among : changes it (suc i) ≡ true =
-            inside-by (nat_lt (suc i) it.first) (nat_lt (suc i) (it.first + length it.before))
-            (le-ltb (suc i) it.first (omega (arith, begins, low))) (lt-ltb (suc i) (it.first + length it.before) (omega (arith, begins, high))) in
-        let both : true ≡ false = sym among ∙ unchanged in
-        cc) in
+    let among : changes it (suc i) ≡ true =
+    inside-by (nat_lt (suc i) it.first) (nat_lt (suc i) (it.first + length it.before))
+    (le-ltb (suc i) it.first (omega (arith, begins, low))) (lt-ltb (suc i) (it.first + length it.before) (omega (arith, begins, high))) in
+    let both : true ≡ false = sym among ∙ unchanged in
+    cc) in
     ap (λ (list : List (List Area)). slice_index_or list i []) lines.was
     ∙ outside lines.front it.before it.after lines.behind i [] lines.many out
     ∙ sym (ap (λ (list : List (List Area)). slice_index_or list i []) lines.is)

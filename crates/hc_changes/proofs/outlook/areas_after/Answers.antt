@@ -1,4 +1,4 @@
-use Rattle.std.proofs.Common.{◌≡◌, ◌∙◌, ℕ, ◌<◌, List, [], ◌∷◌, ◌++◌, length, ap, sym, arith}
+use Rattle.std.proofs.Common.{◌∙◌, ◌<◌, List, [], ◌∷◌, ◌++◌, length, ap, sym, arith}
 use Rattle.hc_records.specs.declared.records.Area.{Area}
 use Rattle.hc_edits.specs.Changes.{carried}
 use Rattle.hc_edits.specs.Rows.{nth_areas, row}

@@ -1,6 +1,5 @@
-use Rattle.std.proofs.Common.{◌≡◌, ◌∙◌, ℕ, ◌<◌, List, [], ◌∷◌, ◌++◌, length, ap, sym, arith}
+use Rattle.std.proofs.Common.{◌∙◌, ◌<◌, List, [], ◌∷◌, ◌++◌, length, ap, sym, arith}
 use Rattle.hc_records.specs.declared.records.Area.{Area}
-use Rattle.hc_edits.specs.Changes.{carried}
 use Rattle.hc_edits.specs.Rows.{nth_areas, row}
 use Rattle.hc_changes.proofs.lemmas.Outlooks.{read-next}
 use Rattle.hc_changes.proofs.outlook.areas_before.Goals as goal

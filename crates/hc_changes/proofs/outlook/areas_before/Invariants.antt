@@ -1,6 +1,5 @@
 use Rattle.std.proofs.Common.{◌≡◌, take}
 use Rattle.std.specs.Prelude.{map}
-use Rattle.hc_edits.specs.Changes.{carried}
 use Rattle.hc_edits.specs.Rows.{areas_in_line, row}
 use Rattle.hc_changes.proofs.outlook.areas_before.Given as goal
 

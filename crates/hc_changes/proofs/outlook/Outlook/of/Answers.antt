@@ -9,4 +9,4 @@ invariant_of-result c =
     let it = outlook_of c.args.change.now c.args.groups.now in
     subst (λ (after : List (List Area)). IsOutlook (record it { before = c.in_ok-before.before.items; after = after })) (sym c.in_ok-after.ensures)
     (subst (λ (before : List (List Area)). IsOutlook (record it { before = before })) (sym c.in_ok-before.ensures)
-    (change-outlook c.args.groups.now c.args.change.now c.requires.was c.requires.is c.requires.row))
+    (change-outlook c.args.groups.now c.args.change.now c.requires.edited c.requires.was c.requires.is c.requires.row))
