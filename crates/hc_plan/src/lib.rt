@@ -2,6 +2,7 @@
 //! and the program ask it for datagrams, places and register blocks.
 #![tactic(auto)]
 
+mod applying;
 pub mod blocks;
 mod laid;
 pub mod laws;

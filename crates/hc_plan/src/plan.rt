@@ -2,11 +2,16 @@
 ghost use Rattle.std.specs.Prelude.{◌≡◌, IfOk, map};
 ghost use Rattle.hc_records.specs.Line.{opened_group};
 
+use crate::applying::{Applied, work_out};
 use crate::blocks::{LineBlocks, block_at, line_blocks, nth_block};
 use crate::laid::Laid;
+use crate::report::Report;
 use crate::turning::{OpenedLine, open_line};
+use hc_changes::outlook::Outlook;
+use hc_edits::prepared::Prepared;
 use hc_index::index::{Index, Indexed};
 use hc_places::table::Places;
+use hc_records::edit::Edit;
 use hc_records::faults::EditFault;
 use hc_records::items::Items;
 use hc_records::project::Project;
@@ -205,5 +210,56 @@ impl Plan {
         ensures { IsLaidOut self.now.groups result }
     {
         Laid::of(self.groups.as_slice(), &self.cuts)
+    }
+
+    /// Carries an edit out: the plan is then that of the new line, and the report tells what became
+    /// different. Otherwise the lowest fault whose condition holds, or `Memory` where a growth was
+    /// refused; the plan is then as it was. A fault that the edit has by itself, of the faults 1 to 11,
+    /// is judged before the first growth.
+    pub fn apply(&mut self, alloc: Global, edit: &Edit) -> Result<Report, EditFault>
+        ensures accepted { OnOk result (edited self.old edit.now ≡ Ok self.new) }
+        ensures report { IfOk result (Tells self.old edit.now self.new) }
+        ensures refused { IfErr result (λ fault. fault ≢ Memory → edited self.old edit.now ≡ Err fault) }
+        ensures own { IfSome (own_fault self.old.groups edit.now) (λ fault. result ≡ Err fault) }
+        ensures unchanged { OnErr result (self.new ≡ self.old) }
+    {
+        let change = Prepared::of(alloc, self.groups.as_slice(), edit)?;
+        let outlook = Outlook::of(alloc, self.groups.as_slice(), &change)?;
+        let applied = work_out::<Brand>(
+            alloc,
+            edit,
+            &outlook,
+            self.epoch,
+            &mut self.cuts,
+            &self.places,
+            Blank::new(1),
+        )?;
+        drop(outlook);
+        let Applied { report, room } = applied;
+        change.carry_out(&mut self.groups);
+        self.index.follow(self.groups.as_slice());
+        self.places.carry_out(&report.swap, room);
+        self.epoch += 1;
+        Ok(report)
+    }
+
+    /// Carries edits out in their order, as `apply` does each, and gives their answers. The room for the
+    /// answers is taken first: after `AllocError` no edit was carried out, and the plan is as it was.
+    pub fn run(
+        &mut self,
+        alloc: Global,
+        edits: &[Edit],
+    ) -> Result<Vec<Result<Report, EditFault>>, AllocError>
+        ensures count { IfOk result (λ answers. length answers.items ≡ length edits.now) }
+        ensures answers { IfOk result (λ answers. AreAnswers self.old (zip edits.now answers.items) self.new) }
+        ensures state { IfOk result (λ answers. self.new ≡ state_after_all self.old (carried (zip edits.now answers.items))) }
+        ensures unchanged { OnErr result (self.new ≡ self.old) }
+    {
+        let mut answers = Vec::with_capacity(alloc, edits.len())?;
+        for edit in edits {
+            let answer = self.apply(alloc, edit);
+            answers.push_reserved(answer);
+        }
+        Ok(answers)
     }
 }

@@ -1,19 +1,17 @@
-//! A line whose tasks are kept in trees, opened.
-ghost use Rattle.std.specs.Prelude.{◌≡◌, ◌≢◌, ◌<◌, Err, IfErr, IfOk, None, Ok, OnErr, OnOk, length};
-ghost use Rattle.hc_records.specs.declared.faults.EditFault.TheVariants.{Memory};
-ghost use Rattle.hc_records.specs.declared.limits.TheConstants.{LAST_EPOCH};
+//! A line whose tasks are kept in trees: opened, and turned to what an edit makes of it, and back.
+ghost use Rattle.std.specs.Prelude.{◌≡◌, IfErr, IfOk, None, OnErr, OnOk, Some};
 ghost use Rattle.hc_records.specs.Boundaries.{recut};
-ghost use Rattle.hc_records.specs.Edits.{changed, crowded_task, edited, groups_after};
+ghost use Rattle.hc_records.specs.Edits.{crowded_task};
 ghost use Rattle.hc_records.specs.Line.{groups_of, line_from};
 ghost use Rattle.hc_records.specs.Project.{lowest_fault};
-ghost use Rattle.hc_edits.specs.Edits.{own_fault};
-ghost use Rattle.hc_places.specs.Layout.{NamesCrowded, layout_of};
+ghost use Rattle.hc_places.specs.Layout.{NamesCrowded};
 ghost use Rattle.hc_places.specs.Table.{table_of};
 ghost use Rattle.hc_tasks.specs.Areas.{areas_by_rank};
-ghost use Rattle.hc_tasks.specs.Kept.{IsLine, crowded_from, line_kept};
-ghost use Rattle.hc_plan.specs.Reports.{Tells};
+ghost use Rattle.hc_tasks.specs.Kept.{line_kept};
+ghost use Rattle.hc_changes.specs.Outlook.{IsOutlook};
 
 use hc_bitsum::steps::Steps;
+use hc_changes::outlook::Outlook;
 use hc_places::configure::{Configured, configure_kept};
 use hc_places::table::Places;
 use hc_records::faults::EditFault;
@@ -51,4 +49,55 @@ pub(crate) fn open_line<L: Ledger>(
     let cuts = LineCuts::open(alloc, slaves.as_slice(), &mut steps)?;
     let Configured { layout: _, places } = configure_kept(alloc, groups, &cuts, &mut steps)?;
     Ok(OpenedLine { cuts, places })
+}
+
+/// Turns the trees of a line's tasks to what an edit makes of it, and answers how many spans of touched
+/// tasks aren't settled. Otherwise the lowest task of the new line that needs more than 16 datagrams, and
+/// the trees are as they were. It takes no memory.
+pub(crate) fn turn_line<L: Ledger>(
+    cuts: &mut LineCuts,
+    outlook: &Outlook<'_>,
+    steps: &mut Steps<L>,
+) -> Result<u32, u8>
+    requires outlook { IsOutlook outlook.now }
+    requires trees { cuts.old ≡ line_kept (areas_by_rank outlook.now.old) }
+    requires fits { crowded_task (line_from 1 outlook.now.old) ≡ None }
+    ensures turned { OnOk result (cuts.new ≡ line_kept (areas_by_rank outlook.now.new)) }
+    ensures accepted { OnOk result (crowded_task (line_from 1 outlook.now.new) ≡ None) }
+    ensures recut { IfOk result (λ unsettled. unsettled ≡ recut (line_from 1 outlook.now.old) (line_from 1 outlook.now.new)) }
+    ensures refused { IfErr result (λ task. crowded_task (line_from 1 outlook.now.new) ≡ Some task) }
+    ensures unchanged { OnErr result (cuts.new ≡ cuts.old) }
+{
+    cuts.turn(outlook.first(), outlook.before(), outlook.after(), steps)
+}
+
+/// Turns the trees of what an edit makes of a line back to those of the line before it, where no task of
+/// either line is crowded.
+pub(crate) fn turn_back<L: Ledger>(
+    cuts: &mut LineCuts,
+    outlook: &Outlook<'_>,
+    steps: &mut Steps<L>,
+)
+    requires outlook { IsOutlook outlook.now }
+    requires trees { cuts.old ≡ line_kept (areas_by_rank outlook.now.new) }
+    requires fits { crowded_task (line_from 1 outlook.now.old) ≡ None }
+    requires accepted { crowded_task (line_from 1 outlook.now.new) ≡ None }
+    ensures { cuts.new ≡ line_kept (areas_by_rank outlook.now.old) }
+{
+    let Ok(_) = cuts.turn(outlook.first(), outlook.after(), outlook.before(), steps) else {
+        unreachable!()
+    };
+}
+
+/// Turns the trees of a line's tasks to what an edit makes of it, where no task of either line is crowded.
+pub(crate) fn turn_on<L: Ledger>(cuts: &mut LineCuts, outlook: &Outlook<'_>, steps: &mut Steps<L>)
+    requires outlook { IsOutlook outlook.now }
+    requires trees { cuts.old ≡ line_kept (areas_by_rank outlook.now.old) }
+    requires fits { crowded_task (line_from 1 outlook.now.old) ≡ None }
+    requires accepted { crowded_task (line_from 1 outlook.now.new) ≡ None }
+    ensures { cuts.new ≡ line_kept (areas_by_rank outlook.now.new) }
+{
+    let Ok(_) = turn_line(cuts, outlook, steps) else {
+        unreachable!()
+    };
 }
