@@ -1,13 +1,13 @@
 -- What is met, and added, while a list is gone along.
-use Rattle.std.proofs.Common.{◌≡◌, ℕ, zero, suc, ◌+◌, ◌<◌, List, [], ◌∷◌, ◌++◌, drop, length, get_or, refl, sym, ap, subst, ◌∙◌, append_assoc, arith}
-use Rattle.std.specs.Prelude.{All, Some}
+use Rattle.std.proofs.Common.{◌≡◌, ℕ, zero, suc, ◌+◌, ◌<◌, Bool, true, false, cond, List, [], ◌∷◌, ◌++◌, drop, length, get_or, refl, sym, ap, subst, ◌∙◌, append_assoc, arith, if◌then◌else◌}
+use Rattle.std.specs.Prelude.{All, Some, filter, map}
 use Rattle.std.specs.List.{flat_map}
 use Rattle.std.proofs.lemmas.List.Elements.{filter_map-append}
 use Rattle.hc_records.specs.Area.{Entry}
 use Rattle.hc_records.specs.Packing.{Placed}
 use Rattle.hc_records.specs.Project.{entry_names}
 use Rattle.hc_changes.specs.Candidates.{Candidate}
-use Rattle.hc_changes.specs.ChangedRows.{HoldsArea, StandsInside}
+use Rattle.hc_changes.specs.Rows.{HoldsArea, StandsInside}
 
 next-dropped : {X : Type 0} (xs : List X) (i : ℕ) (d : X) → i < length xs → drop i xs ≡ get_or xs i d ∷ drop (i + 1) xs
 next-dropped [] i d within = absurd (omega arith)
@@ -15,6 +15,24 @@ next-dropped (x ∷ xs) zero d within = refl
 next-dropped (x ∷ xs) (suc i) d within =
     let one : suc i + 1 ≡ suc (i + 1) = omega arith in
     next-dropped xs i d (omega arith) ∙ ap (λ (n : ℕ). get_or xs i d ∷ drop n (x ∷ xs)) (sym one)
+
+-- where each that passes a test adds one element
+
+kept-first : {X Y : Type 0} (passes : Bool) (make : X → Y) (x : X) (rest : List X) (had has : List Y) → has ≡ had ++ (if passes then make x ∷ [] else [])
+    → has ++ map make rest ≡ had ++ map make (cond passes (x ∷ rest) rest)
+kept-first true make x rest had has adds = ap (λ (ys : List _). ys ++ map make rest) adds ∙ append_assoc had (make x ∷ []) (map make rest)
+kept-first false make x rest had has adds = ap (λ (ys : List _). ys ++ map make rest) adds ∙ append_assoc had [] (map make rest)
+
+pub kept-added : {X Y : Type 0} (make : X → Y) (test : X → Bool) (xs : List X) (i : ℕ) (x : X) (passes : Bool) (had has all : List Y) → i < length xs → x ≡ get_or xs i x
+    → test x ≡ passes → has ≡ had ++ (if passes then make x ∷ [] else [])
+    → had ++ map make (filter test (drop i xs)) ≡ all → has ++ map make (filter test (drop (i + 1) xs)) ≡ all
+kept-added make test xs i x passes had has all within is passed adds so_far =
+    let rest = filter test (drop (i + 1) xs) in
+    kept-first passes make x rest had has adds
+    ∙ ap (λ (p : Bool). had ++ map make (cond p (x ∷ rest) rest)) (sym passed)
+    ∙ ap (λ (z : _). had ++ map make (filter test (z ∷ drop (i + 1) xs))) is
+    ∙ ap (λ (zs : List _). had ++ map make (filter test zs)) (sym (next-dropped xs i x within))
+    ∙ so_far
 
 -- the variables of an area's PDOs
 

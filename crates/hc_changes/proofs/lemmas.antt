@@ -4,7 +4,6 @@ pub mod Blocks
 pub mod ByRank
 pub mod Compared
 pub mod Counted
-pub mod Few
 pub mod InARow
 pub mod Inside
 pub mod Keeping
@@ -20,8 +19,9 @@ pub mod Outlooks
 pub mod PlacedAreas
 pub mod Places
 pub mod Ranks
-pub mod RowsTold
+pub mod Rows
 pub mod Slots
 pub mod Standing
+pub mod SwapSays
 pub mod Tables
 pub mod Widths

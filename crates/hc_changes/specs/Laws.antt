@@ -21,7 +21,8 @@ use Rattle.hc_changes.specs.Candidates.{DifferAt, LineArea, blocks_of, candidate
 use Rattle.hc_changes.specs.Compared.{differing_of}
 use Rattle.hc_changes.specs.Edited.{is_named}
 use Rattle.hc_changes.specs.Listed.{Precedes, pair_of}
-use Rattle.hc_changes.specs.ChangedRows.{IsChange, StandsInside, TellPlaces, changed_rows, variables_by_rank}
+use Rattle.hc_changes.specs.Outlook.{IsOutlook, Outlook}
+use Rattle.hc_changes.specs.Rows.{StandsInside, TellPlaces, candidates_of, changed_rows, variables_by_rank}
 
 -- a kept datagram carries the areas that it carried, each at its bit
 abbrev pub KeptDatagramsStay : Type 0
@@ -134,9 +135,9 @@ CandidatesStandInside =
     (state : State) → lowest_fault (groups_of state.groups) ≡ None → crowded_task (line state) ≡ None
     → All (λ found. StandsInside (candidate_of (line state) found)) (line_areas (line state))
 
--- between two states of one project the variables that stand elsewhere, appear or go are those that the candidates and the changed slaves tell, each with its new place or none
+-- an edit's rows are told by the candidates and the changed slaves: each variable that stands elsewhere, appears or goes, with its new place or none
 abbrev pub ChangedRowsAreTold : Type 0
 ChangedRowsAreTold =
-    (changed : ℕ → Bool) (before after : List (List Area)) (old new : State) → IsChange changed before after old new
-    → TellPlaces (table_of (line old)) (table_of (line new))
-    (changed_rows (table_of (line old)) (map (candidate_of (line new)) (candidates changed (line old) (line new))) before after)
+    (outlook : Outlook) → IsOutlook outlook
+    → TellPlaces (table_of (line_from 1 outlook.old)) (table_of (line_from 1 outlook.new))
+    (changed_rows (table_of (line_from 1 outlook.old)) (candidates_of outlook) outlook.before outlook.after)

@@ -2,7 +2,7 @@
 ghost use Rattle.std.specs.Prelude.{◌≡◌, ◌++◌, ◌==◌, not, All, IfOk, OnOk, filter, length, map, None};
 ghost use Rattle.std.specs.List.{flat_map, list_any};
 ghost use Rattle.hc_records.specs.Project.{entry_names};
-ghost use Rattle.hc_changes.specs.ChangedRows.{StandsInside, area_variables_of, assigned_variables, changed_rows, gone_rows, gone_variables, is_new_row, moved_rows, rows_of};
+ghost use Rattle.hc_changes.specs.Rows.{StandsInside, area_variables_of, assigned_variables, changed_rows, gone_rows, gone_variables, is_new_row, moved_rows, rows_of};
 
 use crate::candidates::Candidate;
 use hc_places::swap::ChangedRow;

@@ -21,7 +21,7 @@ use Rattle.hc_places.specs.Table.{Row}
 use Rattle.hc_places.proofs.lemmas.Once.{declared-once, entry-names, line-declared, of_areas, of_row, once, own, rows-total, weight}
 use Rattle.hc_places.proofs.lemmas.Totals.{total, total-append, total-enumerate, total-filter, total-flat_map, total-less, total-map, total-same}
 use Rattle.hc_changes.specs.Candidates.{LineArea, areas_of, candidate_of, line_areas}
-use Rattle.hc_changes.specs.ChangedRows.{area_variables_of, assigned_variables, rows_of, variables_by_rank}
+use Rattle.hc_changes.specs.Rows.{area_variables_of, assigned_variables, rows_of, variables_by_rank}
 
 -- how often a number stands
 

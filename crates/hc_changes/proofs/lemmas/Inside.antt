@@ -22,7 +22,7 @@ use Rattle.hc_tasks.specs.Areas.{area_in, areas_by_rank}
 use Rattle.hc_places.specs.Found.{IsFoundSuiting, SuitsPlace}
 use Rattle.hc_places.proofs.lemmas.Rows.{task-suits}
 use Rattle.hc_changes.specs.Candidates.{LineArea, candidate_of, key_of, line_areas, place_of}
-use Rattle.hc_changes.specs.ChangedRows.{HoldsArea, StandsInside}
+use Rattle.hc_changes.specs.Rows.{HoldsArea, StandsInside}
 use Rattle.hc_changes.proofs.lemmas.ByRank.{area-named}
 use Rattle.hc_changes.proofs.lemmas.Lists.{found-among}
 use Rattle.hc_changes.proofs.lemmas.Others.{IsAreaOf, line-area}

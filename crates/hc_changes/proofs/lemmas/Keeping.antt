@@ -10,7 +10,7 @@ use Rattle.hc_records.specs.declared.records.Slave.{Slave}
 use Rattle.hc_records.specs.Edits.{groups_after, with_area, with_presence, with_slaves}
 use Rattle.hc_records.specs.Lists.{changed_at}
 use Rattle.hc_records.specs.Project.{area_names, pdo_names}
-use Rattle.hc_changes.specs.ChangedRows.{variables_by_rank}
+use Rattle.hc_changes.specs.Rows.{variables_by_rank}
 
 abbrev offered : Slave → List ℕ
 offered slave = area_names slave.areas

@@ -16,7 +16,7 @@ use Rattle.hc_records.proofs.lemmas.Entries.{HasEntryWidths}
 use Rattle.hc_places.specs.Found.{area_rows}
 use Rattle.hc_places.specs.Parts.{row_at}
 use Rattle.hc_places.specs.Table.{Row}
-use Rattle.hc_changes.specs.ChangedRows.{area_variables_of}
+use Rattle.hc_changes.specs.Rows.{area_variables_of}
 use Rattle.hc_changes.proofs.lemmas.Lists.{contains-behind, contains-first, contains-flat_map, flat_map-piece, found-among}
 use Rattle.hc_changes.proofs.lemmas.Others.{contains-mapped, map-piece}
 

@@ -34,7 +34,7 @@ use Rattle.hc_places.proofs.lemmas.Ascends.{table-ascends}
 use Rattle.hc_places.proofs.lemmas.Rows.{task-rows}
 use Rattle.hc_places.proofs.lemmas.Sorted.{filter-by_number, find-by_number}
 use Rattle.hc_changes.specs.Candidates.{LineArea, candidate_of, key_of, place_of}
-use Rattle.hc_changes.specs.ChangedRows.{area_variables_of, rows_of}
+use Rattle.hc_changes.specs.Rows.{area_variables_of, rows_of}
 use Rattle.hc_changes.proofs.lemmas.ByRank.{area-named}
 use Rattle.hc_changes.proofs.lemmas.Lists.{contains-filtered, contains-flat_map, contains-unfiltered, find-only, flat_map-piece, found-among}
 use Rattle.hc_changes.proofs.lemmas.Names.{carried-wide, named-row}

@@ -1,5 +1,5 @@
 use Rattle.std.proofs.Common.{◌≡◌, ◌++◌, drop}
-use Rattle.hc_changes.specs.ChangedRows.{moved_rows}
+use Rattle.hc_changes.specs.Rows.{moved_rows}
 use Rattle.hc_changes.proofs.rows.add_moved.Given as goal
 
 abbrev pub invariant-loop-row : goal.invariant-loop-row

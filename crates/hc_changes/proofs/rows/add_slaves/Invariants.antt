@@ -1,5 +1,5 @@
 use Rattle.std.proofs.Common.{◌≡◌, ◌++◌, drop}
-use Rattle.hc_changes.specs.ChangedRows.{gone_rows}
+use Rattle.hc_changes.specs.Rows.{gone_rows}
 use Rattle.hc_changes.proofs.rows.add_slaves.Given as goal
 
 abbrev pub invariant-loop-i : goal.invariant-loop-i

@@ -1,6 +1,6 @@
 use Rattle.std.proofs.Common.{◌≡◌, ◌++◌, drop}
 use Rattle.std.specs.List.{flat_map}
-use Rattle.hc_changes.specs.ChangedRows.{rows_of}
+use Rattle.hc_changes.specs.Rows.{rows_of}
 use Rattle.hc_changes.proofs.rows.candidate_rows.Given as goal
 
 -- the rows so far, and those of the candidates that are left, are all

@@ -1,5 +1,5 @@
 use Rattle.std.proofs.Common.{◌≡◌, ◌++◌, drop}
-use Rattle.hc_changes.specs.ChangedRows.{assigned_variables}
+use Rattle.hc_changes.specs.Rows.{assigned_variables}
 use Rattle.hc_changes.proofs.rows.slave_variables.Given as goal
 
 abbrev pub invariant-loop-area : goal.invariant-loop-area

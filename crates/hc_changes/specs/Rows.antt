@@ -1,20 +1,20 @@
 -- Which variables of a line an edit changes, told by the candidates and by the slaves that change.
-use Rattle.std.specs.Prelude.{◌≡◌, ℕ, ◌+◌, ◌==◌, ◌<◌, ◌≤◌, not, Bool, true, List, [], ◌++◌, filter, find, length, map, Option, None, Some, option_map}
+use Rattle.std.specs.Prelude.{◌≡◌, ℕ, ◌+◌, ◌==◌, ◌<◌, ◌≤◌, not, Bool, List, [], ◌++◌, filter, find, map, Option, None, Some, option_map}
 use Rattle.std.specs.List.{flat_map, list_any, zip}
 use Rattle.std.specs.Option.{option_map_or}
 use Rattle.hc_records.specs.declared.limits.TheConstants.{MOST_AREA_BITS, MOST_DATAGRAMS, TASKS}
 use Rattle.hc_records.specs.declared.records.Area.{Area}
 use Rattle.hc_records.specs.declared.records.Declared.{Declared}
 use Rattle.hc_records.specs.Area.{assigned_entries, width}
-use Rattle.hc_records.specs.Line.{State, groups_of, line}
+use Rattle.hc_records.specs.Line.{line_from}
 use Rattle.hc_records.specs.Packing.{Placed}
-use Rattle.hc_records.specs.Project.{area_names, entry_names, lowest_fault}
-use Rattle.hc_tasks.specs.Areas.{areas_by_rank}
+use Rattle.hc_records.specs.Project.{area_names, entry_names}
 use Rattle.hc_places.specs.Found.{area_rows}
 use Rattle.hc_places.specs.Ranges.{OffersBits}
 use Rattle.hc_places.specs.Swap.{AreOnce, ChangedRow, new_place, same_found}
 use Rattle.hc_places.specs.Table.{Row, Table, place_in}
-use Rattle.hc_changes.specs.Candidates.{Candidate, DifferAt}
+use Rattle.hc_changes.specs.Candidates.{Candidate, candidate_of, candidates}
+use Rattle.hc_changes.specs.Outlook.{Outlook, changes}
 
 -- the variables of a candidate with their places; none where it stands nowhere
 abbrev pub rows_of : Candidate → List Row
@@ -59,26 +59,14 @@ pub record HoldsArea (area : Area) (placed : Placed) : Type 0 where
 abbrev pub StandsInside : Candidate → Type 0
 StandsInside candidate = (placed : Placed) → candidate.place ≡ Some placed → HoldsArea candidate.area placed
 
+-- the candidates of what an edit makes of a line, each with its place there
+abbrev pub candidates_of : Outlook → List Candidate
+candidates_of outlook =
+    map (candidate_of (line_from 1 outlook.new)) (candidates (changes outlook) (line_from 1 outlook.old) (line_from 1 outlook.new))
+
 -- the variables that each declared slave offers, by rank
 abbrev pub variables_by_rank : List Declared → List (List ℕ)
 variables_by_rank groups = flat_map (λ declared. map (λ slave. area_names slave.areas) declared.group.slaves) groups
-
--- the slaves that change are among some in a row, which have these areas before and those after; each other slave has the same in both lines
-pub record DifferInARow (changed : ℕ → Bool) (before after old new : List (List Area)) : Type 0 where
-  pub front : List (List Area)
-  pub behind : List (List Area)
-  pub many : length after ≡ length before
-  pub was : old ≡ front ++ (before ++ behind)
-  pub is : new ≡ front ++ (after ++ behind)
-  pub ranks : (rank : ℕ) → changed rank ≡ true → (length front < rank) × (rank ≤ length front + length before)
-
--- two states of one project, between which some slaves change
-pub record IsChange (changed : ℕ → Bool) (before after : List (List Area)) (old new : State) : Type 0 where
-  pub was_project : lowest_fault (groups_of old.groups) ≡ None
-  pub is_project : lowest_fault (groups_of new.groups) ≡ None
-  pub variables : variables_by_rank new.groups ≡ variables_by_rank old.groups
-  pub slaves : DifferAt changed (line old) (line new)
-  pub areas : DifferInARow changed before after (areas_by_rank old.groups) (areas_by_rank new.groups)
 
 -- rows say of each variable whose place differs between two tables its new place or none, once, and nothing of any other
 pub record TellPlaces (old new : Table) (rows : List ChangedRow) : Type 0 where
