@@ -1,4 +1,3 @@
-use Rattle.std.proofs.Common.{sym}
 use Rattle.hc_plan.proofs.Telling.{seen-stand, told-leads, told-once, told-rows}
 use Rattle.hc_plan.proofs.applying.tell.Goals as goal
 

@@ -1,4 +1,4 @@
-use Rattle.std.proofs.Common.{◌≡◌, ◌∙◌, ◌==◌, length, refl, arith}
+use Rattle.std.proofs.Common.{◌≡◌, ◌∙◌, length, refl, arith}
 use Rattle.std.proofs.lemmas.Bool.{eq-eqb, ne_eqb}
 use Rattle.hc_records.specs.declared.limits.TheConstants.{LAST_EPOCH}
 use Rattle.hc_plan.proofs.Editing.{made-accepted, made-crowded, made-spent}

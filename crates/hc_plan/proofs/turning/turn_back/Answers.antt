@@ -1,7 +1,5 @@
-use Rattle.std.proofs.Common.{◌≡◌, ◌∙◌, None, Some, sym}
-use Rattle.std.specs.Prelude.{Option}
+use Rattle.std.proofs.Common.{◌∙◌, None, sym}
 use Rattle.hc_tasks.specs.Areas.{areas_by_rank}
-use Rattle.hc_tasks.specs.Kept.{crowded_from}
 use Rattle.hc_plan.proofs.Turned.{line-areas, outlook-back}
 use Rattle.hc_plan.proofs.turning.turn_back.Goals as goal
 
