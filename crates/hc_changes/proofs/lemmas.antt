@@ -11,6 +11,7 @@ pub mod KeptSpans
 pub mod Listed
 pub mod Lists
 pub mod Moved
+pub mod MovedNames
 pub mod Names
 pub mod OneProject
 pub mod Ordered

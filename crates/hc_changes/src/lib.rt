@@ -5,6 +5,7 @@
 
 pub mod candidates;
 pub mod laws;
+pub mod moved;
 pub mod outlook;
 pub mod rows;
 pub mod tables;

@@ -85,7 +85,7 @@ impl<'a> Outlook<'a> {
     ghost use Rattle.hc_edits.specs.Rows.{ChangesRow};
     ghost use Rattle.hc_tasks.specs.Areas.{areas_at, areas_by_rank};
     ghost use Rattle.hc_changes.specs.Edited.{HasEdit};
-    ghost use Rattle.hc_changes.specs.Outlook.{changes, outlook_of};
+    ghost use Rattle.hc_changes.specs.Outlook.{IsOutlook, changes, outlook_of};
 
     /// What a prepared edit makes of the line of the groups of a project, which it leaves a project's.
     /// `AllocError` where a growth was refused.
@@ -112,7 +112,8 @@ impl<'a> Outlook<'a> {
 
     /// The declared groups before the edit.
     pub fn groups(&self) -> &'a [Declared]
-        ensures { result.now ≡ self.now.old }
+        ensures groups { result.now ≡ self.now.old }
+        ensures known { IsOutlook self.now }
     {
         self.groups
     }
