@@ -1,20 +1,14 @@
 -- What is met, and added, while a list is gone along.
-use Rattle.std.proofs.Common.{◌≡◌, ℕ, zero, suc, ◌+◌, ◌<◌, Bool, true, false, cond, List, [], ◌∷◌, ◌++◌, drop, length, get_or, refl, sym, ap, subst, ◌∙◌, append_assoc, arith, if◌then◌else◌}
+use Rattle.std.proofs.Common.{◌≡◌, ℕ, ◌+◌, ◌<◌, Bool, true, false, cond, List, [], ◌∷◌, ◌++◌, drop, length, get_or, sym, ap, subst, ◌∙◌, append_assoc, if◌then◌else◌}
 use Rattle.std.specs.Prelude.{All, Some, filter, map}
 use Rattle.std.specs.List.{flat_map}
+use Rattle.std.proofs.lemmas.List.{drop_more}
 use Rattle.std.proofs.lemmas.List.Elements.{filter_map-append}
 use Rattle.hc_records.specs.Area.{Entry}
 use Rattle.hc_records.specs.Packing.{Placed}
 use Rattle.hc_records.specs.Project.{entry_names}
 use Rattle.hc_changes.specs.Candidates.{Candidate}
 use Rattle.hc_changes.specs.Rows.{HoldsArea, StandsInside}
-
-next-dropped : {X : Type 0} (xs : List X) (i : ℕ) (d : X) → i < length xs → drop i xs ≡ get_or xs i d ∷ drop (i + 1) xs
-next-dropped [] i d within = absurd (omega arith)
-next-dropped (x ∷ xs) zero d within = refl
-next-dropped (x ∷ xs) (suc i) d within =
-    let one : suc i + 1 ≡ suc (i + 1) = omega arith in
-    next-dropped xs i d (omega arith) ∙ ap (λ (n : ℕ). get_or xs i d ∷ drop n (x ∷ xs)) (sym one)
 
 -- where each that passes a test adds one element
 
@@ -31,7 +25,7 @@ kept-added make test xs i x passes had has all within is passed adds so_far =
     kept-first passes make x rest had has adds
     ∙ ap (λ (p : Bool). had ++ map make (cond p (x ∷ rest) rest)) (sym passed)
     ∙ ap (λ (z : _). had ++ map make (filter test (z ∷ drop (i + 1) xs))) is
-    ∙ ap (λ (zs : List _). had ++ map make (filter test zs)) (sym (next-dropped xs i x within))
+    ∙ ap (λ (zs : List _). had ++ map make (filter test zs)) (sym (drop_more xs i x within))
     ∙ so_far
 
 -- the variables of an area's PDOs
@@ -44,7 +38,7 @@ names-added f xs i d entries had has all within own adds so_far =
     ap (λ (ns : List ℕ). ns ++ entry_names rest) (adds ∙ ap (λ (es : List Entry). had ++ entry_names es) own)
     ∙ append_assoc had (entry_names here) (entry_names rest)
     ∙ ap (λ (ns : List ℕ). had ++ ns) (sym (filter_map-append (λ (e : Entry). e.0) here rest))
-    ∙ ap (λ (zs : List _). had ++ entry_names (flat_map f zs)) (sym (next-dropped xs i d within))
+    ∙ ap (λ (zs : List _). had ++ entry_names (flat_map f zs)) (sym (drop_more xs i d within))
     ∙ so_far
 
 -- a candidate that is met, and its place

@@ -3,7 +3,6 @@ use Rattle.std.specs.Prelude.{◌≡◌, ◌↔◌, ◌<◌, ℕ, Bool, true, fa
 use Rattle.std.specs.List.{flat_map}
 use Rattle.hc_records.specs.declared.edit.Edit.{Edit}
 use Rattle.hc_records.specs.declared.limits.TheConstants.{TASKS}
-use Rattle.hc_records.specs.declared.records.Area.{Area}
 use Rattle.hc_records.specs.declared.records.Declared.{Declared}
 use Rattle.hc_records.specs.Edits.{crowded_task, groups_after}
 use Rattle.hc_records.specs.Line.{Member, State, groups_of, line, line_from}

@@ -1,9 +1,8 @@
 -- The areas by rank are those of the line's slaves, and the variables that they carry are offered by rank.
-use Rattle.std.proofs.Common.{◌≡◌, ℕ, zero, suc, ◌+◌, ◌-◌, ◌<◌, ◌≤◌, ◌==◌, Bool, true, false, List, [], ◌∷◌, ◌++◌, Contains, Option, Some, None, refl, sym, ap, subst, ◌∙◌, arith, if◌then◌else◌}
+use Rattle.std.proofs.Common.{◌≡◌, ℕ, zero, suc, ◌+◌, ◌-◌, ◌≤◌, ◌==◌, Bool, true, false, List, [], ◌∷◌, ◌++◌, Contains, Option, Some, None, refl, sym, ap, subst, ◌∙◌, arith, if◌then◌else◌}
 use Rattle.std.specs.Prelude.{All, find, map, option_map, slice_get, slice_index_or}
-use Rattle.std.specs.List.{enumerate_from, flat_map}
+use Rattle.std.specs.List.{enumerate_from}
 use Rattle.std.specs.Option.{option_map_or}
-use Rattle.std.proofs.lemmas.Bool.{eqb-true}
 use Rattle.std.proofs.lemmas.List.Elements.{All-contains, All-contains_itself, All-cons, All-nil, All-weaker}
 use Rattle.hc_records.specs.declared.records.Area.{Area}
 use Rattle.hc_records.specs.declared.records.Declared.{Declared}
@@ -16,7 +15,7 @@ use Rattle.hc_records.proofs.lemmas.Lists.{All-enumerate_from}
 use Rattle.hc_tasks.specs.Areas.{area_in, areas_at, areas_by_rank}
 use Rattle.hc_changes.specs.Candidates.{LineArea, key_of, slave_of}
 use Rattle.hc_changes.specs.Rows.{area_variables_of, variables_by_rank}
-use Rattle.hc_changes.proofs.lemmas.Lists.{contains-behind, contains-first, contains-flat_map, found-among}
+use Rattle.hc_changes.proofs.lemmas.Lists.{contains-behind, contains-flat_map, found-among}
 use Rattle.hc_changes.proofs.lemmas.Names.{carried-offered}
 use Rattle.hc_changes.proofs.lemmas.Others.{IsAreaOf, member-found}
 use Rattle.hc_changes.proofs.lemmas.Ranks.{line-slots, none-below}

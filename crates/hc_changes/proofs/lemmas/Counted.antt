@@ -1,5 +1,5 @@
 -- How often a variable stands among the rows of candidates, and among the areas that a line's slaves carried.
-use Rattle.std.proofs.Common.{◌≡◌, ℕ, zero, suc, ◌+◌, ◌≤◌, ◌==◌, Bool, true, false, cond, List, [], ◌∷◌, ◌++◌, Contains, Option, Some, None, length, refl, sym, ap, ◌∙◌, arith, if◌then◌else◌}
+use Rattle.std.proofs.Common.{◌≡◌, ℕ, zero, suc, ◌+◌, ◌≤◌, ◌==◌, Bool, true, false, cond, List, [], ◌∷◌, Contains, Option, Some, None, length, refl, sym, ap, ◌∙◌, arith, if◌then◌else◌}
 use Rattle.std.specs.Prelude.{All, filter, map, slice_index_or}
 use Rattle.std.specs.List.{enumerate_from, flat_map}
 use Rattle.std.specs.Option.{option_map_or}
@@ -12,12 +12,11 @@ use Rattle.hc_records.specs.declared.records.Slave.{Slave}
 use Rattle.hc_records.specs.Area.{assigned_entries}
 use Rattle.hc_records.specs.Line.{Member, groups_of, line_from}
 use Rattle.hc_records.specs.Packing.{Placed}
-use Rattle.hc_records.specs.Project.{area_names, entry_names, lowest_fault, slave_names}
+use Rattle.hc_records.specs.Project.{area_names, lowest_fault, slave_names}
 use Rattle.hc_records.proofs.lemmas.Lines.{declared_slaves}
 use Rattle.hc_records.proofs.lemmas.Projects.{project-names}
 use Rattle.hc_tasks.specs.Areas.{areas_by_rank}
 use Rattle.hc_places.specs.Found.{area_rows}
-use Rattle.hc_places.specs.Table.{Row}
 use Rattle.hc_places.proofs.lemmas.Once.{declared-once, entry-names, line-declared, of_areas, of_row, once, own, rows-total, weight}
 use Rattle.hc_places.proofs.lemmas.Totals.{total, total-append, total-enumerate, total-filter, total-flat_map, total-less, total-map, total-same}
 use Rattle.hc_changes.specs.Candidates.{LineArea, areas_of, candidate_of, line_areas}

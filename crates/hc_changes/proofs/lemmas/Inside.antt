@@ -1,9 +1,9 @@
 -- Where no task needs more than 16 datagrams, each area of a project's line stands in one of them.
-use Rattle.std.proofs.Common.{◌≡◌, ℕ, ◌+◌, ◌<◌, ◌≤◌, false, List, Contains, Some, None, ap, sym, ◌∙◌, arith}
+use Rattle.std.proofs.Common.{◌≡◌, ℕ, ◌+◌, ◌≤◌, false, None, ap, ◌∙◌, arith}
 use Rattle.std.specs.Prelude.{All, nat_lt}
 use Rattle.std.proofs.lemmas.Bool.{ltb-false}
 use Rattle.std.proofs.lemmas.List.Elements.{All-contains}
-use Rattle.hc_records.specs.declared.limits.TheConstants.{MOST_AREA_BITS, MOST_DATAGRAMS, TASKS}
+use Rattle.hc_records.specs.declared.limits.TheConstants.{MOST_DATAGRAMS}
 use Rattle.hc_records.specs.Edits.{crowded_task}
 use Rattle.hc_records.specs.Image.{datagram_count, task_places, tasks}
 use Rattle.hc_records.specs.Keys.{same_key}
@@ -21,8 +21,8 @@ use Rattle.hc_records.proofs.lemmas.Packable.{project-packable}
 use Rattle.hc_tasks.specs.Areas.{area_in, areas_by_rank}
 use Rattle.hc_places.specs.Found.{IsFoundSuiting, SuitsPlace}
 use Rattle.hc_places.proofs.lemmas.Rows.{task-suits}
-use Rattle.hc_changes.specs.Candidates.{LineArea, candidate_of, key_of, line_areas, place_of}
-use Rattle.hc_changes.specs.Rows.{HoldsArea, StandsInside}
+use Rattle.hc_changes.specs.Candidates.{LineArea, candidate_of, key_of, line_areas}
+use Rattle.hc_changes.specs.Rows.{StandsInside}
 use Rattle.hc_changes.proofs.lemmas.ByRank.{area-named}
 use Rattle.hc_changes.proofs.lemmas.Lists.{found-among}
 use Rattle.hc_changes.proofs.lemmas.Others.{IsAreaOf, line-area}

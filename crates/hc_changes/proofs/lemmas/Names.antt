@@ -1,8 +1,9 @@
 -- The variables that an area's assigned PDOs carry are those of its rows, and the area offers each of them.
-use Rattle.std.proofs.Common.{◌≡◌, ℕ, zero, suc, ◌+◌, ◌<◌, ◌≤◌, ◌==◌, true, List, [], ◌∷◌, ◌++◌, Contains, Option, Some, None, refl, sym, ap, subst, ◌∙◌, arith}
-use Rattle.std.specs.Prelude.{All, find, map}
-use Rattle.std.specs.List.{cons_option, filter_map, flat_map}
+use Rattle.std.proofs.Common.{◌≡◌, ℕ, zero, suc, ◌+◌, ◌<◌, ◌≤◌, ◌==◌, List, [], ◌∷◌, ◌++◌, Contains, Option, Some, None, refl, sym, ap, subst, ◌∙◌, arith}
+use Rattle.std.specs.Prelude.{find, map}
+use Rattle.std.specs.List.{cons_option}
 use Rattle.std.specs.Option.{option_map_or}
+use Rattle.std.proofs.lemmas.Simd.{map-map}
 use Rattle.std.proofs.lemmas.List.Elements.{All-contains}
 use Rattle.std.proofs.lemmas.List.Sums.{sum_by-cons}
 use Rattle.hc_records.specs.declared.records.Area.{Area}
@@ -22,10 +23,6 @@ use Rattle.hc_changes.proofs.lemmas.Others.{contains-mapped, map-piece}
 
 -- the rows of an area are those of its variables
 
-map-both : {X Y Z : Type 0} (g : Y → Z) (f : X → Y) (xs : List X) → map g (map f xs) ≡ map (λ x. g (f x)) xs
-map-both g f [] = refl
-map-both g f (x ∷ xs) = ap (λ (ys : List _). g (f x) ∷ ys) (map-both g f xs)
-
 name-front : (name : Option ℕ) (bit bits : ℕ) (rest : List (ℕ × (ℕ × ℕ))) (names : List ℕ) → map (λ found. found.0) rest ≡ names
     → map (λ found. found.0) (option_map_or (λ v. (v, (bit, bits)) ∷ []) name [] ++ rest) ≡ cons_option name names
 name-front None bit bits rest names is = is
@@ -38,7 +35,7 @@ from-names bit (entry ∷ entries) =
 
 row-names : (task : ℕ) (area : Area) (placed : Placed) → map (λ row. row.0) (area_rows task area placed) ≡ area_variables_of area
 row-names task area placed =
-    map-both (λ (row : Row). row.0) (row_at task placed.datagram area.dir) (variables_from placed.bit (assigned_entries area))
+    map-map (λ (row : Row). row.0) (row_at task placed.datagram area.dir) (variables_from placed.bit (assigned_entries area))
     ∙ from-names placed.bit (assigned_entries area)
 
 pub row-named : (task : ℕ) (area : Area) (placed : Placed) (row : Row) → Contains (area_rows task area placed) row → Contains (area_variables_of area) row.0

@@ -1,9 +1,8 @@
 -- Each area in a task's places is one of the line.
-use Rattle.std.proofs.Common.{◌≡◌, ℕ, ◌<◌, ◌≤◌, ◌==◌, zero, suc, Bool, true, List, [], ◌∷◌, length, Contains, Option, Some, None, refl, sym, ap, subst, ◌∙◌, ⊎_elim, arith}
-use Rattle.std.specs.Prelude.{AllPairs, filter, find, map, nat_lt, option_map, ◌&&◌}
-use Rattle.std.specs.Option.{option_map_or}
+use Rattle.std.proofs.Common.{◌≡◌, ℕ, ◌==◌, zero, suc, Bool, true, List, [], ◌∷◌, length, Contains, Some, None, refl, sym, ap, subst, ◌∙◌, ⊎_elim, arith}
+use Rattle.std.specs.Prelude.{AllPairs, filter, find, nat_lt, ◌&&◌}
 use Rattle.std.specs.List.{enumerate_from, flat_map, zip}
-use Rattle.std.proofs.lemmas.Bool.{and_parts, eq-eqb, eqb-true}
+use Rattle.std.proofs.lemmas.Bool.{and_parts, eqb-true}
 use Rattle.std.proofs.lemmas.List.{length-map}
 use Rattle.std.proofs.lemmas.List.Elements.{All-contains, All-contains_itself, Contains-append_cases, filter_passes}
 use Rattle.hc_records.specs.declared.keys.Key.{Key}
@@ -11,34 +10,24 @@ use Rattle.hc_records.specs.declared.records.Area.{Area}
 use Rattle.hc_records.specs.declared.records.Declared.{Declared}
 use Rattle.hc_records.specs.declared.records.Dir.{Dir}
 use Rattle.hc_records.specs.declared.records.Dir.TheVariants.{Out, In}
-use Rattle.hc_records.specs.Area.{assigned_entries, width}
-use Rattle.hc_records.specs.Image.{VariablePlace, area_variables, task_places, task_variables, tasks, variables_from}
+use Rattle.hc_records.specs.Area.{width}
+use Rattle.hc_records.specs.Image.{task_places}
 use Rattle.hc_records.specs.Keys.{same_dir, same_key}
-use Rattle.hc_records.specs.Limits.{IsAreaInside, IsSlaveInside}
 use Rattle.hc_records.specs.Line.{Member, groups_of, line_from}
 use Rattle.hc_records.specs.Packing.{Placed, opening}
 use Rattle.hc_records.specs.Project.{lowest_fault}
 use Rattle.hc_records.specs.TaskList.{Listed, belongs, keyed, slave_areas, task_areas, task_list}
-use Rattle.hc_records.proofs.lemmas.Finds.{each-task, mapped-some}
-use Rattle.hc_records.proofs.lemmas.KeyOrder.{same_key-refl, same_key-same}
-use Rattle.hc_records.proofs.lemmas.Lines.{RanksBelow, line-ascends}
-use Rattle.hc_records.proofs.lemmas.Lists.{AllPairs-weaker}
+use Rattle.hc_records.proofs.lemmas.KeyOrder.{same_key-refl}
+use Rattle.hc_records.proofs.lemmas.Lines.{RanksBelow}
 use Rattle.hc_records.proofs.lemmas.Packed.{area_of, packed-areas}
-use Rattle.hc_records.proofs.lemmas.Slaves.{line-inside}
 use Rattle.hc_records.proofs.lemmas.TaskLists.{project-list}
 use Rattle.hc_records.proofs.lemmas.Tasks.{listed}
 use Rattle.hc_records.proofs.lemmas.Variables.{IsPlaced, pairs-placed, task_pairs, zip-left, zip-right}
-use Rattle.hc_places.specs.Parts.{row_at}
-use Rattle.hc_places.specs.Table.{Row, by_number, place_in, table_of}
-use Rattle.hc_places.proofs.lemmas.Ascends.{table-ascends}
 use Rattle.hc_places.proofs.lemmas.Same.{same-dirs}
-use Rattle.hc_places.proofs.lemmas.Sorted.{filter-by_number, find-by_number}
 use Rattle.hc_changes.specs.Candidates.{LineArea, key_of, place_of}
 use Rattle.hc_changes.proofs.lemmas.Compared.{area-found}
-use Rattle.hc_cuts.proofs.lemmas.Datagrams.{at-contained}
-use Rattle.hc_changes.proofs.lemmas.Lists.{contains-behind, contains-flat_map, contains-unfiltered, flat_map-piece, found-among}
-use Rattle.hc_changes.proofs.lemmas.OneProject.{own-at}
-use Rattle.hc_changes.proofs.lemmas.Others.{IsAreaOf, map-piece, never-both}
+use Rattle.hc_changes.proofs.lemmas.Lists.{contains-behind, contains-unfiltered, flat_map-piece}
+use Rattle.hc_changes.proofs.lemmas.Others.{IsAreaOf, map-piece}
 use Rattle.hc_changes.proofs.lemmas.Standing.{placed-found}
 
 -- elements that stand side by side

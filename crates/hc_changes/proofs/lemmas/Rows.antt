@@ -1,21 +1,20 @@
 -- The rows that an edit changes are told by the candidates and by the slaves that change.
-use Rattle.std.proofs.Common.{◌≡◌, ℕ, zero, suc, ◌+◌, ◌-◌, ◌<◌, ◌≤◌, ◌==◌, ◌⊎◌, Bool, true, false, cond, List, [], ◌∷◌, ◌++◌, Contains, Option, Some, None, length, refl, sym, ap, subst, ◌∙◌, ⊎_elim, arith}
+use Rattle.std.proofs.Common.{◌≡◌, ℕ, suc, ◌+◌, ◌-◌, ◌<◌, ◌≤◌, ◌==◌, Bool, true, false, cond, List, [], ◌∷◌, ◌++◌, Contains, Option, Some, None, length, refl, sym, ap, subst, ◌∙◌, arith}
 use Rattle.std.specs.Prelude.{All, filter, find, map, not, option_map, slice_index_or, ◌||◌}
 use Rattle.std.specs.List.{flat_map, list_any, zip}
-use Rattle.std.proofs.lemmas.Bool.{eq-eqb, eqb-true, not-false, not_from_true, or_parts}
+use Rattle.std.proofs.lemmas.Bool.{eq-eqb, eqb-true, not-true, or_parts}
 use Rattle.std.proofs.lemmas.List.Elements.{All-append, All-contains, All-contains_itself, All-map, All-weaker, Contains-append_left, Contains-append_right, filter_passes}
 use Rattle.std.proofs.lemmas.List.Folds.{list_any_at}
 use Rattle.hc_records.specs.declared.records.Area.{Area}
 use Rattle.hc_records.specs.Image.{VariablePlace}
-use Rattle.hc_records.specs.Line.{Member, State, groups_of, line, line_from}
+use Rattle.hc_records.specs.Line.{Member, State, groups_of, line}
 use Rattle.hc_records.specs.Project.{lowest_fault}
 use Rattle.hc_records.proofs.lemmas.Finds.{found-none}
 use Rattle.hc_records.proofs.lemmas.Lines.{line-ascends}
 use Rattle.hc_records.proofs.lemmas.TaskLists.{project-list}
 use Rattle.hc_tasks.specs.Areas.{areas_at, areas_by_rank}
 use Rattle.hc_tasks.specs.Turn.{AreLines}
-use Rattle.hc_places.specs.Found.{area_rows}
-use Rattle.hc_places.specs.Swap.{AreOnce, ChangedRow, new_place, same_found}
+use Rattle.hc_places.specs.Swap.{ChangedRow, new_place, same_found}
 use Rattle.hc_places.specs.Table.{Row, Table, place_in, table_of}
 use Rattle.hc_places.proofs.lemmas.Once.{of_row, own}
 use Rattle.hc_places.proofs.lemmas.Same.{found-same}
@@ -67,10 +66,6 @@ found-stands changed old new none row at =
     let made = map-piece (candidate_of (line new)) all piece.element piece.among in
     let among = contains-unfiltered (is_candidate changed (line old) (line new)) (line_areas (line new)) made.0 made.1 in
     area-stands-at new none made.0 (line-area (line new) made.0 among) row (subst (λ (c : _). Contains (rows_of c) row) (sym made.2) piece.own)
-
-not-true : (b : Bool) → not b ≡ true → b ≡ false
-not-true true is = cc
-not-true false is = refl
 
 moved-right : (changed : ℕ → Bool) (old new : State) → lowest_fault (groups_of new.groups) ≡ None → All (IsRight (table old) (table new)) (moved_rows (table old) (found_rows changed old new))
 moved-right changed old new none =

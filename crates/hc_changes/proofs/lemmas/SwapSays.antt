@@ -1,5 +1,5 @@
 -- What is told of an edit, its tasks' tables and its rows, is what differs between the tables before and after it.
-use Rattle.std.proofs.Common.{◌≡◌, ℕ, ◌+◌, ◌<◌, ◌≤◌, ◌==◌, true, Contains, List, None, length, sym, ap, subst, ◌∙◌, arith}
+use Rattle.std.proofs.Common.{◌≡◌, ℕ, ◌+◌, ◌==◌, Contains, List, None, length, sym, ap, subst, ◌∙◌}
 use Rattle.std.specs.Prelude.{All, find, nat_lt, not, option_map, slice_get}
 use Rattle.std.proofs.lemmas.Bool.{and_parts, ltb-false, ltb-true, not-true}
 use Rattle.std.proofs.lemmas.List.Elements.{All-contains, All-contains_itself, All-map, All-weaker}
@@ -7,7 +7,7 @@ use Rattle.hc_records.specs.declared.records.Declared.{Declared}
 use Rattle.hc_records.specs.Edits.{crowded_task}
 use Rattle.hc_records.specs.Line.{State, line_from}
 use Rattle.hc_places.specs.Swap.{AreOnce, ChangedRow, ChangedTask, IsNewTask, SaysWhatDiffers}
-use Rattle.hc_places.specs.Table.{table_of}
+use Rattle.hc_places.specs.Table.{Table, table_of}
 use Rattle.hc_changes.specs.Candidates.{Candidate, LineArea, candidate_of, candidates, is_candidate, line_areas}
 use Rattle.hc_changes.specs.Outlook.{IsOutlook, Outlook, changes}
 use Rattle.hc_changes.specs.Rows.{StandsInside, TellPlaces, candidates_of, changed_rows, variables_by_rank}
@@ -43,17 +43,19 @@ outlook-told outlook is =
     rows-told (changes outlook) outlook.first outlook.before outlook.after (state_of outlook.old) (state_of outlook.new) (outlook-change outlook is)
 
 -- with the tables that differ they are what a swap asks for
-pub swap-says : (outlook : Outlook) → IsOutlook outlook → (tasks : List ChangedTask) (rows : List ChangedRow) (found : List Candidate) → found ≡ candidates_of outlook
-    → rows ≡ changed_rows (table_of (line_from 1 outlook.old)) found outlook.before outlook.after
-    → ((task : ℕ) → IsNewTask (slice_get (table_of (line_from 1 outlook.old)).tasks task) (slice_get (table_of (line_from 1 outlook.new)).tasks task)
+pub swap-says : (outlook : Outlook) → IsOutlook outlook → (old : Table) → old ≡ table_of (line_from 1 outlook.old)
+    → (tasks : List ChangedTask) (rows : List ChangedRow) (found : List Candidate) → found ≡ candidates_of outlook
+    → rows ≡ changed_rows old found outlook.before outlook.after
+    → ((task : ℕ) → IsNewTask (slice_get old.tasks task) (slice_get (table_of (line_from 1 outlook.new)).tasks task)
     (option_map (λ changed. changed.1) (find (λ changed. changed.0 == task) tasks)))
-    → SaysWhatDiffers (table_of (line_from 1 outlook.old)) (table_of (line_from 1 outlook.new)) (record { tasks = tasks; rows = rows }) × AreOnce rows
-swap-says outlook is tasks rows found candidates told differ =
-    let old = table_of (line_from 1 outlook.old) in
+    → SaysWhatDiffers old (table_of (line_from 1 outlook.new)) (record { tasks = tasks; rows = rows }) × AreOnce rows
+swap-says outlook is old was tasks rows found candidates told differ =
+    let new = table_of (line_from 1 outlook.new) in
+    let tells : TellPlaces old new (changed_rows old (candidates_of outlook) outlook.before outlook.after) =
+    subst (λ (t : Table). TellPlaces t new (changed_rows t (candidates_of outlook) outlook.before outlook.after)) (sym was) (outlook-told outlook is) in
     let all = told ∙ ap (λ (cs : List Candidate). changed_rows old cs outlook.before outlook.after) candidates in
-    let tells : TellPlaces old (table_of (line_from 1 outlook.new)) rows =
-    subst (λ (rs : List ChangedRow). TellPlaces old (table_of (line_from 1 outlook.new)) rs) (sym all) (outlook-told outlook is) in
-    (record { tasks = differ; places = tells.says }, tells.once)
+    let own : TellPlaces old new rows = subst (TellPlaces old new) (sym all) tells in
+    (record { tasks = differ; places = own.says }, own.once)
 
 -- each candidate that has a place stands in one of 16 datagrams, where no task needs more
 pub candidates-stand : (outlook : Outlook) → IsOutlook outlook → crowded_task (line_from 1 outlook.new) ≡ None → (found : List Candidate) → found ≡ candidates_of outlook → All StandsInside found
