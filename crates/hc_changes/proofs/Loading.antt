@@ -19,6 +19,7 @@ use Rattle.hc_records.proofs.lemmas.Lengths.{length-sendable}
 use Rattle.hc_cuts.proofs.lemmas.Datagrams.{inside-none}
 use Rattle.hc_cuts.specs.Starts.{Kept}
 use Rattle.hc_tasks.specs.Areas.{areas_by_rank}
+use Rattle.hc_tasks.specs.Keeping.{Before}
 use Rattle.hc_tasks.specs.Kept.{starts_by}
 use Rattle.hc_tasks.proofs.lemmas.Told.{task-listed}
 use Rattle.hc_places.specs.declared.loads.Load.{Load}
@@ -26,8 +27,7 @@ use Rattle.hc_places.specs.declared.table.Datagram.{Datagram}
 use Rattle.hc_places.specs.Loads.{IsLoad, load_in, load_of, loaded, with_load}
 use Rattle.hc_places.specs.Table.{Table, TaskTable, task_table}
 use Rattle.hc_places.proofs.lemmas.Lines.{table-loaded}
-use Rattle.hc_cuts.specs.Keeping.{is_kept}
-use Rattle.hc_changes.specs.Tables.{AreKept, IsEdited}
+use Rattle.hc_changes.specs.Tables.{IsEdited}
 use Rattle.hc_changes.proofs.lemmas.Tables.{task-list}
 
 -- so many datagrams of a task, or all where it has fewer
@@ -91,32 +91,26 @@ all-loaded groups task number starts table none stand all is =
     is ∙ ap (loaded task areas) last ∙ sym (table-loaded groups task none)
 
 -- what is known of the table of the datagrams so far
-pub record AreLoaded (old : Table) (trees : List Kept) (task : ℕ) (kept : List Bool) (number : ℕ) (table : TaskTable) : Type 0 where
-  pub stand :
-      (before after : List Declared) → IsEdited before after old trees → AreKept before after task kept
-      → table ≡ loaded_up_to task (task_places task (line_from 1 after)) number
+pub record AreLoaded (old : Table) (known : Before) (trees : List Kept) (task number : ℕ) (table : TaskTable) : Type 0 where
+  pub stand : (before after : List Declared) → IsEdited before after old known trees → table ≡ loaded_up_to task (task_places task (line_from 1 after)) number
   pub count : length table.datagrams ≤ number
   pub short : table.outputs + table.inputs ≤ length table.datagrams * MOST_DATAGRAM_BYTES
 
 -- and of what the next one holds
-abbrev IsNext : Table → List Kept → ℕ → Bool → ℕ → Load → Type 0
-IsNext old trees task says number load =
-    (before after : List Declared) → IsEdited before after old trees
-    → (says ≡ true → is_kept (task_list task (line_from 1 before)) (task_list task (line_from 1 after)) number ≡ true)
-    → load ≡ load_in (task_places task (line_from 1 after)) number
+abbrev IsNext : Table → Before → List Kept → ℕ → ℕ → Load → Type 0
+IsNext old known trees task number load =
+    (before after : List Declared) → IsEdited before after old known trees → load ≡ load_in (task_places task (line_from 1 after)) number
 
-pub adds-some : (old : Table) (trees : List Kept) (task : ℕ) (kept : List Bool) (number : ℕ) (table : TaskTable) (says : Bool) (load : Load)
-    → AreLoaded old trees task kept number table → says ≡ slice_index_or kept number false → IsNext old trees task says number load → IsLoad load → 0 < load.length
-    → AreLoaded old trees task kept (number + 1) (with_load task table load)
-adds-some old trees task kept number table says load are said next is some =
+pub adds-some : (old : Table) (known : Before) (trees : List Kept) (task number : ℕ) (table : TaskTable) (load : Load) → AreLoaded old known trees task number table
+    → IsNext old known trees task number load → IsLoad load → 0 < load.length → AreLoaded old known trees task (number + 1) (with_load task table load)
+adds-some old known trees task number table load are next is some =
     let many = length-append table.datagrams ((with-made task table load) ∷ []) in
     let count = are.count in
     let short = are.short in
     let most = is.most in
     let part = is.part in
     record {
-      stand = λ before after edited all.
-          next-some task (task_list task (line_from 1 after)) number table load (are.stand before after edited all) (next before after edited (λ test. all number (sym said ∙ test))) some;
+      stand = λ before after edited. next-some task (task_list task (line_from 1 after)) number table load (are.stand before after edited) (next before after edited) some;
       count = omega arith;
       short = omega arith;
     }
@@ -129,14 +123,13 @@ adds-some old trees task kept number table says load are said next is some =
       offset = table'.outputs + table'.inputs;
     }
 
-pub adds-none : (old : Table) (trees : List Kept) (task : ℕ) (kept : List Bool) (number : ℕ) (table : TaskTable) (says : Bool) (load : Load)
-    → AreLoaded old trees task kept number table → says ≡ slice_index_or kept number false → IsNext old trees task says number load → load.length ≤ 0
-    → AreLoaded old trees task kept (number + 1) table
-adds-none old trees task kept number table says load are said next none =
+pub adds-none : (old : Table) (known : Before) (trees : List Kept) (task number : ℕ) (table : TaskTable) (load : Load) → AreLoaded old known trees task number table
+    → IsNext old known trees task number load → load.length ≤ 0 → AreLoaded old known trees task (number + 1) table
+adds-none old known trees task number table load are next none =
     let count = are.count in record {
-      stand = λ before after edited all.
-          next-none task (task_list task (line_from 1 after)) number table load (task-list after task edited.line.project).packable (are.stand before after edited all)
-          (next before after edited (λ test. all number (sym said ∙ test))) (omega arith);
+      stand = λ before after edited.
+          next-none task (task_list task (line_from 1 after)) number table load (task-list after task edited.line.project).packable (are.stand before after edited) (next before after edited)
+          (omega arith);
       count = omega arith;
       short = are.short;
     }

@@ -1,56 +1,45 @@
 //! The tasks whose tables an edit changes. What a kept datagram holds stands in the old table; the areas of
 //! each other one are walked.
-ghost use Rattle.std.specs.Prelude.{◌≡◌, ◌<◌, ◌==◌, ℕ, All, IfOk, List, find, length, map, option_map, slice_get, slice_index_or, true, false};
+ghost use Rattle.std.specs.Prelude.{◌≡◌, ◌<◌, ◌==◌, ℕ, All, IfOk, List, find, length, map, option_map, slice_get};
 ghost use Rattle.hc_records.specs.declared.limits.TheConstants.{TASKS};
 ghost use Rattle.hc_records.specs.declared.records.Declared.{Declared};
 ghost use Rattle.hc_records.specs.Image.{task_places, tasks};
 ghost use Rattle.hc_records.specs.Line.{line_from};
-ghost use Rattle.hc_records.specs.TaskList.{task_list};
 ghost use Rattle.hc_places.specs.Loads.{IsLoad, load_in};
 ghost use Rattle.hc_places.specs.Swap.{ChangesAscend, IsNewTask};
 ghost use Rattle.hc_places.specs.Table.{table_of, task_table};
-ghost use Rattle.hc_cuts.specs.Keeping.{is_kept};
-ghost use Rattle.hc_changes.specs.Tables.{AreAllKept, AreKept, AreOfLine, IsEdited};
+ghost use Rattle.hc_changes.specs.Tables.{AreOfLine, IsEdited};
 
 use hc_bitsum::steps::Steps;
 use hc_places::loads::Load;
 use hc_places::swap::ChangedTask;
 use hc_places::table::{Places, TaskTable};
 use hc_records::limits::TASKS;
+use hc_tasks::keeping::Before;
 use hc_tasks::tasks::LineCuts;
 use std::alloc::{AllocError, Global};
 use std::sync::ledger::Ledger;
 
-/// What a datagram of a task holds: one that stays, as a kept one does, what it held.
+/// What a datagram of a task of the new line holds: a kept one what it held.
 fn load_in<L: Ledger>(
     alloc: Global,
     cuts: &LineCuts,
     old: &Places,
-    stays: bool,
+    before: &Before,
     task: u8,
     number: u16,
     steps: &mut Steps<L>,
 ) -> Result<Load, AllocError>
     requires task { task < TASKS }
     requires line { AreOfLine cuts.now }
-    ensures value { IfOk result (λ load. (before after : List Declared) → IsEdited before after old.now cuts.now → (stays ≡ true → is_kept (task_list task (line_from 1 before)) (task_list task (line_from 1 after)) number ≡ true) → load ≡ load_in (task_places task (line_from 1 after)) number) }
+    ensures value { IfOk result (λ load. (was is : List Declared) → IsEdited was is old.now before.now cuts.now → load ≡ load_in (task_places task (line_from 1 is)) number) }
     ensures low { IfOk result IsLoad }
 {
-    if stays {
+    if before.is_kept(cuts, task, number) {
         return Ok(old.load(task, number));
     }
     let areas = cuts.datagram(alloc, task, number, steps)?;
     Ok(Load::of(areas.as_slice(), number))
-}
-
-/// Whether a datagram is said to be kept.
-fn says_kept(kept: &[bool], number: usize) -> bool
-    ensures { result ≡ slice_index_or kept.now number false }
-{
-    match kept.get(number) {
-        Some(stays) => *stays,
-        None => false,
-    }
 }
 
 /// The table of a task of the new line.
@@ -58,18 +47,17 @@ fn new_table<L: Ledger>(
     alloc: Global,
     cuts: &LineCuts,
     old: &Places,
-    kept: &[bool],
+    before: &Before,
     task: u8,
     steps: &mut Steps<L>,
 ) -> Result<TaskTable, AllocError>
     requires task { task < TASKS }
     requires line { AreOfLine cuts.now }
-    ensures { IfOk result (λ table. (before after : List Declared) → IsEdited before after old.now cuts.now → AreKept before after task kept.now → table ≡ task_table (line_from 1 after) task) }
+    ensures { IfOk result (λ table. (was is : List Declared) → IsEdited was is old.now before.now cuts.now → table ≡ task_table (line_from 1 is) task) }
 {
     let mut table = TaskTable::empty();
     for number in 0..cuts.starts(task).len() {
-        let stays = says_kept(kept, number);
-        let load = load_in(alloc, cuts, old, stays, task, number as u16, steps)?;
+        let load = load_in(alloc, cuts, old, before, task, number as u16, steps)?;
         if load.length > 0 {
             table.add(task, load);
         }
@@ -82,39 +70,36 @@ fn new_tables<L: Ledger>(
     alloc: Global,
     cuts: &LineCuts,
     old: &Places,
-    kept: &[[bool; 16]],
+    before: &Before,
     steps: &mut Steps<L>,
 ) -> Result<Vec<TaskTable>, AllocError>
-    requires line { AreOfLine cuts.now }
-    requires eight { length kept.now ≡ TASKS }
-    ensures tables { IfOk result (λ tables. (before after : List Declared) → IsEdited before after old.now cuts.now → AreAllKept before after kept.now → tables.items ≡ map (task_table (line_from 1 after)) tasks) }
+    requires { AreOfLine cuts.now }
+    ensures tables { IfOk result (λ tables. (was is : List Declared) → IsEdited was is old.now before.now cuts.now → tables.items ≡ map (task_table (line_from 1 is)) tasks) }
     ensures eight { IfOk result (λ tables. length tables.items ≡ TASKS) }
 {
     let mut tables = Vec::with_capacity(alloc, usize::from(TASKS))?;
     for task in 0..TASKS {
-        let kept_in_task = &kept[usize::from(task)];
-        tables.push(new_table(alloc, cuts, old, kept_in_task, task, steps)?)?;
+        tables.push(new_table(alloc, cuts, old, before, task, steps)?)?;
     }
     Ok(tables)
 }
 
-/// The tasks whose tables an edit changes, with their new ones, in the order of their numbers, from the trees
-/// of the new line and the old line's table. Of each of the eight tasks it is told which datagrams, by their
-/// numbers, are kept: what such a one holds stands in the old table, and takes no steps; the areas of each
-/// other one are walked. A kept one may be said not to be. `AllocError` where a growth was refused.
+/// The tasks whose tables an edit changes, with their new ones, in the order of their numbers: from the trees
+/// of the new line, the old line's table, and what was known of its tasks before they were turned. What a kept
+/// datagram holds stands in the old table, and takes no steps; the areas of each other one are walked.
+/// `AllocError` where a growth was refused.
 pub fn changed_tasks<L: Ledger>(
     alloc: Global,
     cuts: &LineCuts,
     old: &Places,
-    kept: &[[bool; 16]],
+    before: &Before,
     steps: &mut Steps<L>,
 ) -> Result<Vec<ChangedTask>, AllocError>
-    requires line { AreOfLine cuts.now }
-    requires eight { length kept.now ≡ TASKS }
-    ensures says { IfOk result (λ changed. (before after : List Declared) → IsEdited before after old.now cuts.now → AreAllKept before after kept.now → (task : ℕ) → IsNewTask (slice_get old.now.tasks task) (slice_get (table_of (line_from 1 after)).tasks task) (option_map (λ found. found.1) (find (λ found. found.0 == task) changed.items))) }
+    requires { AreOfLine cuts.now }
+    ensures says { IfOk result (λ changed. (was is : List Declared) → IsEdited was is old.now before.now cuts.now → (task : ℕ) → IsNewTask (slice_get old.now.tasks task) (slice_get (table_of (line_from 1 is)).tasks task) (option_map (λ found. found.1) (find (λ found. found.0 == task) changed.items))) }
     ensures ascends { IfOk result (λ changed. ChangesAscend changed.items) }
     ensures eight { IfOk result (λ changed. All (λ found. found.0 < TASKS) changed.items) }
 {
-    let tables = new_tables(alloc, cuts, old, kept, steps)?;
+    let tables = new_tables(alloc, cuts, old, before, steps)?;
     old.changed_tasks(alloc, tables.as_slice())
 }

@@ -1,63 +1,82 @@
-//! The table of a task behind an edit, from the trees of the new line and the old line's table.
-ghost use Rattle.std.specs.Prelude.{◌≡◌, ◌≤◌, None};
+//! The tables that an edit changes: from the trees of the new line, the old line's table, and what was known
+//! of its tasks before they were turned.
+ghost use Rattle.std.specs.Prelude.{◌≡◌, ◌≤◌, None, length};
 ghost use Rattle.hc_records.specs.declared.limits.TheConstants.{MOST_DATAGRAM_BYTES};
 ghost use Rattle.hc_records.specs.Line.{groups_of};
 ghost use Rattle.hc_records.specs.Project.{lowest_fault};
+ghost use Rattle.hc_tasks.specs.Areas.{areas_by_rank};
 
-use crate::places::{NONE, TOOL, present, tool_and_module};
+use crate::places::{TOOL, present, tool_and_module};
 use arrayvec::ArrayVec;
 use hc_bitsum::steps::Steps;
 use hc_changes::tables::changed_tasks;
+use hc_edits::faults::own_fault;
+use hc_edits::groups::groups_after;
 use hc_places::configure::configure;
 use hc_places::swap::ChangedTask;
-use hc_places::table::{Datagram, Places, TaskTable};
+use hc_places::table::{Datagram, TaskTable};
+use hc_records::edit::Edit;
 use hc_records::faults::EditFault;
+use hc_records::items::Items;
 use hc_records::project::Project;
 use hc_records::records::Declared;
 use hc_tasks::areas::areas_by_rank;
+use hc_tasks::keeping::Before;
 use hc_tasks::tasks::LineCuts;
 use std::alloc::Global;
 use std::marker::Brand;
 use std::sync::ledger::{Blank, Ledger};
 use std::test::Fail;
 
-/// The tasks whose tables differ from an old one, by the trees of a line of which each datagram is said to be kept,
-/// or none; in steps that nobody reads.
-fn changed<L: Ledger>(
+/// The tasks whose tables differ between the lines of the same groups, which are present or not, in steps
+/// that nobody reads.
+fn changed_between<L: Ledger>(
     alloc: Global,
-    old: &Places,
-    groups: &[Declared],
-    all_kept: bool,
+    before: &[Declared],
+    after: &[Declared],
     blank: Blank,
 ) -> Result<Vec<ChangedTask>, EditFault>
     requires name { blank.name ≡ L.name }
     requires parts { blank.parts ≡ L.parts }
     requires one { L.parts ≡ 1 }
-    requires project { lowest_fault (groups_of groups.now) ≡ None }
+    requires old { lowest_fault (groups_of before.now) ≡ None }
+    requires new { lowest_fault (groups_of after.now) ≡ None }
+    requires many { length (areas_by_rank after.now) ≡ length (areas_by_rank before.now) }
 {
     let mut steps: Steps<L> = Steps::start(blank);
-    let slaves = areas_by_rank(alloc, groups)?;
-    let cuts = LineCuts::open(alloc, slaves.as_slice(), &mut steps)?;
-    let kept = [[all_kept; 16]; 8];
-    let changed = changed_tasks(alloc, &cuts, old, &kept, &mut steps)?;
+    let old = configure(alloc, before)?;
+    let was = areas_by_rank(alloc, before)?;
+    let is = areas_by_rank(alloc, after)?;
+    let mut cuts = LineCuts::open(alloc, was.as_slice(), &mut steps)?;
+    let known = Before::of(&cuts, 1, was.as_slice(), is.as_slice());
+    if let Err(task) = cuts.turn(1, was.as_slice(), is.as_slice(), &mut steps) {
+        return Err(EditFault::TooManyDatagrams(task));
+    }
+    let changed = changed_tasks(alloc, &cuts, &old.places, &known, &mut steps)?;
     Ok(changed)
 }
 
-/// The changed tasks of the line of the tool and the module, where the tool was absent and now is or isn't.
-fn with_tool(alloc: Global, comes: bool) -> Result<Vec<ChangedTask>, Fail> {
-    let project = Project::checked(alloc, tool_and_module(alloc)?)
-        .ok()
-        .ok_or("a project")?;
-    let before = present(alloc, project.groups(), TOOL)?;
-    let old = configure(alloc, before.as_slice())
-        .ok()
-        .ok_or("few datagrams")?;
-    let absent = if comes { NONE } else { TOOL };
-    let after = present(alloc, project.groups(), absent)?;
-    let changed = changed::<Brand>(alloc, &old.places, after.as_slice(), !comes, Blank::new(1))
+/// The tasks that an edit without a fault of its own changes.
+fn changed_by(alloc: Global, groups: &[Declared], edit: &Edit) -> Result<Vec<ChangedTask>, Fail>
+    requires { lowest_fault (groups_of groups.now) ≡ None }
+{
+    if own_fault(groups, edit).is_some() {
+        return Err("no fault")?;
+    }
+    let after = groups_after(alloc, groups, edit)?;
+    let changed = changed_between::<Brand>(alloc, groups, after.as_slice(), Blank::new(1))
         .ok()
         .ok_or("few datagrams")?;
     Ok(changed)
+}
+
+/// Those of the line of the mandatory slave and the module, whose tool is absent.
+fn changed(alloc: Global, edit: &Edit) -> Result<Vec<ChangedTask>, Fail> {
+    let project = Project::checked(alloc, tool_and_module(alloc)?)
+        .ok()
+        .ok_or("a project")?;
+    let groups = present(alloc, project.groups(), TOOL)?;
+    changed_by(alloc, groups.as_slice(), edit)
 }
 
 /// Whether these are task 0 alone, with one datagram of outputs of this length and expected counter.
@@ -80,7 +99,7 @@ fn is_task(changed: &[ChangedTask], length: u16, expected: u16) -> bool
 
 #[test]
 fn a_tool_that_comes_changes_its_task(rt: HostRuntime) -> Result<(), Fail> {
-    let changed = with_tool(rt.alloc(), true)?;
+    let changed = changed(rt.alloc(), &Edit::Connect(TOOL))?;
     // 3, 3 and 5 bits of outputs, of three slaves
     assert!(rt; is_task(changed.as_slice(), 2, 6));
     Ok(())
@@ -88,6 +107,12 @@ fn a_tool_that_comes_changes_its_task(rt: HostRuntime) -> Result<(), Fail> {
 
 #[test]
 fn kept_datagrams_change_no_task(rt: HostRuntime) -> Result<(), Fail> {
-    assert!(rt; with_tool(rt.alloc(), false)?.is_empty());
+    let pdos = Items::of(Vec::from_slice(rt.alloc(), &[0x1600])?);
+    let as_it_is = Edit::Remap {
+        station: 1003,
+        area: 0,
+        pdos,
+    };
+    assert!(rt; changed(rt.alloc(), &as_it_is)?.is_empty());
     Ok(())
 }

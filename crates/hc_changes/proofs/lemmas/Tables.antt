@@ -20,6 +20,8 @@ use Rattle.hc_records.proofs.lemmas.Lists.{All-append_left, All-append_right, Al
 use Rattle.hc_records.proofs.lemmas.TaskLists.{project-list}
 use Rattle.hc_bitsum.proofs.lemmas.Widths.{told-by_widths}
 use Rattle.hc_cuts.specs.Keeping.{is_kept}
+use Rattle.hc_tasks.specs.Areas.{areas_by_rank, list_by}
+use Rattle.hc_tasks.proofs.lemmas.Told.{task-listed}
 use Rattle.hc_places.specs.Loads.{load_in, load_of, load_told}
 use Rattle.hc_places.specs.Table.{table_of, task_table}
 use Rattle.hc_places.proofs.lemmas.Lines.{same-table}
@@ -32,6 +34,13 @@ state_of groups = record { groups = groups; epoch = 0 }
 
 pub task-list : (groups : List Declared) (task : ℕ) → lowest_fault (groups_of groups) ≡ None → IsTaskList (task_list task (line_from 1 groups))
 task-list groups task none = project-list (state_of groups) task none
+
+-- which datagrams are kept is told by the areas of both lines
+pub kept-listed : (old new : List Declared) (task datagram : ℕ)
+    → is_kept (task_list task (line_from 1 old)) (task_list task (line_from 1 new)) datagram ≡ is_kept (list_by task (areas_by_rank old)) (list_by task (areas_by_rank new)) datagram
+kept-listed old new task datagram =
+    ap (λ (list : List Keyed). is_kept list (task_list task (line_from 1 new)) datagram) (task-listed task old)
+    ∙ ap (λ (list : List Keyed). is_kept (list_by task (areas_by_rank old)) list datagram) (task-listed task new)
 
 -- what a kept datagram holds stands in the old table
 pub kept-told : (old new : List Declared) (task datagram : ℕ) → lowest_fault (groups_of old) ≡ None → lowest_fault (groups_of new) ≡ None → task < TASKS

@@ -5,7 +5,7 @@ use Rattle.hc_records.specs.declared.records.Declared.{Declared}
 use Rattle.hc_records.specs.Line.{line_from}
 use Rattle.hc_places.specs.Swap.{ChangedTask, IsNewTask}
 use Rattle.hc_places.specs.Table.{TaskTable, table_of}
-use Rattle.hc_changes.specs.Tables.{AreAllKept, IsEdited}
+use Rattle.hc_changes.specs.Tables.{IsEdited}
 use Rattle.hc_changes.proofs.tables.changed_tasks.Goals as goal
 
 abbrev said : List ChangedTask → ℕ → Option TaskTable
@@ -17,9 +17,9 @@ returns-clause-says g c =
     let tables = c.as_slice.result.now in
     IfOk-weaker c.changed_tasks.result
     (λ changed. (task : ℕ) → IsNewTask (slice_get old.tasks task) (slice_get tables task) (said changed.items task))
-    (λ changed. (before after : List Declared) → IsEdited before after old c.args.cuts.now → AreAllKept before after c.args.kept.now
+    (λ changed. (before after : List Declared) → IsEdited before after old c.args.before.now c.args.cuts.now
     → (task : ℕ) → IsNewTask (slice_get old.tasks task) (slice_get (table_of (line_from 1 after)).tasks task) (said changed.items task))
-    (λ changed tells before after edited kept task.
+    (λ changed tells before after edited task.
     subst (λ (all : List TaskTable). IsNewTask (slice_get old.tasks task) (slice_get all task) (said changed.items task))
-    (c.as_slice.ensures.value ∙ c.in_ok-tables.ensures.tables before after edited kept) (tells task))
+    (c.as_slice.ensures.value ∙ c.in_ok-tables.ensures.tables before after edited) (tells task))
     c.changed_tasks.ensures.says

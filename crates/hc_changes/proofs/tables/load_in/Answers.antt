@@ -7,7 +7,8 @@ use Rattle.hc_places.specs.Loads.{load_in, load_told}
 use Rattle.hc_places.specs.Parts.{counted_inside}
 use Rattle.hc_places.specs.Table.{Table}
 use Rattle.hc_tasks.specs.Areas.{areas_by_rank}
-use Rattle.hc_changes.proofs.lemmas.Tables.{kept-told}
+use Rattle.hc_tasks.proofs.lemmas.Projects.{project-line}
+use Rattle.hc_changes.proofs.lemmas.Tables.{kept-listed, kept-told}
 use Rattle.hc_changes.proofs.tables.load_in.Goals as goal
 
 pub of-requires-clause-inside : goal.of-requires-clause-inside
@@ -22,14 +23,16 @@ of-requires-clause-counted g c =
     let is = datagram-of groups c.args.task c.args.number c.in_ok-areas.areas.items c.requires.line.line.project (c.in_ok-areas.ensures (areas_by_rank groups) c.requires.line.line.stand) in
     subst (λ (areas : List Placed). counted_inside c.args.number areas < 65536) (sym c.as_slice.ensures.value) is.counted
 
-pub returns-then-stays-clause-value : goal.returns-then-stays-clause-value
-returns-then-stays-clause-value g c before after edited kept =
+pub returns-then-is_kept-clause-value : goal.returns-then-is_kept-clause-value
+returns-then-is_kept-clause-value g c before after edited =
+    let said = c.is_kept.ensures (areas_by_rank before) (areas_by_rank after) (project-line after edited.line.project) edited.tasks edited.line.stand in
     c.load.ensures.value
     ∙ ap (λ (table : Table). load_told table c.args.task c.args.number) edited.table
-    ∙ kept-told before after c.args.task c.args.number edited.project edited.line.project c.requires.task (kept c.if-stays.true)
+    ∙ kept-told before after c.args.task c.args.number edited.project edited.line.project c.requires.task
+    (kept-listed before after c.args.task c.args.number ∙ sym said ∙ c.if-is_kept.true)
 
 pub returns-clause-value : goal.returns-clause-value
-returns-clause-value g c before after edited kept =
+returns-clause-value g c before after edited =
     c.of.ensures.value
     ∙ ap (λ (areas : List Placed). load_in areas c.args.number) c.as_slice.ensures.value
     ∙ (datagram-of after c.args.task c.args.number c.in_ok-areas.areas.items edited.line.project (c.in_ok-areas.ensures (areas_by_rank after) edited.line.stand)).load
