@@ -8,8 +8,10 @@ pub mod Leading
 pub mod Members
 pub mod Merged
 pub mod Order
+pub mod Overwritten
 pub mod Pairs
 pub mod Recuts
+pub mod Reached
 pub mod Rising
 pub mod Roomy
 pub mod Said

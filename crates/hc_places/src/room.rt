@@ -1,19 +1,22 @@
 //! A swap carried out on a table: the memory that it needs is taken first, then nothing can be
 //! refused.
-ghost use Rattle.std.specs.Prelude.{◌≡◌, ◌+◌, ◌≤◌, ◌<◌, ◌++◌, [], All, IfSome, length, option_to_list, vec_capacity};
+ghost use Rattle.std.specs.Prelude.{◌≡◌, ◌+◌, ◌≤◌, ◌<◌, ◌++◌, ◌↔◌, [], All, IfSome, IsTrue, length, map, option_to_list, vec_capacity};
+ghost use Rattle.std.specs.List.{AllWithin};
 ghost use Rattle.std.specs.Option.{MatchOption};
-ghost use Rattle.hc_places.specs.Swap.{ChangesAscend, merged, new_row, replaced};
+ghost use Rattle.hc_places.specs.Room.{AreBelow};
+ghost use Rattle.hc_places.specs.Swap.{ChangesAscend, KeepRows, keeps_row, merged, new_row, overwritten, replaced, row_with};
 ghost use Rattle.hc_places.specs.Table.{RowsAscend};
 ghost use Rattle.hc_places.specs.Walk.{merges, walked};
 
 use crate::swap::{ChangedRow, ChangedTask, Swap};
-use crate::table::{Places, Row, TaskTable};
+use crate::table::{Places, Row, TaskTable, count_below};
 use hc_records::items::Items;
+use hc_records::records::VarId;
 use std::alloc::{AllocError, Global};
 use std::marker::Model;
 
-/// The memory that carrying a swap out on a table takes: none where no variable changes, else that of
-/// the new rows.
+/// The memory that carrying a swap out on a table takes: none where no variable appears or goes, else
+/// that of the new rows.
 #[derive(Debug, Drop)]
 pub struct Room {
     rows: Option<Vec<Row>>,
@@ -92,40 +95,125 @@ fn merge(into: Vec<Row>, changed: &[ChangedRow], old: &[Row]) -> Vec<Row>
     rows
 }
 
-/// Makes a table's rows those with changes, in memory that has the room.
+/// How many rows have a lower number than a variable, of which there are mostly few: as many rows are
+/// looked at as reach it, doubled until they do.
+fn count_near(rows: &[Row], variable: VarId) -> usize
+    requires { RowsAscend rows.now }
+    ensures bound { result ≤ length rows.now }
+    ensures below { AreBelow rows.now variable result }
+{
+    let mut reach = rows.len().min(1);
+    while reach < rows.len() && rows[reach].0.number() < variable.number() {
+        reach += reach.min(rows.len() - reach);
+    }
+    count_below(&rows[..reach], variable)
+}
+
+/// The same where so many rows are known to have a lower number.
+fn count_from(rows: &[Row], front: usize, variable: VarId) -> usize
+    requires ascends { RowsAscend rows.now }
+    requires front { front ≤ length rows.now }
+    requires lower { AllWithin (λ row. row.0 < variable) rows.now 0 front }
+    ensures bound { result ≤ length rows.now }
+    ensures below { AreBelow rows.now variable result }
+{
+    front + count_near(&rows[front..], variable)
+}
+
+/// Whether a changed variable keeps its row, which stands behind those of lower numbers.
+fn keeps_row(rows: &[Row], at: usize, changed: &ChangedRow) -> bool
+    requires ascends { RowsAscend rows.now }
+    requires below { AreBelow rows.now changed.now.0 at }
+    ensures { result ≡ keeps_row rows.now changed.now }
+{
+    let Some(row) = rows.get(at) else {
+        return false;
+    };
+    row.0 == changed.0 && changed.1.is_some()
+}
+
+/// Whether each changed variable keeps its row.
+fn keep_rows(rows: &[Row], changed: &[ChangedRow]) -> bool
+    requires ascends { RowsAscend rows.now }
+    requires changes { ChangesAscend changed.now }
+    ensures { IsTrue result ↔ KeepRows rows.now changed.now }
+{
+    let mut front = 0;
+    for change in changed {
+        front = count_from(rows, front, change.0);
+        if !keeps_row(rows, front, change) {
+            return false;
+        }
+    }
+    true
+}
+
+/// Puts a changed variable's new place, if any, into its row, if any, which stands behind those of lower
+/// numbers.
+fn overwrite_row(rows: &mut Vec<Row>, at: usize, changed: &ChangedRow)
+    requires ascends { RowsAscend rows.old.items }
+    requires below { AreBelow rows.old.items changed.now.0 at }
+    ensures { rows.new.items ≡ map (row_with changed.now) rows.old.items }
+{
+    let Some(place) = changed.1 else {
+        return;
+    };
+    if at < rows.len() && rows[at].0 == changed.0 {
+        rows[at] = (changed.0, place);
+    }
+}
+
+/// Puts the new places of changed variables into their rows; no row comes or goes.
+fn overwrite(rows: &mut Vec<Row>, changed: &[ChangedRow])
+    requires ascends { RowsAscend rows.old.items }
+    requires changes { ChangesAscend changed.now }
+    ensures { rows.new.items ≡ overwritten changed.now rows.old.items }
+{
+    let mut front = 0;
+    for change in changed {
+        front = count_from(rows.as_slice(), front, change.0);
+        overwrite_row(rows, front, change);
+    }
+}
+
+/// Makes a table's rows those with changes: in memory that has the room, or where they stand, if none is
+/// given.
 fn change_rows(rows: &mut Vec<Row>, changed: &[ChangedRow], room: Option<Vec<Row>>)
     requires ascends { RowsAscend rows.old.items }
     requires changes { ChangesAscend changed.now }
     requires empty { IfSome room (λ into. into.items ≡ []) }
-    requires room { MatchOption room (changed.now ≡ []) (λ into. length (merged changed.now rows.old.items) ≤ vec_capacity into) }
+    requires room { MatchOption room (KeepRows rows.old.items changed.now) (λ into. length (merged changed.now rows.old.items) ≤ vec_capacity into) }
     ensures { rows.new.items ≡ merged changed.now rows.old.items }
 {
-    if let Some(into) = room {
-        *rows = merge(into, changed, rows.as_slice());
+    match room {
+        Some(into) => *rows = merge(into, changed, rows.as_slice()),
+        None => overwrite(rows, changed),
     }
 }
 
 impl Places {
-    ghost use Rattle.std.specs.Prelude.{◌≡◌, IfOk, OnErr, OnOk};
+    ghost use Rattle.std.specs.Prelude.{◌≡◌, IfOk, None, Ok, OnErr, OnOk};
     ghost use Rattle.hc_places.specs.Room.{IsRoomFor};
-    ghost use Rattle.hc_places.specs.Swap.{swapped};
+    ghost use Rattle.hc_places.specs.Swap.{KeepRows, swapped};
 
-    /// The memory that `carry_out` will take for a swap of this table: none where no variable changes.
-    /// `AllocError` where a growth was refused.
+    /// The memory that `carry_out` will take for a swap of this table: none where no variable appears or
+    /// goes. `AllocError` where a growth was refused.
     pub fn room_for(&self, alloc: Global, swap: &Swap) -> Result<Room, AllocError>
-        ensures { IfOk result (IsRoomFor swap.now.change self.now) }
+        ensures room { IfOk result (IsRoomFor swap.now.change self.now) }
+        ensures without { KeepRows self.now.variables swap.now.change.rows → result ≡ Ok None }
     {
         let changed = swap.changes();
-        if changed.is_empty() {
+        let rows = self.variables();
+        if keep_rows(rows, changed) {
             return Ok(Room { rows: None });
         }
-        let rows = self.variables();
         let room = Vec::with_capacity(alloc, rows.len() + changed.len())?;
         Ok(Room { rows: Some(room) })
     }
 
     /// Becomes the table that a swap leads to, in memory that was taken before: nothing can be refused.
-    /// The rows are gone over once, and not at all where no variable changes.
+    /// The rows are gone over once; where no variable appears or goes, those of the changed ones are looked
+    /// up and overwritten where they stand.
     pub fn carry_out(&mut self, swap: &Swap, room: Room)
         requires { IsRoomFor swap.now.change self.old room }
         ensures { self.new ≡ swapped swap.now.change self.old }

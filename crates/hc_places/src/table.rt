@@ -1,5 +1,5 @@
 //! The table of a line, in which tasks look up their datagrams and their variables.
-ghost use Rattle.std.specs.Prelude.{◌≡◌, ◌==◌, ◌↔◌, IsTrue, false, find, nat_lt, OnOk, option_map, true};
+ghost use Rattle.std.specs.Prelude.{◌≡◌, ◌≤◌, ◌==◌, ◌↔◌, IsTrue, false, find, length, nat_lt, OnOk, option_map, true};
 ghost use Rattle.std.specs.List.Sorted.{IsNonDecreasingBy, IsPartitionPoint};
 ghost use Rattle.hc_places.specs.Table.{by_number};
 
@@ -172,9 +172,10 @@ fn sort_rows(rows: &mut Vec<Row>) -> Result<(), AllocError>
 }
 
 /// How many rows have a lower number than a variable.
-fn count_below(rows: &[Row], variable: VarId) -> usize
+pub(crate) fn count_below(rows: &[Row], variable: VarId) -> usize
     requires { IsNonDecreasingBy (λ row. row.0) rows.now }
-    ensures { IsPartitionPoint (λ row. nat_lt row.0 variable ≡ true) (λ row. nat_lt row.0 variable ≡ false) rows.now result }
+    ensures bound { result ≤ length rows.now }
+    ensures below { IsPartitionPoint (λ row. nat_lt row.0 variable ≡ true) (λ row. nat_lt row.0 variable ≡ false) rows.now result }
 {
     rows.partition_point(|row| row.0.number() < variable.number())
 }

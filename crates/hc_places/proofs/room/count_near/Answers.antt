@@ -1,0 +1,20 @@
+use Rattle.std.proofs.Common.{ap, arith}
+use Rattle.std.proofs.lemmas.List.Sorted.{IsNonDecreasingBy-take}
+use Rattle.hc_places.specs.Table.{Row}
+use Rattle.hc_places.proofs.Reached.{ascends-rises, below-reached, reached-row}
+use Rattle.hc_places.proofs.room.count_near.Goals as goal
+use Rattle.hc_places.proofs.room.count_near.Goals.{then-loop-reach-test+else-number, else-loop-reach-test}
+
+pub count_below-requires : goal.count_below-requires
+count_below-requires c =
+    IsNonDecreasingBy-take (λ (row : Row). row.0) c.loop-reach.reach c.args.rows.now (ascends-rises c.args.rows.now c.requires)
+
+pub returns-clause-below : goal.returns-clause-below
+returns-clause-below c =
+    let rows = c.args.rows.now in
+    below-reached rows c.args.variable c.loop-reach.reach c.count_below.result c.count_below.ensures.bound c.count_below.ensures.below
+    (elim c.loop-reach-test.branch [
+      | then-loop-reach-test+else-number w ↦
+          reached-row rows c.args.variable c.loop-reach.reach w.index-rows-reach.result c.requires w.index-rows-reach.is (omega (arith, w.number.ensures, w.number-in-loop-reach.ensures, w.if-number.false, ap (λ (row : Row). row.0) w.index-rows-reach.is))
+      | else-loop-reach-test w ↦ λ k d low high. absurd (omega (arith, low, high, w.loop-reach-test.false))
+    ])
