@@ -4,6 +4,9 @@ pub mod Blocks
 pub mod ByRank
 pub mod Compared
 pub mod Counted
+pub mod Finding
+pub mod FoundAll
+pub mod FoundRanks
 pub mod InARow
 pub mod Inside
 pub mod Keeping

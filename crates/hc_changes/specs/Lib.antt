@@ -1,6 +1,7 @@
 pub mod Candidates
 pub mod Compared
 pub mod Edited
+pub mod Found
 pub mod Laws
 pub mod Listed
 pub mod Moved

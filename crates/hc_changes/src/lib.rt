@@ -4,6 +4,7 @@
 #![tactic(auto)]
 
 pub mod candidates;
+pub mod finding;
 pub mod laws;
 pub mod moved;
 pub mod outlook;

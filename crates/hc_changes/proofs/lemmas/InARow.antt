@@ -36,7 +36,7 @@ index-own none [] behind i within = absurd (omega arith)
 index-own none (x ∷ own) behind zero within = refl
 index-own none (x ∷ own) behind (suc i) within = index-own none own behind i (omega arith)
 
-index-front : {X : Type 0} (none : X) (front own behind : List X) (i : ℕ) → i < length own → slice_index_or (front ++ (own ++ behind)) (length front + i) none ≡ slice_index_or own i none
+pub index-front : {X : Type 0} (none : X) (front own behind : List X) (i : ℕ) → i < length own → slice_index_or (front ++ (own ++ behind)) (length front + i) none ≡ slice_index_or own i none
 index-front none [] own behind i within =
     let here : 0 + i ≡ i = omega arith in
     ap (λ (n : ℕ). slice_index_or (own ++ behind) n none) here ∙ index-own none own behind i within

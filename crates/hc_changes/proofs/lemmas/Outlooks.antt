@@ -17,6 +17,7 @@ use Rattle.hc_tasks.proofs.lemmas.Projects.{project-line}
 use Rattle.hc_changes.specs.Candidates.{DifferAt, slave_of}
 use Rattle.hc_changes.specs.Edited.{HasEdit}
 use Rattle.hc_changes.specs.Outlook.{IsOutlook, Outlook, changes, outlook_of}
+use Rattle.hc_changes.proofs.lemmas.InARow.{index-front}
 use Rattle.hc_changes.proofs.lemmas.Ranks.{line-slots, none-below}
 use Rattle.hc_changes.proofs.lemmas.Slots.{slot, slots}
 
@@ -126,24 +127,11 @@ change-outlook groups change edited was is it = record {
 
 -- what these slaves have in the line, and the others
 
-own-at : {X : Type 0} (one behind : List X) (i : ℕ) (none : X) → i < length one → slice_index_or (one ++ behind) i none ≡ slice_index_or one i none
-own-at [] behind i none within = absurd (omega arith)
-own-at (x ∷ one) behind zero none within = refl
-own-at (x ∷ one) behind (suc i) none within = own-at one behind i none (omega arith)
-
-inside-at : {X : Type 0} (front one behind : List X) (i : ℕ) (none : X) → i < length one → slice_index_or (front ++ (one ++ behind)) (length front + i) none ≡ slice_index_or one i none
-inside-at [] one behind i none within =
-    let next : 0 + i ≡ i = omega arith in
-    ap (λ (n : ℕ). slice_index_or (one ++ behind) n none) next ∙ own-at one behind i none within
-inside-at (x ∷ front) one behind i none within =
-    let next : suc (length front) + i ≡ suc (length front + i) = omega arith in
-    ap (λ (n : ℕ). slice_index_or (x ∷ (front ++ (one ++ behind))) n none) next ∙ inside-at front one behind i none within
-
 among-at : (slaves front own behind : List (List Area)) (first i : ℕ) → slaves ≡ front ++ (own ++ behind) → first ≡ length front + 1 → i < length own →
     areas_at slaves (first + i) ≡ slice_index_or own i []
 among-at slaves front own behind first i is begins within =
     let rank : first + i ≡ suc (length front + i) = omega (arith, begins) in
-    ap (areas_at slaves) rank ∙ ap (λ (list : List (List Area)). slice_index_or list (length front + i) []) is ∙ inside-at front own behind i [] within
+    ap (areas_at slaves) rank ∙ ap (λ (list : List (List Area)). slice_index_or list (length front + i) []) is ∙ index-front [] front own behind i within
 
 pub after-at : (it : Outlook) → IsOutlook it → (rank i : ℕ) → rank ≡ it.first + i → i < length it.before → areas_at (areas_by_rank it.new) rank ≡ slice_index_or it.after i []
 after-at it is rank i at within =
