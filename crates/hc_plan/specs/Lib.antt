@@ -1,3 +1,4 @@
+pub mod Applied
 pub mod Blocks
 pub mod Configuration
 pub mod Laws

@@ -11,9 +11,9 @@ members-requires c = project-counted c.args.groups.now c.requires.project
 
 pub invariant_of-result : goal.invariant_of-result
 invariant_of-result c =
-    (λ member none. cc, subst (All (IsMappedSlave c.args.layout.now)) (sym c.members.ensures.value) (laid-out-all c.args.groups.now c.args.layout.now c.requires))
+    (λ member none. cc, subst (All (IsMappedSlave c.args.layout)) (sym c.members.ensures.value) (laid-out-all c.args.groups.now c.args.layout c.requires))
 
 pub returns : goal.returns
 returns c =
-    ap (blocks_left c.args.layout.now None 0) c.members.ensures.value
-    ∙ walk-begins c.args.groups.now c.args.layout.now (line_from 1 c.args.groups.now) c.requires (laid-out-all c.args.groups.now c.args.layout.now c.requires)
+    ap (blocks_left c.args.layout None 0) c.members.ensures.value
+    ∙ walk-begins c.args.groups.now c.args.layout (line_from 1 c.args.groups.now) c.requires (laid-out-all c.args.groups.now c.args.layout c.requires)

@@ -9,7 +9,7 @@ use Rattle.hc_plan.proofs.blocks.LineBlocksIterator.next.Goals as goal
 pub loop-found-preserved : goal.loop-found-preserved
 loop-found-preserved c =
     let left = c.loop-found.self-inside in
-    let layout = left.layout.now in
+    let layout = left.layout in
     let next : Member = c.in_ok-next.field-0 in
     let rest = c.next.new.self in
     let all = subst (All (IsMappedSlave layout)) c.in_ok-next.ensures.steps c.loop-found.invariant.2 in (
