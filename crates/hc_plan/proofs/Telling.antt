@@ -40,14 +40,14 @@ told-rows it table found before after rows stands was is told =
 
 pub told-once : (it : Outlook) (found read : List Candidate) (tasks : List ChangedTask) (rows : List ChangedRow) → IsOutlook it → AreSeen it found tasks → read ≡ found
     → rows ≡ changed_rows (table_of (line_from 1 it.old)) read it.before it.after → AreOnce rows
-told-once it found read tasks rows is seen same told = (swap-says it is tasks rows read (same ∙ seen.candidates) told seen.differ).1
+told-once it found read tasks rows is seen same told = (swap-says it is (table_of (line_from 1 it.old)) refl tasks rows read (same ∙ seen.candidates) told seen.differ).1
 
 pub told-leads : (it : Outlook) (found read : List Candidate) (tasks : List ChangedTask) (rows : List ChangedRow) (swap : Swap) → IsOutlook it → AreSeen it found tasks → read ≡ found
     → rows ≡ changed_rows (table_of (line_from 1 it.old)) read it.before it.after → LeadsAsSaid (record { tasks = tasks; rows = rows }) swap
     → Leads (table_of (line_from 1 it.old)) (table_of (line_from 1 it.new)) swap
 told-leads it found read tasks rows swap is seen same told leads =
     leads (table_of (line_from 1 it.old)) (table_of (line_from 1 it.new)) (is-table it.old is.was_project) (is-table it.new is.is_project)
-    (swap-says it is tasks rows read (same ∙ seen.candidates) told seen.differ).0
+    (swap-says it is (table_of (line_from 1 it.old)) refl tasks rows read (same ∙ seen.candidates) told seen.differ).0
 
 -- the moved blocks are as many as their names, and few
 pub named-count : (it : Outlook) (names : List (ℕ × ℕ)) → names ≡ map name_of (moved_blocks (line_from 1 it.old) (line_from 1 it.new))
