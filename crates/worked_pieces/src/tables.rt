@@ -45,15 +45,16 @@ fn changed_between<L: Ledger>(
 {
     let mut steps: Steps<L> = Steps::start(blank);
     let old = configure(alloc, before)?;
-    let was = areas_by_rank(alloc, before)?;
-    let is = areas_by_rank(alloc, after)?;
-    let mut cuts = LineCuts::open(alloc, was.as_slice(), &mut steps)?;
-    let known = Before::of(&cuts, 1, was.as_slice(), is.as_slice());
-    if let Err(task) = cuts.turn(1, was.as_slice(), is.as_slice(), &mut steps) {
-        return Err(EditFault::TooManyDatagrams(task));
+    let old_slaves = areas_by_rank(alloc, before)?;
+    let new_slaves = areas_by_rank(alloc, after)?;
+    let was = old_slaves.as_slice();
+    let is = new_slaves.as_slice();
+    let mut cuts = LineCuts::open(alloc, was, &mut steps)?;
+    let known = Before::of(&cuts, 1, was, is);
+    match cuts.turn(1, was, is, &mut steps) {
+        Ok(_) => Ok(changed_tasks(alloc, &cuts, &old.places, &known, &mut steps)?),
+        Err(task) => Err(EditFault::TooManyDatagrams(task)),
     }
-    let changed = changed_tasks(alloc, &cuts, &old.places, &known, &mut steps)?;
-    Ok(changed)
 }
 
 /// The tasks that an edit without a fault of its own changes.
