@@ -3,7 +3,7 @@ use Rattle.std.proofs.Common.{◌≡◌, ◌∙◌, ap, ℕ, zero, suc, ◌+◌,
 use Rattle.std.specs.Prelude.{Option, Some, None, ◌-◌, nat_lt, unwrap_or, ◌==◌, ◌≢◌}
 use Rattle.std.specs.List.{AllWithin}
 use Rattle.std.specs.List.Sorted.{IsNonDecreasingBy}
-use Rattle.std.proofs.lemmas.Bool.{cond-true, eq-eqb, ltb-false, ltb-true, lt-ltb}
+use Rattle.std.proofs.lemmas.Bool.{cond-true, eq-eqb, ltb-false, lt-ltb}
 use Rattle.std.proofs.lemmas.Bool.Decides.{nat_tests}
 use Rattle.std.proofs.lemmas.List.{get_or_default, get_or-drop, get_or-map, get_or-take, length-drop, length-take}
 use Rattle.hc_records.specs.Image.{VariablePlace}
@@ -129,12 +129,12 @@ lower-here rows front changed index change lower within is k d low high =
     omega (arith, same, less)
 
 pub lower-next : (rows : List Row) (front : ℕ) (changed : List ChangedRow) (index : ℕ) (change : ChangedRow) → ChangesAscend changed → index < length changed → change ≡ get_or changed index change
-    → AreBelow rows change.0 front → AreLower rows front changed (index + 1)
-lower-next rows front changed index change ascends within is below k j d e high later inside =
+    → AllWithin (λ (row : Row). row.0 ≤ change.0) rows 0 front → AreLower rows front changed (index + 1)
+lower-next rows front changed index change ascends within is low k j d e high later inside =
     let same = ap (λ (c : ChangedRow). c.0) (is ∙ get_or_default changed index change e within) in
     let up = ascends index j e (omega (arith, later)) inside in
-    let less = ltb-true (get_or rows k d).0 change.0 (below.0 k d (omega arith) high) in
-    omega (arith, same, up, less)
+    let held = low k d (omega arith) high in
+    omega (arith, same, up, held)
 
 -- so they are once a row is overwritten
 pub lower-still : (changed : ChangedRow) (rows next : List Row) (front : ℕ) (all : List ChangedRow) (index : ℕ) → next ≡ map (row_with changed) rows → front ≤ length rows → AreLower rows front all index

@@ -102,7 +102,10 @@ fn count_near(rows: &[Row], variable: VarId) -> usize
     ensures bound { result ≤ length rows.now }
     ensures below { AreBelow rows.now variable result }
 {
-    let mut reach = rows.len().min(1);
+    if rows.is_empty() || variable.number() <= rows[0].0.number() {
+        return 0;
+    }
+    let mut reach = 1;
     while reach < rows.len() && rows[reach].0.number() < variable.number() {
         reach += reach.min(rows.len() - reach);
     }
@@ -118,6 +121,20 @@ fn count_from(rows: &[Row], front: usize, variable: VarId) -> usize
     ensures below { AreBelow rows.now variable result }
 {
     front + count_near(&rows[front..], variable)
+}
+
+/// How many rows have no higher number than a variable, where so many have a lower one.
+fn count_with(rows: &[Row], below: usize, variable: VarId) -> usize
+    requires bound { below ≤ length rows.now }
+    requires below { AreBelow rows.now variable below }
+    ensures bound { result ≤ length rows.now }
+    ensures low { AllWithin (λ row. row.0 ≤ variable) rows.now 0 result }
+{
+    if below < rows.len() && rows[below].0 == variable {
+        below + 1
+    } else {
+        below
+    }
 }
 
 /// Whether a changed variable keeps its row, which stands behind those of lower numbers.
@@ -140,10 +157,11 @@ fn keep_rows(rows: &[Row], changed: &[ChangedRow]) -> bool
 {
     let mut front = 0;
     for change in changed {
-        front = count_from(rows, front, change.0);
-        if !keeps_row(rows, front, change) {
+        let at = count_from(rows, front, change.0);
+        if !keeps_row(rows, at, change) {
             return false;
         }
+        front = count_with(rows, at, change.0);
     }
     true
 }
@@ -171,8 +189,9 @@ fn overwrite(rows: &mut Vec<Row>, changed: &[ChangedRow])
 {
     let mut front = 0;
     for change in changed {
-        front = count_from(rows.as_slice(), front, change.0);
-        overwrite_row(rows, front, change);
+        let at = count_from(rows.as_slice(), front, change.0);
+        front = count_with(rows.as_slice(), at, change.0);
+        overwrite_row(rows, at, change);
     }
 }
 

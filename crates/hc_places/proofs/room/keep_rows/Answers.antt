@@ -15,8 +15,8 @@ loop-change-preserved c =
     let inside : index < length changed = omega arith in
     let keeps = sym c.keeps_row.ensures ∙ c.if-not-keeps_row.false in
     record {
-      within = c.count_from-front.ensures.bound;
-      lower = lower-next rows c.count_from-front.result changed index change c.requires.changes inside c.change-item.is c.count_from-front.ensures.below;
+      within = c.count_with-front.ensures.bound;
+      lower = lower-next rows c.count_with-front.result changed index change c.requires.changes inside c.change-item.is c.count_with-front.ensures.low;
       kept = All-more (λ (one : ChangedRow). IsTrue (keeps_row rows one)) changed index change inside c.loop-change.invariant.kept
           (subst (λ (one : ChangedRow). IsTrue (keeps_row rows one)) c.change-item.is keeps);
     }
