@@ -1,5 +1,5 @@
 -- What follows from the definitions. Each is the contract of a function of `laws`.
-use Rattle.std.specs.Prelude.{◌≡◌, ◌↔◌, ◌<◌, ℕ, Bool, true, false, All, AllPairs, Contains, List, map, None, Some}
+use Rattle.std.specs.Prelude.{◌≡◌, ◌↔◌, ◌==◌, ◌<◌, ℕ, Bool, true, false, All, AllPairs, Contains, List, find, map, None, option_map, slice_get, Some}
 use Rattle.std.specs.List.{flat_map}
 use Rattle.hc_records.specs.declared.edit.Edit.{Edit}
 use Rattle.hc_records.specs.declared.limits.TheConstants.{TASKS}
@@ -14,6 +14,7 @@ use Rattle.hc_records.specs.Project.{lowest_fault}
 use Rattle.hc_records.specs.Boundaries.{is_touched_task}
 use Rattle.hc_records.specs.SpanLaws.{IsTaskList}
 use Rattle.hc_places.specs.Loads.{load_in, load_told}
+use Rattle.hc_places.specs.Swap.{ChangedTask, IsNewTask, SaysWhatDiffers}
 use Rattle.hc_places.specs.Table.{table_of, task_table}
 use Rattle.hc_cuts.specs.Keeping.{is_kept}
 use Rattle.hc_changes.specs.Candidates.{DifferAt, LineArea, blocks_of, candidate_of, candidates, is_recut, key_of, line_areas, moved_of, place_of}
@@ -140,3 +141,13 @@ ChangedRowsAreTold =
     (outlook : Outlook) → IsOutlook outlook
     → TellPlaces (table_of (line_from 1 outlook.old)) (table_of (line_from 1 outlook.new))
     (changed_rows (table_of (line_from 1 outlook.old)) (candidates_of outlook) outlook.before outlook.after)
+
+-- tasks that say of each task whose table differs its new table say, with an edit's rows, what differs between the tables of its lines
+abbrev pub SwapsSayWhatDiffers : Type 0
+SwapsSayWhatDiffers =
+    (outlook : Outlook) (tasks : List ChangedTask) → IsOutlook outlook
+    → ((task : ℕ)
+    → IsNewTask (slice_get (table_of (line_from 1 outlook.old)).tasks task) (slice_get (table_of (line_from 1 outlook.new)).tasks task)
+    (option_map (λ changed. changed.1) (find (λ changed. changed.0 == task) tasks)))
+    → SaysWhatDiffers (table_of (line_from 1 outlook.old)) (table_of (line_from 1 outlook.new))
+    (record { tasks = tasks; rows = changed_rows (table_of (line_from 1 outlook.old)) (candidates_of outlook) outlook.before outlook.after })

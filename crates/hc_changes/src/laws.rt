@@ -1,6 +1,6 @@
 //! What follows from the definitions of this crate: each function does nothing, and its contract is a
 //! law. Nobody calls it.
-ghost use Rattle.hc_changes.specs.Laws.{BlocksAreTheAreas, CandidatesAreListed, CandidatesStandInside, ChangedRowsAreTold, EditsChangeTheNamed, EditsKeepTheVariables, KeptAreasStay, KeptDatagramsStay, MovedBlocksAreCompared, MovedBlocksAreTold, NumbersTellTheMoved, OldTablesTellKept, OtherAreasStood, RecutAreasAreUnkept, UnkeptDatagramsAreRecut, UntouchedAreasStay, UntouchedTasksStay};
+ghost use Rattle.hc_changes.specs.Laws.{BlocksAreTheAreas, CandidatesAreListed, CandidatesStandInside, ChangedRowsAreTold, EditsChangeTheNamed, EditsKeepTheVariables, KeptAreasStay, KeptDatagramsStay, MovedBlocksAreCompared, MovedBlocksAreTold, NumbersTellTheMoved, OldTablesTellKept, OtherAreasStood, RecutAreasAreUnkept, SwapsSayWhatDiffers, UnkeptDatagramsAreRecut, UntouchedAreasStay, UntouchedTasksStay};
 
 /// A datagram that an edit keeps carries the areas that it carried, each at its bit: so its length and its
 /// expected working counter stay too.
@@ -99,4 +99,10 @@ pub fn candidates_stand_inside()
 /// of the slaves that change: each once, with its new place or none.
 pub fn changed_rows_are_told()
     ensures { ChangedRowsAreTold }
+{}
+
+/// The tasks whose tables differ, with the rows of an edit, say what differs between the tables of the lines
+/// before and behind it: what a swap is made of.
+pub fn swaps_say_what_differs()
+    ensures { SwapsSayWhatDiffers }
 {}
