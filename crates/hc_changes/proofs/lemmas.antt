@@ -8,6 +8,7 @@ pub mod Few
 pub mod Finding
 pub mod FoundAll
 pub mod FoundRanks
+pub mod FoundWithin
 pub mod InARow
 pub mod Inside
 pub mod Keeping

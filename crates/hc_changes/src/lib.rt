@@ -7,5 +7,6 @@ pub mod candidates;
 pub mod finding;
 pub mod laws;
 pub mod outlook;
+mod ranks;
 pub mod rows;
 pub mod tables;
