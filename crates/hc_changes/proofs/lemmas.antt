@@ -7,6 +7,7 @@ pub mod Counted
 pub mod Finding
 pub mod FoundAll
 pub mod FoundRanks
+pub mod FoundWithin
 pub mod InARow
 pub mod Inside
 pub mod Keeping

@@ -1,5 +1,5 @@
 -- The candidates of a line as they are found: by the ranks of the declared slaves, and of each slave by the indexes of its areas.
-use Rattle.std.specs.Prelude.{◌≡◌, ℕ, zero, suc, ◌+◌, ◌≤◌, List, [], ◌∷◌, ◌++◌, filter, length, map, slice_index_or}
+use Rattle.std.specs.Prelude.{◌≡◌, ℕ, zero, suc, ◌+◌, ◌<◌, ◌≤◌, true, List, [], ◌∷◌, ◌++◌, filter, length, map, slice_index_or}
 use Rattle.std.specs.List.{flat_map}
 use Rattle.hc_records.specs.declared.records.Area.{Area}
 use Rattle.hc_records.specs.declared.records.Declared.{Declared}
@@ -9,7 +9,7 @@ use Rattle.hc_cuts.specs.Starts.{Kept}
 use Rattle.hc_tasks.specs.Areas.{areas_at, areas_by_rank}
 use Rattle.hc_tasks.specs.Keeping.{Before, StandsBefore}
 use Rattle.hc_tasks.specs.Kept.{line_kept}
-use Rattle.hc_changes.specs.Candidates.{Candidate, LineArea, candidate_of, is_candidate}
+use Rattle.hc_changes.specs.Candidates.{Candidate, LineArea, candidate_of, is_candidate, is_recut}
 use Rattle.hc_changes.specs.Outlook.{IsOutlook, Outlook, changes}
 
 -- what is known of a line's tasks before they are turned, and the turned tasks
@@ -67,3 +67,17 @@ pub record IsGroupAt (groups : List Declared) (first : ℕ) (declared : Declared
 -- each slave with candidates has a rank from one up to another
 abbrev pub LieWithin : Outlook → ℕ → ℕ → Type 0
 LieWithin outlook low high = (rank : ℕ) → (low ≤ rank → rank ≤ high → ⊥) → rank_found outlook rank ≡ []
+
+-- ranks from one up to another, with others among them
+abbrev pub HoldRanks : ℕ → ℕ → ℕ → ℕ → Type 0
+HoldRanks low high own_low own_high = (low ≤ own_low) × (own_high ≤ high)
+
+-- with those of the slaves that the edit concerns
+abbrev pub HoldChanged : Outlook → ℕ → ℕ → Type 0
+HoldChanged outlook low high = (rank : ℕ) → changes outlook rank ≡ true → (low ≤ rank) × (rank ≤ high)
+
+-- with those of the slaves that have areas of a task in datagrams which weren't kept
+abbrev pub HoldRecut : Outlook → ℕ → ℕ → ℕ → Type 0
+HoldRecut outlook task low high =
+    (found : LineArea) → found.area.task ≡ task → found.member.rank < 65536
+    → is_recut (line_from 1 outlook.old) (line_from 1 outlook.new) found ≡ true → (low ≤ found.member.rank) × (found.member.rank ≤ high)

@@ -1,6 +1,7 @@
 //! The areas of a new line that may be configured in another way than in the old one, found slave by slave
 //! where the tasks are turned.
-ghost use Rattle.std.specs.Prelude.{◌≡◌, ◌+◌, ◌<◌, ◌≤◌, ℕ, IfOk, map};
+ghost use Rattle.std.specs.Prelude.{◌≡◌, IfOk, map, slice_index_or};
+ghost use Rattle.hc_records.specs.declared.keys.TheConstants.Key.{END};
 ghost use Rattle.hc_records.specs.Line.{line_from};
 ghost use Rattle.hc_tasks.specs.Areas.{areas_by_rank};
 ghost use Rattle.hc_tasks.specs.Keeping.{StandsBefore};
@@ -10,44 +11,15 @@ ghost use Rattle.hc_changes.specs.Outlook.{changes};
 
 use crate::candidates::Candidate;
 use crate::outlook::Outlook;
+use crate::ranks::Ranks;
 use hc_cuts::packing::Placed;
 use hc_records::keys::Key;
+use hc_records::limits::TASKS;
 use hc_records::records::{Area, Declared, Slave};
 use hc_tasks::keeping::Before;
 use hc_tasks::tasks::LineCuts;
 use std::alloc::{AllocError, Global};
 use std::marker::Model;
-
-/// Ranks from one up to another, between which all candidates stand.
-#[derive(Clone, Copy, Debug)]
-struct Ranks {
-    low: u16,
-    high: u16,
-}
-
-impl Ranks {
-    /// All ranks.
-    const ALL: Ranks = Ranks {
-        low: 0,
-        high: u16::MAX,
-    };
-
-    /// Which of so many slaves in a row, the first of which has a rank, have ranks among these: those with
-    /// an index from one on and below another.
-    fn part(self, first: u16, slaves: usize) -> (usize, usize)
-        ensures order { result.0 ≤ result.1 }
-        ensures within { result.1 ≤ slaves }
-        ensures front { (i : ℕ) → i < result.0 → self.low ≤ first + i → ⊥ }
-        ensures behind { (i : ℕ) → result.1 ≤ i → i < slaves → first + i ≤ self.high → ⊥ }
-    {
-        let first = usize::from(first);
-        let from = usize::from(self.low).saturating_sub(first).min(slaves);
-        let to = (usize::from(self.high) + 1)
-            .saturating_sub(first)
-            .min(slaves);
-        (from, to.max(from))
-    }
-}
 
 /// The key of an area of a slave.
 fn key_of(area: &Area, rank: u16, index: u8) -> Key
@@ -57,6 +29,16 @@ fn key_of(area: &Area, rank: u16, index: u8) -> Key
         dir: area.dir,
         rank,
         area: index,
+    }
+}
+
+/// The boundary of a task with a number, by the boundaries without `Key::END`.
+fn start_at(starts: &[Key], number: usize) -> Key
+    ensures { result ≡ slice_index_or starts.now number END }
+{
+    match starts.get(number) {
+        Some(key) => *key,
+        None => Key::END,
     }
 }
 
@@ -88,7 +70,7 @@ impl<'b, 'a> Sight<'b, 'a> {
     ghost use Rattle.hc_records.specs.declared.limits.TheConstants.{MOST_SLAVES, TASKS};
     ghost use Rattle.hc_cuts.specs.Keeping.{is_kept};
     ghost use Rattle.hc_tasks.specs.Areas.{areas_at, areas_by_rank};
-    ghost use Rattle.hc_changes.specs.Found.{IsGroupAt, LieWithin, area_found, areas_found, found_below, rank_found, station_at};
+    ghost use Rattle.hc_changes.specs.Found.{HoldChanged, HoldRanks, HoldRecut, IsGroupAt, LieWithin, area_found, areas_found, found_below, rank_found, station_at};
     ghost use Rattle.hc_changes.specs.Outlook.{IsOutlook};
 
     /// Whether an area of a task with a place, if it has one, stands in a datagram that isn't kept.
@@ -170,6 +152,47 @@ impl<'b, 'a> Sight<'b, 'a> {
         Ok(())
     }
 
+    /// The ranks of the slaves that the edit concerns.
+    fn changed_ranks(&self) -> Ranks
+        requires { IsOutlook self.now }
+        ensures { HoldChanged self.now result.low result.high }
+    {
+        let first = self.outlook.first();
+        let slaves = self.outlook.before().len();
+        Ranks::of(first, first + slaves as u16 - 1)
+    }
+
+    /// Ranks with those of the slaves that have areas in datagrams of a task which aren't kept.
+    fn with_recut(&self, ranks: Ranks, task: u8) -> Ranks
+        requires { task < TASKS }
+        ensures own { HoldRanks result.low result.high ranks.low ranks.high }
+        ensures recut { HoldRecut self.now task result.low result.high }
+    {
+        let starts = self.cuts.starts(task);
+        let mut all = ranks;
+        for number in 0..starts.len() {
+            if !self.before.is_kept(self.cuts, task, number as u16) {
+                let next = start_at(starts, number + 1);
+                all = all.joined(Ranks::between(starts[number], next));
+            }
+        }
+        all
+    }
+
+    /// Ranks between which all candidates stand.
+    fn ranks(&self) -> Ranks
+        requires { IsOutlook self.now }
+        ensures { LieWithin self.now result.low result.high }
+    {
+        let mut ranks = self.changed_ranks();
+        for task in 0..TASKS {
+            if self.before.is_touched(task) {
+                ranks = self.with_recut(ranks, task);
+            }
+        }
+        ranks
+    }
+
     /// The candidates, which all stand between two ranks, in line and record order, by the declared groups
     /// before the edit.
     fn all(
@@ -213,5 +236,5 @@ pub fn candidates<'a>(
         before,
         cuts,
     };
-    sight.all(alloc, groups, Ranks::ALL)
+    sight.all(alloc, groups, sight.ranks())
 }

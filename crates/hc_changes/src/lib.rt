@@ -8,5 +8,6 @@ pub mod finding;
 pub mod laws;
 pub mod moved;
 pub mod outlook;
+mod ranks;
 pub mod rows;
 pub mod tables;

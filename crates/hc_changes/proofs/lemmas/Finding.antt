@@ -66,7 +66,7 @@ kept-is it before cuts sight task number kept tells =
 abbrev some_touched : List Keyed → List Keyed → Bool
 some_touched old new = nat_lt 0 (length (touched old new))
 
-touched-is : (it : Outlook) (before : Before) (cuts : List Kept) → IsSight it before cuts → (task : ℕ) (some : Bool)
+pub touched-is : (it : Outlook) (before : Before) (cuts : List Kept) → IsSight it before cuts → (task : ℕ) (some : Bool)
     → ((old new : List (List Area)) → StandsBefore old new before → some ≡ is_touched_by task old new)
     → some ≡ is_touched_task (line_from 1 it.old) (line_from 1 it.new) task
 touched-is it before cuts sight task some tells =
@@ -79,15 +79,23 @@ touched-is it before cuts sight task some tells =
 abbrev of_groups : List Declared → State
 of_groups groups = record { groups = groups; epoch = 0 }
 
+-- no area of a task that isn't touched stands in a datagram that isn't kept
+pub untouched-kept : (it : Outlook) (before : Before) (cuts : List Kept) → IsSight it before cuts → (found : LineArea) (some : Bool) → some ≡ false
+    → ((old new : List (List Area)) → StandsBefore old new before → some ≡ is_touched_by found.area.task old new) → is_recut (line_from 1 it.old) (line_from 1 it.new) found ≡ false
+untouched-kept it before cuts sight found some none tells =
+    untouched-areas (of_groups it.old) (of_groups it.new) found sight.is.was_project sight.is.is_project (sym (touched-is it before cuts sight found.area.task some tells) ∙ none)
+
+pub unrecut-none : (it : Outlook) (station rank index : ℕ) (area : Area) → changes it rank ≡ false → is_recut (line_from 1 it.old) (line_from 1 it.new) (area_by station rank index area) ≡ false
+    → area_found it station rank index area ≡ []
+unrecut-none it station rank index area unchanged kept =
+    let found = area_by station rank index area in
+    found-no it found (other-one (changes it rank) (is_recut (line_from 1 it.old) (line_from 1 it.new) found) unchanged ∙ kept)
+
 pub untouched-area : (it : Outlook) (before : Before) (cuts : List Kept) → IsSight it before cuts → (station rank index : ℕ) (area : Area) → changes it rank ≡ false
     → (some : Bool) → some ≡ false → ((old new : List (List Area)) → StandsBefore old new before → some ≡ is_touched_by area.task old new)
     → area_found it station rank index area ≡ []
 untouched-area it before cuts sight station rank index area unchanged some none tells =
-    let found = area_by station rank index area in
-    let kept : is_recut (line_from 1 it.old) (line_from 1 it.new) found ≡ false =
-        untouched-areas (of_groups it.old) (of_groups it.new) found sight.is.was_project sight.is.is_project
-        (sym (touched-is it before cuts sight area.task some tells) ∙ none) in
-    found-no it found (other-one (changes it rank) (is_recut (line_from 1 it.old) (line_from 1 it.new) found) unchanged ∙ kept)
+    unrecut-none it station rank index area unchanged (untouched-kept it before cuts sight (area_by station rank index area) some none tells)
 
 abbrev recut_by : Outlook → ℕ → Option Placed → Bool
 recut_by it task place =

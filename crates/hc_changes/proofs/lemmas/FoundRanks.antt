@@ -194,18 +194,10 @@ past-none [] n past = refl
 past-none (x ∷ xs) zero past = absurd (omega arith)
 past-none (x ∷ xs) (suc n) past = past-none xs n (omega arith)
 
-above-none : (it : Outlook) (rank : ℕ) → length (areas_by_rank it.new) < rank → rank_found it rank ≡ []
+pub above-none : (it : Outlook) (rank : ℕ) → length (areas_by_rank it.new) < rank → rank_found it rank ≡ []
 unfolding rank_found areas_found
 above-none it zero above = absurd (omega arith)
 above-none it (suc i) above = ap (areas_found it (station_at it.old (suc i)) (suc i) 0) (past-none (areas_by_rank it.new) i (omega arith))
-
-pub all-within : (it : Outlook) → IsOutlook it → LieWithin it 0 65535
-all-within it is rank out =
-    let few = is.lines.new_line.few in
-    above-none it rank (either-above (length (areas_by_rank it.new)) rank few (λ low. out (omega arith) low))
-  where
-    either-above : (count rank : ℕ) → count ≤ MOST_SLAVES → (rank ≤ 65535 → ⊥) → count < rank
-    either-above count rank few out = omega (arith, few, out)
 
 pub none-yet : (it : Outlook) → found_below it 1 ≡ []
 unfolding found_below rank_found areas_found

@@ -38,7 +38,7 @@ use Rattle.hc_changes.proofs.lemmas.Tables.{no-length, untouched-lists}
 
 -- a datagram of a list is kept by the same list
 
-span-at : (first : Key) (later : List Key) (datagram : ℕ) → datagram < length later + 1
+pub span-at : (first : Key) (later : List Key) (datagram : ℕ) → datagram < length later + 1
     → (span : Interval) × (slice_get (zip (first ∷ (later ++ END ∷ [])) (later ++ END ∷ [])) datagram ≡ Some span) × (slice_get (first ∷ (later ++ END ∷ [])) datagram ≡ Some span.0)
 span-at first [] zero low = ((first, END), refl, refl)
 span-at first (next ∷ later) zero low = ((first, next), refl, refl)
@@ -52,7 +52,7 @@ own-settled list span datagram none begins =
     (ap (same_key span.0) (get_or_from_slice_get (boundaries list) datagram span.0 span.0 begins) ∙ same_key-refl span.0))
     (ap (λ (keys : List Key). not (meets_hull (hull Out keys) span || meets_hull (hull In keys) span)) none)
 
-own-counted : (list : List Keyed) (datagram : ℕ) → IsTaskList list → datagram < datagram_count (packed opening list) → datagram < length (later_keys list) + 1
+pub own-counted : (list : List Keyed) (datagram : ℕ) → IsTaskList list → datagram < datagram_count (packed opening list) → datagram < length (later_keys list) + 1
 own-counted [] datagram is low = absurd (omega arith)
 own-counted (area ∷ areas) datagram is low = let count = count-later_keys area areas is.packable in omega arith
 

@@ -22,7 +22,7 @@ loop-i-preserved c =
     let rest = areas_found it station rank (i + 1) (drop (i + 1) areas) in
     let all = c.args.found.now.items ++ areas_found it station rank 0 areas in
     let added : (own : List Candidate) → own ≡ area_found it station rank i c.index-areas-i.result → (c.loop-i.found.items ++ own) ++ rest ≡ all =
-        λ own made. areas-added it station rank i areas c.index-areas-i.result own c.loop-i.found.items all c.loop-i-test.true c.index-areas-i.is made c.loop-i.invariant.found in
+    λ own made. areas-added it station rank i areas c.index-areas-i.result own c.loop-i.found.items all c.loop-i-test.true c.index-areas-i.is made c.loop-i.invariant.found in
     elim c.match-judge.branch [
       | in-Some+in_ok-push w ↦
           record {

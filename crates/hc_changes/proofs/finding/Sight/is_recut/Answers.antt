@@ -16,6 +16,6 @@ returns-in-Some c =
     let task = c.args.task in
     let kept : ℕ → Bool = λ number. is_kept (task_list task (line_from 1 it.old)) (task_list task (line_from 1 it.new)) number in
     let sight : IsSight it c.self.inside.before.now c.self.inside.cuts.now =
-        subst (λ (o : Outlook). IsSight o c.self.inside.before.now c.self.inside.cuts.now) c.self.view_is c.self.invariant in
+    subst (λ (o : Outlook). IsSight o c.self.inside.before.now c.self.inside.cuts.now) c.self.view_is c.self.invariant in
     ap not (kept-is it c.self.inside.before.now c.self.inside.cuts.now sight task c.datagram.result c.is_kept.result c.is_kept.ensures ∙ ap kept c.datagram.ensures)
     ∙ sym (ap (λ (place : Option Placed). option_map_or (λ (placed : Placed). not (kept placed.datagram)) place false) c.in-Some.is)

@@ -18,9 +18,9 @@ pub returns-then-not-is_touched : goal.returns-then-not-is_touched
 returns-then-not-is_touched c =
     let it = c.args.self.now in
     let sight : IsSight it c.self.inside.before.now c.self.inside.cuts.now =
-        subst (λ (o : Outlook). IsSight o c.self.inside.before.now c.self.inside.cuts.now) c.self.view_is c.self.invariant in
+    subst (λ (o : Outlook). IsSight o c.self.inside.before.now c.self.inside.cuts.now) c.self.view_is c.self.invariant in
     let unchanged : changes it c.args.rank ≡ false =
-        sym (ap (λ (o : Outlook). changes o c.args.rank) c.self.view_is) ∙ sym c.is_changed-changed.ensures ∙ c.if-not-changed.true in
+    sym (ap (λ (o : Outlook). changes o c.args.rank) c.self.view_is) ∙ sym c.is_changed-changed.ensures ∙ c.if-not-changed.true in
     sym (untouched-area it c.self.inside.before.now c.self.inside.cuts.now sight c.args.station c.args.rank c.args.index c.args.area.now unchanged
     c.is_touched.result c.if-not-is_touched.true c.is_touched.ensures)
 
@@ -28,9 +28,9 @@ pub returns-then-not-is_recut : goal.returns-then-not-is_recut
 returns-then-not-is_recut c =
     let it = c.args.self.now in
     let sight : IsSight it c.self.inside.before.now c.self.inside.cuts.now =
-        subst (λ (o : Outlook). IsSight o c.self.inside.before.now c.self.inside.cuts.now) c.self.view_is c.self.invariant in
+    subst (λ (o : Outlook). IsSight o c.self.inside.before.now c.self.inside.cuts.now) c.self.view_is c.self.invariant in
     let unchanged : changes it c.args.rank ≡ false =
-        sym (ap (λ (o : Outlook). changes o c.args.rank) c.self.view_is) ∙ sym c.is_changed-changed.ensures ∙ c.if-not-changed-2.true in
+    sym (ap (λ (o : Outlook). changes o c.args.rank) c.self.view_is) ∙ sym c.is_changed-changed.ensures ∙ c.if-not-changed-2.true in
     sym (kept-area it c.args.station c.args.rank c.args.index c.args.area.now c.place-place.result
     (place-is it c.self.inside.before.now c.self.inside.cuts.now sight c.args.station c.args.rank c.args.index c.args.area.now c.key_of.result c.place-place.result c.key_of.ensures c.place-place.ensures)
     unchanged (sym c.is_recut.ensures ∙ c.if-not-is_recut.true))
@@ -39,11 +39,11 @@ pub returns : goal.returns
 returns c =
     let it = c.args.self.now in
     let sight : IsSight it c.self.inside.before.now c.self.inside.cuts.now =
-        subst (λ (o : Outlook). IsSight o c.self.inside.before.now c.self.inside.cuts.now) c.self.view_is c.self.invariant in
+    subst (λ (o : Outlook). IsSight o c.self.inside.before.now c.self.inside.cuts.now) c.self.view_is c.self.invariant in
     let stands : c.place-place.result ≡ place_of (line_from 1 it.new) (area_by c.args.station c.args.rank c.args.index c.args.area.now) =
-        place-is it c.self.inside.before.now c.self.inside.cuts.now sight c.args.station c.args.rank c.args.index c.args.area.now c.key_of.result c.place-place.result c.key_of.ensures c.place-place.ensures in
+    place-is it c.self.inside.before.now c.self.inside.cuts.now sight c.args.station c.args.rank c.args.index c.args.area.now c.key_of.result c.place-place.result c.key_of.ensures c.place-place.ensures in
     let tested : changes it c.args.rank ≡ c.is_changed-changed.result =
-        sym (ap (λ (o : Outlook). changes o c.args.rank) c.self.view_is) ∙ sym c.is_changed-changed.ensures in
+    sym (ap (λ (o : Outlook). changes o c.args.rank) c.self.view_is) ∙ sym c.is_changed-changed.ensures in
     elim c.else-not-changed-2.branch [
       | else-not-changed-2-via-then-not-changed-2+else-not-is_recut w ↦
           sym (recut-area it c.args.station c.args.rank c.args.index c.args.area.now c.place-place.result stands (tested ∙ w.if-not-changed-2.true) (sym w.is_recut.ensures ∙ w.if-not-is_recut.false))
