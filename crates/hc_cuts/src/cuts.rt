@@ -19,6 +19,7 @@ use crate::walk::add_span;
 use arrayvec::ArrayVec;
 use hc_bitsum::filled::Filled;
 use hc_bitsum::steps::Steps;
+use hc_bitsum::sum::Sum;
 use hc_bitsum::tree::SumTree;
 use hc_records::keys::Key;
 use hc_records::records::Dir;
@@ -92,6 +93,7 @@ impl Cuts {
     ghost use Rattle.hc_records.specs.Boundaries.{is_touched, unsettled_spans};
     ghost use Rattle.hc_bitsum.specs.Tree.{HasPlace, HoldsTaskList, with_width};
     ghost use Rattle.hc_cuts.specs.Hulls.{AreHulls};
+    ghost use Rattle.hc_cuts.specs.Inputs.{has_inputs};
     ghost use Rattle.hc_cuts.specs.Place.{place_of};
     ghost use Rattle.hc_cuts.specs.Repair.{AreOfBefore, unsettled_between};
     ghost use Rattle.hc_cuts.specs.Starts.{kept_empty};
@@ -118,6 +120,17 @@ impl Cuts {
         ensures holds { HoldsTaskList self.new.tree }
     {
         self.tree.set(key, bits);
+    }
+
+    /// Whether the task has inputs: whether the last of its areas is one, as outputs come first. The sum of
+    /// all areas says that, so no area is read. It takes no memory.
+    pub fn has_inputs(&self) -> bool
+        ensures { result ≡ has_inputs self.now.tree.list }
+    {
+        match self.tree.total() {
+            Sum::Empty => false,
+            Sum::Run { last, .. } => last == Dir::In,
+        }
     }
 
     /// The boundaries that were last worked out but the last one, `Key::END`: `Key::START`, at which

@@ -51,6 +51,7 @@ impl LineCuts {
     ghost use Rattle.hc_records.specs.Packing.{opening, packed};
     ghost use Rattle.hc_records.specs.declared.faults.EditFault.TheVariants.{Memory, TooManyDatagrams};
     ghost use Rattle.hc_records.specs.declared.limits.TheConstants.{MOST_DATAGRAMS, MOST_SLAVES, TASKS};
+    ghost use Rattle.hc_cuts.specs.Inputs.{has_inputs};
     ghost use Rattle.hc_cuts.specs.Place.{place_of};
     ghost use Rattle.hc_cuts.specs.Starts.{most_read};
     ghost use Rattle.hc_tasks.specs.Areas.{list_by};
@@ -126,6 +127,14 @@ impl LineCuts {
         ensures few { length result.now ≤ MOST_DATAGRAMS }
     {
         self.tasks[usize::from(task)].starts()
+    }
+
+    /// Whether a task, 0 to 7, has inputs. No area is read. It takes no memory.
+    pub fn has_inputs(&self, task: u8) -> bool
+        requires { task < TASKS }
+        ensures { (line : List (List Area)) → self.now ≡ line_kept line → result ≡ has_inputs (list_by task line) }
+    {
+        self.tasks[usize::from(task)].has_inputs()
     }
 
     /// The areas of a datagram of a task, 0 to 7, with their places, in key order; none where the task has no
