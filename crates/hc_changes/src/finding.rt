@@ -169,11 +169,12 @@ impl<'b, 'a> Sight<'b, 'a> {
         ensures recut { HoldRecut self.now task result.low result.high }
     {
         let starts = self.cuts.starts(task);
+        let inputs = self.cuts.has_inputs(task);
         let mut all = ranks;
         for number in 0..starts.len() {
             if !self.before.is_kept(self.cuts, task, number as u16) {
                 let next = start_at(starts, number + 1);
-                all = all.joined(Ranks::between(starts[number], next));
+                all = all.joined(Ranks::between(starts[number], next, inputs));
             }
         }
         all

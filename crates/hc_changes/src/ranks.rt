@@ -14,8 +14,9 @@ pub(crate) struct Ranks {
 }
 
 impl Ranks {
-    ghost use Rattle.std.specs.Prelude.{◌≡◌, ◌+◌, ◌<◌, ◌≤◌, ℕ, true};
+    ghost use Rattle.std.specs.Prelude.{◌≡◌, ◌+◌, ◌<◌, ◌≤◌, ℕ, false, true};
     ghost use Rattle.hc_records.specs.declared.keys.Key.{Key};
+    ghost use Rattle.hc_records.specs.declared.records.Dir.TheVariants.{Out};
     ghost use Rattle.hc_records.specs.Keys.{is_before, is_within};
     ghost use Rattle.hc_changes.specs.Found.{HoldRanks};
 
@@ -33,13 +34,14 @@ impl Ranks {
         Ranks { low, high }
     }
 
-    /// Those of the slaves that may have areas from one key on and before another. Between an output and an
-    /// input they are all.
-    pub(crate) fn between(from: Key, to: Key) -> Ranks
-        ensures { (key : Key) → key.rank < 65536 → is_within from key ≡ true → is_before key to ≡ true → (result.low ≤ key.rank) × (key.rank ≤ result.high) }
+    /// Those of the slaves that may have areas of a task from one key on and before another. Between an output
+    /// and an input they are all where the task has inputs, and else those from the output's slave on.
+    pub(crate) fn between(from: Key, to: Key, inputs: bool) -> Ranks
+        ensures { (key : Key) → key.rank < 65536 → (inputs ≡ false → key.dir ≡ Out) → is_within from key ≡ true → is_before key to ≡ true → (result.low ≤ key.rank) × (key.rank ≤ result.high) }
     {
         match (from.dir, to.dir) {
-            (Dir::Out, Dir::In) => Ranks::ALL,
+            (Dir::Out, Dir::In) if inputs => Ranks::ALL,
+            (Dir::Out, Dir::In) => Ranks::of(from.rank, u16::MAX),
             _ => Ranks::of(from.rank, to.rank),
         }
     }

@@ -1,28 +1,33 @@
 -- All candidates stand between the ranks of the slaves that change and of those between the boundaries of datagrams that aren't kept.
 use Rattle.std.proofs.Common.{◌≡◌, ℕ, zero, suc, ◌+◌, ◌<◌, ◌≤◌, Bool, true, false, List, [], ◌∷◌, ◌++◌, Contains, length, refl, sym, ap, subst, ◌∙◌, ⊎_elim, arith}
-use Rattle.std.specs.Prelude.{filter, not, slice_get, slice_index_or, Some, ◌==◌}
+use Rattle.std.specs.Prelude.{All, filter, not, slice_get, slice_index_or, Some, ◌==◌}
 use Rattle.std.specs.List.{zip}
 use Rattle.std.proofs.Math.Nat.{eq-or-lt_of_le}
-use Rattle.std.proofs.lemmas.Bool.{and_parts, cases_lt, eq-eqb}
-use Rattle.std.proofs.lemmas.List.Elements.{All-contains, filter_passes}
+use Rattle.std.proofs.lemmas.Bool.{and_parts, cases_lt, eq-eqb, or_parts}
+use Rattle.std.proofs.lemmas.List.Elements.{All-cons, All-contains, All-nil, filter_passes}
 use Rattle.hc_records.specs.declared.keys.Key.{Key}
 use Rattle.hc_records.specs.declared.keys.TheConstants.Key.{START, END}
 use Rattle.hc_records.specs.declared.limits.TheConstants.{TASKS}
+use Rattle.hc_records.specs.declared.records.Dir.{Dir}
+use Rattle.hc_records.specs.declared.records.Dir.TheVariants.{Out, In}
 use Rattle.hc_records.specs.declared.records.Area.{Area}
 use Rattle.hc_records.specs.declared.records.Declared.{Declared}
 use Rattle.hc_records.specs.Boundaries.{Interval, boundaries, later_keys, spans}
 use Rattle.hc_records.specs.Image.{datagram_count, inside, task_places}
-use Rattle.hc_records.specs.Keys.{is_before, is_within}
+use Rattle.hc_records.specs.Keys.{is_before, is_within, same_dir}
 use Rattle.hc_records.specs.Line.{State, line_from}
 use Rattle.hc_records.specs.Packing.{Placed, opening, packed}
 use Rattle.hc_records.specs.SpanLaws.{IsTaskList, lies_in}
 use Rattle.hc_records.specs.TaskList.{Keyed, task_list}
 use Rattle.hc_records.proofs.lemmas.Greatest.{greatest-all}
+use Rattle.hc_records.proofs.lemmas.Lists.{All-unmap}
+use Rattle.hc_records.proofs.lemmas.Packed.{area_of, packed-areas}
 use Rattle.hc_records.proofs.lemmas.SpanDatagrams.{span-datagram}
 use Rattle.hc_records.proofs.lemmas.TaskLists.{project-list}
+use Rattle.hc_cuts.specs.Inputs.{has_inputs}
 use Rattle.hc_cuts.specs.Keeping.{is_kept}
 use Rattle.hc_cuts.specs.Starts.{Kept}
-use Rattle.hc_tasks.specs.Areas.{areas_at, areas_by_rank}
+use Rattle.hc_tasks.specs.Areas.{areas_at, areas_by_rank, list_by}
 use Rattle.hc_tasks.specs.Keeping.{Before, StandsBefore}
 use Rattle.hc_tasks.specs.Kept.{starts_by}
 use Rattle.hc_tasks.specs.Recut.{is_touched_by}
@@ -62,6 +67,25 @@ placed-between list placed is among =
     let next : suc datagram ≡ datagram + 1 = omega arith in
     (omega (arith, low), parts.0, subst (λ (n : ℕ). is_before placed.key (slice_index_or (START ∷ later_keys list) n END) ≡ true) next parts.1)
 
+-- where the task has no inputs, each of its areas is an output
+
+dir-out : (dir : Dir) → same_dir dir In ≡ false → dir ≡ Out
+dir-out Out no_input = refl
+dir-out In no_input = cc
+
+no-input : (list : List Keyed) → has_inputs list ≡ false → All (λ (area : Keyed). same_dir area.0.dir In ≡ false) list
+no-input [] none = All-nil (λ (area : Keyed). same_dir area.0.dir In ≡ false)
+no-input (area ∷ areas) none =
+    let parts = or_parts (same_dir area.0.dir In) (has_inputs areas) none in
+    All-cons (λ (other : Keyed). same_dir other.0.dir In ≡ false) area areas parts.0 (no-input areas parts.1)
+
+placed-out : (list : List Keyed) (placed : Placed) → has_inputs list ≡ false → Contains (packed opening list) placed → placed.key.dir ≡ Out
+placed-out list placed none among =
+    let places = packed opening list in
+    let outputs = All-unmap (λ (area : Keyed). same_dir area.0.dir In ≡ false) area_of places
+    (subst (λ (areas : List Keyed). All (λ (area : Keyed). same_dir area.0.dir In ≡ false) areas) (sym (packed-areas opening list)) (no-input list none)) in
+    dir-out placed.key.dir (All-contains (λ (p : Placed). same_dir p.key.dir In ≡ false) places placed outputs among)
+
 -- the ranks of areas in datagrams that aren't kept, among the first ones of a task
 
 abbrev of_groups : List Declared → State
@@ -91,16 +115,18 @@ kept-next it task count low high kept hold placed among below narrow unkept =
     (λ under. hold placed among under narrow unkept)
     (eq-or-lt_of_le {n = placed.datagram} {m = count} (omega arith))
 
-pub recut-next : (it : Outlook) (task count low high wide_low wide_high : ℕ) (starts : List Key) → IsOutlook it → starts ≡ starts_by task (areas_by_rank it.new)
+pub recut-next : (it : Outlook) (task count low high wide_low wide_high : ℕ) (starts : List Key) (inputs : Bool) → IsOutlook it → starts ≡ starts_by task (areas_by_rank it.new)
+    → inputs ≡ has_inputs (list_by task (areas_by_rank it.new))
     → HoldRanks wide_low wide_high low high
-    → ((key : Key) → key.rank < 65536 → is_within (slice_index_or starts count END) key ≡ true → is_before key (slice_index_or starts (count + 1) END) ≡ true → (wide_low ≤ key.rank) × (key.rank ≤ wide_high))
+    → ((key : Key) → key.rank < 65536 → (inputs ≡ false → key.dir ≡ Out) → is_within (slice_index_or starts count END) key ≡ true → is_before key (slice_index_or starts (count + 1) END) ≡ true → (wide_low ≤ key.rank) × (key.rank ≤ wide_high))
     → HoldFirst it task count low high → HoldFirst it task (count + 1) wide_low wide_high
-recut-next it task count low high wide_low wide_high starts is stand wider between hold placed among below narrow unkept =
+recut-next it task count low high wide_low wide_high starts inputs is stand told wider between hold placed among below narrow unkept =
     let list = task_list task (line_from 1 it.new) in
     let keys : START ∷ later_keys list ≡ starts = ap (λ (l : List Keyed). START ∷ later_keys l) (task-listed task it.new) ∙ sym stand in
     let lies = placed-between list placed (project-list (of_groups it.new) task is.is_project) among in
+    let output : inputs ≡ false → placed.key.dir ≡ Out = λ none. placed-out list placed (ap has_inputs (task-listed task it.new) ∙ sym told ∙ none) among in
     ⊎_elim
-    (λ same. between placed.key narrow
+    (λ same. between placed.key narrow output
     (subst (λ (n : ℕ). is_within (slice_index_or starts n END) placed.key ≡ true) same (subst (λ (all : List Key). is_within (slice_index_or all placed.datagram END) placed.key ≡ true) keys lies.1))
     (subst (λ (n : ℕ). is_before placed.key (slice_index_or starts (n + 1) END) ≡ true) same
     (subst (λ (all : List Key). is_before placed.key (slice_index_or all (placed.datagram + 1) END) ≡ true) keys lies.2)))

@@ -36,10 +36,10 @@ loop-number-preserved c =
           (record {
             own = (omega (arith, own, joined.own), omega (arith, own, joined.own));
             first =
-                recut-next it c.args.task number c.loop-number.all.low c.loop-number.all.high wide.low wide.high starts sight.is
-                (c.starts-starts.ensures.starts (areas_by_rank it.new) sight.turned) joined.own
-                (λ key narrow low high.
-                let between = w.between.ensures key narrow
+                recut-next it c.args.task number c.loop-number.all.low c.loop-number.all.high wide.low wide.high starts c.has_inputs-inputs.result sight.is
+                (c.starts-starts.ensures.starts (areas_by_rank it.new) sight.turned) (c.has_inputs-inputs.ensures (areas_by_rank it.new) sight.turned) joined.own
+                (λ key narrow output low high.
+                let between = w.between.ensures key narrow output
                 (subst (λ (from : Key). is_within from key ≡ true) (same-read starts number END START c.loop-number-test.true) low)
                 (subst (λ (to : Key). is_before key to ≡ true) (sym w.start_at-next.ensures) high) in
                 let others = joined.others in
