@@ -61,7 +61,7 @@ placed-between list placed is among =
     let span : Interval = (slice_index_or (START ∷ later_keys list) datagram END, slice_index_or (START ∷ later_keys list) (suc datagram) END) in
     let same : inside datagram places ≡ filter (lies_in span) places = span-datagram list datagram span is (span-keys START (later_keys list) datagram low) in
     let own : Contains (filter (lies_in span) places) placed =
-        subst (λ (areas : List Placed). Contains areas placed) same (contains-filtered (λ (p : Placed). p.datagram == datagram) places placed among (eq-eqb datagram datagram refl)) in
+    subst (λ (areas : List Placed). Contains areas placed) same (contains-filtered (λ (p : Placed). p.datagram == datagram) places placed among (eq-eqb datagram datagram refl)) in
     let lies : lies_in span placed ≡ true = All-contains (λ (p : Placed). lies_in span p ≡ true) (filter (lies_in span) places) placed (filter_passes (lies_in span) places) own in
     let parts = and_parts (is_within span.0 placed.key) (is_before placed.key span.1) lies in
     let next : suc datagram ≡ datagram + 1 = omega arith in
@@ -152,7 +152,7 @@ pub untouched-held : (it : Outlook) (before : Before) (cuts : List Kept) → IsS
     → ((old new : List (List Area)) → StandsBefore old new before → some ≡ is_touched_by task old new) → HoldRecut it task low high
 untouched-held it before cuts sight task low high some none tells found of narrow recut =
     let kept : is_recut (line_from 1 it.old) (line_from 1 it.new) found ≡ false =
-        untouched-kept it before cuts sight found some none (λ old new stands. tells old new stands ∙ ap (λ (t : ℕ). is_touched_by t old new) (sym of)) in
+    untouched-kept it before cuts sight found some none (λ old new stands. tells old new stands ∙ ap (λ (t : ℕ). is_touched_by t old new) (sym of)) in
     let both : true ≡ false = sym recut ∙ kept in
     cc
 

@@ -14,10 +14,10 @@ loop-variable-preserved c =
     let within = c.loop-variable-test.true in
     let told : is_gone variable ≡ not c.is_among.result = ap not (sym c.is_among.ensures) in
     elim c.if-not-is_among.branch [
-      then-not-is_among+in_ok-push w ↦
-        let passed : is_gone variable ≡ true = told ∙ ap not w.if-not-is_among.true in
-        kept-added gone is_gone c.args.before.now i variable true c.loop-variable.rows.items c.if-not-is_among.rows.items _ within c.variable-item.is passed (ap (λ rows. rows.items) w.rows-is ∙ w.in_ok-push.ensures.items) c.loop-variable.invariant
-    | else-not-is_among w ↦
-        let failed : is_gone variable ≡ false = told ∙ ap not w.if-not-is_among.false in
-        kept-added gone is_gone c.args.before.now i variable false c.loop-variable.rows.items c.if-not-is_among.rows.items _ within c.variable-item.is failed (ap (λ rows. rows.items) w.rows-is ∙ sym (append-nil c.loop-variable.rows.items)) c.loop-variable.invariant
+      | then-not-is_among+in_ok-push w ↦
+          let passed : is_gone variable ≡ true = told ∙ ap not w.if-not-is_among.true in
+          kept-added gone is_gone c.args.before.now i variable true c.loop-variable.rows.items c.if-not-is_among.rows.items _ within c.variable-item.is passed (ap (λ rows. rows.items) w.rows-is ∙ w.in_ok-push.ensures.items) c.loop-variable.invariant
+      | else-not-is_among w ↦
+          let failed : is_gone variable ≡ false = told ∙ ap not w.if-not-is_among.false in
+          kept-added gone is_gone c.args.before.now i variable false c.loop-variable.rows.items c.if-not-is_among.rows.items _ within c.variable-item.is failed (ap (λ rows. rows.items) w.rows-is ∙ sym (append-nil c.loop-variable.rows.items)) c.loop-variable.invariant
     ]

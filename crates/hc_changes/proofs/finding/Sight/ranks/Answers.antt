@@ -15,7 +15,7 @@ loop-task-preserved c =
     let low = c.loop-task.ranks.low in
     let high = c.loop-task.ranks.high in
     let sight : IsSight it c.self.inside.before.now c.self.inside.cuts.now =
-        subst (λ (o : Outlook). IsSight o c.self.inside.before.now c.self.inside.cuts.now) c.self.view_is c.self.invariant in
+    subst (λ (o : Outlook). IsSight o c.self.inside.before.now c.self.inside.cuts.now) c.self.view_is c.self.invariant in
     elim c.if-is_touched.branch [
       | then-is_touched w ↦
           let wide = w.with_recut-ranks.result in
@@ -23,22 +23,22 @@ loop-task-preserved c =
           record {
             changed = subst (λ (ranks : Ranks). HoldChanged it ranks.low ranks.high) (sym w.ranks-is) (changed-wider it low high wide.low wide.high wider c.loop-task.invariant.changed);
             recut = λ task below.
-            subst (λ (ranks : Ranks). HoldRecut it task ranks.low ranks.high) (sym w.ranks-is)
-            (⊎_elim
-            (λ same. subst (λ (t : ℕ). HoldRecut it t wide.low wide.high) (sym same) w.with_recut-ranks.ensures.recut)
-            (λ under. recut-wider it task low high wide.low wide.high wider (c.loop-task.invariant.recut task under))
-            (eq-or-lt_of_le {n = task} {m = last} (omega arith)));
+                subst (λ (ranks : Ranks). HoldRecut it task ranks.low ranks.high) (sym w.ranks-is)
+                (⊎_elim
+                (λ same. subst (λ (t : ℕ). HoldRecut it t wide.low wide.high) (sym same) w.with_recut-ranks.ensures.recut)
+                (λ under. recut-wider it task low high wide.low wide.high wider (c.loop-task.invariant.recut task under))
+                (eq-or-lt_of_le {n = task} {m = last} (omega arith)));
           }
       | else-is_touched w ↦
           record {
             changed = subst (λ (ranks : Ranks). HoldChanged it ranks.low ranks.high) (sym w.ranks-is) c.loop-task.invariant.changed;
             recut = λ task below.
-            subst (λ (ranks : Ranks). HoldRecut it task ranks.low ranks.high) (sym w.ranks-is)
-            (⊎_elim
-            (λ same. subst (λ (t : ℕ). HoldRecut it t low high) (sym same)
-            (untouched-held it c.self.inside.before.now c.self.inside.cuts.now sight last low high c.is_touched.result w.if-is_touched.false c.is_touched.ensures))
-            (λ under. c.loop-task.invariant.recut task under)
-            (eq-or-lt_of_le {n = task} {m = last} (omega arith)));
+                subst (λ (ranks : Ranks). HoldRecut it task ranks.low ranks.high) (sym w.ranks-is)
+                (⊎_elim
+                (λ same. subst (λ (t : ℕ). HoldRecut it t low high) (sym same)
+                (untouched-held it c.self.inside.before.now c.self.inside.cuts.now sight last low high c.is_touched.result w.if-is_touched.false c.is_touched.ensures))
+                (λ under. c.loop-task.invariant.recut task under)
+                (eq-or-lt_of_le {n = task} {m = last} (omega arith)));
           }
     ]
 

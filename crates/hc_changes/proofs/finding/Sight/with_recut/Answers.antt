@@ -24,7 +24,7 @@ pub loop-number-preserved : goal.loop-number-preserved
 loop-number-preserved c =
     let it = c.args.self.now in
     let sight : IsSight it c.self.inside.before.now c.self.inside.cuts.now =
-        subst (λ (o : Outlook). IsSight o c.self.inside.before.now c.self.inside.cuts.now) c.self.view_is c.self.invariant in
+    subst (λ (o : Outlook). IsSight o c.self.inside.before.now c.self.inside.cuts.now) c.self.view_is c.self.invariant in
     let number = c.loop-number.number in
     let starts = c.starts-starts.result.now in
     let own : HoldRanks c.loop-number.all.low c.loop-number.all.high c.args.ranks.low c.args.ranks.high = c.loop-number.invariant.own in
@@ -56,6 +56,6 @@ pub returns-clause-recut : goal.returns-clause-recut
 returns-clause-recut c =
     let it = c.args.self.now in
     let sight : IsSight it c.self.inside.before.now c.self.inside.cuts.now =
-        subst (λ (o : Outlook). IsSight o c.self.inside.before.now c.self.inside.cuts.now) c.self.view_is c.self.invariant in
+    subst (λ (o : Outlook). IsSight o c.self.inside.before.now c.self.inside.cuts.now) c.self.view_is c.self.invariant in
     recut-held it c.args.task c.loop-number.number c.loop-number.all.low c.loop-number.all.high c.starts-starts.result.now sight.is
     (c.starts-starts.ensures.starts (areas_by_rank it.new) sight.turned) c.loop-number-test.false c.loop-number.invariant.first
