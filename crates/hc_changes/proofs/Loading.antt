@@ -1,6 +1,6 @@
 -- A task's table put together a datagram at a time, as long as its boundaries go.
 use Rattle.std.proofs.Common.{◌≡◌, ◌∙◌, ap, ℕ, suc, ◌+◌, ◌*◌, ◌<◌, ◌≤◌, Bool, true, false, List, [], ◌∷◌, length, refl, sym, arith, length-append}
-use Rattle.std.specs.Prelude.{All, None, min, nat_lt, slice_index_or}
+use Rattle.std.specs.Prelude.{All, None, min, nat_lt}
 use Rattle.std.proofs.Math.Nat.{min-eq_left}
 use Rattle.std.proofs.lemmas.Bool.{ltb-false, ltb-true}
 use Rattle.hc_records.specs.declared.limits.TheConstants.{MOST_DATAGRAM_BYTES}

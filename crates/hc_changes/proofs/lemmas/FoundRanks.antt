@@ -7,8 +7,7 @@ use Rattle.hc_records.specs.declared.limits.TheConstants.{MOST_SLAVES, TASKS}
 use Rattle.hc_records.specs.declared.records.Area.{Area}
 use Rattle.hc_records.specs.declared.records.Declared.{Declared}
 use Rattle.hc_records.specs.declared.records.Slave.{Slave}
-use Rattle.hc_records.specs.Limits.{IsAreaInside}
-use Rattle.hc_records.specs.Line.{State, groups_of, line_from}
+use Rattle.hc_records.specs.Line.{State, groups_of}
 use Rattle.hc_records.specs.Project.{lowest_fault}
 use Rattle.hc_tasks.specs.Areas.{areas_at, areas_by_rank, present_areas}
 use Rattle.hc_tasks.proofs.lemmas.Told.{length-present}

@@ -1,6 +1,6 @@
 -- All candidates stand between the ranks of the slaves that change and of those between the boundaries of datagrams that aren't kept.
 use Rattle.std.proofs.Common.{◌≡◌, ℕ, zero, suc, ◌+◌, ◌<◌, ◌≤◌, Bool, true, false, List, [], ◌∷◌, ◌++◌, Contains, length, refl, sym, ap, subst, ◌∙◌, ⊎_elim, arith}
-use Rattle.std.specs.Prelude.{All, filter, not, slice_get, slice_index_or, Some, ◌==◌}
+use Rattle.std.specs.Prelude.{All, filter, slice_get, slice_index_or, Some, ◌==◌}
 use Rattle.std.specs.List.{zip}
 use Rattle.std.proofs.Math.Nat.{eq-or-lt_of_le}
 use Rattle.std.proofs.lemmas.Bool.{and_parts, cases_lt, eq-eqb, or_parts}
@@ -12,7 +12,7 @@ use Rattle.hc_records.specs.declared.records.Dir.{Dir}
 use Rattle.hc_records.specs.declared.records.Dir.TheVariants.{Out, In}
 use Rattle.hc_records.specs.declared.records.Area.{Area}
 use Rattle.hc_records.specs.declared.records.Declared.{Declared}
-use Rattle.hc_records.specs.Boundaries.{Interval, boundaries, later_keys, spans}
+use Rattle.hc_records.specs.Boundaries.{Interval, later_keys}
 use Rattle.hc_records.specs.Image.{datagram_count, inside, task_places}
 use Rattle.hc_records.specs.Keys.{is_before, is_within, same_dir}
 use Rattle.hc_records.specs.Line.{State, line_from}
@@ -32,7 +32,7 @@ use Rattle.hc_tasks.specs.Keeping.{Before, StandsBefore}
 use Rattle.hc_tasks.specs.Kept.{starts_by}
 use Rattle.hc_tasks.specs.Recut.{is_touched_by}
 use Rattle.hc_tasks.proofs.lemmas.Told.{task-listed}
-use Rattle.hc_changes.specs.Candidates.{LineArea, is_recut, key_of}
+use Rattle.hc_changes.specs.Candidates.{is_recut}
 use Rattle.hc_changes.specs.Found.{HoldChanged, HoldRanks, HoldRecut, IsSight, LieWithin, area_by, areas_found, rank_found, station_at}
 use Rattle.hc_changes.specs.Outlook.{IsOutlook, Outlook, changes}
 use Rattle.hc_changes.proofs.lemmas.Finding.{unrecut-none, untouched-kept}

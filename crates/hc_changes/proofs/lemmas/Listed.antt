@@ -1,17 +1,16 @@
 -- Which areas the candidates and those of slaves that went are, and that a list in order with these areas is theirs.
 use Rattle.std.proofs.Common.{◌≡◌, ℕ, ◌+◌, ◌<◌, ◌≤◌, zero, suc, Bool, true, false, List, [], ◌∷◌, ◌++◌, length, Contains, Option, Some, None, refl, sym, ap, subst, ◌∙◌, inl, inr, ◌⊎◌, arith}
-use Rattle.std.specs.Prelude.{◌↔◌, AllPairs, is_none, map, not, slice_get, ◌&&◌, ◌||◌}
+use Rattle.std.specs.Prelude.{◌↔◌, AllPairs, map, not, slice_get, ◌&&◌, ◌||◌}
 use Rattle.std.specs.Option.{option_map_or}
 use Rattle.std.specs.List.{list_any, zip}
 use Rattle.std.proofs.lemmas.Bool.{and_from}
-use Rattle.std.proofs.lemmas.List.Elements.{All-contains, filter_passes}
+use Rattle.std.proofs.lemmas.List.Elements.{All-contains}
 use Rattle.std.proofs.lemmas.List.Folds.{list_any_at}
 use Rattle.std.proofs.lemmas.List.Kept.{AllPairs-filter}
 use Rattle.std.proofs.lemmas.Option.{get_or_from_slice_get, slice_get_within}
 use Rattle.hc_records.specs.declared.keys.Key.{Key}
 use Rattle.hc_records.specs.declared.keys.TheConstants.Key.{START, END}
 use Rattle.hc_records.specs.declared.records.Dir.TheVariants.{Out, In}
-use Rattle.hc_records.specs.declared.records.Slave.{Slave}
 use Rattle.hc_records.specs.Boundaries.{Interval, boundaries, hull, is_settled, is_touched_task, later_keys, meets_hull, touched}
 use Rattle.hc_records.specs.Image.{datagram_count, task_places}
 use Rattle.hc_records.specs.Keys.{same_key}
@@ -23,16 +22,16 @@ use Rattle.hc_records.specs.TaskList.{Keyed, task_list}
 use Rattle.hc_records.proofs.lemmas.Cuts.{count-later_keys}
 use Rattle.hc_records.proofs.lemmas.Greatest.{greatest-all}
 use Rattle.hc_records.proofs.lemmas.KeyOrder.{same_key-refl, same_key-same}
-use Rattle.hc_records.proofs.lemmas.Lines.{RanksBelow, line-ascends}
+use Rattle.hc_records.proofs.lemmas.Lines.{line-ascends}
 use Rattle.hc_records.proofs.lemmas.Lists.{AllPairs-head, AllPairs-map, AllPairs-tail}
 use Rattle.hc_records.proofs.lemmas.TaskLists.{project-list}
 use Rattle.hc_cuts.specs.Keeping.{begins_at, is_kept}
-use Rattle.hc_changes.specs.Candidates.{DifferAt, LineArea, candidates, is_candidate, is_recut, key_of, line_areas, place_of, slave_of}
+use Rattle.hc_changes.specs.Candidates.{LineArea, candidates, is_candidate, is_recut, key_of, line_areas, place_of}
 use Rattle.hc_changes.specs.Listed.{Precedes, pair_of}
 use Rattle.hc_changes.specs.Laws.{IsRecutAt, IsUnkeptAt}
-use Rattle.hc_changes.proofs.lemmas.Lists.{contains-behind, contains-first, contains-unfiltered, found-among}
+use Rattle.hc_changes.proofs.lemmas.Lists.{contains-behind, contains-first, found-among}
 use Rattle.hc_changes.proofs.lemmas.Ordered.{InOrder, areas-ordered}
-use Rattle.hc_changes.proofs.lemmas.Others.{area-stands, line-area}
+use Rattle.hc_changes.proofs.lemmas.Others.{area-stands}
 use Rattle.hc_changes.proofs.lemmas.PlacedAreas.{placed-area}
 use Rattle.hc_changes.proofs.lemmas.Tables.{no-length, untouched-lists}
 

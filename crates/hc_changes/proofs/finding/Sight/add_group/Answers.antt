@@ -1,11 +1,9 @@
-use Rattle.std.proofs.Common.{◌≡◌, ◌∙◌, ◌+◌, ◌<◌, ◌≤◌, ◌++◌, ℕ, List, Vec, Global, Fits, w16, length, ap, subst, sym, arith}
+use Rattle.std.proofs.Common.{◌≡◌, ◌∙◌, ◌+◌, ◌++◌, ℕ, List, length, ap, arith}
 use Rattle.std.specs.Prelude.{slice_index_or}
 use Rattle.hc_records.specs.declared.records.Slave.{Slave}
-use Rattle.hc_records.specs.declared.limits.TheConstants.{MOST_SLAVES}
 use Rattle.hc_changes.specs.Candidates.{Candidate}
 use Rattle.hc_changes.specs.Found.{found_below, rank_found}
-use Rattle.hc_changes.specs.Outlook.{IsOutlook}
-use Rattle.hc_changes.proofs.lemmas.FoundRanks.{behind-passed, front-passed, group-areas, group-low, group-station, rank-added}
+use Rattle.hc_changes.proofs.lemmas.FoundRanks.{behind-passed, front-passed, group-areas, group-station, rank-added}
 use Rattle.hc_changes.proofs.finding.Sight.add_group.Goals as goal
 
 pub loop-i-init : goal.loop-i-init

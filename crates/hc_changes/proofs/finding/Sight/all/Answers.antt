@@ -1,9 +1,7 @@
-use Rattle.std.proofs.Common.{◌≡◌, ◌∙◌, ◌+◌, ◌<◌, ◌≤◌, ℕ, List, length, ap, refl, subst, sym, take, arith}
+use Rattle.std.proofs.Common.{◌∙◌, ◌+◌, ◌≤◌, List, length, ap, refl, sym, arith}
 use Rattle.std.specs.Prelude.{slice_index_or}
 use Rattle.hc_records.specs.declared.records.Declared.{Declared}
 use Rattle.hc_tasks.specs.Areas.{areas_by_rank}
-use Rattle.hc_changes.specs.Found.{IsGroupAt, found_below}
-use Rattle.hc_changes.specs.Outlook.{IsOutlook}
 use Rattle.hc_changes.proofs.lemmas.FoundAll.{found-all}
 use Rattle.hc_changes.proofs.lemmas.FoundRanks.{group-at, group-low, none-yet, taken-all}
 use Rattle.hc_changes.proofs.finding.Sight.all.Goals as goal

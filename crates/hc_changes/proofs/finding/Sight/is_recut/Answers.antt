@@ -1,4 +1,4 @@
-use Rattle.std.proofs.Common.{◌≡◌, ◌∙◌, ℕ, Bool, false, Option, Some, ap, sym, subst}
+use Rattle.std.proofs.Common.{◌∙◌, ℕ, Bool, false, Option, ap, sym, subst}
 use Rattle.std.specs.Prelude.{not}
 use Rattle.std.specs.Option.{option_map_or}
 use Rattle.hc_records.specs.Line.{line_from}

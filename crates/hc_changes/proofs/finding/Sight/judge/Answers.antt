@@ -1,13 +1,6 @@
-use Rattle.std.proofs.Common.{◌≡◌, ◌∙◌, ℕ, Bool, true, false, List, Option, ap, sym, subst}
-use Rattle.hc_records.specs.declared.keys.Key.{Key}
-use Rattle.hc_records.specs.declared.records.Area.{Area}
+use Rattle.std.proofs.Common.{◌≡◌, ◌∙◌, false, ap, sym, subst}
 use Rattle.hc_records.specs.Line.{line_from}
-use Rattle.hc_records.specs.Packing.{Placed}
-use Rattle.hc_cuts.specs.Place.{place_of as place_in}
-use Rattle.hc_cuts.specs.Starts.{Kept}
-use Rattle.hc_tasks.specs.Areas.{list_by}
-use Rattle.hc_tasks.specs.Kept.{line_kept}
-use Rattle.hc_changes.specs.Candidates.{key_of, place_of}
+use Rattle.hc_changes.specs.Candidates.{place_of}
 use Rattle.hc_changes.specs.Found.{IsSight, area_by}
 use Rattle.hc_changes.specs.Outlook.{Outlook, changes}
 use Rattle.hc_changes.proofs.lemmas.Finding.{changed-area, kept-area, place-is, recut-area, untouched-area}

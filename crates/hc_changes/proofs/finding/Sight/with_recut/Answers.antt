@@ -1,12 +1,10 @@
-use Rattle.std.proofs.Common.{◌≡◌, ◌∙◌, ◌+◌, ◌<◌, ◌≤◌, ℕ, Bool, true, false, List, ap, subst, sym, arith}
-use Rattle.std.specs.Prelude.{slice_index_or}
+use Rattle.std.proofs.Common.{◌≡◌, ◌∙◌, ◌+◌, ℕ, true, subst, sym, arith}
 use Rattle.hc_records.specs.declared.keys.Key.{Key}
 use Rattle.hc_records.specs.declared.keys.TheConstants.Key.{START, END}
 use Rattle.hc_records.specs.Keys.{is_before, is_within}
 use Rattle.hc_tasks.specs.Areas.{areas_by_rank}
-use Rattle.hc_tasks.specs.Kept.{starts_by}
 use Rattle.hc_changes.specs.declared.ranks.Ranks.{Ranks}
-use Rattle.hc_changes.specs.Found.{HoldRanks, HoldRecut, IsSight}
+use Rattle.hc_changes.specs.Found.{HoldRanks, IsSight}
 use Rattle.hc_changes.specs.Outlook.{Outlook}
 use Rattle.hc_changes.proofs.lemmas.Finding.{kept-is}
 use Rattle.hc_changes.proofs.lemmas.FoundWithin.{HoldFirst, kept-next, recut-held, recut-next, same-read}
