@@ -1,8 +1,11 @@
 //! Twenty edits of all kinds on a line of three groups, where memory may be refused: an edit that gets none
 //! leaves the plan as it was, and tried again it tells what it would have told and leaves what it would have
-//! left. A second plan tells so: at most one growth is refused, in one plan or in the other.
+//! left. A second plan tells so: at most one growth is refused, in one plan or in the other. And it tells what
+//! the plain program tells, which compares the plans before and behind the edit.
 use crate::equal::{has_same_blocks, has_same_order, is_same_table};
 use crate::texts::plan_of;
+use hc_places::recut::recut;
+use hc_places::table::Places;
 use hc_plan::plan::Plan;
 use hc_plan::report::Report;
 use hc_records::edit::Edit;
@@ -58,21 +61,66 @@ fn moving(station: u16, area: u8, task: u8) -> Edit {
     }
 }
 
-/// Whether two reports tell the same.
-fn is_same_report(one: &Report, other: &Report) -> bool {
-    one.epoch == other.epoch
-        && one.recut == other.recut
-        && one.moved == other.moved
-        && one.blocks.as_slice() == other.blocks.as_slice()
-        && one.swap.changes() == other.swap.changes()
+/// Whether two reports of an edit tell the same, whose swaps lead from a table to one and the same.
+fn is_same_report(
+    alloc: Global,
+    one: &Report,
+    other: &Report,
+    table: &Places,
+) -> Result<bool, AllocError> {
+    let mut this = table.copied(alloc)?;
+    this.swap(alloc, &one.swap)?;
+    let mut that = table.copied(alloc)?;
+    that.swap(alloc, &other.swap)?;
+    Ok(
+        one.epoch == other.epoch
+            && one.recut == other.recut
+            && one.moved == other.moved
+            && one.blocks.as_slice() == other.blocks.as_slice()
+            && one.swap.changes() == other.swap.changes()
+            && is_same_table(&this, &that, LAST),
+    )
 }
 
-/// Whether two answers are the same.
-fn is_same_answer(one: &Result<Report, EditFault>, other: &Result<Report, EditFault>) -> bool {
+/// Whether the report of an edit is that of the plain program, which compares the plans before and behind it.
+fn is_told_plainly(
+    alloc: Global,
+    edit: &Edit,
+    report: &Report,
+    old: &Plan,
+    new: &Plan,
+) -> Result<bool, AllocError> {
+    let unsettled = recut(alloc, old.groups(), new.groups())?;
+    let plain = Report::between(alloc, edit, old, new, unsettled)?;
+    is_same_report(alloc, report, &plain, old.places())
+}
+
+/// Whether an edit was answered as it has to be between two plans: the report of an accepted one is that of
+/// the plain program.
+fn is_answered(
+    alloc: Global,
+    edit: &Edit,
+    answer: &Result<Report, EditFault>,
+    old: &Plan,
+    new: &Plan,
+) -> Result<bool, AllocError> {
+    match answer {
+        Ok(report) => is_told_plainly(alloc, edit, report, old, new),
+        Err(_) => Ok(true),
+    }
+}
+
+/// Whether two answers are the same, of a line with a table.
+fn is_same_answer(
+    alloc: Global,
+    one: &Result<Report, EditFault>,
+    other: &Result<Report, EditFault>,
+    table: &Places,
+) -> Result<bool, AllocError> {
     match (one, other) {
-        (Ok(report), Ok(twin)) => is_same_report(report, twin),
-        (Err(fault), Err(twin)) => fault == twin,
-        _ => false,
+        (Ok(report), Ok(twin)) => is_same_report(alloc, report, twin, table),
+        (Err(fault), Err(twin)) => Ok(fault == twin),
+        _ => Ok(false),
     }
 }
 
@@ -123,6 +171,8 @@ impl Twins {
         if let Err(EditFault::Memory) = answer {
             return Err(Fail::from(EditFault::Memory));
         }
+        let answered = is_answered(alloc, edit, answer, &self.twin, &self.plan)?;
+        let table = self.twin.places().copied(alloc)?;
         let own = match self.twin.apply(alloc, edit) {
             Err(EditFault::Memory) => self.twin.apply(alloc, edit),
             own => own,
@@ -130,7 +180,8 @@ impl Twins {
         if let Err(EditFault::Memory) = own {
             return Err(Fail::from(EditFault::Memory));
         }
-        Ok(is_same_answer(&own, answer) && is_same_plan(&self.plan, &self.twin))
+        let same = is_same_answer(alloc, &own, answer, &table)?;
+        Ok(answered && same && is_same_plan(&self.plan, &self.twin))
     }
 }
 
