@@ -14,7 +14,7 @@ use Rattle.hc_places.specs.Table.{Row, RowsAscend}
 use Rattle.hc_places.proofs.Merged.{front, skip}
 use Rattle.hc_places.proofs.Overwritten.{first-made, keeps-still, overwritten-ascends, overwritten-merged}
 use Rattle.hc_places.proofs.Swapped.{merged-rows-ascend}
-use Rattle.hc_places.proofs.Walked.{AreAbove, ascends-above, ascends-rest, by-order}
+use Rattle.hc_places.proofs.Walked.{AreAbove, Ascends, ascends-above, ascends-rest, by-order}
 
 -- a list in three parts
 parts : {X : Type 0} (xs : List X) (i j : ℕ) → i ≤ j → xs ≡ take i xs ++ (slice_range xs i j ++ drop j xs)
@@ -29,6 +29,25 @@ of-dropped : {X : Type 0} (P : X → Type 0) (xs : List X) (j : ℕ) → AllWith
 of-dropped P xs j holds k d inside =
     let size = length-drop j xs in
     subst P (sym (get_or-drop j xs k d)) (holds (j + k) d (omega arith) (omega (arith, size, inside)))
+
+first-ascend : {X : Type 0} (firsts others : List (ℕ × X)) → Ascends (firsts ++ others) → Ascends firsts
+first-ascend {X} firsts others ascends i j d lower within =
+    let size = length-append firsts others in
+    let one = ap (λ (x : ℕ × X). x.0) (get_or_append_left firsts others d i (omega arith)) in
+    let two = ap (λ (x : ℕ × X). x.0) (get_or_append_left firsts others d j within) in
+    let less = ascends i j d lower (omega (arith, size, within)) in
+    omega (arith, one, two, less)
+
+pub part-ascends : {X : Type 0} (xs : List (ℕ × X)) (i j : ℕ) → i ≤ j → Ascends xs → Ascends (slice_range xs i j)
+part-ascends {X} xs i j order ascends =
+    first-ascend (slice_range xs i j) (drop j xs)
+    (AllPairs-append_right (λ (a b : ℕ × X). a.0 < b.0) (take i xs) (slice_range xs i j ++ drop j xs) (subst Ascends (parts xs i j order) ascends))
+
+pub part-few : {X : Type 0} (all front inner behind : List X) → all ≡ front ++ (inner ++ behind) → length inner ≤ length all
+part-few all front inner behind is =
+    let whole = ap length is ∙ length-append front (inner ++ behind) in
+    let rest = length-append inner behind in
+    omega (arith, whole, rest)
 
 -- changes in front and behind are as well made first
 
@@ -50,14 +69,6 @@ keep-overwritten (c ∷ changed) rows others keep = keep-overwritten changed (ma
 pub all-overwritten-ascend : (changed : List ChangedRow) (rows : List Row) → RowsAscend rows → RowsAscend (overwritten changed rows)
 all-overwritten-ascend [] rows ascends = ascends
 all-overwritten-ascend (c ∷ changed) rows ascends = all-overwritten-ascend changed (map (row_with c) rows) (overwritten-ascends c rows ascends)
-
-first-ascend : (firsts others : List ChangedRow) → ChangesAscend (firsts ++ others) → ChangesAscend firsts
-first-ascend firsts others changes i j d lower within =
-    let size = length-append firsts others in
-    let one = ap (λ (c : ChangedRow). c.0) (get_or_append_left firsts others d i (omega arith)) in
-    let two = ap (λ (c : ChangedRow). c.0) (get_or_append_left firsts others d j within) in
-    let less = changes i j d lower (omega (arith, size, within)) in
-    omega (arith, one, two, less)
 
 in-parts : (firsts middle lasts : List ChangedRow) (rows : List Row) → ChangesAscend (firsts ++ (middle ++ lasts)) → RowsAscend rows → KeepRows rows firsts → KeepRows rows lasts
     → merged middle (overwritten lasts (overwritten firsts rows)) ≡ merged (firsts ++ (middle ++ lasts)) rows
