@@ -1,8 +1,8 @@
 -- A list of which a part is replaced by a longer or a shorter one: what lies behind it is shifted.
-use Rattle.std.proofs.Common.{◌≡◌, ◌∙◌, ap, ℕ, ◌+◌, ◌-◌, ◌<◌, ◌≤◌, List, ◌++◌, drop, length, take, refl, sym, arith}
+use Rattle.std.proofs.Common.{◌≡◌, ◌∙◌, ap, ℕ, ◌+◌, ◌-◌, ◌≤◌, List, ◌++◌, drop, length, take, sym, arith}
 use lib.Seq.{paste}
-use Rattle.std.proofs.lemmas.List.{append_assoc, drop-append-le, drop_at, length-append, length-drop, length-take, take-append-le, take-take, take_all}
-use Rattle.std.proofs.lemmas.List.Edits.{length-paste, paste_all, take-paste}
+use Rattle.std.proofs.lemmas.List.{drop-append-le, drop_at, length-append, length-drop, length-take, take-append-le, take-take, take_all}
+use Rattle.std.proofs.lemmas.List.Edits.{length-paste, take-paste}
 
 -- behind the first so many of a longer beginning that is kept, a shorter one is kept too
 pub front-kept : {X : Type 0} (low high : ℕ) (new old : List X) → low ≤ high → take high new ≡ take high old → take low new ≡ take low old

@@ -1,5 +1,5 @@
-//! A table's rows with changes of which some take or leave rows: what lies between the first and the last
-//! of these is merged aside and put back, and the rest is overwritten where it stands.
+//! A table's rows with changes of which some bring or take rows: what lies from the first of these to the
+//! last is merged aside and put back, and the rest is overwritten where it stands.
 ghost use Rattle.std.specs.Prelude.{◌≡◌, ◌+◌, ◌-◌, ◌≤◌, ◌++◌, [], IsTrue, drop, length, slice_range, take, vec_capacity};
 ghost use Rattle.std.specs.List.{AllWithin};
 ghost use Rattle.hc_places.specs.Swap.{ChangesAscend, keeps_row, merged};
@@ -9,8 +9,8 @@ use crate::merging::{count_from, count_near, count_with, keeps_row, merge, overw
 use crate::swap::ChangedRow;
 use crate::table::Row;
 
-/// How many changes stand in front of the first that takes or leaves a row, and up to the last one, which
-/// is included; 0 and 0 where none does.
+/// How many changes stand in front of the first that brings or takes a row, and how many up to the last,
+/// which is among them; 0 and 0 where none does.
 fn find_middle(rows: &[Row], changed: &[ChangedRow]) -> (usize, usize)
     requires ascends { RowsAscend rows.now }
     requires changes { ChangesAscend changed.now }
@@ -34,7 +34,7 @@ fn find_middle(rows: &[Row], changed: &[ChangedRow]) -> (usize, usize)
     (first, end)
 }
 
-/// How many rows stand in front of those that changes concern, and up to the last of these.
+/// How many rows have lower numbers than all changes, and how many no higher number than the last.
 fn find_rows(rows: &[Row], changed: &[ChangedRow]) -> (usize, usize)
     requires ascends { RowsAscend rows.now }
     requires changes { ChangesAscend changed.now }
@@ -53,7 +53,7 @@ fn find_rows(rows: &[Row], changed: &[ChangedRow]) -> (usize, usize)
     )
 }
 
-/// Shifts the rows from the `high`th on up by as many as `more` are, into room that there is.
+/// Shifts the rows behind the first `high` up by as many as `more` are, into room that there is.
 fn widen(rows: &mut Vec<Row>, high: usize, more: &[Row])
     requires bound { high ≤ length rows.old.items }
     requires room { length rows.old.items + length more.now ≤ vec_capacity rows.old }
@@ -76,7 +76,7 @@ fn append(rows: &mut Vec<Row>, more: &[Row])
     }
 }
 
-/// Takes the rows from the `low`th to the `high`th out.
+/// Takes the rows behind the first `low` out, up to the first `high`.
 fn narrow(rows: &mut Vec<Row>, low: usize, high: usize)
     requires order { low ≤ high }
     requires bound { high ≤ length rows.old.items }
@@ -87,8 +87,8 @@ fn narrow(rows: &mut Vec<Row>, low: usize, high: usize)
     rows.truncate(count - (high - low));
 }
 
-/// Shifts the rows from the `high`th on, so that from the `low`th on as many as `new` are stand in front
-/// of them.
+/// Shifts the rows behind the first `high`, so that as many as `new` are lie between these and the first
+/// `low`.
 fn make_place(rows: &mut Vec<Row>, low: usize, high: usize, new: &[Row])
     requires order { low ≤ high }
     requires bound { high ≤ length rows.old.items }
@@ -105,7 +105,7 @@ fn make_place(rows: &mut Vec<Row>, low: usize, high: usize, new: &[Row])
     }
 }
 
-/// Writes rows over those from the `low`th on.
+/// Writes rows over those behind the first `low`.
 fn lay(rows: &mut [Row], low: usize, new: &[Row])
     requires { low + length new.now ≤ length rows.old }
     ensures { rows.new ≡ take low rows.old ++ (new.now ++ drop (low + length new.now) rows.old) }
@@ -113,7 +113,8 @@ fn lay(rows: &mut [Row], low: usize, new: &[Row])
     rows[low..low + new.len()].copy_from_slice(new);
 }
 
-/// Puts new rows in the place of those from the `low`th to the `high`th, into room that there is.
+/// Puts new rows in the place of those behind the first `low`, up to the first `high`, into room that there
+/// is.
 fn replace_rows(rows: &mut Vec<Row>, low: usize, high: usize, new: &[Row])
     requires order { low ≤ high }
     requires bound { high ≤ length rows.old.items }
@@ -124,8 +125,9 @@ fn replace_rows(rows: &mut Vec<Row>, low: usize, high: usize, new: &[Row])
     lay(rows.as_mut_slice(), low, new);
 }
 
-/// Makes rows those with changes. The rows that the changes concern are merged into the memory given, and
-/// put back where the rows' own memory has the room; else all are merged there, and it is theirs from now on.
+/// Makes rows those with changes, with the help of memory that has room for all: those from the first
+/// change to the last are merged there and put back, or all are merged there and stay, where the rows' own
+/// memory has no room for the changes.
 fn merge_rows(rows: &mut Vec<Row>, changed: &[ChangedRow], into: Vec<Row>)
     requires ascends { RowsAscend rows.old.items }
     requires changes { ChangesAscend changed.now }
@@ -142,8 +144,8 @@ fn merge_rows(rows: &mut Vec<Row>, changed: &[ChangedRow], into: Vec<Row>)
     replace_rows(rows, low, high, new.as_slice());
 }
 
-/// The same where most changes may keep their rows: those in front of the first that doesn't and behind
-/// the last are overwritten where they stand.
+/// The same, but changes in front of the first that brings or takes a row, and behind the last, are
+/// overwritten where they stand.
 pub(crate) fn change_middle(rows: &mut Vec<Row>, changed: &[ChangedRow], into: Vec<Row>)
     requires ascends { RowsAscend rows.old.items }
     requires changes { ChangesAscend changed.now }

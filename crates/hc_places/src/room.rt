@@ -13,8 +13,8 @@ use hc_records::items::Items;
 use std::alloc::{AllocError, Global};
 use std::marker::Model;
 
-/// The memory that carrying a swap out on a table takes: none where no variable appears or goes, else
-/// that of the new rows.
+/// The memory that carrying a swap out on a table needs: none where no variable appears or goes, else
+/// that of as many rows as the table will have, or more.
 #[derive(Debug, Drop)]
 pub struct Room {
     rows: Option<Vec<Row>>,
@@ -40,8 +40,8 @@ fn replace_tasks(tasks: &mut Items<TaskTable>, changed: &[ChangedTask])
     }
 }
 
-/// Makes a table's rows those with changes: where they stand, if no memory is given, else by means of
-/// memory that has the room for all.
+/// Makes a table's rows those with changes: where they stand, if no memory is given, else with the help of
+/// memory that has room for all.
 fn change_rows(rows: &mut Vec<Row>, changed: &[ChangedRow], room: Option<Vec<Row>>)
     requires ascends { RowsAscend rows.old.items }
     requires changes { ChangesAscend changed.now }
@@ -55,8 +55,9 @@ fn change_rows(rows: &mut Vec<Row>, changed: &[ChangedRow], room: Option<Vec<Row
     }
 }
 
-/// How many rows memory for changed ones is taken for: for all that there may be, and for as many again
-/// where it will be the rows' own, so that later changes find room.
+/// How many rows the memory for a table's change is taken for: all that there may be, and as many again
+/// where the table's own memory has no room for them, so that this memory, its own from then on, has room
+/// for more.
 fn room_size(rows: &Vec<Row>, changed: &[ChangedRow]) -> usize
     ensures { length rows.now.items + length changed.now ≤ result }
 {
@@ -73,8 +74,8 @@ impl Places {
     ghost use Rattle.hc_places.specs.Room.{IsRoomFor};
     ghost use Rattle.hc_places.specs.Swap.{KeepRows, swapped};
 
-    /// The memory that `carry_out` will take for a swap of this table: none where no variable appears or
-    /// goes. `AllocError` where a growth was refused.
+    /// The memory that `carry_out` needs for a swap of this table: none where no variable appears or goes,
+    /// else that of as many rows as the table will have, or more. `AllocError` where a growth was refused.
     pub fn room_for(&self, alloc: Global, swap: &Swap) -> Result<Room, AllocError>
         ensures room { IfOk result (IsRoomFor swap.now.change self.now) }
         ensures without { KeepRows self.now.variables swap.now.change.rows → result ≡ Ok None }
@@ -88,8 +89,10 @@ impl Places {
     }
 
     /// Becomes the table that a swap leads to, in memory that was taken before: nothing can be refused.
-    /// The rows are gone over once; where no variable appears or goes, those of the changed ones are looked
-    /// up and overwritten where they stand.
+    /// The rows of changed variables are looked up. In front of the first variable that appears or goes,
+    /// and behind the last, they are overwritten where they stand; those between are merged in the room and
+    /// put back, and the rows behind are shifted once. Where the table's memory has no room for the
+    /// variables that may come, all rows are merged in the room, which is the table's from then on.
     pub fn carry_out(&mut self, swap: &Swap, room: Room)
         requires { IsRoomFor swap.now.change self.old room }
         ensures { self.new ≡ swapped swap.now.change self.old }

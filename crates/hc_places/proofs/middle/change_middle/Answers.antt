@@ -22,11 +22,16 @@ left changed rows shown once twice first end is one two order changes ascends fr
     ∙ middle-left changed rows first end order changes ascends (subst (Keep changed 0 first) is front) (subst (Keep changed end (length changed)) is behind)
 
 pub overwrite-requires-2-clause-ascends : goal.overwrite-requires-2-clause-ascends
-overwrite-requires-2-clause-ascends c = subst RowsAscend (sym c.overwrite.ensures) (all-overwritten-ascend _ _ c.requires.ascends)
+overwrite-requires-2-clause-ascends c =
+    let changed = c.args.changed.now in
+    subst RowsAscend (sym c.overwrite.ensures) (all-overwritten-ascend (take c.find_middle-first.result.0 changed) c.args.rows.now.items c.requires.ascends)
 
 pub merge_rows-requires-clause-ascends : goal.merge_rows-requires-clause-ascends
 merge_rows-requires-clause-ascends c =
-    subst RowsAscend (sym c.overwrite-2.ensures) (all-overwritten-ascend _ _ (subst RowsAscend (sym c.overwrite.ensures) (all-overwritten-ascend _ _ c.requires.ascends)))
+    let changed = c.args.changed.now in
+    let end = c.find_middle-first.result.1 in
+    let once = subst RowsAscend (sym c.overwrite.ensures) (all-overwritten-ascend (take c.find_middle-first.result.0 changed) c.args.rows.now.items c.requires.ascends) in
+    subst RowsAscend (sym c.overwrite-2.ensures) (all-overwritten-ascend (take (length changed - end) (drop end changed)) c.overwrite.new.rows.items once)
 
 pub merge_rows-requires-clause-changes : goal.merge_rows-requires-clause-changes
 merge_rows-requires-clause-changes c = part-ascends c.args.changed.now c.find_middle-first.result.0 c.find_middle-first.result.1 c.find_middle-first.ensures.order c.requires.changes

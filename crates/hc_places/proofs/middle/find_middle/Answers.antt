@@ -20,9 +20,9 @@ loop-i-preserved c =
     let order : first ≤ end =
     elim c.if-not-keeps_row.branch [
       | then-not-keeps_row w ↦ elim w.if-end-eq0.branch [
-          | then-end-eq0 v ↦ omega (arith, w.first-is, w.end-is, v.first-is)
-          | else-end-eq0 v ↦ omega (arith, w.first-is, w.end-is, v.first-is)
-        ]
+        | then-end-eq0 v ↦ omega (arith, w.first-is, w.end-is, v.first-is)
+        | else-end-eq0 v ↦ omega (arith, w.first-is, w.end-is, v.first-is)
+      ]
       | else-not-keeps_row w ↦ omega (arith, w.first-is, w.end-is)
     ] in
     let bound : end ≤ i + 1 =
@@ -36,21 +36,21 @@ loop-i-preserved c =
       order = order;
       bound = bound;
       front = λ k d low high. elim c.if-not-keeps_row.branch [
-          | then-not-keeps_row w ↦ elim w.if-end-eq0.branch [
-              | then-end-eq0 v ↦ before.behind k d (omega (arith, v.if-end-eq0.true)) (omega (arith, high, w.first-is, v.first-is))
-              | else-end-eq0 v ↦ before.front k d low (omega (arith, high, w.first-is, v.first-is))
-            ]
-          | else-not-keeps_row w ↦ before.front k d low (omega (arith, high, w.first-is))
-        ];
+        | then-not-keeps_row w ↦ elim w.if-end-eq0.branch [
+          | then-end-eq0 v ↦ before.behind k d (omega (arith, v.if-end-eq0.true)) (omega (arith, high, w.first-is, v.first-is))
+          | else-end-eq0 v ↦ before.front k d low (omega (arith, high, w.first-is, v.first-is))
+        ]
+        | else-not-keeps_row w ↦ before.front k d low (omega (arith, high, w.first-is))
+      ];
       behind = λ k d low high. elim c.if-not-keeps_row.branch [
-          | then-not-keeps_row w ↦ absurd (omega (arith, low, high, w.end-is))
-          | else-not-keeps_row w ↦
-              by-order k i
-              (λ t less. before.behind k d (omega (arith, low, w.end-is)) less)
-              (λ t u less. absurd (omega (arith, high, less)))
-              (λ t u same.
-              let keeps : IsTrue (keeps_row rows change) = sym c.keeps_row.ensures ∙ w.if-not-keeps_row.false in
-              let here : change ≡ get_or changed k d = c.index-changed-i.is ∙ get_or_default changed i change d inside ∙ ap (λ n. get_or changed n d) (sym same) in
-              subst (λ (one : ChangedRow). IsTrue (keeps_row rows one)) here keeps)
-        ];
+        | then-not-keeps_row w ↦ absurd (omega (arith, low, high, w.end-is))
+        | else-not-keeps_row w ↦
+            by-order k i
+            (λ t less. before.behind k d (omega (arith, low, w.end-is)) less)
+            (λ t u less. absurd (omega (arith, high, less)))
+            (λ t u same.
+            let keeps : IsTrue (keeps_row rows change) = sym c.keeps_row.ensures ∙ w.if-not-keeps_row.false in
+            let here : change ≡ get_or changed k d = c.index-changed-i.is ∙ get_or_default changed i change d inside ∙ ap (λ n. get_or changed n d) (sym same) in
+            subst (λ (one : ChangedRow). IsTrue (keeps_row rows one)) here keeps)
+      ];
     }

@@ -1,4 +1,4 @@
-use Rattle.std.proofs.Common.{◌≡◌, ◌+◌, ◌-◌, arith, drop, length, take}
+use Rattle.std.proofs.Common.{◌-◌, arith, drop, length, take}
 use Rattle.std.proofs.lemmas.List.{length-drop, length-take}
 use Rattle.hc_places.specs.Table.{Row}
 use Rattle.hc_places.proofs.Shifted.{Widened, placed-narrow, placed-wide}

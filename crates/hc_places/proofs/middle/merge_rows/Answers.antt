@@ -1,4 +1,4 @@
-use Rattle.std.proofs.Common.{◌≡◌, ◌∙◌, ◌+◌, ◌-◌, ◌≤◌, ◌++◌, ℕ, ap, arith, drop, length, List, subst, sym, take}
+use Rattle.std.proofs.Common.{◌≡◌, ◌∙◌, ◌-◌, ◌≤◌, ◌++◌, ℕ, ap, arith, drop, length, List, subst, sym, take}
 use Rattle.std.specs.Prelude.{slice_range, vec_capacity}
 use Rattle.std.proofs.lemmas.List.{length-take}
 use Rattle.hc_places.specs.Swap.{ChangedRow, ChangesAscend, merged}
