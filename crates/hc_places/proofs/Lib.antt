@@ -10,11 +10,13 @@ pub mod Merged
 pub mod Order
 pub mod Overwritten
 pub mod Pairs
+pub mod Parted
 pub mod Recuts
 pub mod Reached
 pub mod Rising
 pub mod Roomy
 pub mod Said
+pub mod Shifted
 pub mod Spread
 pub mod Swapped
 pub mod Tables

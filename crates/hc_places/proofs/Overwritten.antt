@@ -42,7 +42,7 @@ found-still changed (row ∷ rows) variable =
     ∙ found-by (row.0 == variable) (row_with changed row) row (find (λ (r : Row). r.0 == variable) (map (row_with changed) rows)) (find (λ (r : Row). r.0 == variable) rows)
     (found-still changed rows variable)
 
-keeps-still : (changed : ChangedRow) (rows : List Row) (others : List ChangedRow) → KeepRows rows others → KeepRows (map (row_with changed) rows) others
+pub keeps-still : (changed : ChangedRow) (rows : List Row) (others : List ChangedRow) → KeepRows rows others → KeepRows (map (row_with changed) rows) others
 keeps-still changed rows others keep =
     All-weaker (λ (c : ChangedRow). IsTrue (keeps_row rows c)) (λ (c : ChangedRow). IsTrue (keeps_row (map (row_with changed) rows) c))
     (λ c kept. ap (λ (found : Bool). found && is_some c.1) (found-still changed rows c.0) ∙ kept) others keep
@@ -116,7 +116,7 @@ none-told others variable above =
     (find-none (λ (c : ChangedRow). c.0 == variable) others
     (All-weaker (λ (c : ChangedRow). variable < c.0) (λ (c : ChangedRow). (c.0 == variable) ≡ false) (λ c less. above-other c.0 variable less) others above))
 
-first-made : (changed : ChangedRow) (others : List ChangedRow) (rows : List Row) → AreAbove changed.0 others → RowsAscend rows
+pub first-made : (changed : ChangedRow) (others : List ChangedRow) (rows : List Row) → AreAbove changed.0 others → RowsAscend rows
     → merged others (with_changed changed rows) ≡ with_changed changed (merged others rows)
 first-made changed others rows above ascends =
     let all = merged-rows-ascend others rows ascends in

@@ -11,6 +11,8 @@ mod datagrams;
 pub mod laws;
 pub mod layout;
 pub mod loads;
+mod merging;
+mod middle;
 pub mod recut;
 pub mod room;
 pub mod swap;

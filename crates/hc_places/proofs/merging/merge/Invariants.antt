@@ -1,7 +1,7 @@
 use Rattle.std.proofs.Common.{◌≡◌, ◌+◌, ◌≤◌, ◌++◌, length}
 use Rattle.std.specs.Prelude.{vec_capacity}
 use Rattle.hc_places.specs.Walk.{merges, walked}
-use Rattle.hc_places.proofs.room.merge.Given as goal
+use Rattle.hc_places.proofs.merging.merge.Given as goal
 
 -- what is added so far, and the changes and rows that are left, merged, are all, and find room
 abbrev pub invariant-loop-changes : goal.invariant-loop-changes

@@ -2,7 +2,7 @@ use Rattle.std.proofs.Common.{◌≡◌, ◌≤◌, drop, length}
 use Rattle.hc_places.specs.Swap.{overwritten}
 use Rattle.hc_places.specs.Table.{RowsAscend}
 use Rattle.hc_places.proofs.Reached.{AreLower}
-use Rattle.hc_places.proofs.room.overwrite.Given as goal
+use Rattle.hc_places.proofs.merging.overwrite.Given as goal
 
 -- the rows so far, overwritten with what is left, are all; those in front are lower than the changes that are left
 abbrev pub invariant-loop-change : goal.invariant-loop-change

@@ -4,8 +4,8 @@ use Rattle.std.proofs.lemmas.Bool.{eqb-true}
 use Rattle.std.proofs.lemmas.List.Sorted.{IsNonDecreasingBy-take}
 use Rattle.hc_places.specs.Table.{Row}
 use Rattle.hc_places.proofs.Reached.{ascends-rises, below-reached, reached-row}
-use Rattle.hc_places.proofs.room.count_near.Goals as goal
-use Rattle.hc_places.proofs.room.count_near.Goals.{then-loop-reach-test+else-number-2, else-loop-reach-test, then-is_empty-via-then-is_empty, then-is_empty-via-else-is_empty+then-number}
+use Rattle.hc_places.proofs.merging.count_near.Goals as goal
+use Rattle.hc_places.proofs.merging.count_near.Goals.{then-loop-reach-test+else-number-2, else-loop-reach-test, then-is_empty-via-then-is_empty, then-is_empty-via-else-is_empty+then-number}
 
 pub count_below-requires : goal.count_below-requires
 count_below-requires c =

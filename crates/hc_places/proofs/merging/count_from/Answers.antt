@@ -4,7 +4,7 @@ use Rattle.std.proofs.lemmas.List.{length-drop, take_all}
 use Rattle.hc_places.specs.Room.{AreBelow}
 use Rattle.hc_places.specs.Table.{Row}
 use Rattle.hc_places.proofs.Reached.{below-behind}
-use Rattle.hc_places.proofs.room.count_from.Goals as goal
+use Rattle.hc_places.proofs.merging.count_from.Goals as goal
 
 pub returns-clause-below : goal.returns-clause-below
 returns-clause-below c =

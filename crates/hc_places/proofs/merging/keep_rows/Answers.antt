@@ -4,7 +4,7 @@ use Rattle.std.proofs.lemmas.List.{take_all}
 use Rattle.std.proofs.lemmas.List.Elements.{All-more}
 use Rattle.hc_places.specs.Swap.{ChangedRow, KeepRows, keeps_row}
 use Rattle.hc_places.proofs.Reached.{lower-next}
-use Rattle.hc_places.proofs.room.keep_rows.Goals as goal
+use Rattle.hc_places.proofs.merging.keep_rows.Goals as goal
 
 pub loop-change-preserved : goal.loop-change-preserved
 loop-change-preserved c =

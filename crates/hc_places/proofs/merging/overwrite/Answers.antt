@@ -5,7 +5,7 @@ use Rattle.hc_places.specs.Swap.{ChangedRow, row_with}
 use Rattle.hc_places.specs.Table.{Row, RowsAscend}
 use Rattle.hc_places.proofs.Overwritten.{overwritten-ascends, overwritten-more}
 use Rattle.hc_places.proofs.Reached.{lower-next, lower-still}
-use Rattle.hc_places.proofs.room.overwrite.Goals as goal
+use Rattle.hc_places.proofs.merging.overwrite.Goals as goal
 
 pub loop-change-preserved : goal.loop-change-preserved
 loop-change-preserved c =

@@ -1,5 +1,5 @@
 use Rattle.std.proofs.Common.{◌-◌, ◌≤◌, ◌<◌, length}
-use Rattle.hc_places.proofs.room.count_near.Given as goal
+use Rattle.hc_places.proofs.merging.count_near.Given as goal
 
 -- the reach stays within the rows, and isn't 0
 abbrev pub invariant-loop-reach : goal.invariant-loop-reach

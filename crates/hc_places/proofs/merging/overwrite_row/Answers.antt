@@ -3,8 +3,8 @@ use Rattle.std.proofs.lemmas.Bool.{eq-eqb, eqb-true}
 use Rattle.std.proofs.lemmas.List.{get_or_default}
 use Rattle.hc_places.specs.Table.{Row}
 use Rattle.hc_places.proofs.Reached.{no-place, none-set, row-set}
-use Rattle.hc_places.proofs.room.overwrite_row.Goals as goal
-use Rattle.hc_places.proofs.room.overwrite_row.Goals.{else-at-len-via-then-at-len+else-eq, else-at-len-via-else-at-len}
+use Rattle.hc_places.proofs.merging.overwrite_row.Goals as goal
+use Rattle.hc_places.proofs.merging.overwrite_row.Goals.{else-at-len-via-then-at-len+else-eq, else-at-len-via-else-at-len}
 
 pub returns-in_default : goal.returns-in_default
 returns-in_default c = no-place c.args.changed.now c.args.rows.now.items c.in_default.is

@@ -5,7 +5,7 @@ use Rattle.std.proofs.lemmas.Grind.{common_steps}
 use Rattle.hc_places.specs.Table.{Row}
 use Rattle.hc_places.proofs.Order.{find-row}
 use Rattle.hc_places.proofs.Reached.{ascends-rises}
-use Rattle.hc_places.proofs.room.keeps_row.Goals as goal
+use Rattle.hc_places.proofs.merging.keeps_row.Goals as goal
 
 pub returns-in_default : goal.returns-in_default
 returns-in_default c =

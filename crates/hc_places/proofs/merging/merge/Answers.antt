@@ -1,6 +1,6 @@
 use Rattle.std.proofs.Common.{arith}
 use Rattle.hc_places.proofs.Roomy.{room-left}
-use Rattle.hc_places.proofs.room.merge.Goals as goal
+use Rattle.hc_places.proofs.merging.merge.Goals as goal
 
 pub push_reserved-requires : goal.push_reserved-requires
 push_reserved-requires c =
