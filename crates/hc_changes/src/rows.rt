@@ -30,11 +30,12 @@ fn candidate_rows(
     Ok(rows)
 }
 
-/// Whether a variable stands elsewhere in a table than at a place, or nowhere.
-fn is_new(old: &Places, variable: VarId, place: Place) -> bool
+/// Whether a variable stands elsewhere in a table than at a place, or nowhere. It is looked for near the one
+/// before it.
+fn is_new(old: &Places, near: &mut usize, variable: VarId, place: Place) -> bool
     ensures { result ≡ is_new_row old.now (variable, place) }
 {
-    old.place(variable) != Some(place)
+    old.place_near(near, variable) != Some(place)
 }
 
 /// Adds those variables that don't stand in a table where they are to stand.
@@ -45,9 +46,10 @@ fn add_moved(
 ) -> Result<(), AllocError>
     ensures { OnOk result (rows.new.items ≡ rows.old.items ++ moved_rows old.now found.now) }
 {
+    let mut near = 0;
     for row in found {
         let (variable, place) = *row;
-        if is_new(old, variable, place) {
+        if is_new(old, &mut near, variable, place) {
             rows.push((variable, Some(place)))?;
         }
     }

@@ -13,6 +13,7 @@ pub mod layout;
 pub mod loads;
 mod merging;
 mod middle;
+mod near;
 pub mod recut;
 pub mod room;
 pub mod swap;

@@ -1,9 +1,6 @@
-use Rattle.std.proofs.Common.{◌∙◌, ap, sym, subst}
+use Rattle.std.proofs.Common.{◌∙◌, ap, sym}
 use Rattle.hc_records.specs.declared.keys.Key.{Key}
-use Rattle.hc_records.specs.declared.records.Area.{Area}
-use Rattle.hc_records.specs.TaskList.{Listed}
 use Rattle.hc_tasks.specs.Areas.{area_in}
-use Rattle.hc_places.specs.Ranges.{OffersBits}
 use Rattle.hc_places.proofs.Founds.{found-meets}
 use Rattle.hc_places.proofs.variables.add_found.Goals as goal
 
