@@ -16,6 +16,7 @@ use hc_cuts::packing::Placed;
 use hc_records::keys::Key;
 use hc_records::limits::TASKS;
 use hc_records::records::{Area, Declared, Slave};
+use hc_tasks::finder::Finder;
 use hc_tasks::keeping::Before;
 use hc_tasks::tasks::LineCuts;
 use std::alloc::{AllocError, Global};
@@ -70,6 +71,7 @@ impl<'b, 'a> Sight<'b, 'a> {
     ghost use Rattle.hc_records.specs.declared.limits.TheConstants.{MOST_SLAVES, TASKS};
     ghost use Rattle.hc_cuts.specs.Keeping.{is_kept};
     ghost use Rattle.hc_tasks.specs.Areas.{areas_at, areas_by_rank};
+    ghost use Rattle.hc_tasks.specs.Kept.{line_kept};
     ghost use Rattle.hc_changes.specs.Found.{HoldChanged, HoldRanks, HoldRecut, IsGroupAt, LieWithin, area_found, areas_found, found_below, rank_found, station_at};
     ghost use Rattle.hc_changes.specs.Outlook.{IsOutlook};
 
@@ -85,16 +87,25 @@ impl<'b, 'a> Sight<'b, 'a> {
     }
 
     /// The candidate that an area of the new line is, if it is one, by the station address and the rank of
-    /// its slave, and by its index there.
-    fn judge(&self, station: u16, rank: u16, index: u8, area: &'a Area) -> Option<Candidate<'a>>
-        requires { area.now.task < TASKS }
-        ensures { option_to_list result ≡ area_found self.now station rank index area.now }
+    /// its slave, and by its index there. Its place is found among the turned tasks.
+    fn judge(
+        &self,
+        places: &mut Finder,
+        station: u16,
+        rank: u16,
+        index: u8,
+        area: &'a Area,
+    ) -> Option<Candidate<'a>>
+        requires places { places.old ≡ line_kept (areas_by_rank self.now.new) }
+        requires task { area.now.task < TASKS }
+        ensures places { places.new ≡ places.old }
+        ensures found { option_to_list result ≡ area_found self.now station rank index area.now }
     {
         let changed = self.outlook.is_changed(rank);
         if !changed && !self.before.is_touched(area.task) {
             return None;
         }
-        let place = self.cuts.place(area.task, key_of(area, rank, index));
+        let place = places.place(area.task, key_of(area, rank, index));
         if !changed && !self.is_recut(area.task, &place) {
             return None;
         }
@@ -111,18 +122,21 @@ impl<'b, 'a> Sight<'b, 'a> {
     /// group was present then.
     fn add_slave(
         &self,
+        places: &mut Finder,
         found: &mut Vec<Candidate<'a>>,
         rank: u16,
         present: bool,
         slave: &'a Slave,
     ) -> Result<(), AllocError>
+        requires places { places.old ≡ line_kept (areas_by_rank self.now.new) }
         requires areas { areas_at (areas_by_rank self.now.old) rank ≡ (if present then slave.now.areas else []) }
         requires station { station_at self.now.old rank ≡ slave.now.station }
-        ensures { OnOk result (found.new.items ≡ found.old.items ++ rank_found self.now rank) }
+        ensures places { places.new ≡ places.old }
+        ensures found { OnOk result (found.new.items ≡ found.old.items ++ rank_found self.now rank) }
     {
         let areas = self.outlook.areas_after(rank, present, slave);
         for i in 0..areas.len() {
-            if let Some(candidate) = self.judge(slave.station, rank, i as u8, &areas[i]) {
+            if let Some(candidate) = self.judge(places, slave.station, rank, i as u8, &areas[i]) {
                 found.push(candidate)?;
             }
         }
@@ -133,21 +147,30 @@ impl<'b, 'a> Sight<'b, 'a> {
     /// lower ranks. The slaves with other ranks than the given ones are passed over.
     fn add_group(
         &self,
+        places: &mut Finder,
         found: &mut Vec<Candidate<'a>>,
         first: u16,
         declared: &'a Declared,
         ranks: Ranks,
     ) -> Result<(), AllocError>
+        requires places { places.old ≡ line_kept (areas_by_rank self.now.new) }
         requires group { IsGroupAt self.now.old first declared.now }
         requires few { first + length declared.now.group.slaves ≤ MOST_SLAVES + 1 }
         requires ranks { LieWithin self.now ranks.low ranks.high }
         requires so_far { found.old.items ≡ found_below self.now first }
-        ensures { OnOk result (found.new.items ≡ found_below self.now (first + length declared.now.group.slaves)) }
+        ensures places { places.new ≡ places.old }
+        ensures found { OnOk result (found.new.items ≡ found_below self.now (first + length declared.now.group.slaves)) }
     {
         let slaves = declared.group.slaves.as_slice();
         let (from, to) = ranks.part(first, slaves.len());
         for i in from..to {
-            self.add_slave(found, first + i as u16, declared.present, &slaves[i])?;
+            self.add_slave(
+                places,
+                found,
+                first + i as u16,
+                declared.present,
+                &slaves[i],
+            )?;
         }
         Ok(())
     }
@@ -207,10 +230,11 @@ impl<'b, 'a> Sight<'b, 'a> {
         requires ranks { LieWithin self.now ranks.low ranks.high }
         ensures { IfOk result (λ found. found.items ≡ map (candidate_of (line_from 1 self.now.new)) (candidates (changes self.now) (line_from 1 self.now.old) (line_from 1 self.now.new))) }
     {
+        let mut places = Finder::of(self.cuts);
         let mut found = Vec::new(alloc);
         let mut first = 1;
         for declared in groups {
-            self.add_group(&mut found, first, declared, ranks)?;
+            self.add_group(&mut places, &mut found, first, declared, ranks)?;
             first += declared.group.slaves.len() as u16;
         }
         Ok(found)

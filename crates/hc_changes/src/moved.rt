@@ -18,6 +18,7 @@ use hc_records::keys::Key;
 use hc_records::records::Area;
 use hc_registers::blocks::Block;
 use hc_registers::fmmu::{Mapping, logical_address};
+use hc_tasks::finder::Finder;
 use hc_tasks::tasks::LineCuts;
 use std::alloc::{AllocError, Global};
 
@@ -65,12 +66,13 @@ fn differing(found: &Candidate, area: &Area, place: Option<Placed>) -> (bool, bo
 }
 
 /// Of the two blocks of a candidate, whether each differs from the block that its slave had with its
-/// number, by the tasks of the old line.
-fn moved_by(outlook: &Outlook, old: &LineCuts, found: &Candidate) -> (bool, bool)
+/// number, which is found among the tasks of the old line.
+fn moved_by(outlook: &Outlook, places: &mut Finder, found: &Candidate) -> (bool, bool)
     requires outlook { IsOutlook outlook.now }
-    requires trees { old.now ≡ line_kept (areas_by_rank outlook.now.old) }
+    requires trees { places.old ≡ line_kept (areas_by_rank outlook.now.old) }
     requires stands { IsOfLine (line_from 1 outlook.now.new) found.now }
-    ensures { result ≡ moved_by outlook.now found.now }
+    ensures places { places.new ≡ places.old }
+    ensures moved { result ≡ moved_by outlook.now found.now }
 {
     match outlook.area_before(found.rank, found.index, found.area) {
         Some(area) => {
@@ -79,7 +81,7 @@ fn moved_by(outlook: &Outlook, old: &LineCuts, found: &Candidate) -> (bool, bool
                 rank: found.rank,
                 area: found.index,
             };
-            differing(found, area, old.place(area.task, key))
+            differing(found, area, places.place(area.task, key))
         }
         None => (true, true),
     }
@@ -121,9 +123,10 @@ pub fn moved_names(
 {
     // says that an edit leads from a project's groups to a project's
     let _ = outlook.groups();
+    let mut places = Finder::of(old);
     let mut names = Vec::new(alloc);
     for candidate in found {
-        let moved = moved_by(outlook, old, candidate);
+        let moved = moved_by(outlook, &mut places, candidate);
         add_names(&mut names, candidate, moved)?;
     }
     Ok(names)

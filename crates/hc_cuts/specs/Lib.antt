@@ -1,3 +1,4 @@
+pub mod Cursors
 pub mod Firsts
 pub mod Hulls
 pub mod Inputs

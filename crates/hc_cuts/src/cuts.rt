@@ -8,16 +8,15 @@ ghost use Rattle.hc_records.specs.declared.limits.TheConstants.{MOST_DATAGRAMS};
 ghost use Rattle.hc_cuts.specs.Firsts.{IsCrowded};
 ghost use Rattle.hc_cuts.specs.Starts.{most_read};
 
+use crate::cursor::Cursor;
 use crate::fold::TooManyDatagrams;
 use crate::hulls::Hulls;
 use crate::next::next_cut;
-use crate::packing::{Front, Placed};
-use crate::place::carrier;
+use crate::packing::Placed;
 use crate::repair::repaired_starts;
 use crate::settled::{Reach, later};
 use crate::walk::add_span;
 use arrayvec::ArrayVec;
-use hc_bitsum::filled::Filled;
 use hc_bitsum::steps::Steps;
 use hc_bitsum::sum::Sum;
 use hc_bitsum::tree::SumTree;
@@ -92,6 +91,7 @@ impl Cuts {
     ghost use Rattle.hc_records.specs.TaskList.{Keyed};
     ghost use Rattle.hc_records.specs.Boundaries.{is_touched, unsettled_spans};
     ghost use Rattle.hc_bitsum.specs.Tree.{HasPlace, HoldsTaskList, with_width};
+    ghost use Rattle.hc_cuts.specs.Cursors.{StandsIn};
     ghost use Rattle.hc_cuts.specs.Hulls.{AreHulls};
     ghost use Rattle.hc_cuts.specs.Inputs.{has_inputs};
     ghost use Rattle.hc_cuts.specs.Place.{place_of};
@@ -287,18 +287,20 @@ impl Cuts {
         requires { self.now.starts ++ END ∷ [] ≡ boundaries self.now.tree.list }
         ensures { result ≡ place_of key self.now.tree.list }
     {
-        let bits = self.tree.bits(key);
-        if bits == 0 {
-            return None;
-        }
-        let starts = self.starts.as_slice();
-        let datagram = carrier(starts, key);
-        let empty = Filled {
-            bit: 0,
-            last: Dir::Out,
-        };
-        let filled = self.tree.filled_between(starts[datagram], key, empty);
-        let front = Front::filled(datagram as u16, filled);
-        Some(front.place(key, bits))
+        self.place_from(&mut Cursor::start(), key)
+    }
+
+    /// The place of its area with a key, any key, as `place` gives it, by a cursor that stands in the task,
+    /// as one at the start does. It stands in the task again, at the area if there is one. Where the same
+    /// datagram carries an area at its key or behind it, only the areas between are read, so areas that are
+    /// asked for in key order take few reads. The boundaries are those of its areas, as `cut` leaves them.
+    /// It takes no memory and no steps.
+    pub fn place_from(&self, cursor: &mut Cursor, key: Key) -> Option<Placed>
+        requires cut { self.now.starts ++ END ∷ [] ≡ boundaries self.now.tree.list }
+        requires stood { StandsIn self.now.starts self.now.tree.list cursor.old }
+        ensures place { result ≡ place_of key self.now.tree.list }
+        ensures stands { StandsIn self.now.starts self.now.tree.list cursor.new }
+    {
+        cursor.place(&self.tree, self.starts.as_slice(), key)
     }
 }

@@ -1,4 +1,5 @@
 pub mod Areas
+pub mod Cursors
 pub mod Keeping
 pub mod Kept
 pub mod Laws

@@ -5,6 +5,7 @@ use crate::areas::SlaveAreas;
 use crate::starts::LineStarts;
 use crate::turning::turn_tasks;
 use hc_bitsum::steps::Steps;
+use hc_cuts::cursor::Cursor;
 use hc_cuts::cuts::Cuts;
 use hc_cuts::packing::Placed;
 use hc_records::faults::EditFault;
@@ -55,6 +56,7 @@ impl LineCuts {
     ghost use Rattle.hc_cuts.specs.Place.{place_of};
     ghost use Rattle.hc_cuts.specs.Starts.{most_read};
     ghost use Rattle.hc_tasks.specs.Areas.{list_by};
+    ghost use Rattle.hc_tasks.specs.Cursors.{StandInTasks};
     ghost use Rattle.hc_tasks.specs.Kept.{IsLine, crowded_from, line_kept, starts_by};
     ghost use Rattle.hc_tasks.specs.Recut.{recut_from, touched_from};
     ghost use Rattle.hc_tasks.specs.Turn.{HasTurn, IsTurn};
@@ -174,6 +176,26 @@ impl LineCuts {
         ensures { (line : List (List Area)) → self.now ≡ line_kept line → result ≡ place_of key (list_by task line) }
     {
         self.tasks[usize::from(task)].place(key)
+    }
+
+    /// A cursor before the first area of each task. It takes no memory.
+    pub(crate) fn cursors(&self) -> [Cursor; 8]
+        ensures { StandInTasks self.now result }
+    {
+        let _tasks = &self.tasks;
+        [Cursor::start(); 8]
+    }
+
+    /// The place of an area in a task, 0 to 7, as `place` gives it, by cursors that stand in the tasks and stand
+    /// in them again. It takes no memory.
+    pub(crate) fn place_from(&self, cursors: &mut [Cursor; 8], task: u8, key: Key) -> Option<Placed>
+        requires task { task < TASKS }
+        requires stood { StandInTasks self.now cursors.old }
+        ensures place { (line : List (List Area)) → self.now ≡ line_kept line → result ≡ place_of key (list_by task line) }
+        ensures stand { StandInTasks self.now cursors.new }
+    {
+        let task = usize::from(task);
+        self.tasks[task].place_from(&mut cursors[task], key)
     }
 
     /// A copy of the boundaries of the eight tasks, to be compared with later ones. It takes no memory.

@@ -45,11 +45,11 @@ other-one false b is = refl
 
 -- its place, and whether it stands in a datagram that isn't kept
 
-pub place-is : (it : Outlook) (before : Before) (cuts : List Kept) → IsSight it before cuts → (station rank index : ℕ) (area : Area) (key : Key) (place : Option Placed)
+pub place-is : (it : Outlook) (cuts : List Kept) → cuts ≡ line_kept (areas_by_rank it.new) → (station rank index : ℕ) (area : Area) (key : Key) (place : Option Placed)
     → key ≡ key_of (area_by station rank index area) → ((slaves : List (List Area)) → cuts ≡ line_kept slaves → place ≡ place_in key (list_by area.task slaves))
     → place ≡ place_of (line_from 1 it.new) (area_by station rank index area)
-place-is it before cuts sight station rank index area key place named tells =
-    tells (areas_by_rank it.new) sight.turned ∙ ap (λ (k : Key). place_in k (list_by area.task (areas_by_rank it.new))) named
+place-is it cuts turned station rank index area key place named tells =
+    tells (areas_by_rank it.new) turned ∙ ap (λ (k : Key). place_in k (list_by area.task (areas_by_rank it.new))) named
     ∙ place-told it.new area.task (key_of (area_by station rank index area))
 
 pub kept-is : (it : Outlook) (before : Before) (cuts : List Kept) → IsSight it before cuts → (task number : ℕ) (kept : Bool)

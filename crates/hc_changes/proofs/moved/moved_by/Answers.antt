@@ -32,5 +32,5 @@ differing-requires-clause-new c = candidate-writable c.args.outlook.now.new c.re
 pub differing-requires-clause-old : goal.differing-requires-clause-old
 differing-requires-clause-old c =
     subst (λ (place : Option Placed). IsWritable c.args.found.now.index c.in-Some.area.now place)
-    (sym (c.place.ensures (areas_by_rank c.args.outlook.now.old) c.requires.trees))
+    (sym (c.place.ensures.place (areas_by_rank c.args.outlook.now.old) c.requires.trees))
     (had c.args.outlook.now _ c.args.found.now c.in-Some.area.now c.requires.outlook c.requires.stands c.found.view_is c.in-Some.ensures)

@@ -19,7 +19,7 @@ returns c =
     let found = c.args.found.now in
     let index = c.loop-candidate.candidate-index in
     let end : index ≡ length found = omega (arith, c.loop-candidate-test.false, c.loop-candidate.auto.candidate-index-end) in
-    c.loop-candidate.invariant
+    c.loop-candidate.invariant.names
     ∙ ap (λ (n : ℕ). flat_map (names_moved c.args.outlook.now) (take n found)) end
     ∙ ap (flat_map (names_moved c.args.outlook.now)) (take-length found)
     ∙ ap (flat_map (names_moved c.args.outlook.now)) c.requires.candidates

@@ -5,8 +5,8 @@ use Rattle.hc_changes.proofs.lemmas.FoundRanks.{areas-added, areas-end, rank-is,
 use Rattle.hc_changes.proofs.finding.Sight.add_slave.Goals as goal
 use Rattle.hc_changes.proofs.finding.Sight.add_slave.Goals.{in-Some+in_ok-push, in_default}
 
-pub judge-requires : goal.judge-requires
-judge-requires c =
+pub judge-requires-clause-task : goal.judge-requires-clause-task
+judge-requires-clause-task c =
     task-below c.self.inside.outlook.now.new c.args.rank c.loop-i.i c.areas_after-areas.result.now c.index-areas-i.result c.self.invariant.is.is_project
     c.areas_after-areas.ensures c.loop-i-test.true c.index-areas-i.is
 
@@ -25,22 +25,24 @@ loop-i-preserved c =
       | in-Some+in_ok-push w ↦
           record {
             areas = c.loop-i.invariant.areas;
+            places = c.judge.ensures.places ∙ c.loop-i.invariant.places;
             found =
                 ap (λ (items : List Candidate). items ++ rest) (ap (λ (vec : Vec Candidate Global). vec.items) w.found-is ∙ w.in_ok-push.ensures.items)
-                ∙ added (w.in-Some.candidate ∷ []) w.in-Some.ensures;
+                ∙ added (w.in-Some.candidate ∷ []) w.in-Some.ensures.found;
           }
       | in_default w ↦
           record {
             areas = c.loop-i.invariant.areas;
+            places = c.judge.ensures.places ∙ c.loop-i.invariant.places;
             found =
                 ap (λ (vec : Vec Candidate Global). vec.items ++ rest) w.found-is
                 ∙ ap (λ (items : List Candidate). items ++ rest) (sym (append-nil c.loop-i.found.items))
-                ∙ added [] w.in_default.ensures;
+                ∙ added [] w.in_default.ensures.found;
           }
     ]
 
-pub returns : goal.returns
-returns c =
+pub returns-clause-found : goal.returns-clause-found
+returns-clause-found c =
     let it = c.args.self.now in
     let found = c.args.found.now.items in
     let station = c.args.slave.now.station in

@@ -2,12 +2,18 @@ use Rattle.std.proofs.Common.{◌∙◌, ◌+◌, ◌≤◌, List, length, ap, r
 use Rattle.std.specs.Prelude.{slice_index_or}
 use Rattle.hc_records.specs.declared.records.Declared.{Declared}
 use Rattle.hc_tasks.specs.Areas.{areas_by_rank}
+use Rattle.hc_tasks.specs.Kept.{line_kept}
+use Rattle.hc_changes.specs.Outlook.{Outlook}
 use Rattle.hc_changes.proofs.lemmas.FoundAll.{found-all}
 use Rattle.hc_changes.proofs.lemmas.FoundRanks.{group-at, group-low, none-yet, taken-all}
 use Rattle.hc_changes.proofs.finding.Sight.all.Goals as goal
 
 pub loop-declared-init : goal.loop-declared-init
-loop-declared-init c = record { first = refl; found = c.new-found.ensures.items ∙ sym (none-yet c.args.self.now) }
+loop-declared-init c = record {
+  places = c.of-places.ensures ∙ c.self.invariant.turned ∙ ap (λ (o : Outlook). line_kept (areas_by_rank o.new)) c.self.view_is;
+  first = refl;
+  found = c.new-found.ensures.items ∙ sym (none-yet c.args.self.now);
+}
 
 pub add_group-requires-clause-group : goal.add_group-requires-clause-group
 add_group-requires-clause-group c =
