@@ -37,42 +37,6 @@ use Rattle.hc_places.proofs.lemmas.Same.{same-dirs}
 use Rattle.hc_plan.specs.Blocks.{IsMappedArea, IsMappedSlave}
 use Rattle.hc_plan.proofs.Numbered.{numbered-get}
 
--- two slaves of a line with one rank are one
-
-not-below : (members : List Member) (i j : ℕ) (a b : Member) → AllPairs RanksBelow members
-    → slice_get members i ≡ Some a → slice_get members j ≡ Some b → a.rank ≡ b.rank → i < j → a ≡ b
-not-below members i j a b ascending first second same below =
-    let inside = slice_get_within members j b second in
-    let ranks : (slice_index_or members i a).rank < (slice_index_or members j a).rank = ascending i j a below inside in
-    let one : (slice_index_or members i a).rank ≡ a.rank = ap (λ (m : Member). m.rank) (get_or_from_slice_get members i a a first) in
-    let two : (slice_index_or members j a).rank ≡ b.rank = ap (λ (m : Member). m.rank) (get_or_from_slice_get members j b a second) in
-    absurd (omega (arith, ranks, one, two, same))
-
-same-rank : (members : List Member) (i j : ℕ) (a b : Member) → AllPairs RanksBelow members
-    → slice_get members i ≡ Some a → slice_get members j ≡ Some b → a.rank ≡ b.rank → a ≡ b
-same-rank members i j a b ascending first second same = elim (cases_order i j) [
-  | inl equal ↦ cc
-  | inr (inl below) ↦ not-below members i j a b ascending first second same below
-  | inr (inr above) ↦ sym (not-below members j i b a ascending second first (sym same) above)
-]
-
--- a list's key has the width of the area that it names
-pub record NamesArea (line : List Member) (area : Keyed) : Type 0 where
-  pub named : (j : ℕ) (member : Member) (found : Area) → slice_get line j ≡ Some member → member.rank ≡ area.0.rank
-      → slice_get member.slave.areas area.0.area ≡ Some found → area.1 ≡ width found
-
-task-list-names : (task : ℕ) (members : List Member) → AllPairs RanksBelow members → All (NamesArea members) (task_list task members)
-task-list-names task members ascending =
-    task-list-all (NamesArea members) task members (λ dir i d inside k e below belonging. record {
-      named = λ j member found at rank named.
-          let own = slice_index_or members i d in
-          let same : own ≡ member = same-rank members i j own member ascending (slice_get-get_or members i d inside) at (sym rank) in
-          let numbered = numbered-get own.slave.areas k e below in
-          let area : Some (slice_index_or (enumerate_from 0 own.slave.areas) k e).1 ≡ Some found = sym numbered ∙ ap (λ (m : Member). slice_get m.slave.areas (slice_index_or (enumerate_from 0 own.slave.areas) k e).0) same ∙ named in
-          let one : (slice_index_or (enumerate_from 0 own.slave.areas) k e).1 ≡ found = cc in
-          ap width one;
-    })
-
 -- where no task is crowded, each has at most 16 datagrams
 
 neither-first : {X : Type 0} (b : Bool) (x : X) (rest : Option X) → cond b (Some x) rest ≡ None → (b ≡ false) × (rest ≡ None)
@@ -92,14 +56,13 @@ few-datagrams members task none below =
     ltb-false MOST_DATAGRAMS (datagram_count (task_places task members)) (ap test (sym (get_or_from_slice_get tasks task task task (task-at task below))) ∙ passes)
 
 -- the areas of a task's list with their places, in the line of a project that isn't crowded
-pub record StandsWell (members : List Member) (placed : Placed) : Type 0 where
+pub record StandsWell (placed : Placed) : Type 0 where
   pub packable : IsPackable (area_of placed)
-  pub names : NamesArea members (area_of placed)
   pub inside : LiesInside placed
   pub early : placed.datagram < MOST_DATAGRAMS
 
 pub places-stand : (groups : List Declared) (task : ℕ) → lowest_fault (map (λ declared. declared.group) groups) ≡ None → crowded_task (line_from 1 groups) ≡ None → task < TASKS
-    → All (StandsWell (line_from 1 groups)) (task_places task (line_from 1 groups))
+    → All StandsWell (task_places task (line_from 1 groups))
 places-stand groups task project uncrowded below i d under =
     let members = line_from 1 groups in
     let list = task_list task members in
@@ -110,7 +73,6 @@ places-stand groups task project uncrowded below i d under =
     let behind : (slice_index_or places i d).datagram + 1 ≤ datagram_count places = greatest-all (λ (placed : Placed). placed.datagram + 1) 0 places i d under in
     record {
       packable = All-unmap IsPackable area_of places (subst (All IsPackable) (sym (packed-areas opening list)) packable) i d under;
-      names = All-unmap (NamesArea members) area_of places (subst (All (NamesArea members)) (sym (packed-areas opening list)) (task-list-names task members (line-ascends 1 groups))) i d under;
       inside = packed-inside opening list packable i d under;
       early = omega (arith, behind, count);
     }
@@ -134,7 +96,7 @@ mapped-from (Some placed) f mapping P holds is = let same : f placed ≡ mapping
 
 area-mappable : (members : List Member) (j : ℕ) (member : Member) (index : ℕ) (area : Area) (placed : Placed) → area.task < TASKS
     → slice_get members j ≡ Some member → slice_get member.slave.areas index ≡ Some area
-    → StandsWell members placed → placed.key ≡ record { dir = area.dir; rank = member.rank; area = index }
+    → StandsWell placed → placed.key ≡ record { dir = area.dir; rank = member.rank; area = index }
     → IsMappable area (mapping_at area.task placed)
 area-mappable members j member index area placed task at found stands key =
     let bits : placed.bits ≡ width area = stands.names.named j member area at (sym (ap (λ (k : Key). k.rank) key)) (ap (λ (k : Key). slice_get member.slave.areas k.area) key ∙ found) in
@@ -160,7 +122,7 @@ area-mapped groups j member index area project uncrowded at found inside =
       mapped = λ mapping is.
           mapped-from (placed_in (layout_of members) area.task key) (mapping_at area.task) mapping (IsMappable area)
           (λ placed has.
-          let stands = find-holds (StandsWell members) (λ (p : Placed). same_key p.key key) (task_places area.task members) placed
+          let stands = find-holds StandsWell (λ (p : Placed). same_key p.key key) (task_places area.task members) placed
           (sym (placed-in-line members area.task key inside.task) ∙ has) (places-stand groups area.task project uncrowded inside.task) in
           area-mappable members j member index area placed inside.task at found stands.0 (same_key-is placed.key key stands.1))
           is;
