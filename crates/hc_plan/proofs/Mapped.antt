@@ -1,19 +1,17 @@
 -- In the line of a project every area's blocks can be written, by the places that packing gives.
-use Rattle.std.proofs.Common.{◌≡◌, ℕ, ◌+◌, ◌<◌, ◌≤◌, ◌==◌, ◌&&◌, Bool, true, false, List, [], ◌∷◌, refl, sym, ap, subst, ◌∙◌, arith, cond, inl, inr}
-use Rattle.std.specs.Prelude.{All, AllPairs, Option, Some, None, find, map, nat_lt, option_map, slice_get, slice_index_or}
-use Rattle.std.specs.List.{enumerate_from}
-use Rattle.std.proofs.lemmas.Bool.{and_parts, cases_order, eqb-true, ltb-false}
+use Rattle.std.proofs.Common.{◌≡◌, ℕ, ◌+◌, ◌<◌, ◌≤◌, Bool, true, false, List, [], ◌∷◌, refl, sym, ap, subst, ◌∙◌, arith, cond}
+use Rattle.std.specs.Prelude.{All, Option, Some, None, find, map, nat_lt, option_map, slice_get, slice_index_or}
+use Rattle.std.proofs.lemmas.Bool.{ltb-false}
 use Rattle.std.proofs.lemmas.List.Elements.{All-cons, All-nil}
-use Rattle.std.proofs.lemmas.Option.{get_or_from_slice_get, slice_get-get_or, slice_get_within}
+use Rattle.std.proofs.lemmas.Option.{get_or_from_slice_get, slice_get_within}
 use Rattle.hc_records.specs.declared.limits.TheConstants.{MOST_AREA_BITS, MOST_DATAGRAMS, TASKS}
-use Rattle.hc_records.specs.declared.records.Dir.{Dir}
 use Rattle.hc_records.specs.declared.records.Area.{Area}
 use Rattle.hc_records.specs.declared.records.Declared.{Declared}
 use Rattle.hc_records.specs.declared.keys.Key.{Key}
-use Rattle.hc_records.specs.Keys.{same_dir, same_key}
+use Rattle.hc_records.specs.Keys.{same_key}
 use Rattle.hc_records.specs.Area.{width}
 use Rattle.hc_records.specs.Line.{Member, State, line_from}
-use Rattle.hc_records.specs.TaskList.{Keyed, task_list}
+use Rattle.hc_records.specs.TaskList.{task_list}
 use Rattle.hc_records.specs.Packing.{Placed, opening, packed}
 use Rattle.hc_records.specs.Image.{datagram_count, task_places, tasks}
 use Rattle.hc_records.specs.Edits.{crowded_task}
@@ -22,20 +20,17 @@ use Rattle.hc_records.specs.Laws.{IsPackable, LiesInside}
 use Rattle.hc_records.specs.Limits.{IsAreaInside, IsSlaveInside}
 use Rattle.hc_records.proofs.lemmas.Greatest.{greatest-all}
 use Rattle.hc_records.proofs.lemmas.Inside.{packed-inside}
-use Rattle.hc_records.proofs.lemmas.Lines.{RanksBelow, line-ascends}
 use Rattle.hc_records.proofs.lemmas.Lists.{All-unmap}
 use Rattle.hc_records.proofs.lemmas.Packable.{project-packable}
 use Rattle.hc_records.proofs.lemmas.Packed.{area_of, packed-areas}
 use Rattle.hc_records.proofs.lemmas.Slaves.{line-inside}
-use Rattle.hc_records.proofs.lemmas.Tasks.{task-list-all}
 use Rattle.hc_registers.specs.declared.fmmu.Mapping.{Mapping}
 use Rattle.hc_registers.specs.Blocks.{IsMappable, mapping_at}
 use Rattle.hc_places.specs.Layout.{layout_of, placed_in}
 use Rattle.hc_places.proofs.lemmas.Found.{find-holds}
 use Rattle.hc_places.proofs.lemmas.Layouts.{placed-in-line, task-at}
-use Rattle.hc_places.proofs.lemmas.Same.{same-dirs}
-use Rattle.hc_plan.specs.Blocks.{IsMappedArea, IsMappedSlave}
-use Rattle.hc_plan.proofs.Numbered.{numbered-get}
+use Rattle.hc_plan.specs.Blocks.{IsMappedArea, IsMappedSlave, bits_in}
+use Rattle.hc_plan.proofs.Widths.{area-bits, bits_of}
 
 -- where no task is crowded, each has at most 16 datagrams
 
@@ -77,29 +72,14 @@ places-stand groups task project uncrowded below i d under =
       early = omega (arith, behind, count);
     }
 
-same_key-is : (a b : Key) → same_key a b ≡ true → a ≡ b
-same_key-is a b same =
-    let parts = and_parts (same_dir a.dir b.dir && (a.rank == b.rank)) (a.area == b.area) same in
-    let front = and_parts (same_dir a.dir b.dir) (a.rank == b.rank) parts.0 in
-    let dir = same-dirs a.dir b.dir front.0 in
-    let rank = eqb-true a.rank b.rank front.1 in
-    let area = eqb-true a.area b.area parts.1 in
-    ap (λ (d : Dir). record { dir = d; rank = a.rank; area = a.area }) dir
-    ∙ ap (λ (r : ℕ). record { dir = b.dir; rank = r; area = a.area }) rank
-    ∙ ap (λ (n : ℕ). record { dir = b.dir; rank = b.rank; area = n }) area
-
 -- an area's place in its task's list is where its FMMU maps it
 
 mapped-from : (o : Option Placed) (f : Placed → Mapping) (mapping : Mapping) (P : Mapping → Type 0) → ((placed : Placed) → o ≡ Some placed → P (f placed)) → option_map f o ≡ Some mapping → P mapping
 mapped-from None f mapping P holds is = cc
 mapped-from (Some placed) f mapping P holds is = let same : f placed ≡ mapping = cc in subst P same (holds placed refl)
 
-area-mappable : (members : List Member) (j : ℕ) (member : Member) (index : ℕ) (area : Area) (placed : Placed) → area.task < TASKS
-    → slice_get members j ≡ Some member → slice_get member.slave.areas index ≡ Some area
-    → StandsWell placed → placed.key ≡ record { dir = area.dir; rank = member.rank; area = index }
-    → IsMappable area (mapping_at area.task placed)
-area-mappable members j member index area placed task at found stands key =
-    let bits : placed.bits ≡ width area = stands.names.named j member area at (sym (ap (λ (k : Key). k.rank) key)) (ap (λ (k : Key). slice_get member.slave.areas k.area) key ∙ found) in
+area-mappable : (area : Area) (placed : Placed) → area.task < TASKS → placed.bits ≡ width area → StandsWell placed → IsMappable area (mapping_at area.task placed)
+area-mappable area placed task bits stands =
     let some : 0 < placed.bits = stands.packable.some in
     let inside : placed.bit + placed.bits ≤ MOST_AREA_BITS = stands.inside in
     let early = stands.early in
@@ -115,16 +95,18 @@ area-mapped : (groups : List Declared) (j : ℕ) (member : Member) (index : ℕ)
 area-mapped groups j member index area project uncrowded at found inside =
     let members = line_from 1 groups in
     let key : Key = record { dir = area.dir; rank = member.rank; area = index } in
+    let bits : bits_in (layout_of members) area.task key ≡ width area = area-bits groups j member index area inside.task at found in
     record {
       manager = inside.manager;
       task = inside.task;
       narrow = inside.narrow;
+      bits = bits;
       mapped = λ mapping is.
           mapped-from (placed_in (layout_of members) area.task key) (mapping_at area.task) mapping (IsMappable area)
           (λ placed has.
           let stands = find-holds StandsWell (λ (p : Placed). same_key p.key key) (task_places area.task members) placed
           (sym (placed-in-line members area.task key inside.task) ∙ has) (places-stand groups area.task project uncrowded inside.task) in
-          area-mappable members j member index area placed inside.task at found stands.0 (same_key-is placed.key key stands.1))
+          area-mappable area placed inside.task (ap bits_of (sym has) ∙ bits) stands.0)
           is;
     }
 

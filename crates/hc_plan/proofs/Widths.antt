@@ -1,6 +1,6 @@
 -- A layout has the width of each area of its line beside the area's place; an area without a place has 0 bits.
-use Rattle.std.proofs.Common.{◌≡◌, ℕ, ◌<◌, ◌==◌, ◌&&◌, Bool, true, false, List, [], ◌∷◌, refl, sym, ap, ◌∙◌, arith, cond, if◌then◌else◌}
-use Rattle.std.specs.Prelude.{Option, Some, None, find, map, option_map, slice_get}
+use Rattle.std.proofs.Common.{◌≡◌, ℕ, ◌<◌, ◌&&◌, Bool, true, false, List, [], ◌∷◌, refl, ap, ◌∙◌, cond, if◌then◌else◌}
+use Rattle.std.specs.Prelude.{Option, Some, find, map, option_map, slice_get}
 use Rattle.std.specs.List.{enumerate_from}
 use Rattle.std.specs.Option.{option_map_or}
 use Rattle.std.proofs.lemmas.Bool.{eq-eqb}
@@ -20,7 +20,7 @@ use Rattle.hc_cuts.specs.Place.{place_of}
 use Rattle.hc_tasks.specs.Areas.{area_in, areas_by_rank, own_width}
 use Rattle.hc_tasks.proofs.lemmas.Told.{width-told}
 use Rattle.hc_changes.proofs.lemmas.ByRank.{area-named}
-use Rattle.hc_places.specs.Layout.{layout_of, placed_in}
+use Rattle.hc_places.specs.Layout.{layout_of}
 use Rattle.hc_places.proofs.lemmas.Layouts.{placed-in-line}
 use Rattle.hc_plan.specs.Blocks.{bits_in}
 use Rattle.hc_plan.proofs.Numbered.{get-numbered-from-0}
