@@ -1,15 +1,5 @@
 //! How far a datagram of a task is filled before a key: where many areas of a task are placed in the order of
 //! its list, each fill goes on from the one before it.
-ghost use Rattle.std.specs.Prelude.{◌≡◌, ◌+◌, ◌<◌, ◌≤◌, ◌∷◌, ◌++◌, [], IsTrue, List, length, slice_index_or, true};
-ghost use Rattle.hc_records.specs.Boundaries.{boundaries};
-ghost use Rattle.hc_records.specs.Keys.{is_before, is_within};
-ghost use Rattle.hc_records.specs.TaskList.{Keyed};
-ghost use Rattle.hc_records.specs.declared.keys.TheConstants.Key.{END};
-ghost use Rattle.hc_records.specs.declared.limits.TheConstants.{MOST_DATAGRAMS};
-ghost use Rattle.hc_bitsum.specs.Tree.{HoldsTaskList};
-ghost use Rattle.hc_cuts.specs.Cursors.{StandsIn};
-ghost use Rattle.hc_cuts.specs.Place.{place_of};
-
 use crate::cuts::end_of;
 use crate::packing::{Front, Placed};
 use crate::place::carrier;

@@ -89,7 +89,7 @@ impl Cuts {
     ghost use Rattle.std.specs.Prelude.{◌≡◌, ◌+◌, ◌*◌, ◌≤◌, ◌∷◌, ◌++◌, List, [], IfOk, OnErr, OnOk, length};
     ghost use Rattle.hc_records.specs.declared.limits.TheConstants.{MOST_AREA_BITS, MOST_DATAGRAMS, MOST_SLAVES};
     ghost use Rattle.hc_records.specs.TaskList.{Keyed};
-    ghost use Rattle.hc_records.specs.Boundaries.{is_touched, unsettled_spans};
+    ghost use Rattle.hc_records.specs.Boundaries.{is_touched, unsettled_spans, width_in};
     ghost use Rattle.hc_bitsum.specs.Tree.{HasPlace, HoldsTaskList, with_width};
     ghost use Rattle.hc_cuts.specs.Cursors.{StandsIn};
     ghost use Rattle.hc_cuts.specs.Hulls.{AreHulls};
@@ -277,6 +277,14 @@ impl Cuts {
             add_span(&mut places, &self.tree, span, i as u16, steps)?;
         }
         Ok(places)
+    }
+
+    /// The width in bits of its area with a key, any key; 0 where it has no such area. It takes no memory and
+    /// no steps.
+    pub fn bits(&self, key: Key) -> u16
+        ensures { result ≡ width_in self.now.tree.list key }
+    {
+        self.tree.bits(key)
     }
 
     /// The place of its area with a key, any key: the datagram that carries it, and its first bit there;

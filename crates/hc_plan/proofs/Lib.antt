@@ -8,4 +8,5 @@ pub mod Opening
 pub mod Registers
 pub mod Telling
 pub mod Turned
+pub mod Widths
 pub mod lemmas

@@ -1,8 +1,9 @@
 -- The blocks of a slave, by the places that a layout has for its areas.
 use Rattle.std.specs.Prelude.{◌≡◌, ℕ, ◌<◌, ◌≤◌, ◌%◌, ◌==◌, if◌then◌else◌, List, [], ◌∷◌, ◌++◌, drop, length, option_map, slice_get, Option, Some, None}
-use Rattle.std.specs.Option.{ForSome}
+use Rattle.std.specs.Option.{ForSome, option_map_or}
 use Rattle.std.specs.List.{enumerate_from, flat_map}
 use Rattle.hc_records.specs.declared.limits.TheConstants.{LAST_SYNC_MANAGER, MOST_AREA_BITS, MOST_AREAS, TASKS}
+use Rattle.hc_records.specs.declared.keys.Key.{Key}
 use Rattle.hc_records.specs.declared.records.Area.{Area}
 use Rattle.hc_records.specs.declared.records.Declared.{Declared}
 use Rattle.hc_records.specs.Area.{width}
@@ -18,6 +19,10 @@ use Rattle.hc_places.specs.Layout.{layout_of, placed_in}
 abbrev pub mapping_in : List (List Placed) → ℕ → ℕ → Area → Option Mapping
 mapping_in layout rank index area =
     option_map (mapping_at area.task) (placed_in layout area.task (record { dir = area.dir; rank = rank; area = index }))
+
+-- the width that a layout has beside the place of a key in a task; 0 where it has none
+abbrev pub bits_in : List (List Placed) → ℕ → Key → ℕ
+bits_in layout task key = option_map_or (λ placed. placed.bits) (placed_in layout task key) 0
 
 abbrev pub fmmu_block_in : List (List Placed) → ℕ → ℕ × Area → RegisterBlock
 fmmu_block_in layout rank e = fmmu_block e.0 e.1 (mapping_in layout rank e.0 e.1)
@@ -47,11 +52,12 @@ pub record IsLaidOut (groups : List Declared) (layout : List (List Placed)) : Ty
   pub uncrowded : crowded_task (line_from 1 groups) ≡ None
   pub stands : layout ≡ layout_of (line_from 1 groups)
 
--- an area whose blocks can be written, where its slave has a rank and it an index
+-- an area whose blocks can be written, where its slave has a rank and it an index; a layout tells its width
 pub record IsMappedArea (layout : List (List Placed)) (rank index : ℕ) (area : Area) : Type 0 where
   pub manager : area.sm ≤ LAST_SYNC_MANAGER
   pub task : area.task < TASKS
   pub narrow : width area ≤ MOST_AREA_BITS
+  pub bits : bits_in layout area.task (record { dir = area.dir; rank = rank; area = index }) ≡ width area
   pub mapped : ForSome (mapping_in layout rank index area) (IsMappable area)
 
 -- a slave of the line that a layout is of

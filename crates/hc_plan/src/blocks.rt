@@ -4,11 +4,12 @@ ghost use Rattle.std.specs.Iterator.{YieldsFirst, item_count};
 ghost use Rattle.std.specs.Option.{ForSome};
 ghost use Rattle.hc_records.specs.declared.limits.TheConstants.{MOST_AREAS, TASKS};
 ghost use Rattle.hc_records.specs.Line.{line_from};
-ghost use Rattle.hc_registers.specs.Blocks.{line_blocks};
+ghost use Rattle.hc_registers.specs.Blocks.{line_blocks, mapping_at};
 ghost use Rattle.hc_plan.specs.Configuration.{at_station, block_at, line_block_at};
-ghost use Rattle.hc_plan.specs.Blocks.{IsLaidOut, IsMappedArea, IsMappedSlave, area_block_in, mapping_in, own_left, slave_blocks_in};
+ghost use Rattle.hc_plan.specs.Blocks.{IsLaidOut, IsMappedArea, IsMappedSlave, area_block_in, own_left, slave_blocks_in};
 
 use crate::laid::Laid;
+use hc_cuts::packing::Placed;
 use hc_index::index::Indexed;
 use hc_records::keys::Key;
 use hc_records::line::{LineMembers, Member, members};
@@ -62,34 +63,40 @@ impl<'a> Model for LineBlocks<'a> {
     ghost invariant = { λ left. ForSome left.member (IsMappedSlave left.layout) × All (IsMappedSlave left.layout) left.members };
 }
 
-/// Where the area at an index of a slave with a rank is mapped; none where it has 0 bits.
-fn mapping(layout: &Laid, rank: u16, index: u8, area: &Area) -> Option<Mapping>
-    requires { area.now.task < TASKS }
-    ensures { result ≡ mapping_in layout.now rank index area.now }
+/// Where an area that has a place in a task is mapped.
+fn mapping(task: u8, placed: Placed) -> Mapping
+    requires { task < TASKS }
+    ensures { result ≡ mapping_at task placed }
+{
+    Mapping {
+        address: logical_address(task, placed.datagram()),
+        bit: placed.bit(),
+    }
+}
+
+/// One of the two blocks of the area at an index of a slave with a rank: the sync manager block for an
+/// even number, the FMMU block for an odd one. The layout tells the area's width, so no PDO is read.
+fn area_block(layout: &Laid, rank: u16, index: u8, area: &Area, number: u8) -> Block
+    requires index { index < MOST_AREAS }
+    requires area { IsMappedArea layout.now rank index area.now }
+    ensures { result ≡ area_block_in layout.now rank number (index, area.now) }
 {
     let key = Key {
         dir: area.dir,
         rank,
         area: index,
     };
-    let placed = layout.placed(area.task, key)?;
-    Some(Mapping {
-        address: logical_address(area.task, placed.datagram()),
-        bit: placed.bit(),
-    })
-}
-
-/// One of the two blocks of the area at an index of a slave with a rank: the sync manager block for an
-/// even number, the FMMU block for an odd one.
-fn area_block(layout: &Laid, rank: u16, index: u8, area: &Area, number: u8) -> Block
-    requires index { index < MOST_AREAS }
-    requires area { IsMappedArea layout.now rank index area.now }
-    ensures { result ≡ area_block_in layout.now rank number (index, area.now) }
-{
     if number % 2 == 0 {
-        return Block::sync_manager(area);
+        let bits = layout.bits(area.task, key);
+        return Block::sized_sync_manager(area, bits);
     }
-    Block::fmmu(index, area, mapping(layout, rank, index, area))
+    match layout.placed(area.task, key) {
+        Some(placed) => {
+            let mapping = mapping(area.task, placed);
+            Block::mapped_fmmu(index, area, placed.bits(), mapping)
+        }
+        None => Block::fmmu(index, area, None),
+    }
 }
 
 /// The block with a number, from 0, in the order of a slave with a rank; none where it has fewer.

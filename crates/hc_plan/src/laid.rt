@@ -35,6 +35,7 @@ impl<'a> Laid<'a> {
     ghost use Rattle.hc_places.specs.Layout.{layout_of, placed_in};
     ghost use Rattle.hc_tasks.specs.Areas.{areas_by_rank};
     ghost use Rattle.hc_tasks.specs.Kept.{line_kept};
+    ghost use Rattle.hc_plan.specs.Blocks.{bits_in};
 
     /// Those of the line of these groups, whose tasks are kept in these trees.
     pub(crate) fn of(groups: &'a [Declared], cuts: &'a LineCuts) -> Laid<'a>
@@ -51,5 +52,14 @@ impl<'a> Laid<'a> {
         ensures { result ≡ placed_in self.now task key }
     {
         self.cuts.place(task, key)
+    }
+
+    /// The width in bits of the area with a key in a task, 0 to 7; 0 where the task has no such area. It takes
+    /// no memory.
+    pub(crate) fn bits(&self, task: u8, key: Key) -> u16
+        requires { task < TASKS }
+        ensures { result ≡ bits_in self.now task key }
+    {
+        self.cuts.bits(task, key)
     }
 }

@@ -99,8 +99,11 @@ impl Plan {
     {
         let groups = opened_groups(alloc, project.into_groups().into_vec())?;
         let index = Index::new(alloc, groups.as_slice())?;
-        let OpenedLine { cuts, places } =
-            open_line::<Brand>(alloc, groups.as_slice(), Blank::new(1))?;
+        let OpenedLine { cuts, places } = open_line::<Brand>(
+            alloc,
+            groups.as_slice(),
+            Blank::new(1),
+        )?;
         Ok(Plan {
             groups,
             index,

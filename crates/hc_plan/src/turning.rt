@@ -73,11 +73,7 @@ pub(crate) fn turn_line<L: Ledger>(
 
 /// Turns the trees of what an edit makes of a line back to those of the line before it, where no task of
 /// either line is crowded.
-pub(crate) fn turn_back<L: Ledger>(
-    cuts: &mut LineCuts,
-    outlook: &Outlook<'_>,
-    steps: &mut Steps<L>,
-)
+pub(crate) fn turn_back<L: Ledger>(cuts: &mut LineCuts, outlook: &Outlook<'_>, steps: &mut Steps<L>)
     requires outlook { IsOutlook outlook.now }
     requires trees { cuts.old ≡ line_kept (areas_by_rank outlook.now.new) }
     requires fits { crowded_task (line_from 1 outlook.now.old) ≡ None }

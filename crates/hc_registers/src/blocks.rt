@@ -9,7 +9,7 @@ use crate::fmmu::{Mapping, fmmu_block, mapped_block};
 use crate::registers::{
     FMMU_BLOCK_BYTES, FMMU_BLOCKS, SYNC_MANAGER_BLOCK_BYTES, SYNC_MANAGER_BLOCKS,
 };
-use crate::sync_manager::sync_block;
+use crate::sync_manager::sized_block;
 use arrayvec::ArrayVec;
 use hc_records::records::Area;
 use std::marker::Model;
@@ -57,8 +57,18 @@ impl Block {
         requires number { area.now.sm ≤ LAST_SYNC_MANAGER }
         ensures { result ≡ sync_manager_block area.now }
     {
+        Block::sized_sync_manager(area, area.width())
+    }
+
+    /// The same by a caller that knows the area's width in bits: the area's PDOs aren't walked for it.
+    pub fn sized_sync_manager(area: &Area, bits: u16) -> Block
+        requires width { width area.now ≤ MOST_AREA_BITS }
+        requires number { area.now.sm ≤ LAST_SYNC_MANAGER }
+        requires bits { bits ≡ width area.now }
+        ensures { result ≡ sync_manager_block area.now }
+    {
         let mut bytes = ArrayVec::new();
-        for byte in sync_block(area) {
+        for byte in sized_block(area, bits) {
             bytes.push(byte);
         }
         Block {

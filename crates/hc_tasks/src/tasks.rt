@@ -48,6 +48,7 @@ fn absent_slaves<'a>(alloc: Global, slaves: usize) -> Result<Vec<SlaveAreas<'a>>
 impl LineCuts {
     ghost use Rattle.hc_records.specs.declared.records.Area.{Area};
     ghost use Rattle.std.specs.Prelude.{◌≡◌, ◌≢◌, ◌+◌, ◌*◌, ◌<◌, ◌≤◌, List, [], IfErr, IfOk, None, OnErr, OnOk, Some, length, map, option_map, replicate};
+    ghost use Rattle.hc_records.specs.Boundaries.{width_in};
     ghost use Rattle.hc_records.specs.Image.{inside};
     ghost use Rattle.hc_records.specs.Packing.{opening, packed};
     ghost use Rattle.hc_records.specs.declared.faults.EditFault.TheVariants.{Memory, TooManyDatagrams};
@@ -165,6 +166,15 @@ impl LineCuts {
         ensures { IfOk result (λ places. (line : List (List Area)) → self.now ≡ line_kept line → places.items ≡ packed opening (list_by task line)) }
     {
         self.tasks[usize::from(task)].places(alloc, steps)
+    }
+
+    /// The width in bits of an area in a task, 0 to 7, by its key, as `place` takes it; 0 where the task has no
+    /// such area. It takes no memory.
+    pub fn bits(&self, task: u8, key: Key) -> u16
+        requires { task < TASKS }
+        ensures { (line : List (List Area)) → self.now ≡ line_kept line → result ≡ width_in (list_by task line) key }
+    {
+        self.tasks[usize::from(task)].bits(key)
     }
 
     /// The place of an area in a task, 0 to 7, by its key, any key: the direction, the rank of the slave in

@@ -26,8 +26,8 @@ pub invariant_of-result : goal.invariant_of-result
 invariant_of-result c =
     let groups = c.as_slice-2.ensures in (
       opened-project c.into_groups.result c.in_ok-groups.groups
-      (c.in_ok-groups.ensures ∙ ap (map opened_group) c.into_vec.ensures)
-      (ap lowest_fault c.into_groups.ensures.value ∙ c.into_groups.ensures.kept),
+          (c.in_ok-groups.ensures ∙ ap (map opened_group) c.into_vec.ensures)
+          (ap lowest_fault c.into_groups.ensures.value ∙ c.into_groups.ensures.kept),
       subst (λ (g : List Declared). crowded_task (line_from 1 g) ≡ None) groups c.in_ok-cuts.ensures.accepted,
       c.in_ok-cuts.ensures.places ∙ ap (λ (g : List Declared). table_of (line_from 1 g)) groups,
       c.in_ok-cuts.ensures.kept ∙ ap (λ (g : List Declared). line_kept (areas_by_rank g)) groups,

@@ -1,5 +1,5 @@
 use Rattle.std.proofs.Common.{◌≡◌, take}
-use Rattle.hc_registers.proofs.blocks.Block.sync_manager.Given as goal
+use Rattle.hc_registers.proofs.blocks.Block.sized_sync_manager.Given as goal
 
 -- the bytes so far are the first of the block
 abbrev pub invariant-loop-byte : goal.invariant-loop-byte
