@@ -1,10 +1,10 @@
 pub mod Candidates
 pub mod Compared
 pub mod Edited
-pub mod Found
 pub mod Laws
 pub mod Listed
 pub mod Moved
 pub mod Outlook
 pub mod Rows
 pub mod Tables
+pub mod inner

@@ -18,7 +18,7 @@ impl Ranks {
     ghost use Rattle.hc_records.specs.declared.keys.Key.{Key};
     ghost use Rattle.hc_records.specs.declared.records.Dir.TheVariants.{Out};
     ghost use Rattle.hc_records.specs.Keys.{is_before, is_within};
-    ghost use Rattle.hc_changes.specs.Found.{HoldRanks};
+    ghost use Rattle.hc_changes.specs.inner.Found.{HoldRanks};
 
     /// All ranks.
     const ALL: Ranks = Ranks {

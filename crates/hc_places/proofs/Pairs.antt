@@ -9,7 +9,7 @@ use Rattle.hc_records.specs.Packing.{Placed}
 use Rattle.hc_records.specs.Image.{datagram_count}
 use Rattle.hc_records.proofs.lemmas.Greatest.{greatest-all}
 use Rattle.hc_records.proofs.lemmas.Packed.{area_of}
-use Rattle.hc_places.specs.Parts.{AreSendable}
+use Rattle.hc_places.specs.inner.Parts.{AreSendable}
 use Rattle.hc_places.specs.Ranges.{OffersBits}
 use Rattle.hc_places.specs.Table.{Row}
 

@@ -21,7 +21,7 @@ use Rattle.hc_records.proofs.lemmas.Tasks.{listed}
 use Rattle.hc_places.specs.declared.table.Datagram.{Datagram}
 use Rattle.hc_places.specs.Table.{TaskTable, datagram_of, task_table}
 use Rattle.hc_places.specs.Loads.{table_at}
-use Rattle.hc_places.specs.Parts.{AreSendable, IsConfigurable, IsListable}
+use Rattle.hc_places.specs.inner.Parts.{AreSendable, IsConfigurable, IsListable}
 use Rattle.hc_places.proofs.lemmas.Loads.{datagram-same, datagram_at, is-loaded, map-agree}
 use Rattle.hc_records.proofs.lemmas.Tiles.{outputs-inside}
 use Rattle.hc_places.proofs.lemmas.Ranks.{expected-low}

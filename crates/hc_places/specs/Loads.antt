@@ -14,6 +14,14 @@ use Rattle.hc_places.specs.declared.loads.Load.{Load}
 use Rattle.hc_places.specs.declared.table.Datagram.{Datagram}
 use Rattle.hc_places.specs.Table.{Table, TaskTable, table_of, task_table}
 
+-- the keys of the areas that lie in a datagram
+abbrev pub keys_inside : ℕ → List Placed → List Key
+keys_inside d areas = map (λ area. area.key) (inside d areas)
+
+-- what the areas of a datagram add to its working counter, in their order
+abbrev pub counted_inside : ℕ → List Placed → ℕ
+counted_inside d areas = counted_from None (keys_inside d areas)
+
 -- the bytes of areas that lie in one datagram, up to the last used one
 abbrev pub load_length : List Placed → ℕ
 load_length areas = (end_of areas + 7) / 8

@@ -4,7 +4,7 @@ ghost use Rattle.std.specs.List.{flat_map};
 ghost use Rattle.hc_records.specs.Area.{width};
 ghost use Rattle.hc_records.specs.TaskList.{belongs, keyed, slave_areas, task_areas};
 ghost use Rattle.hc_records.specs.declared.limits.TheConstants.{MOST_AREA_BITS};
-ghost use Rattle.hc_places.specs.Parts.{IsListable};
+ghost use Rattle.hc_places.specs.inner.Parts.{IsListable};
 
 use hc_records::keys::Key;
 use hc_records::line::Member;

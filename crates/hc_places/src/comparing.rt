@@ -2,7 +2,7 @@
 ghost use Rattle.std.specs.Prelude.{◌≡◌, ◌+◌, ◌<◌, ◌++◌, ◌==◌, ℕ, All, IfOk, find, length, option_map, option_to_list, slice_get};
 ghost use Rattle.hc_records.specs.declared.limits.TheConstants.{TASKS};
 ghost use Rattle.hc_places.specs.Swap.{ChangesAscend, IsNewTask, same_place};
-ghost use Rattle.hc_places.specs.Walk.{changes, walked};
+ghost use Rattle.hc_places.specs.inner.Walk.{changes, walked};
 
 use crate::swap::{ChangedRow, ChangedTask};
 use crate::table::{Place, Places, Row, TaskTable};

@@ -3,7 +3,7 @@ ghost use Rattle.std.specs.Prelude.{◌≡◌, ◌<◌};
 ghost use Rattle.hc_records.specs.Image.{datagram_count};
 ghost use Rattle.hc_records.specs.declared.limits.TheConstants.{TASKS};
 ghost use Rattle.hc_places.specs.Loads.{table_at};
-ghost use Rattle.hc_places.specs.Parts.{AreSendable};
+ghost use Rattle.hc_places.specs.inner.Parts.{AreSendable};
 
 use crate::loads::Load;
 use crate::table::TaskTable;

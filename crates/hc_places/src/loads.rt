@@ -6,7 +6,7 @@ ghost use Rattle.hc_records.specs.Laws.{LiesInside};
 ghost use Rattle.hc_records.specs.declared.limits.TheConstants.{MOST_DATAGRAM_BYTES};
 ghost use Rattle.hc_records.specs.declared.records.Dir.TheVariants.{In};
 ghost use Rattle.hc_places.specs.Loads.{load_length};
-ghost use Rattle.hc_places.specs.Parts.{counted_inside};
+ghost use Rattle.hc_places.specs.Loads.{counted_inside};
 
 use crate::table::{Datagram, Places, TaskTable};
 use arrayvec::ArrayVec;
@@ -70,7 +70,7 @@ impl Load {
     ghost use Rattle.std.specs.Prelude.{◌≡◌, ◌<◌, All};
     ghost use Rattle.hc_records.specs.Laws.{LiesInside};
     ghost use Rattle.hc_places.specs.Loads.{IsLoad, load_in};
-    ghost use Rattle.hc_places.specs.Parts.{counted_inside};
+    ghost use Rattle.hc_places.specs.Loads.{counted_inside};
 
     /// What the datagram with a number holds of areas, which may lie in other datagrams too.
     pub fn of(areas: &[Placed], number: u16) -> Load

@@ -5,7 +5,7 @@ ghost use Rattle.std.specs.List.{AllWithin};
 ghost use Rattle.hc_places.specs.Room.{AreBelow};
 ghost use Rattle.hc_places.specs.Swap.{ChangesAscend, KeepRows, keeps_row, new_row, overwritten, row_with};
 ghost use Rattle.hc_places.specs.Table.{RowsAscend};
-ghost use Rattle.hc_places.specs.Walk.{merges, walked};
+ghost use Rattle.hc_places.specs.inner.Walk.{merges, walked};
 
 use crate::swap::ChangedRow;
 use crate::table::{Row, count_below};

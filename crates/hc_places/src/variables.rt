@@ -6,7 +6,7 @@ ghost use Rattle.hc_records.specs.Image.{area_variables, variables_from};
 ghost use Rattle.hc_records.specs.TaskList.{keyed};
 ghost use Rattle.hc_records.specs.declared.limits.TheConstants.{MOST_AREA_BITS, MOST_DATAGRAMS, TASKS};
 ghost use Rattle.hc_places.specs.Found.{IsFoundSuiting, area_rows, found_variables};
-ghost use Rattle.hc_places.specs.Parts.{AreSendable, row_at};
+ghost use Rattle.hc_places.specs.inner.Parts.{AreSendable, row_at};
 ghost use Rattle.hc_records.specs.Limits.{IsEntryInside};
 ghost use Rattle.hc_places.specs.Ranges.{OffersBits};
 

@@ -16,7 +16,7 @@ use Rattle.hc_changes.specs.Candidates.{Candidate}
 use Rattle.hc_changes.specs.Outlook.{IsOutlook, Outlook}
 use Rattle.hc_changes.specs.Rows.{StandsInside, changed_rows}
 use Rattle.hc_changes.proofs.lemmas.SwapSays.{candidates-stand, swap-says}
-use Rattle.hc_plan.specs.Applied.{AreSeen}
+use Rattle.hc_plan.specs.inner.Applied.{AreSeen}
 use Rattle.hc_plan.specs.Reports.{name_of}
 use Rattle.hc_plan.proofs.LineBlocks.{few-moved}
 

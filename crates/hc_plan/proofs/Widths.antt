@@ -22,7 +22,7 @@ use Rattle.hc_tasks.proofs.lemmas.Told.{width-told}
 use Rattle.hc_changes.proofs.lemmas.ByRank.{area-named}
 use Rattle.hc_places.specs.Layout.{layout_of}
 use Rattle.hc_places.proofs.lemmas.Layouts.{placed-in-line}
-use Rattle.hc_plan.specs.Blocks.{bits_in}
+use Rattle.hc_plan.specs.inner.Blocks.{bits_in}
 use Rattle.hc_plan.proofs.Numbered.{get-numbered-from-0}
 use Rattle.hc_plan.proofs.lemmas.Configured.{at-contained}
 

@@ -13,7 +13,7 @@ ghost use Rattle.hc_tasks.specs.Areas.{areas_by_rank};
 ghost use Rattle.hc_tasks.specs.Keeping.{StandsBefore};
 ghost use Rattle.hc_tasks.specs.Kept.{line_kept};
 ghost use Rattle.hc_changes.specs.Outlook.{IsOutlook};
-ghost use Rattle.hc_plan.specs.Applied.{AreSeen, Makes};
+ghost use Rattle.hc_plan.specs.inner.Applied.{AreSeen, Makes};
 ghost use Rattle.hc_plan.specs.Reports.{Tells, name_of};
 
 use crate::report::Report;

@@ -6,7 +6,7 @@ ghost use Rattle.hc_records.specs.declared.limits.TheConstants.{MOST_AREAS, TASK
 ghost use Rattle.hc_records.specs.Line.{line_from};
 ghost use Rattle.hc_registers.specs.Blocks.{line_blocks, mapping_at};
 ghost use Rattle.hc_plan.specs.Configuration.{at_station, block_at, line_block_at};
-ghost use Rattle.hc_plan.specs.Blocks.{IsLaidOut, IsMappedArea, IsMappedSlave, area_block_in, own_left, slave_blocks_in};
+ghost use Rattle.hc_plan.specs.inner.Blocks.{IsLaidOut, IsMappedArea, IsMappedSlave, area_block_in, own_left, slave_blocks_in};
 
 use crate::laid::Laid;
 use hc_cuts::packing::Placed;
@@ -54,7 +54,7 @@ impl<'a> Model for LineBlocks<'a> {
     ghost use Rattle.std.specs.Prelude.{All, List};
     ghost use Rattle.std.specs.Option.{ForSome};
     ghost use Rattle.hc_registers.specs.Blocks.{LineBlock};
-    ghost use Rattle.hc_plan.specs.Blocks.{IsMappedSlave, blocks_left};
+    ghost use Rattle.hc_plan.specs.inner.Blocks.{IsMappedSlave, blocks_left};
 
     ghost Value = { List LineBlock };
 

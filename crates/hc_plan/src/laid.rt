@@ -35,7 +35,7 @@ impl<'a> Laid<'a> {
     ghost use Rattle.hc_places.specs.Layout.{layout_of, placed_in};
     ghost use Rattle.hc_tasks.specs.Areas.{areas_by_rank};
     ghost use Rattle.hc_tasks.specs.Kept.{line_kept};
-    ghost use Rattle.hc_plan.specs.Blocks.{bits_in};
+    ghost use Rattle.hc_plan.specs.inner.Blocks.{bits_in};
 
     /// Those of the line of these groups, whose tasks are kept in these trees.
     pub(crate) fn of(groups: &'a [Declared], cuts: &'a LineCuts) -> Laid<'a>

@@ -5,8 +5,8 @@ ghost use Rattle.std.specs.List.{flat_map, list_any};
 ghost use Rattle.std.specs.Option.{ForSome};
 ghost use Rattle.hc_records.specs.Line.{line_from};
 ghost use Rattle.hc_registers.specs.Blocks.{moved_blocks, numbered, same_bytes};
-ghost use Rattle.hc_plan.specs.Blocks.{IsLaidOut, IsMappedSlave, slave_blocks_in};
-ghost use Rattle.hc_plan.specs.Moved.{has_block_in, moved_in, moved_of};
+ghost use Rattle.hc_plan.specs.inner.Blocks.{IsLaidOut, IsMappedSlave, slave_blocks_in};
+ghost use Rattle.hc_plan.specs.inner.Moved.{has_block_in, moved_in, moved_of};
 
 use crate::blocks::{LineBlock, block_of};
 use crate::laid::Laid;

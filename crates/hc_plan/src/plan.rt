@@ -85,7 +85,7 @@ impl Plan {
     ghost use Rattle.hc_records.specs.Project.{lowest_fault};
     ghost use Rattle.hc_edits.specs.Edits.{own_fault};
     ghost use Rattle.hc_places.specs.Layout.{NamesCrowded};
-    ghost use Rattle.hc_plan.specs.Blocks.{IsLaidOut};
+    ghost use Rattle.hc_plan.specs.inner.Blocks.{IsLaidOut};
     ghost use Rattle.hc_plan.specs.Configuration.{block_at, config, line_block_at, position_of, station_at};
     ghost use Rattle.hc_plan.specs.Reports.{AreAnswers, Tells, carried};
 

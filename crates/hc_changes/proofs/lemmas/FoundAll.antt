@@ -14,7 +14,7 @@ use Rattle.hc_tasks.specs.Areas.{areas_by_rank, present_areas}
 use Rattle.hc_tasks.proofs.lemmas.Told.{length-present}
 use Rattle.hc_changes.specs.Candidates.{Candidate, LineArea, areas_of, candidate_of, candidates, is_candidate, line_areas}
 use Rattle.hc_changes.specs.Edited.{HasEdit}
-use Rattle.hc_changes.specs.Found.{area_by, area_found, areas_found, found_among, found_below, rank_found, stations}
+use Rattle.hc_changes.specs.inner.Found.{area_by, area_found, areas_found, found_among, found_below, rank_found, stations}
 use Rattle.hc_changes.specs.Outlook.{IsOutlook, Outlook, changes}
 use Rattle.hc_changes.proofs.lemmas.Bare.{bare_slave, edit-keeps}
 use Rattle.hc_changes.proofs.lemmas.FoundRanks.{many-stations}

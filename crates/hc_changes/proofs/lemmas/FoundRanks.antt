@@ -12,7 +12,7 @@ use Rattle.hc_records.specs.Project.{lowest_fault}
 use Rattle.hc_tasks.specs.Areas.{areas_at, areas_by_rank, present_areas}
 use Rattle.hc_tasks.proofs.lemmas.Told.{length-present}
 use Rattle.hc_changes.specs.Candidates.{Candidate}
-use Rattle.hc_changes.specs.Found.{IsGroupAt, LieWithin, area_found, areas_found, found_below, rank_found, station_at, stations}
+use Rattle.hc_changes.specs.inner.Found.{IsGroupAt, LieWithin, area_found, areas_found, found_below, rank_found, station_at, stations}
 use Rattle.hc_changes.specs.Outlook.{IsOutlook, Outlook}
 use Rattle.hc_changes.proofs.lemmas.ByRank.{area-of-rank}
 use Rattle.hc_changes.proofs.lemmas.InARow.{areas-in-row, index-front}

@@ -33,7 +33,7 @@ use Rattle.hc_tasks.specs.Kept.{starts_by}
 use Rattle.hc_tasks.specs.Recut.{is_touched_by}
 use Rattle.hc_tasks.proofs.lemmas.Told.{task-listed}
 use Rattle.hc_changes.specs.Candidates.{is_recut}
-use Rattle.hc_changes.specs.Found.{HoldChanged, HoldRanks, HoldRecut, IsSight, LieWithin, area_by, areas_found, rank_found, station_at}
+use Rattle.hc_changes.specs.inner.Found.{HoldChanged, HoldRanks, HoldRecut, IsSight, LieWithin, area_by, areas_found, rank_found, station_at}
 use Rattle.hc_changes.specs.Outlook.{IsOutlook, Outlook, changes}
 use Rattle.hc_changes.proofs.lemmas.Finding.{unrecut-none, untouched-kept}
 use Rattle.hc_changes.proofs.lemmas.FoundRanks.{above-none, task-below}

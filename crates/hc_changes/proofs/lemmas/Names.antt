@@ -15,7 +15,7 @@ use Rattle.hc_records.specs.Packing.{Placed}
 use Rattle.hc_records.specs.Project.{entry_names, pdo_names}
 use Rattle.hc_records.proofs.lemmas.Entries.{HasEntryWidths}
 use Rattle.hc_places.specs.Found.{area_rows}
-use Rattle.hc_places.specs.Parts.{row_at}
+use Rattle.hc_places.specs.inner.Parts.{row_at}
 use Rattle.hc_places.specs.Table.{Row}
 use Rattle.hc_changes.specs.Rows.{area_variables_of}
 use Rattle.hc_changes.proofs.lemmas.Lists.{contains-behind, contains-first, contains-flat_map, flat_map-piece, found-among}

@@ -13,7 +13,7 @@ use Rattle.hc_records.proofs.lemmas.Inside.{packed-inside}
 use Rattle.hc_tasks.specs.Areas.{areas_by_rank, list_by}
 use Rattle.hc_tasks.proofs.lemmas.Told.{task-listed}
 use Rattle.hc_places.specs.Loads.{load_in, load_of, table_at}
-use Rattle.hc_places.specs.Parts.{counted_inside}
+use Rattle.hc_places.specs.Loads.{counted_inside}
 use Rattle.hc_places.specs.Table.{task_table}
 use Rattle.hc_places.proofs.Configurable.{project-configurable}
 use Rattle.hc_places.proofs.lemmas.Ranks.{expected-low}

@@ -28,7 +28,8 @@ use Rattle.hc_cuts.proofs.lemmas.Datagrams.{inside-none, inside-numbered}
 use Rattle.hc_places.specs.declared.loads.Load.{Load}
 use Rattle.hc_places.specs.declared.table.Datagram.{Datagram}
 use Rattle.hc_places.specs.Loads.{load_in, load_in_table, load_of, load_told, loaded, no_load, told_of}
-use Rattle.hc_places.specs.Parts.{IsConfigurable, counted_inside}
+use Rattle.hc_places.specs.Loads.{counted_inside}
+use Rattle.hc_places.specs.inner.Parts.{IsConfigurable}
 use Rattle.hc_places.specs.Table.{TaskTable, datagram_of, table_of, task_table}
 use Rattle.hc_places.proofs.Configurable.{project-configurable}
 use Rattle.hc_places.proofs.lemmas.Found.{find-holds}

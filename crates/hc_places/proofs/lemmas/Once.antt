@@ -26,7 +26,7 @@ use Rattle.hc_records.proofs.lemmas.Lists.{All-flat_map, All-from_none}
 use Rattle.hc_records.proofs.lemmas.Projects.{project-assigned, project-names}
 use Rattle.hc_records.proofs.lemmas.Tasks.{listed}
 use Rattle.hc_places.specs.Table.{Row}
-use Rattle.hc_places.specs.Parts.{row_at}
+use Rattle.hc_places.specs.inner.Parts.{row_at}
 use Rattle.hc_places.proofs.lemmas.Totals.{total, total-append, total-enumerate, total-filter, total-flat_map, total-less, total-map, total-plus, total-same, total-swap, total-within, total-zero, total-zip}
 
 -- how often a variable stands at a number, in an entry, in an area's assigned entries, in a row, in an area's offered entries

@@ -4,7 +4,7 @@ use Rattle.hc_records.specs.Laws.{LiesInside}
 use Rattle.hc_records.specs.Packing.{Placed}
 use Rattle.hc_places.proofs.lemmas.Lines.{datagram-of}
 use Rattle.hc_places.specs.Loads.{load_in, load_told}
-use Rattle.hc_places.specs.Parts.{counted_inside}
+use Rattle.hc_places.specs.Loads.{counted_inside}
 use Rattle.hc_places.specs.Table.{Table}
 use Rattle.hc_tasks.specs.Areas.{areas_by_rank}
 use Rattle.hc_tasks.proofs.lemmas.Projects.{project-line}

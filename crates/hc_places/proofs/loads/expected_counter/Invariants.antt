@@ -1,6 +1,6 @@
 use Rattle.std.proofs.Common.{◌≡◌, ◌+◌, drop}
 use Rattle.hc_registers.specs.Counting.{counted_from}
-use Rattle.hc_places.specs.Parts.{counted_inside, keys_inside}
+use Rattle.hc_places.specs.Loads.{counted_inside, keys_inside}
 use Rattle.hc_places.proofs.loads.expected_counter.Given as goal
 
 abbrev pub invariant-loop-area : goal.invariant-loop-area

@@ -1,6 +1,6 @@
 use Rattle.std.proofs.Common.{◌≡◌, ◌+◌, ◌≤◌, ◌++◌, length}
 use Rattle.std.specs.Prelude.{vec_capacity}
-use Rattle.hc_places.specs.Walk.{merges, walked}
+use Rattle.hc_places.specs.inner.Walk.{merges, walked}
 use Rattle.hc_places.proofs.merging.merge.Given as goal
 
 -- what is added so far, and the changes and rows that are left, merged, are all, and find room

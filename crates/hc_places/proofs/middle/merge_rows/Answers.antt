@@ -3,7 +3,7 @@ use Rattle.std.specs.Prelude.{slice_range, vec_capacity}
 use Rattle.std.proofs.lemmas.List.{length-take}
 use Rattle.hc_places.specs.Swap.{ChangedRow, ChangesAscend, merged}
 use Rattle.hc_places.specs.Table.{Row, RowsAscend}
-use Rattle.hc_places.specs.Walk.{merges, walked}
+use Rattle.hc_places.specs.inner.Walk.{merges, walked}
 use Rattle.hc_places.proofs.Merged.{walked-merged}
 use Rattle.hc_places.proofs.Parted.{part-ascends, part-few}
 use Rattle.hc_places.proofs.Roomy.{merged-few}

@@ -1,7 +1,7 @@
 use Rattle.std.proofs.Common.{◌≡◌, ◌+◌, ◌<◌, ◌++◌, ◌∙◌, ap, sym, length, drop, get_or, arith}
 use Rattle.std.specs.List.{flat_map}
 use Rattle.hc_records.specs.Area.{entries_at}
-use Rattle.hc_places.specs.Parts.{row_at}
+use Rattle.hc_places.specs.inner.Parts.{row_at}
 use Rattle.hc_places.proofs.Widths.{entries-bits}
 use Rattle.hc_places.proofs.Entries.{AddsEntries, added-bits, added-rows, entries-drop}
 use Rattle.hc_places.proofs.variables.add_area.Goals as goal

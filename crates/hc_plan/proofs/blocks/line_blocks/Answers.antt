@@ -2,7 +2,7 @@ use Rattle.std.proofs.Common.{◌∙◌, None, sym, ap, subst}
 use Rattle.std.specs.Prelude.{All}
 use Rattle.hc_records.specs.Line.{line_from}
 use Rattle.hc_records.proofs.lemmas.Slaves.{project-counted}
-use Rattle.hc_plan.specs.Blocks.{IsMappedSlave, blocks_left}
+use Rattle.hc_plan.specs.inner.Blocks.{IsMappedSlave, blocks_left}
 use Rattle.hc_plan.proofs.LineBlocks.{laid-out-all, walk-begins}
 use Rattle.hc_plan.proofs.blocks.line_blocks.Goals as goal
 

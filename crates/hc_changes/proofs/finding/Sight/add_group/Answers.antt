@@ -2,7 +2,7 @@ use Rattle.std.proofs.Common.{◌≡◌, ◌∙◌, ◌+◌, ◌++◌, ℕ, List
 use Rattle.std.specs.Prelude.{slice_index_or}
 use Rattle.hc_records.specs.declared.records.Slave.{Slave}
 use Rattle.hc_changes.specs.Candidates.{Candidate}
-use Rattle.hc_changes.specs.Found.{found_below, rank_found}
+use Rattle.hc_changes.specs.inner.Found.{found_below, rank_found}
 use Rattle.hc_changes.proofs.lemmas.FoundRanks.{behind-passed, front-passed, group-areas, group-station, rank-added}
 use Rattle.hc_changes.proofs.finding.Sight.add_group.Goals as goal
 

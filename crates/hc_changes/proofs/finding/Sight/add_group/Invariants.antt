@@ -1,5 +1,5 @@
 use Rattle.std.proofs.Common.{◌≡◌, ◌+◌}
-use Rattle.hc_changes.specs.Found.{found_below}
+use Rattle.hc_changes.specs.inner.Found.{found_below}
 use Rattle.hc_changes.proofs.finding.Sight.add_group.Given as goal
 
 -- the candidates of the slaves so far

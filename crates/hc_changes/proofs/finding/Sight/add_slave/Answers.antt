@@ -1,6 +1,6 @@
 use Rattle.std.proofs.Common.{◌≡◌, ◌∙◌, ◌+◌, ◌++◌, List, [], ◌∷◌, Vec, Global, append-nil, ap, drop, sym}
 use Rattle.hc_changes.specs.Candidates.{Candidate}
-use Rattle.hc_changes.specs.Found.{area_found, areas_found}
+use Rattle.hc_changes.specs.inner.Found.{area_found, areas_found}
 use Rattle.hc_changes.proofs.lemmas.FoundRanks.{areas-added, areas-end, rank-is, task-below}
 use Rattle.hc_changes.proofs.finding.Sight.add_slave.Goals as goal
 use Rattle.hc_changes.proofs.finding.Sight.add_slave.Goals.{in-Some+in_ok-push, in_default}

@@ -1,6 +1,6 @@
 use Rattle.std.proofs.Common.{◌≡◌, ◌++◌, drop}
 use Rattle.hc_tasks.specs.Areas.{areas_at, areas_by_rank}
-use Rattle.hc_changes.specs.Found.{areas_found}
+use Rattle.hc_changes.specs.inner.Found.{areas_found}
 use Rattle.hc_changes.proofs.finding.Sight.add_slave.Given as goal
 
 -- the candidates so far, and those among the areas that are left, are all

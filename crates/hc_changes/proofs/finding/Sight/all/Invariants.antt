@@ -1,7 +1,7 @@
 use Rattle.std.proofs.Common.{◌≡◌, ◌+◌, length, take}
 use Rattle.hc_tasks.specs.Areas.{areas_by_rank}
 use Rattle.hc_tasks.specs.Kept.{line_kept}
-use Rattle.hc_changes.specs.Found.{found_below}
+use Rattle.hc_changes.specs.inner.Found.{found_below}
 use Rattle.hc_changes.proofs.finding.Sight.all.Given as goal
 
 -- the rank of the first slave of the groups that are left, and the candidates of those so far

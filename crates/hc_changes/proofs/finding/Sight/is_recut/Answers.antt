@@ -5,7 +5,7 @@ use Rattle.hc_records.specs.Line.{line_from}
 use Rattle.hc_records.specs.Packing.{Placed}
 use Rattle.hc_records.specs.TaskList.{task_list}
 use Rattle.hc_cuts.specs.Keeping.{is_kept}
-use Rattle.hc_changes.specs.Found.{IsSight}
+use Rattle.hc_changes.specs.inner.Found.{IsSight}
 use Rattle.hc_changes.specs.Outlook.{Outlook}
 use Rattle.hc_changes.proofs.lemmas.Finding.{kept-is}
 use Rattle.hc_changes.proofs.finding.Sight.is_recut.Goals as goal

@@ -1,7 +1,7 @@
 use Rattle.std.proofs.Common.{◌≡◌, ◌∙◌, false, ap, sym, subst}
 use Rattle.hc_records.specs.Line.{line_from}
 use Rattle.hc_changes.specs.Candidates.{place_of}
-use Rattle.hc_changes.specs.Found.{IsSight, area_by}
+use Rattle.hc_changes.specs.inner.Found.{IsSight, area_by}
 use Rattle.hc_changes.specs.Outlook.{Outlook, changes}
 use Rattle.hc_changes.proofs.lemmas.Finding.{changed-area, kept-area, place-is, recut-area, untouched-area}
 use Rattle.hc_changes.proofs.finding.Sight.judge.Goals as goal

@@ -1,7 +1,7 @@
 use Rattle.std.proofs.Common.{ℕ, subst, sym, ⊎_elim, arith}
 use Rattle.std.proofs.Math.Nat.{eq-or-lt_of_le}
 use Rattle.hc_changes.specs.declared.ranks.Ranks.{Ranks}
-use Rattle.hc_changes.specs.Found.{HoldChanged, HoldRecut, IsSight}
+use Rattle.hc_changes.specs.inner.Found.{HoldChanged, HoldRecut, IsSight}
 use Rattle.hc_changes.specs.Outlook.{Outlook}
 use Rattle.hc_changes.proofs.lemmas.FoundWithin.{all-within, changed-wider, recut-wider, untouched-held}
 use Rattle.hc_changes.proofs.finding.Sight.ranks.Goals as goal

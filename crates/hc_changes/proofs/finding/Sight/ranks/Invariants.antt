@@ -1,5 +1,5 @@
 use Rattle.std.proofs.Common.{ℕ, ◌<◌}
-use Rattle.hc_changes.specs.Found.{HoldChanged, HoldRecut}
+use Rattle.hc_changes.specs.inner.Found.{HoldChanged, HoldRecut}
 use Rattle.hc_changes.proofs.finding.Sight.ranks.Given as goal
 
 -- the ranks of the slaves that change, and those of the tasks so far

@@ -4,7 +4,7 @@ use Rattle.hc_records.specs.declared.keys.TheConstants.Key.{START, END}
 use Rattle.hc_records.specs.Keys.{is_before, is_within}
 use Rattle.hc_tasks.specs.Areas.{areas_by_rank}
 use Rattle.hc_changes.specs.declared.ranks.Ranks.{Ranks}
-use Rattle.hc_changes.specs.Found.{HoldRanks, IsSight}
+use Rattle.hc_changes.specs.inner.Found.{HoldRanks, IsSight}
 use Rattle.hc_changes.specs.Outlook.{Outlook}
 use Rattle.hc_changes.proofs.lemmas.Finding.{kept-is}
 use Rattle.hc_changes.proofs.lemmas.FoundWithin.{HoldFirst, kept-next, recut-held, recut-next, same-read}

@@ -1,4 +1,4 @@
-use Rattle.hc_changes.specs.Found.{HoldRanks}
+use Rattle.hc_changes.specs.inner.Found.{HoldRanks}
 use Rattle.hc_changes.proofs.lemmas.FoundWithin.{HoldFirst}
 use Rattle.hc_changes.proofs.finding.Sight.with_recut.Given as goal
 

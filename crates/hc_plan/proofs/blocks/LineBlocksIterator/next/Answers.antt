@@ -2,7 +2,7 @@ use Rattle.std.proofs.Common.{◌≡◌, ◌∙◌, subst}
 use Rattle.std.specs.Prelude.{All}
 use Rattle.std.proofs.lemmas.List.Elements.{All-head, All-tail}
 use Rattle.hc_records.specs.Line.{Member}
-use Rattle.hc_plan.specs.Blocks.{IsMappedSlave}
+use Rattle.hc_plan.specs.inner.Blocks.{IsMappedSlave}
 use Rattle.hc_plan.proofs.LineBlocks.{walk-goes}
 use Rattle.hc_plan.proofs.blocks.LineBlocksIterator.next.Goals as goal
 

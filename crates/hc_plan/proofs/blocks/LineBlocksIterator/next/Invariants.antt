@@ -1,7 +1,7 @@
 use Rattle.std.proofs.Common.{◌≡◌, length}
 use Rattle.std.specs.Prelude.{All}
 use Rattle.std.specs.Option.{ForSome}
-use Rattle.hc_plan.specs.Blocks.{IsMappedSlave, blocks_left}
+use Rattle.hc_plan.specs.inner.Blocks.{IsMappedSlave, blocks_left}
 use Rattle.hc_plan.proofs.blocks.LineBlocksIterator.next.Given as goal
 
 abbrev pub invariant-loop-found : goal.invariant-loop-found

@@ -15,14 +15,6 @@ use Rattle.hc_registers.specs.Counting.{counted_from}
 use Rattle.hc_places.specs.Ranges.{OffersBits}
 use Rattle.hc_places.specs.Table.{Row}
 
--- the keys of the areas that lie in a datagram
-abbrev pub keys_inside : ℕ → List Placed → List Key
-keys_inside d areas = map (λ area. area.key) (inside d areas)
-
--- what the areas of a datagram add to its working counter, in their order
-abbrev pub counted_inside : ℕ → List Placed → ℕ
-counted_inside d areas = counted_from None (keys_inside d areas)
-
 -- the row of a variable of an area, with its first bit and its bits
 abbrev pub row_at : ℕ → ℕ → Dir → ℕ × (ℕ × ℕ) → Row
 row_at task datagram dir found =

@@ -4,7 +4,7 @@ use Rattle.std.specs.List.{list_any}
 use Rattle.hc_records.specs.Line.{Member, is_at}
 use Rattle.hc_records.specs.Packing.{Placed}
 use Rattle.hc_registers.specs.Blocks.{LineBlock, RegisterBlock, numbered, same_bytes}
-use Rattle.hc_plan.specs.Blocks.{slave_blocks_in}
+use Rattle.hc_plan.specs.inner.Blocks.{slave_blocks_in}
 
 -- a slave, if it stands in the line that a layout is of, has a block
 abbrev pub has_block_in : List (List Placed) → Option Member → RegisterBlock → Bool
