@@ -1,6 +1,7 @@
 -- What the datagrams of a task hold, and the table of a task put together from that.
 use Rattle.std.specs.Prelude.{◌≡◌, ℕ, zero, suc, ◌+◌, ◌-◌, ◌/◌, ◌<◌, ◌≤◌, min, List, [], ◌∷◌, ◌++◌, None, find, length, map, slice_get}
 use Rattle.std.specs.Option.{option_map_or}
+use Rattle.hc_records.specs.declared.keys.Key.{Key}
 use Rattle.hc_records.specs.declared.limits.TheConstants.{MOST_DATAGRAM_BYTES, TASKS}
 use Rattle.hc_records.specs.declared.records.Declared.{Declared}
 use Rattle.hc_records.specs.declared.records.Dir.TheVariants.{In}

@@ -12,6 +12,7 @@ use Rattle.hc_records.specs.Packing.{Placed}
 use Rattle.hc_records.specs.Image.{datagram_count, datagram_length, expected_counter, inside, task_places}
 use Rattle.hc_records.specs.Laws.{Ascends, IsDatagramLength, IsPackable, LiesInside}
 use Rattle.hc_registers.specs.Counting.{counted_from}
+use Rattle.hc_places.specs.Loads.{counted_inside}
 use Rattle.hc_places.specs.Ranges.{OffersBits}
 use Rattle.hc_places.specs.Table.{Row}
 
