@@ -1,4 +1,4 @@
-//! The register blocks of the slaves of a line, by the places that a layout has for their areas.
+//! The register blocks of the slaves of a line, by the places and widths that a layout has for their areas.
 ghost use Rattle.std.specs.Prelude.{◌≡◌, [], ◌∷◌, ◌+◌, ◌*◌, ◌<◌, ◌≤◌, MatchOption, OnSome, length, option_map, slice_get};
 ghost use Rattle.std.specs.Iterator.{YieldsFirst, item_count};
 ghost use Rattle.std.specs.Option.{ForSome};

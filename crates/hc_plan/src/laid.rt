@@ -1,4 +1,4 @@
-//! Where the areas of a line stand: read from the trees of its tasks, for the register blocks.
+//! Where the areas of a line stand and how wide they are: read from the trees of its tasks, for the register blocks.
 use hc_cuts::packing::Placed;
 use hc_records::keys::Key;
 use hc_records::records::Declared;
