@@ -48,7 +48,8 @@ fn next_row<'a>(
 pub(crate) fn merge(into: Vec<Row>, changed: &[ChangedRow], old: &[Row]) -> Vec<Row>
     requires empty { into.items ≡ [] }
     requires room { length (walked merges old.now changed.now) ≤ vec_capacity into }
-    ensures { result.items ≡ walked merges old.now changed.now }
+    ensures items { result.items ≡ walked merges old.now changed.now }
+    ensures capacity { vec_capacity result ≡ vec_capacity into }
 {
     let mut rows = into;
     let mut changes = changed;

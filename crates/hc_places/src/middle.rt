@@ -126,8 +126,8 @@ fn replace_rows(rows: &mut Vec<Row>, low: usize, high: usize, new: &[Row])
 }
 
 /// Makes rows those with changes, with the help of memory that has room for all: those from the first
-/// change to the last are merged there and put back, or all are merged there and stay, where the rows' own
-/// memory has no room for the changes.
+/// change to the last are merged there and put back, or where the rows' own memory has no room for them,
+/// all are merged there and stay.
 fn merge_rows(rows: &mut Vec<Row>, changed: &[ChangedRow], into: Vec<Row>)
     requires ascends { RowsAscend rows.old.items }
     requires changes { ChangesAscend changed.now }
@@ -135,13 +135,14 @@ fn merge_rows(rows: &mut Vec<Row>, changed: &[ChangedRow], into: Vec<Row>)
     requires room { length (merged changed.now rows.old.items) ≤ vec_capacity into }
     ensures { rows.new.items ≡ merged changed.now rows.old.items }
 {
-    if rows.capacity() - rows.len() < changed.len() {
-        *rows = merge(into, changed, rows.as_slice());
-        return;
-    }
     let (low, high) = find_rows(rows.as_slice(), changed);
-    let new = merge(into, changed, &rows[low..high]);
-    replace_rows(rows, low, high, new.as_slice());
+    let mut new = merge(into, changed, &rows[low..high]);
+    if new.len() <= rows.capacity() - rows.len() + (high - low) {
+        replace_rows(rows, low, high, new.as_slice());
+    } else {
+        new.clear();
+        *rows = merge(new, changed, rows.as_slice());
+    }
 }
 
 /// The same, but changes in front of the first that brings or takes a row, and behind the last, are

@@ -56,8 +56,8 @@ fn change_rows(rows: &mut Vec<Row>, changed: &[ChangedRow], room: Option<Vec<Row
 }
 
 /// How many rows the memory for a table's change is taken for: all that there may be, and as many again
-/// where the table's own memory has no room for them, so that this memory, its own from then on, has room
-/// for more.
+/// where the table's own memory may have no room for them, so that this memory, its own from then on, has
+/// room for more.
 fn room_size(rows: &Vec<Row>, changed: &[ChangedRow]) -> usize
     ensures { length rows.now.items + length changed.now ≤ result }
 {
@@ -91,8 +91,8 @@ impl Places {
     /// Becomes the table that a swap leads to, in memory that was taken before: nothing can be refused.
     /// The rows of changed variables are looked up. In front of the first variable that appears or goes,
     /// and behind the last, they are overwritten where they stand; those between are merged in the room and
-    /// put back, and the rows behind are shifted once. Where the table's memory has no room for the
-    /// variables that may come, all rows are merged in the room, which is the table's from then on.
+    /// put back, and the rows behind are shifted once. Where the table's memory has no room for them, all
+    /// rows are merged in the room, which is the table's from then on.
     pub fn carry_out(&mut self, swap: &Swap, room: Room)
         requires { IsRoomFor swap.now.change self.old room }
         ensures { self.new ≡ swapped swap.now.change self.old }
