@@ -1,7 +1,6 @@
 -- What is worked out from the places of a task's areas.
-use Rattle.std.specs.Prelude.{◌≡◌, ◌≢◌, ℕ, ◌<◌, ◌≤◌, All, List, None, length, map}
+use Rattle.std.specs.Prelude.{◌≡◌, ◌≢◌, ℕ, ◌<◌, ◌≤◌, All, List, length}
 use Rattle.hc_records.specs.declared.limits.TheConstants.{MOST_AREA_BITS, MOST_AREAS, MOST_DATAGRAMS, MOST_SLAVES}
-use Rattle.hc_records.specs.declared.keys.Key.{Key}
 use Rattle.hc_records.specs.declared.records.Dir.{Dir}
 use Rattle.hc_records.specs.declared.faults.EditFault.{EditFault}
 use Rattle.hc_records.specs.declared.faults.EditFault.TheVariants.{Memory, TooManyDatagrams}
@@ -9,9 +8,8 @@ use Rattle.hc_records.specs.Area.{width}
 use Rattle.hc_records.specs.Line.{Member}
 use Rattle.hc_records.specs.TaskList.{task_list}
 use Rattle.hc_records.specs.Packing.{Placed}
-use Rattle.hc_records.specs.Image.{datagram_count, datagram_length, expected_counter, inside, task_places}
+use Rattle.hc_records.specs.Image.{datagram_count, datagram_length, expected_counter, task_places}
 use Rattle.hc_records.specs.Laws.{Ascends, IsDatagramLength, IsPackable, LiesInside}
-use Rattle.hc_registers.specs.Counting.{counted_from}
 use Rattle.hc_places.specs.Loads.{counted_inside}
 use Rattle.hc_places.specs.Ranges.{OffersBits}
 use Rattle.hc_places.specs.Table.{Row}
