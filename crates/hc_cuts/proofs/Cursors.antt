@@ -15,7 +15,7 @@ use Rattle.hc_records.proofs.lemmas.Spans.{IsListFrom, filter-keeps, list-behind
 use Rattle.hc_bitsum.specs.declared.filled.Filled.{Filled}
 use Rattle.hc_bitsum.specs.Filling.{areas_between, with_areas}
 use Rattle.hc_bitsum.specs.Tree.{HoldsTaskList, Tree}
-use Rattle.hc_bitsum.proofs.Nodes.{with_areas-append}
+use Rattle.hc_bitsum.proofs.lemmas.Fillings.{with_areas-append}
 use Rattle.hc_cuts.specs.declared.cursor.Cursor.{Cursor}
 use Rattle.hc_cuts.specs.Cursors.{StandsIn, unfilled}
 use Rattle.hc_cuts.specs.Place.{place_of}
