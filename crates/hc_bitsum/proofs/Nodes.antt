@@ -1,6 +1,6 @@
 -- What a branch's nodes stand for, and what a search comes to at them.
 use Rattle.std.specs.Prelude.{All}
-use Rattle.std.proofs.Common.{◌≡◌, ℕ, suc, ◌+◌, ◌-◌, ◌*◌, ◌/◌, ◌%◌, ◌^◌, ◌<◌, ◌≤◌, List, [], ◌∷◌, ◌++◌, length, get_or, refl, sym, ap, subst, ◌∙◌, arith}
+use Rattle.std.proofs.Common.{◌≡◌, ℕ, suc, ◌+◌, ◌-◌, ◌*◌, ◌/◌, ◌%◌, ◌^◌, ◌<◌, ◌≤◌, List, [], ◌++◌, length, get_or, refl, sym, ap, subst, ◌∙◌, arith}
 use Rattle.std.proofs.Math.Nat.{two-pow-succ}
 use Rattle.std.proofs.Math.Pow.{pow_mono}
 use Rattle.hc_records.specs.declared.records.Dir.{Dir}
@@ -11,7 +11,7 @@ use Rattle.hc_bitsum.specs.declared.row.Fit.{Fit}
 use Rattle.hc_bitsum.specs.declared.sum.Sum.{Sum}
 use Rattle.hc_bitsum.specs.declared.sum.Sum.TheVariants.{Empty}
 use Rattle.hc_bitsum.specs.Branch.{AreForks, AreRowSums, IsBranch, IsNode, areas_behind, first_of, node_areas, slots_of}
-use Rattle.hc_bitsum.specs.Filling.{with_area, with_areas}
+use Rattle.hc_bitsum.specs.Filling.{with_areas}
 use Rattle.hc_bitsum.specs.Rows.{IsRow, part, row_areas}
 use Rattle.hc_bitsum.specs.Search.{IsInRoom, scan}
 use Rattle.hc_bitsum.specs.Slots.{IsShaped}
@@ -21,6 +21,7 @@ use Rattle.hc_bitsum.proofs.Parts.{length-part, narrow-part, part-one, part-spli
 use Rattle.hc_bitsum.proofs.Room.{EndsBelow-sum_of, with_areas-few}
 use Rattle.hc_bitsum.proofs.Scan.{found-both, found-in, kept-end, not-through, scan-all, scan-append-through}
 use Rattle.hc_bitsum.proofs.Sums.{left-node, next-first, next-node, node-inside, node-parts, node-some, node-sum, node-within, right-node, root-first, row-first, up-left, up-right}
+use Rattle.hc_bitsum.proofs.lemmas.Fillings.{with_areas-append}
 
 pub few-rows : (levels : ℕ) → levels ≤ 11 → 2 ^ levels ≤ 2048
 few-rows levels low = pow_mono {j = 11} low
@@ -120,10 +121,6 @@ into-right branch height node room filled end some at is within =
     let all = scan-all room filled (node_areas branch (height - 1) (2 * node)) low in
     rw (node-parts branch.dir branch.rows.items branch.levels height node some at, is)
     (sym (scan-append-through room filled (node_areas branch (height - 1) (2 * node)) (node_areas branch (height - 1) (2 * node + 1)) _ all))
-
-pub with_areas-append : (filled : Filled) (xs ys : List Keyed) → with_areas filled (xs ++ ys) ≡ with_areas (with_areas filled xs) ys
-with_areas-append filled [] ys = refl
-with_areas-append filled (x ∷ xs) ys = with_areas-append (with_area filled x) xs ys
 
 -- what is beyond the room lies in the right part then
 pub beyond-right : (branch : Branch) (height node room : ℕ) (filled end : Filled) → 0 < height → IsNode branch.levels height node

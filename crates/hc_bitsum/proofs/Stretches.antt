@@ -18,7 +18,7 @@ use Rattle.hc_bitsum.specs.Rows.{part}
 use Rattle.hc_bitsum.specs.Slots.{IsNarrow, bits_at, key_at, stretch}
 use Rattle.hc_bitsum.specs.Tree.{has_width}
 use Rattle.hc_bitsum.proofs.From.{reached-by}
-use Rattle.hc_bitsum.proofs.Nodes.{with_areas-append}
+use Rattle.hc_bitsum.proofs.lemmas.Fillings.{with_areas-append}
 use Rattle.hc_bitsum.proofs.Parts.{length-part, part-split, stand-part}
 use Rattle.hc_bitsum.proofs.Room.{with_areas-few}
 use Rattle.hc_bitsum.proofs.Scan.{with_areas-le}

@@ -10,7 +10,8 @@ use Rattle.hc_bitsum.specs.Filling.{with_areas}
 use Rattle.hc_bitsum.specs.Rows.{part}
 use Rattle.hc_bitsum.specs.Strides.{StandsAt}
 use Rattle.hc_bitsum.specs.Sums.{ended}
-use Rattle.hc_bitsum.proofs.Nodes.{few-rows, read-end, with_areas-append}
+use Rattle.hc_bitsum.proofs.Nodes.{few-rows, read-end}
+use Rattle.hc_bitsum.proofs.lemmas.Fillings.{with_areas-append}
 use Rattle.hc_bitsum.proofs.Parts.{part-split}
 use Rattle.hc_bitsum.proofs.Scan.{with_areas-le}
 use Rattle.hc_bitsum.proofs.Sums.{double, level, more-by}

@@ -53,6 +53,23 @@ is_candidate changed old new found = changed found.member.rank || is_recut old n
 abbrev pub candidates : (ℕ → Bool) → List Member → List Member → List LineArea
 candidates changed old new = filter (is_candidate changed old new) (line_areas new)
 
+-- a candidate: its slave's station address and rank, its index in the slave's record, its own record, and where it stands
+pub record Candidate : Type 0 where
+  pub station : ℕ
+  pub rank : ℕ
+  pub index : ℕ
+  pub area : Area
+  pub place : Option Placed
+
+abbrev pub candidate_of : List Member → LineArea → Candidate
+candidate_of line found = record {
+  station = found.member.slave.station;
+  rank = found.member.rank;
+  index = found.index;
+  area = found.area;
+  place = place_of line found;
+}
+
 -- the two blocks of an area, by their numbers in the slave's order
 abbrev pub blocks_of : List Member → LineArea → List LineBlock
 blocks_of line found =

@@ -1,27 +1,28 @@
 -- What follows from the definitions. Each is the contract of a function of `laws`.
-use Rattle.std.specs.Prelude.{◌≡◌, ◌↔◌, ℕ, Bool, true, false, AllPairs, Contains, List, map, None, slice_get, Some}
+use Rattle.std.specs.Prelude.{◌≡◌, ◌↔◌, ◌==◌, ◌<◌, ℕ, Bool, true, false, All, AllPairs, Contains, List, find, map, None, option_map, slice_get, Some}
 use Rattle.std.specs.List.{flat_map}
 use Rattle.hc_records.specs.declared.edit.Edit.{Edit}
+use Rattle.hc_records.specs.declared.limits.TheConstants.{TASKS}
 use Rattle.hc_records.specs.declared.records.Declared.{Declared}
-use Rattle.hc_records.specs.Edits.{groups_after}
+use Rattle.hc_records.specs.Edits.{crowded_task, groups_after}
 use Rattle.hc_records.specs.Line.{Member, State, groups_of, line, line_from}
 use Rattle.hc_registers.specs.Blocks.{line_blocks, moved_blocks}
 use Rattle.hc_records.specs.TaskList.{Keyed, task_list}
 use Rattle.hc_records.specs.Packing.{Placed, opening, packed}
 use Rattle.hc_records.specs.Image.{inside, task_places}
 use Rattle.hc_records.specs.Project.{lowest_fault}
-use Rattle.hc_records.specs.Boundaries.{Interval, boundaries, is_touched_task, spans}
+use Rattle.hc_records.specs.Boundaries.{is_touched_task}
 use Rattle.hc_records.specs.SpanLaws.{IsTaskList}
-use Rattle.hc_cuts.specs.Walk.{span_places}
-use Rattle.hc_places.specs.Swap.{ChangedTask, SaysWhatDiffers}
+use Rattle.hc_places.specs.Loads.{load_in, load_told}
+use Rattle.hc_places.specs.Swap.{ChangedTask, IsNewTask, SaysWhatDiffers}
 use Rattle.hc_places.specs.Table.{table_of, task_table}
 use Rattle.hc_cuts.specs.Keeping.{is_kept}
-use Rattle.hc_changes.specs.Candidates.{DifferAt, LineArea, blocks_of, candidates, is_recut, key_of, line_areas, moved_of, place_of}
+use Rattle.hc_changes.specs.Candidates.{DifferAt, LineArea, blocks_of, candidate_of, candidates, is_recut, key_of, line_areas, moved_of, place_of}
 use Rattle.hc_changes.specs.Compared.{differing_of}
 use Rattle.hc_changes.specs.Edited.{is_named}
 use Rattle.hc_changes.specs.Listed.{Precedes, pair_of}
-use Rattle.hc_changes.specs.Rows.{TellsVariables, gone, told_rows}
-use Rattle.hc_changes.specs.Tables.{TellsTasks, carried_by, carried_of, first_input, table_by, task_carries}
+use Rattle.hc_changes.specs.Outlook.{IsOutlook, Outlook}
+use Rattle.hc_changes.specs.Rows.{StandsInside, TellPlaces, candidates_of, changed_rows, variables_by_rank}
 
 -- a kept datagram carries the areas that it carried, each at its bit
 abbrev pub KeptDatagramsStay : Type 0
@@ -74,36 +75,18 @@ MovedBlocksAreCompared =
     ≡ flat_map (differing_of (line_from 1 groups) (line_from 1 (groups_after groups edit)))
     (candidates changed (line_from 1 groups) (line_from 1 (groups_after groups edit)))
 
--- the variables whose places an edit changed are told by the candidates, by any such ranks, and by the areas of the slaves that went
-abbrev pub VariablesAreTold : Type 0
-VariablesAreTold =
-    (changed : ℕ → Bool) (groups : List Declared) (edit : Edit) → lowest_fault (groups_of groups) ≡ None → lowest_fault (groups_of (groups_after groups edit)) ≡ None
-    → DifferAt changed (line_from 1 groups) (line_from 1 (groups_after groups edit))
-    → TellsVariables (line_from 1 groups) (line_from 1 (groups_after groups edit))
-    (told_rows changed (line_from 1 groups) (line_from 1 (groups_after groups edit)))
-
 -- a task that no edit touched has the table that it had
 abbrev pub UntouchedTasksStay : Type 0
 UntouchedTasksStay =
     (old new : State) (task : ℕ) → lowest_fault (groups_of old.groups) ≡ None → lowest_fault (groups_of new.groups) ≡ None
     → is_touched_task (line old) (line new) task ≡ false → task_table (line new) task ≡ task_table (line old) task
 
--- a kept datagram has the length and the expected working counter that it had
-abbrev pub KeptDatagramsCarryTheSame : Type 0
-KeptDatagramsCarryTheSame =
-    (old new : State) (task datagram : ℕ) → lowest_fault (groups_of old.groups) ≡ None → lowest_fault (groups_of new.groups) ≡ None
-    → is_kept (task_list task (line old)) (task_list task (line new)) datagram ≡ true → carried_by (line new) task datagram ≡ carried_by (line old) task datagram
-
--- the span with a number tells what its datagram carries: the areas from its boundary on, packed alone, up to the first that doesn't fit
-abbrev pub SpansTellTheCarried : Type 0
-SpansTellTheCarried =
-    (state : State) (task datagram : ℕ) (span : Interval) → lowest_fault (groups_of state.groups) ≡ None
-    → slice_get (spans (boundaries (task_list task (line state)))) datagram ≡ Some span
-    → carried_by (line state) task datagram ≡ carried_of (span_places datagram span.0 (task_list task (line state)))
-
--- the table of a task is had from what its datagrams carry and from its first input area
-abbrev pub TablesAreLaidOut : Type 0
-TablesAreLaidOut = (line : List Member) (task : ℕ) → task_table line task ≡ table_by task (task_carries line task) (first_input line task)
+-- the old table tells what a kept datagram holds
+abbrev pub OldTablesTellKept : Type 0
+OldTablesTellKept =
+    (old new : List Declared) (task datagram : ℕ) → lowest_fault (groups_of old) ≡ None → lowest_fault (groups_of new) ≡ None → task < TASKS
+    → is_kept (task_list task (line_from 1 old)) (task_list task (line_from 1 new)) datagram ≡ true
+    → load_told (table_of (line_from 1 old)) task datagram ≡ load_in (task_places task (line_from 1 new)) datagram
 
 -- no area of a task that no edit touched is recut
 abbrev pub UntouchedAreasStay : Type 0
@@ -135,12 +118,6 @@ pub record IsUnkeptAt (old new : List Member) (found : LineArea) : Type 0 where
 abbrev pub RecutAreasAreUnkept : Type 0
 RecutAreasAreUnkept = (old new : List Member) (found : LineArea) → is_recut old new found ≡ true → IsUnkeptAt old new found
 
--- areas of slaves that went are of changed ones
-abbrev pub GoneAreChanged : Type 0
-GoneAreChanged =
-    (changed : ℕ → Bool) (old new : State) (found : LineArea) → DifferAt changed (line old) (line new)
-    → Contains (gone (line old) (line new)) found → changed found.member.rank ≡ true
-
 -- a list in line and record order with the candidates' ranks and indexes and no others is theirs
 abbrev pub CandidatesAreListed : Type 0
 CandidatesAreListed =
@@ -148,11 +125,29 @@ CandidatesAreListed =
     → ((pair : ℕ × ℕ) → Contains pairs pair ↔ Contains (map pair_of (candidates changed old (line new))) pair)
     → pairs ≡ map pair_of (candidates changed old (line new))
 
--- tasks that tell the touched ones whose tables differ, with the told variables, say what differs between the tables of the two lines
-abbrev pub SwapsAreTold : Type 0
-SwapsAreTold =
-    (changed : ℕ → Bool) (groups : List Declared) (edit : Edit) (tasks : List ChangedTask) → lowest_fault (groups_of groups) ≡ None → lowest_fault (groups_of (groups_after groups edit)) ≡ None
-    → DifferAt changed (line_from 1 groups) (line_from 1 (groups_after groups edit))
-    → TellsTasks (line_from 1 groups) (line_from 1 (groups_after groups edit)) tasks
-    → SaysWhatDiffers (table_of (line_from 1 groups)) (table_of (line_from 1 (groups_after groups edit)))
-    (record { tasks = tasks; rows = told_rows changed (line_from 1 groups) (line_from 1 (groups_after groups edit)) })
+-- an edit leaves each declared slave the variables that it offers
+abbrev pub EditsKeepTheVariables : Type 0
+EditsKeepTheVariables = (groups : List Declared) (edit : Edit) → variables_by_rank (groups_after groups edit) ≡ variables_by_rank groups
+
+-- where no task of a project's line needs more than 16 datagrams, each of its areas stands in one of them
+abbrev pub CandidatesStandInside : Type 0
+CandidatesStandInside =
+    (state : State) → lowest_fault (groups_of state.groups) ≡ None → crowded_task (line state) ≡ None
+    → All (λ found. StandsInside (candidate_of (line state) found)) (line_areas (line state))
+
+-- an edit's rows are told by the candidates and the changed slaves: each variable that stands elsewhere, appears or goes, with its new place or none
+abbrev pub ChangedRowsAreTold : Type 0
+ChangedRowsAreTold =
+    (outlook : Outlook) → IsOutlook outlook
+    → TellPlaces (table_of (line_from 1 outlook.old)) (table_of (line_from 1 outlook.new))
+    (changed_rows (table_of (line_from 1 outlook.old)) (candidates_of outlook) outlook.before outlook.after)
+
+-- tasks that say of each task whose table differs its new table say, with an edit's rows, what differs between the tables of its lines
+abbrev pub SwapsSayWhatDiffers : Type 0
+SwapsSayWhatDiffers =
+    (outlook : Outlook) (tasks : List ChangedTask) → IsOutlook outlook
+    → ((task : ℕ)
+    → IsNewTask (slice_get (table_of (line_from 1 outlook.old)).tasks task) (slice_get (table_of (line_from 1 outlook.new)).tasks task)
+    (option_map (λ changed. changed.1) (find (λ changed. changed.0 == task) tasks)))
+    → SaysWhatDiffers (table_of (line_from 1 outlook.old)) (table_of (line_from 1 outlook.new))
+    (record { tasks = tasks; rows = changed_rows (table_of (line_from 1 outlook.old)) (candidates_of outlook) outlook.before outlook.after })

@@ -3,5 +3,8 @@ pub mod Compared
 pub mod Edited
 pub mod Laws
 pub mod Listed
+pub mod Moved
+pub mod Outlook
 pub mod Rows
 pub mod Tables
+pub mod inner

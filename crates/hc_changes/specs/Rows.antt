@@ -1,49 +1,74 @@
--- What the areas that an edit may have changed say of the variables: which go, appear, or stand elsewhere.
-use Rattle.std.specs.Prelude.{◌≡◌, ℕ, ◌==◌, not, is_none, Bool, List, [], ◌++◌, filter, find, map, None, Option, option_map, Some}
+-- Which variables of a line an edit changes, told by the candidates and by the slaves that change.
+use Rattle.std.specs.Prelude.{◌≡◌, ℕ, ◌+◌, ◌==◌, ◌<◌, ◌≤◌, not, Bool, List, [], ◌++◌, filter, find, map, None, Some, option_map}
+use Rattle.std.specs.List.{flat_map, list_any, zip}
 use Rattle.std.specs.Option.{option_map_or}
-use Rattle.std.specs.List.{flat_map}
-use Rattle.hc_records.specs.Line.{Member}
-use Rattle.hc_records.specs.Image.{VariablePlace, area_variables}
+use Rattle.hc_records.specs.declared.limits.TheConstants.{MOST_AREA_BITS, MOST_DATAGRAMS, TASKS}
+use Rattle.hc_records.specs.declared.records.Area.{Area}
+use Rattle.hc_records.specs.declared.records.Declared.{Declared}
+use Rattle.hc_records.specs.Area.{assigned_entries, width}
+use Rattle.hc_records.specs.Line.{line_from}
+use Rattle.hc_records.specs.Packing.{Placed}
+use Rattle.hc_records.specs.Project.{area_names, entry_names}
+use Rattle.hc_places.specs.Found.{area_rows}
+use Rattle.hc_places.specs.Ranges.{OffersBits}
 use Rattle.hc_places.specs.Swap.{AreOnce, ChangedRow, new_place, same_found}
-use Rattle.hc_places.specs.Table.{Row, place_in, table_of}
-use Rattle.hc_changes.specs.Candidates.{LineArea, candidates, key_of, line_areas, place_of, slave_of}
-use Rattle.hc_changes.specs.Compared.{counterpart}
+use Rattle.hc_places.specs.Table.{Row, Table, place_in}
+use Rattle.hc_changes.specs.Candidates.{Candidate, candidate_of, candidates}
+use Rattle.hc_changes.specs.Outlook.{Outlook, changes}
 
--- the variables of an area that stands in a line, each with its place; none where it has 0 bits
-abbrev pub rows_of : List Member → LineArea → List Row
-rows_of line found =
-    option_map_or (λ placed. area_variables found.area.task (record { key = key_of found; area = found.area }, placed)) (place_of line found) []
+-- the variables of a candidate with their places; none where it stands nowhere
+abbrev pub rows_of : Candidate → List Row
+rows_of candidate = option_map_or (area_rows candidate.area.task candidate.area) candidate.place []
 
--- those of the area of a line that stands where another does
-abbrev pub rows_in : List Member → LineArea → List Row
-rows_in line found = option_map_or (rows_of line) (counterpart line found) []
+-- a variable stands elsewhere in a table, or nowhere
+abbrev pub is_new_row : Table → Row → Bool
+is_new_row table row = not (same_found (place_in table row.0) (Some row.1))
 
--- the place that rows have for a variable
-abbrev pub place_among : List Row → ℕ → Option VariablePlace
-place_among rows variable = option_map (λ row. row.1) (find (λ row. row.0 == variable) rows)
+-- the new places of the candidates' variables that stood elsewhere, or nowhere
+abbrev pub moved_rows : Table → List Row → List ChangedRow
+moved_rows old rows = map (λ row. (row.0, Some row.1)) (filter (is_new_row old) rows)
 
--- the variables of some rows that others lack go
-abbrev pub going : List Row → List Row → List ChangedRow
-going olds news = map (λ row. (row.0, None)) (filter (λ row. is_none (place_among news row.0)) olds)
+-- the variables that an area's assigned PDOs carry, and those of the areas of a slave
+abbrev pub area_variables_of : Area → List ℕ
+area_variables_of area = entry_names (assigned_entries area)
 
--- those of the others that stood elsewhere, or nowhere, have a new place
-abbrev pub coming : List Row → List Row → List ChangedRow
-coming olds news = map (λ row. (row.0, Some row.1)) (filter (λ row. not (same_found (place_among olds row.0) (Some row.1))) news)
+abbrev pub assigned_variables : List Area → List ℕ
+assigned_variables areas = flat_map area_variables_of areas
 
--- what becomes of the variables of an area
-abbrev pub changes_of : List Member → List Member → LineArea → List ChangedRow
-changes_of old new found = going (rows_in old found) (rows_in new found) ++ coming (rows_in old found) (rows_in new found)
+abbrev pub is_assigned : ℕ → List Area → Bool
+is_assigned variable areas = list_any (λ other. other == variable) (assigned_variables areas)
 
--- the areas of the old line whose slaves went
-abbrev pub gone : List Member → List Member → List LineArea
-gone old new = filter (λ found. is_none (slave_of new found.member.rank)) (line_areas old)
+-- those of a slave's areas before that its areas after don't carry
+abbrev pub gone_variables : List Area × List Area → List ℕ
+gone_variables slave = filter (λ variable. not (is_assigned variable slave.1)) (assigned_variables slave.0)
 
--- what becomes of the variables of these areas and of the candidates
-abbrev pub told_rows : (ℕ → Bool) → List Member → List Member → List ChangedRow
-told_rows changed old new = flat_map (changes_of old new) (gone old new ++ candidates changed old new)
+abbrev pub gone_rows : List (List Area) → List (List Area) → List ChangedRow
+gone_rows before after = map (λ variable. (variable, None)) (flat_map gone_variables (zip before after))
 
--- rows tell the variables whose places differ between the tables of two lines: each once with its new place or none, and no other
-pub record TellsVariables (old new : List Member) (rows : List ChangedRow) : Type 0 where
+-- what an edit changes of an old table: the candidates' variables that stand elsewhere, then the variables that go with the changed slaves' areas
+abbrev pub changed_rows : Table → List Candidate → List (List Area) → List (List Area) → List ChangedRow
+changed_rows old candidates before after = moved_rows old (flat_map rows_of candidates) ++ gone_rows before after
+
+-- a place lies in one of 16 datagrams of one of the eight tasks, and holds the area, whose entries have 1 to 64 bits
+pub record HoldsArea (area : Area) (placed : Placed) : Type 0 where
+  pub task : area.task < TASKS
+  pub datagram : placed.datagram < MOST_DATAGRAMS
+  pub inside : placed.bit + width area ≤ MOST_AREA_BITS
+  pub offers : OffersBits area
+
+abbrev pub StandsInside : Candidate → Type 0
+StandsInside candidate = (placed : Placed) → candidate.place ≡ Some placed → HoldsArea candidate.area placed
+
+-- the candidates of what an edit makes of a line, each with its place there
+abbrev pub candidates_of : Outlook → List Candidate
+candidates_of outlook =
+    map (candidate_of (line_from 1 outlook.new)) (candidates (changes outlook) (line_from 1 outlook.old) (line_from 1 outlook.new))
+
+-- the variables that each declared slave offers, by rank
+abbrev pub variables_by_rank : List Declared → List (List ℕ)
+variables_by_rank groups = flat_map (λ declared. map (λ slave. area_names slave.areas) declared.group.slaves) groups
+
+-- rows say of each variable whose place differs between two tables its new place or none, once, and nothing of any other
+pub record TellPlaces (old new : Table) (rows : List ChangedRow) : Type 0 where
   pub once : AreOnce rows
-  pub says : (variable : ℕ)
-      → option_map (λ changed. changed.1) (find (λ changed. changed.0 == variable) rows) ≡ new_place (place_in (table_of old) variable) (place_in (table_of new) variable)
+  pub says : (variable : ℕ) → option_map (λ changed. changed.1) (find (λ changed. changed.0 == variable) rows) ≡ new_place (place_in old variable) (place_in new variable)

@@ -1,6 +1,6 @@
 //! What follows from the definitions of this crate: each function does nothing, and its contract is a
 //! law. Nobody calls it.
-ghost use Rattle.hc_changes.specs.Laws.{BlocksAreTheAreas, CandidatesAreListed, EditsChangeTheNamed, GoneAreChanged, KeptAreasStay, KeptDatagramsCarryTheSame, KeptDatagramsStay, MovedBlocksAreCompared, MovedBlocksAreTold, NumbersTellTheMoved, OtherAreasStood, RecutAreasAreUnkept, SpansTellTheCarried, SwapsAreTold, TablesAreLaidOut, UnkeptDatagramsAreRecut, UntouchedAreasStay, UntouchedTasksStay, VariablesAreTold};
+ghost use Rattle.hc_changes.specs.Laws.{BlocksAreTheAreas, CandidatesAreListed, CandidatesStandInside, ChangedRowsAreTold, EditsChangeTheNamed, EditsKeepTheVariables, KeptAreasStay, KeptDatagramsStay, MovedBlocksAreCompared, MovedBlocksAreTold, NumbersTellTheMoved, OldTablesTellKept, OtherAreasStood, RecutAreasAreUnkept, SwapsSayWhatDiffers, UnkeptDatagramsAreRecut, UntouchedAreasStay, UntouchedTasksStay};
 
 /// A datagram that an edit keeps carries the areas that it carried, each at its bit: so its length and its
 /// expected working counter stay too.
@@ -49,34 +49,16 @@ pub fn moved_blocks_are_compared()
     ensures { MovedBlocksAreCompared }
 {}
 
-/// The variables whose places an edit changed are told by the candidates and by the areas of the slaves
-/// that went: each once, with its new place or none, and no other variable.
-pub fn variables_are_told()
-    ensures { VariablesAreTold }
-{}
-
 /// A task in whose list no width differs between the lines of two states of a project has the table that it
 /// had: its datagrams, their headers and expected working counters, and its parts.
 pub fn untouched_tasks_stay()
     ensures { UntouchedTasksStay }
 {}
 
-/// A datagram that an edit keeps has the length in bytes and the expected working counter that it had; its
-/// offset in the image may be another one.
-pub fn kept_datagrams_carry_the_same()
-    ensures { KeptDatagramsCarryTheSame }
-{}
-
-/// The length and the expected working counter of a datagram are those that the areas of the span with its
-/// number make, packed from the span's boundary on.
-pub fn spans_tell_the_carried()
-    ensures { SpansTellTheCarried }
-{}
-
-/// The table of a task is had from the lengths and the expected working counters of its datagrams, in their
-/// order, and from the place of its first input area.
-pub fn tables_are_laid_out()
-    ensures { TablesAreLaidOut }
+/// The table of a project's line tells what a datagram holds that an edit keeps: its length, its expected
+/// working counter, and its bytes before the first input.
+pub fn old_tables_tell_kept()
+    ensures { OldTablesTellKept }
 {}
 
 /// No area of a task in whose list no width differs is recut: the candidates are areas of the changed slaves
@@ -95,20 +77,32 @@ pub fn recut_areas_are_unkept()
     ensures { RecutAreasAreUnkept }
 {}
 
-/// An area of the old line whose slave isn't in the new one is of a changed slave.
-pub fn gone_are_changed()
-    ensures { GoneAreChanged }
-{}
-
 /// A list of ranks and indexes, in line and record order, that has those of the candidates and no others is
 /// theirs, however it was made.
 pub fn candidates_are_listed()
     ensures { CandidatesAreListed }
 {}
 
-/// A list of touched tasks whose tables differ, with their new ones, and the told variables say what differs
-/// between the tables of the lines before and behind an edit: a swap made of them leads from the one to the
-/// other.
-pub fn swaps_are_told()
-    ensures { SwapsAreTold }
+/// An edit leaves each declared slave the variables that its areas offer: it changes which of them are
+/// assigned, and in which tasks.
+pub fn edits_keep_the_variables()
+    ensures { EditsKeepTheVariables }
+{}
+
+/// Where no task of a project's line needs more than 16 datagrams, each area of the line that has a place
+/// stands in one of the 16, its bits within the datagram's.
+pub fn candidates_stand_inside()
+    ensures { CandidatesStandInside }
+{}
+
+/// The variables that stand elsewhere, appear or go with an edit are told by the candidates and by the areas
+/// of the slaves that change: each once, with its new place or none.
+pub fn changed_rows_are_told()
+    ensures { ChangedRowsAreTold }
+{}
+
+/// The tasks whose tables differ, with the rows of an edit, say what differs between the tables of the lines
+/// before and behind it: what a swap is made of.
+pub fn swaps_say_what_differs()
+    ensures { SwapsSayWhatDiffers }
 {}

@@ -194,7 +194,7 @@ ends tree starts from next holds searched last stands =
 
 -- as many datagrams as keys
 
-count-keys : (list : List Keyed) → All IsPackable list → datagram_count (packed opening list) ≤ length (START ∷ later_keys list)
+pub count-keys : (list : List Keyed) → All IsPackable list → datagram_count (packed opening list) ≤ length (START ∷ later_keys list)
 count-keys [] all = omega arith
 count-keys (area ∷ areas) all = let count = count-later_keys area areas all in omega arith
 

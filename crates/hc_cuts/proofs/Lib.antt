@@ -1,5 +1,6 @@
 pub mod Chain
 pub mod Counted
+pub mod Cursors
 pub mod Firsts
 pub mod Placed
 pub mod KeptBy

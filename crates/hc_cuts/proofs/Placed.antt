@@ -22,6 +22,7 @@ use Rattle.hc_records.proofs.lemmas.Spans.{IsListFrom, cut-all, filter-drops, li
 use Rattle.hc_bitsum.specs.declared.filled.Filled.{Filled}
 use Rattle.hc_bitsum.specs.Filling.{areas_between, with_area, with_areas}
 use Rattle.hc_bitsum.specs.Tree.{HoldsTaskList, Tree}
+use Rattle.hc_cuts.specs.Cursors.{unfilled}
 use Rattle.hc_cuts.specs.Place.{has_key, place_of}
 use Rattle.hc_cuts.specs.Walk.{blank_datagram, filled_datagram, span_places}
 use Rattle.hc_cuts.proofs.Searched.{boundary-cut}
@@ -81,7 +82,7 @@ pub record StandsAt (front : Front) (area : Keyed) (found : Option Placed) : Typ
   pub room : fits front area ≡ true
   pub place : found ≡ Some (placed_at front area)
 
-abbrev areas_before : Key → List Keyed → List Keyed
+abbrev pub areas_before : Key → List Keyed → List Keyed
 areas_before key list = filter (λ area. is_before area.0 key) list
 
 abbrev Stands : ℕ → Filled → Key → ℕ → List Keyed → Type 0
@@ -93,7 +94,7 @@ fits-before : (fitting : Bool) (next own key : Key) → is_within own key ≡ tr
 fits-before true next own key low before = refl
 fits-before false next own key low before = let apart = before-apart key own before in cc
 
-none-before : (key : Key) (areas : List Keyed) → All (λ area. is_within key area.0 ≡ true) areas → areas_before key areas ≡ []
+pub none-before : (key : Key) (areas : List Keyed) → All (λ area. is_within key area.0 ≡ true) areas → areas_before key areas ≡ []
 none-before key areas all =
     filter-drops (λ area. is_before area.0 key) areas
     (All-weaker (λ area. is_within key area.0 ≡ true) (λ area. is_before area.0 key ≡ false) (λ area low. within-apart key area.0 low) areas all)
@@ -239,19 +240,15 @@ skips-spans (suc at) list key is within low =
     skips-spans at list key is inside (within-trans (boundary keys at) (boundary keys (suc at)) key (boundary-low at list is inside) low)
     ∙ skips-span at list key is inside low
 
--- the empty datagram before its first area
-abbrev pub nothing : Filled
-nothing = record { bit = 0; last = Out }
-
 -- by its number and its first key
 pub found-in : (at : ℕ) (list : List Keyed) (key : Key) (bits : ℕ) → IsTaskList list → at + 1 < length (boundaries list) → is_within (boundary (boundaries list) at) key ≡ true
     → is_before key (boundary (boundaries list) (suc at)) ≡ true → width_in list key ≡ bits → 0 < bits
-    → StandsAt (filled_datagram at (with_areas nothing (areas_between (boundary (boundaries list) at) key list))) (key, bits) (place_of key list)
+    → StandsAt (filled_datagram at (with_areas unfilled (areas_between (boundary (boundaries list) at) key list))) (key, bits) (place_of key list)
 found-in at list key bits is within low high width some =
     let keys = boundaries list in
     let from = boundary keys at in
     let left = areas_from from list in
-    let own = stands at nothing key from bits left (areas-from from list is) (width-from from list key low ∙ width) some
+    let own = stands at unfilled key from bits left (areas-from from list is) (width-from from list key low ∙ width) some
     (subst (λ (k : Key). is_before key k ≡ true) (sym (cut-at at list is within)) high) in
     record {
       room = own.room;
@@ -276,7 +273,7 @@ ends-behind (first ∷ (second ∷ rest)) (suc at) key h end next =
 pub found-at : (tree : Tree) (starts : List Key) (at : ℕ) (from key other : Key) (bits : ℕ) (filled : Filled) → HoldsTaskList tree → starts ++ END ∷ [] ≡ boundaries tree.list
     → at < length starts → from ≡ slice_index_or starts at other → is_within (slice_index_or starts at END) key ≡ true
     → (at + 1 < length starts → is_before key (slice_index_or starts (at + 1) END) ≡ true) → width_in tree.list key ≡ bits → 0 < bits
-    → filled ≡ with_areas nothing (areas_between from key tree.list) → StandsAt (filled_datagram at filled) (key, bits) (place_of key tree.list)
+    → filled ≡ with_areas unfilled (areas_between from key tree.list) → StandsAt (filled_datagram at filled) (key, bits) (place_of key tree.list)
 found-at tree starts at from key other bits filled holds all within first low next width some is =
     let list = tree.list in
     let many = length-end starts in
@@ -288,7 +285,7 @@ found-at tree starts at from key other bits filled holds all within first low ne
     let end = width-holds (λ k. is_before k END ≡ true) key list holds.list.between.below wide in
     let own = found-in at list key bits holds.list inside (subst (λ (k : Key). is_within k key ≡ true) there low)
     (subst (λ (keys : List Key). is_before key (boundary keys (suc at)) ≡ true) all (ends-behind starts at key within end next)) width some in
-    let filling : filled ≡ with_areas nothing (areas_between (boundary (boundaries list) at) key list) = is ∙ ap (λ (k : Key). with_areas nothing (areas_between k key list)) here in
+    let filling : filled ≡ with_areas unfilled (areas_between (boundary (boundaries list) at) key list) = is ∙ ap (λ (k : Key). with_areas unfilled (areas_between k key list)) here in
     subst (λ (f : Filled). StandsAt (filled_datagram at f) (key, bits) (place_of key list)) (sym filling) own
 
 -- what leaves room for an area is no fuller than the longest datagram

@@ -1,6 +1,5 @@
 -- The places of a task's list are those of its spans, one after another.
-use Rattle.std.specs.Prelude.{Contains, drop, slice_index_or}
-use Rattle.std.specs.List.{zip}
+use Rattle.std.specs.Prelude.{All, Contains, Some, slice_get, slice_index_or}
 use Rattle.std.proofs.Common.{◌≡◌, ℕ, zero, suc, ◌+◌, ◌<◌, ◌≤◌, ◌||◌, inl, inr, nat_le, Bool, true, false, List, [], ◌∷◌, ◌++◌, length, refl, sym, ap, subst, ◌∙◌, arith, if◌then◌else◌, length-append}
 use Rattle.std.proofs.lemmas.Bool.{cond-false, le-leb}
 use Rattle.std.proofs.lemmas.List.Elements.{All-head, All-weaker}
@@ -11,7 +10,8 @@ use Rattle.hc_records.specs.declared.keys.TheConstants.Key.{START, END}
 use Rattle.hc_records.specs.Keys.{is_before, is_turn, is_within}
 use Rattle.hc_records.specs.TaskList.{Keyed}
 use Rattle.hc_records.specs.Packing.{Front, Placed, opening, next_byte, beginning, fits, behind, packed}
-use Rattle.hc_records.specs.Boundaries.{boundaries}
+use Rattle.hc_records.specs.Boundaries.{boundaries, later_keys, spans}
+use Rattle.hc_records.specs.Image.{inside}
 use Rattle.hc_records.specs.Laws.{IsPackable}
 use Rattle.hc_records.specs.SpanLaws.{IsTaskList, areas_from, carried, next_cut}
 use Rattle.hc_records.proofs.lemmas.KeyOrder.{before-apart, before-other, other-sym, within-from_before}
@@ -21,19 +21,23 @@ use Rattle.hc_records.proofs.lemmas.Spans.{IsListFrom, cut-all, filter-keeps, li
 use Rattle.hc_bitsum.specs.Tree.{CanBegin, HoldsTaskList, Tree}
 use Rattle.hc_cuts.specs.Starts.{Kept, next_boundary}
 use Rattle.hc_cuts.specs.Walk.{blank_datagram, span_places}
-use Rattle.hc_cuts.proofs.Chain.{areas-twice, goes-place}
+use Rattle.hc_cuts.proofs.Chain.{areas-twice, count-keys, goes-place}
 use Rattle.hc_cuts.proofs.Searched.{boundary-cut}
 use Rattle.hc_cuts.proofs.Walked.{append-none, cut-number, none-from_end, own-areas}
+use Rattle.hc_cuts.proofs.lemmas.Datagrams.{at-contained, inside-none}
 
 -- the boundary with a number, END behind the last one
 abbrev pub boundary : List Key → ℕ → Key
 boundary keys at = slice_index_or keys at END
 
-span-at : (at : ℕ) (keys : List Key) → at + 1 < length keys → Contains (zip keys (drop 1 keys)) (boundary keys at, boundary keys (suc at))
-span-at at [] h = absurd (omega arith)
-span-at at (key ∷ []) h = absurd (omega arith)
-span-at zero (key ∷ (next ∷ keys)) h = (zero, omega arith, refl)
-span-at (suc at) (key ∷ (next ∷ keys)) h = let (k, within, found) = span-at at (next ∷ keys) (omega arith) in (suc k, omega arith, found)
+span-numbered : (at : ℕ) (keys : List Key) → at + 1 < length keys → slice_get (spans keys) at ≡ Some (boundary keys at, boundary keys (suc at))
+span-numbered at [] h = absurd (omega arith)
+span-numbered at (key ∷ []) h = absurd (omega arith)
+span-numbered zero (key ∷ (next ∷ keys)) h = refl
+span-numbered (suc at) (key ∷ (next ∷ keys)) h = span-numbered at (next ∷ keys) (omega arith)
+
+span-at : (at : ℕ) (keys : List Key) → at + 1 < length keys → Contains (spans keys) (boundary keys at, boundary keys (suc at))
+span-at at keys h = at-contained (spans keys) at (boundary keys at, boundary keys (suc at)) (span-numbered at keys h)
 
 -- from each boundary, the next one is the one behind it
 pub next-at : (at : ℕ) (list : List Keyed) → IsTaskList list → at + 1 < length (boundaries list)
@@ -147,6 +151,7 @@ boundary-last (key ∷ keys) = boundary-last keys
 pub record IsSpanAt (tree : Tree) (starts : List Key) (at : ℕ) (from next : Key) : Type 0 where
   pub begins : CanBegin tree.slaves from
   pub ends : next ≡ next_boundary from tree.list
+  pub numbered : slice_get (spans (boundaries tree.list)) at ≡ Some (from, next)
   pub rest : places_from at (starts ++ END ∷ []) tree.list ≡ span_places at from tree.list ++ places_from (at + 1) (starts ++ END ∷ []) tree.list
 
 pub is-span_at : (tree : Tree) (starts : List Key) (at : ℕ) (from next other : Key) → HoldsTaskList tree → starts ++ END ∷ [] ≡ boundaries tree.list → at < length starts
@@ -161,6 +166,7 @@ is-span_at tree starts at from next other holds all within first last =
     record {
       begins = rw here (begins-at at tree holds low);
       ends = rw (here, there) (next-at at tree.list holds.list low);
+      numbered = rw (here, there) (span-numbered at (boundaries tree.list) low);
       rest = rw (here, all) (span-places at tree.list holds.list low);
     }
 
@@ -171,6 +177,16 @@ spans-end tree starts places at holds last whole =
     rw last (ap (λ (key : Key). packed (blank_datagram (length starts)) (areas_from key tree.list)) (boundary-last starts)
     ∙ ap (packed (blank_datagram (length starts))) (none-from_end tree.list holds.list.between.below)) in
     sym (append-none places) ∙ ap (λ (rest : List Placed). places ++ rest) (sym none) ∙ whole
+
+-- there is no datagram behind those that begin at a boundary
+pub behind-starts : (list : List Keyed) (starts : List Key) (number : ℕ) → All IsPackable list → starts ++ END ∷ [] ≡ boundaries list → length starts ≤ number
+    → inside number (packed opening list) ≡ []
+behind-starts list starts number packable all behind =
+    let many = length-end starts in
+    let same : length (starts ++ END ∷ []) ≡ length (boundaries list) = ap length all in
+    let keys = length-end (START ∷ later_keys list) in
+    let count = count-keys list packable in
+    inside-none number (packed opening list) (omega arith)
 
 -- the boundaries, as the caller has them and as they are kept
 pub own-boundaries : (kept own : Kept) (starts : List Key) → own ≡ kept → starts ≡ own.starts → kept.starts ++ END ∷ [] ≡ boundaries kept.tree.list

@@ -1,4 +1,5 @@
 -- What the crates above cite, a file a subject.
+pub mod Datagrams
 pub mod Found
 pub mod HullKeys
 pub mod Order

@@ -1,24 +1,24 @@
 //! The areas of a task and the keys at which its datagrams begin, kept together.
 ghost use Rattle.std.specs.Prelude.{◌≡◌, ◌+◌, ◌*◌, ◌<◌, ◌≤◌, ◌∷◌, ◌++◌, [], IfOk, OnErr, OnOk, length, slice_index_or};
 ghost use Rattle.hc_records.specs.Boundaries.{boundaries};
-ghost use Rattle.hc_records.specs.Image.{datagram_count};
+ghost use Rattle.hc_records.specs.Image.{datagram_count, inside};
 ghost use Rattle.hc_records.specs.Packing.{opening, packed};
 ghost use Rattle.hc_records.specs.declared.keys.TheConstants.Key.{END};
 ghost use Rattle.hc_records.specs.declared.limits.TheConstants.{MOST_DATAGRAMS};
 ghost use Rattle.hc_cuts.specs.Firsts.{IsCrowded};
 ghost use Rattle.hc_cuts.specs.Starts.{most_read};
 
+use crate::cursor::Cursor;
 use crate::fold::TooManyDatagrams;
 use crate::hulls::Hulls;
 use crate::next::next_cut;
-use crate::packing::{Front, Placed};
-use crate::place::carrier;
+use crate::packing::Placed;
 use crate::repair::repaired_starts;
 use crate::settled::{Reach, later};
 use crate::walk::add_span;
 use arrayvec::ArrayVec;
-use hc_bitsum::filled::Filled;
 use hc_bitsum::steps::Steps;
+use hc_bitsum::sum::Sum;
 use hc_bitsum::tree::SumTree;
 use hc_records::keys::Key;
 use hc_records::records::Dir;
@@ -87,11 +87,13 @@ pub(crate) fn end_of(starts: &[Key], i: usize) -> Key
 
 impl Cuts {
     ghost use Rattle.std.specs.Prelude.{◌≡◌, ◌+◌, ◌*◌, ◌≤◌, ◌∷◌, ◌++◌, List, [], IfOk, OnErr, OnOk, length};
-    ghost use Rattle.hc_records.specs.declared.limits.TheConstants.{MOST_AREA_BITS, MOST_SLAVES};
+    ghost use Rattle.hc_records.specs.declared.limits.TheConstants.{MOST_AREA_BITS, MOST_DATAGRAMS, MOST_SLAVES};
     ghost use Rattle.hc_records.specs.TaskList.{Keyed};
-    ghost use Rattle.hc_records.specs.Boundaries.{is_touched, unsettled_spans};
+    ghost use Rattle.hc_records.specs.Boundaries.{is_touched, unsettled_spans, width_in};
     ghost use Rattle.hc_bitsum.specs.Tree.{HasPlace, HoldsTaskList, with_width};
+    ghost use Rattle.hc_cuts.specs.Cursors.{StandsIn};
     ghost use Rattle.hc_cuts.specs.Hulls.{AreHulls};
+    ghost use Rattle.hc_cuts.specs.Inputs.{has_inputs};
     ghost use Rattle.hc_cuts.specs.Place.{place_of};
     ghost use Rattle.hc_cuts.specs.Repair.{AreOfBefore, unsettled_between};
     ghost use Rattle.hc_cuts.specs.Starts.{kept_empty};
@@ -120,10 +122,22 @@ impl Cuts {
         self.tree.set(key, bits);
     }
 
+    /// Whether the task has inputs: whether the last of its areas is one, as outputs come first. The sum of
+    /// all areas says that, so no area is read. It takes no memory.
+    pub fn has_inputs(&self) -> bool
+        ensures { result ≡ has_inputs self.now.tree.list }
+    {
+        match self.tree.total() {
+            Sum::Empty => false,
+            Sum::Run { last, .. } => last == Dir::In,
+        }
+    }
+
     /// The boundaries that were last worked out but the last one, `Key::END`: `Key::START`, at which
     /// the first datagram begins if there is one, and the keys at which the later ones do.
     pub fn starts(&self) -> &[Key]
-        ensures { result.now ≡ self.now.starts }
+        ensures starts { result.now ≡ self.now.starts }
+        ensures few { length result.now ≤ MOST_DATAGRAMS }
     {
         &self.starts
     }
@@ -222,6 +236,29 @@ impl Cuts {
         Ok(count)
     }
 
+    /// The areas of one of its datagrams with their places, in key order; none where it has no datagram with
+    /// that number. The boundaries are those of its areas, as `cut` leaves them; the areas of the datagram
+    /// alone are walked in the tree. `AllocError` where a growth was refused.
+    pub fn datagram<L: Ledger>(
+        &self,
+        alloc: Global,
+        number: u16,
+        steps: &mut Steps<L>,
+    ) -> Result<Vec<Placed>, AllocError>
+        requires { self.now.starts ++ END ∷ [] ≡ boundaries self.now.tree.list }
+        ensures { IfOk result (λ places. places.items ≡ inside number (packed opening self.now.tree.list)) }
+    {
+        let mut places = Vec::new(alloc);
+        let starts = self.starts.as_slice();
+        let first = usize::from(number);
+        if first >= starts.len() {
+            return Ok(places);
+        }
+        let span = (starts[first], end_of(starts, first));
+        add_span(&mut places, &self.tree, span, number, steps)?;
+        Ok(places)
+    }
+
     /// The areas of the task with their places, in key order: packed one after another from the empty
     /// first datagram. The boundaries are those of its areas, as `cut` leaves them; the areas of each
     /// datagram are walked in the tree. `AllocError` where a growth was refused.
@@ -242,6 +279,14 @@ impl Cuts {
         Ok(places)
     }
 
+    /// The width in bits of its area with a key, any key; 0 where it has no such area. It takes no memory and
+    /// no steps.
+    pub fn bits(&self, key: Key) -> u16
+        ensures { result ≡ width_in self.now.tree.list key }
+    {
+        self.tree.bits(key)
+    }
+
     /// The place of its area with a key, any key: the datagram that carries it, and its first bit there;
     /// none where it has no such area. It is that which `places` gives, without the places of the others:
     /// the boundaries tell the datagram, and the tree how far it is filled before the area. The boundaries
@@ -250,18 +295,20 @@ impl Cuts {
         requires { self.now.starts ++ END ∷ [] ≡ boundaries self.now.tree.list }
         ensures { result ≡ place_of key self.now.tree.list }
     {
-        let bits = self.tree.bits(key);
-        if bits == 0 {
-            return None;
-        }
-        let starts = self.starts.as_slice();
-        let datagram = carrier(starts, key);
-        let empty = Filled {
-            bit: 0,
-            last: Dir::Out,
-        };
-        let filled = self.tree.filled_between(starts[datagram], key, empty);
-        let front = Front::filled(datagram as u16, filled);
-        Some(front.place(key, bits))
+        self.place_from(&mut Cursor::start(), key)
+    }
+
+    /// The place of its area with a key, any key, as `place` gives it, by a cursor that stands in the task,
+    /// as one at the start does. It stands in the task again, at the area if there is one. Where the same
+    /// datagram carries an area at its key or behind it, only the areas between are read, so areas that are
+    /// asked for in key order take few reads. The boundaries are those of its areas, as `cut` leaves them.
+    /// It takes no memory and no steps.
+    pub fn place_from(&self, cursor: &mut Cursor, key: Key) -> Option<Placed>
+        requires cut { self.now.starts ++ END ∷ [] ≡ boundaries self.now.tree.list }
+        requires stood { StandsIn self.now.starts self.now.tree.list cursor.old }
+        ensures place { result ≡ place_of key self.now.tree.list }
+        ensures stands { StandsIn self.now.starts self.now.tree.list cursor.new }
+    {
+        cursor.place(&self.tree, self.starts.as_slice(), key)
     }
 }

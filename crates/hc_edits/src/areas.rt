@@ -77,7 +77,8 @@ fn area_after(
     }
 }
 
-/// The areas of a slave with the one of the edit changed, all as they were where there is none.
+/// The areas of a slave with the one of the edit changed, all as they were where there is none. `AllocError`
+/// where a growth was refused.
 pub fn areas_after(
     alloc: Global,
     areas: &[Area],
@@ -106,7 +107,8 @@ fn slave_after(alloc: Global, slave: &Slave, edit: &AreaEdit) -> Result<Slave, A
     })
 }
 
-/// Slaves, with an area changed in each that has the edit's station address.
+/// Slaves, with an area changed in each that has the edit's station address. `AllocError` where a growth was
+/// refused.
 pub fn slaves_after(
     alloc: Global,
     slaves: &[Slave],

@@ -11,7 +11,7 @@ use Rattle.hc_records.proofs.lemmas.Packable.{project-packable}
 use Rattle.hc_records.proofs.lemmas.Projects.{project-few}
 use Rattle.hc_records.proofs.lemmas.Slaves.{IsSlaveInside, line-inside}
 use Rattle.hc_records.proofs.lemmas.Walks.{length-members_from}
-use Rattle.hc_places.specs.Parts.{IsConfigurable, IsListable}
+use Rattle.hc_places.specs.inner.Parts.{IsConfigurable, IsListable}
 use Rattle.hc_places.proofs.lemmas.Ranks.{counted-expected}
 use Rattle.hc_places.proofs.Widths.{HasOffers, line-offers}
 

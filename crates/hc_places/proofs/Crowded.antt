@@ -11,7 +11,7 @@ use Rattle.hc_records.specs.Edits.{crowded_task}
 use Rattle.hc_records.specs.Line.{Member}
 use Rattle.hc_records.specs.Image.{datagram_count, task_places}
 use Rattle.hc_places.specs.Layout.{NamesCrowded}
-use Rattle.hc_places.specs.Parts.{IsRefusal}
+use Rattle.hc_places.specs.inner.Parts.{IsRefusal}
 
 -- the tasks from one on
 abbrev pub tasks_from : ℕ → List ℕ

@@ -19,7 +19,8 @@ use Rattle.hc_records.proofs.lemmas.Greatest.{greatest-all}
 use Rattle.hc_records.proofs.lemmas.Finds.{each-task, found-none}
 use Rattle.hc_records.proofs.lemmas.Packed.{area_of, packed-areas}
 use Rattle.hc_places.specs.Found.{IsFoundSuiting, found_variables}
-use Rattle.hc_places.specs.Parts.{AreSendable, table_at}
+use Rattle.hc_places.specs.Loads.{table_at}
+use Rattle.hc_places.specs.inner.Parts.{AreSendable}
 use Rattle.hc_places.specs.Ranges.{OffersBits}
 use Rattle.hc_places.specs.Table.{Row, task_table}
 use Rattle.hc_places.proofs.Configurable.{project-configurable}

@@ -12,7 +12,7 @@ use Rattle.hc_places.specs.Table.{IsTable, Table, TaskTable}
 use Rattle.hc_places.specs.Swap.{Change, ChangedRow, ChangedTask, ChangesAscend, IsNewTask, LeadsAsSaid, SaysWhatDiffers, changed_variables, merged, replaced, same_found, swapped}
 use Rattle.hc_places.proofs.Changed.{different-among, different-once, numbers, numbers-once, place_of}
 use Rattle.hc_places.proofs.Members.{among, as-long}
-use Rattle.hc_places.specs.Walk.{changes, walked}
+use Rattle.hc_places.specs.inner.Walk.{changes, walked}
 use Rattle.hc_places.proofs.Said.{changes-say, said}
 use Rattle.hc_places.proofs.Swapped.{merged-rows-ascend, place-merged, tables-told}
 use Rattle.hc_places.proofs.Walked.{AreAbove, ascends-above, ascends-rest}

@@ -7,7 +7,7 @@ use Rattle.std.proofs.lemmas.List.Elements.{All-head, All-nil, All-tail}
 use Rattle.hc_records.specs.Image.{VariablePlace}
 use Rattle.hc_places.specs.Table.{Row, RowsAscend}
 use Rattle.hc_places.specs.Swap.{ChangedRow, ChangesAscend, merged, new_row, same_place, with_changed}
-use Rattle.hc_places.specs.Walk.{changes, merges, walked}
+use Rattle.hc_places.specs.inner.Walk.{changes, merges, walked}
 use Rattle.hc_places.proofs.Walked.{AreAbove, AreOf, Keeps, above-cons, ascends-above, ascends-rest, by-order, none-of, of-heads, one-of, walked-above, walked-both, walked-first, walked-second, walked-up}
 
 -- what a walk of rows, or of changes and rows, adds

@@ -1,6 +1,7 @@
 -- The areas of a task beside their places.
-use Rattle.std.proofs.Common.{◌≡◌, ℕ, zero, suc, ◌+◌, ◌<◌, ◌≤◌, List, [], ◌∷◌, length, get_or, ap, subst, sym, arith}
+use Rattle.std.proofs.Common.{◌≡◌, ℕ, zero, suc, ◌+◌, ◌<◌, ◌≤◌, List, [], ◌∷◌, ◌++◌, length, drop, get_or, refl, ap, subst, sym, ◌∙◌, append_assoc, arith}
 use Rattle.std.specs.Prelude.{All, map}
+use Rattle.std.specs.List.{flat_map, zip}
 use Rattle.hc_records.specs.declared.limits.TheConstants.{MOST_AREA_BITS, MOST_DATAGRAMS}
 use Rattle.hc_records.specs.Area.{width}
 use Rattle.hc_records.specs.TaskList.{Keyed, Listed, keyed}
@@ -8,8 +9,9 @@ use Rattle.hc_records.specs.Packing.{Placed}
 use Rattle.hc_records.specs.Image.{datagram_count}
 use Rattle.hc_records.proofs.lemmas.Greatest.{greatest-all}
 use Rattle.hc_records.proofs.lemmas.Packed.{area_of}
-use Rattle.hc_places.specs.Parts.{AreSendable}
+use Rattle.hc_places.specs.inner.Parts.{AreSendable}
 use Rattle.hc_places.specs.Ranges.{OffersBits}
+use Rattle.hc_places.specs.Table.{Row}
 
 pub head-same : {X : Type 0} (x y : X) (xs ys : List X) → x ∷ xs ≡ y ∷ ys → x ≡ y
 head-same x y xs ys same = cc
@@ -57,3 +59,26 @@ pair-meets areas places i listed placed sendable offers same within is stands =
       inside = omega (arith, lies);
       offers = subst (λ (l : Listed). OffersBits l.area) (sym is) (offers i listed within);
     }
+
+-- the rows of the areas so far and those of the areas that are left, once one more is met
+
+zip-next : (areas : List Listed) (places : List Placed) (i : ℕ) (d : Listed) (e : Placed) → i < length areas → i < length places
+    → zip (drop i areas) (drop i places) ≡ (get_or areas i d, get_or places i e) ∷ zip (drop (suc i) areas) (drop (suc i) places)
+zip-next [] places i d e within inside = absurd (omega arith)
+zip-next (area ∷ areas) [] i d e within inside = absurd (omega arith)
+zip-next (area ∷ areas) (place ∷ places) zero d e within inside = refl
+zip-next (area ∷ areas) (place ∷ places) (suc i) d e within inside = zip-next areas places i d e (omega arith) (omega arith)
+
+pub pair-met : (f : Listed × Placed → List Row) (areas : List Listed) (places : List Placed) (i : ℕ) (listed : Listed) (placed : Placed) (rows next all : List Row)
+    → map area_of places ≡ map keyed areas → i < length areas → listed ≡ get_or areas i listed → placed ≡ get_or places i placed → next ≡ rows ++ f (listed, placed)
+    → rows ++ flat_map f (zip (drop i areas) (drop i places)) ≡ all → next ++ flat_map f (zip (drop (i + 1) areas) (drop (i + 1) places)) ≡ all
+pair-met f areas places i listed placed rows next all same within is stands adds so_far =
+    let pairs = zip-next areas places i listed placed within (pair-within areas places i same within) in
+    let behind = flat_map f (zip (drop (suc i) areas) (drop (suc i) places)) in
+    let one : i + 1 ≡ suc i = omega arith in
+    let here : f (listed, placed) ≡ f (get_or areas i listed, get_or places i placed) = rw (← is, ← stands) refl in
+    ap (λ (n : ℕ). next ++ flat_map f (zip (drop n areas) (drop n places))) one
+    ∙ ap (λ (rs : List Row). rs ++ behind) (adds ∙ ap (λ (rs : List Row). rows ++ rs) here)
+    ∙ append_assoc rows (f (get_or areas i listed, get_or places i placed)) behind
+    ∙ ap (λ (ps : List (Listed × Placed)). rows ++ flat_map f ps) (sym pairs)
+    ∙ so_far

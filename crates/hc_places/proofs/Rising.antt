@@ -11,8 +11,8 @@ use Rattle.hc_records.specs.Image.{VariablePlace}
 use Rattle.hc_records.proofs.lemmas.Lists.{AllPairs-nil}
 use Rattle.hc_places.specs.Swap.{ChangesAscend}
 use Rattle.hc_places.specs.Table.{Row, RowsAscend, by_number, put}
-use Rattle.hc_places.proofs.Once.{of_row}
-use Rattle.hc_places.proofs.Totals.{total}
+use Rattle.hc_places.proofs.lemmas.Once.{of_row}
+use Rattle.hc_places.proofs.lemmas.Totals.{total}
 use Rattle.hc_places.proofs.lemmas.Sorted.{filter-by_number}
 
 -- rows of a number

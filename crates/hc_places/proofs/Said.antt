@@ -6,7 +6,7 @@ use Rattle.std.proofs.lemmas.List.Elements.{All-nil}
 use Rattle.hc_records.specs.Image.{VariablePlace}
 use Rattle.hc_places.specs.Table.{Row, RowsAscend}
 use Rattle.hc_places.specs.Swap.{ChangedRow, new_place, same_place}
-use Rattle.hc_places.specs.Walk.{changes, walked}
+use Rattle.hc_places.specs.inner.Walk.{changes, walked}
 use Rattle.hc_places.proofs.Changed.{place-none, place_of}
 use Rattle.hc_places.proofs.Swapped.{place-of-cons}
 use Rattle.hc_places.proofs.Walked.{AreAbove, above-cons, ascends-above, ascends-rest, by-order, of-heads, walked-both, walked-first, walked-second}

@@ -35,7 +35,7 @@ fronted-ascends : (changed : ChangedRow) (rows : List Row) → AreAbove changed.
 fronted-ascends changed rows above ascends =
     rw (front changed rows above) (piece-ascends changed.0 (new_row changed) rows (of-option changed.0 changed.1) above ascends)
 
-with-ascends : (changed : ChangedRow) (rows : List Row) → RowsAscend rows → RowsAscend (with_changed changed rows)
+pub with-ascends : (changed : ChangedRow) (rows : List Row) → RowsAscend rows → RowsAscend (with_changed changed rows)
 with-ascends changed [] ascends = fronted-ascends changed [] (All-nil (λ (r : Row). changed.0 < r.0)) ascends
 with-ascends changed (row ∷ rows) ascends =
     let others-above = ascends-above row rows ascends in
@@ -90,7 +90,7 @@ apart-from : (a b variable : ℕ) → a < b → (a == variable) ≡ true → (b 
 apart-from a b variable less is = grind (arith, nat_tests)
 
 -- a changed variable has its new place or none, any other its old one
-place-with : (changed : ChangedRow) (rows : List Row) (variable : ℕ) → RowsAscend rows
+pub place-with : (changed : ChangedRow) (rows : List Row) (variable : ℕ) → RowsAscend rows
     → place_of (with_changed changed rows) variable ≡ cond (changed.0 == variable) changed.1 (place_of rows variable)
 place-with changed [] variable ascends =
     let above = All-nil (λ (r : Row). changed.0 < r.0) in
@@ -129,10 +129,10 @@ place-merged (changed ∷ others) rows variable ascends =
 
 -- rows in order are told by the places that they give
 
-abbrev SamePlaces : List Row → List Row → Type 0
+abbrev pub SamePlaces : List Row → List Row → Type 0
 SamePlaces xs ys = (variable : ℕ) → place_of xs variable ≡ place_of ys variable
 
-abbrev Told : List Row → List Row → Type 0
+abbrev pub Told : List Row → List Row → Type 0
 Told xs ys = RowsAscend xs → RowsAscend ys → SamePlaces xs ys → xs ≡ ys
 
 row-stands : {P : Type 0} (row : Row) (rows others : List Row) → AreAbove row.0 others → place_of (row ∷ rows) row.0 ≡ place_of others row.0 → P
@@ -170,7 +170,7 @@ told-both x xs y ys first second both up down same =
     let rest = both (ascends-rest x xs up) (ascends-rest y ys down) (rest-places x xs y ys heads xs-above (rw number ys-above) same) in
     ap (λ (row : Row). row ∷ xs) heads ∙ ap (λ (l : List Row). y ∷ l) rest)
 
-rows-told : (xs ys : List Row) → Told xs ys
+pub rows-told : (xs ys : List Row) → Told xs ys
 rows-told xs ys =
     of-heads Told (λ up down same. refl)
     (λ x xs rest up down same. row-stands x xs [] (All-nil (λ (r : Row). x.0 < r.0)) (same x.0))

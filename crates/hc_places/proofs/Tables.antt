@@ -1,6 +1,6 @@
 -- The table of a task of a line, by the places of its areas.
-use Rattle.std.proofs.Common.{◌≡◌, ℕ, suc, Bool, true, false, cond, ◌<◌, ◌≤◌, ◌*◌, List, [], ◌∷◌, length, refl, ap, arith, length-append}
-use Rattle.std.specs.Prelude.{All, filter, map}
+use Rattle.std.proofs.Common.{◌≡◌, ◌∙◌, ℕ, suc, Bool, true, false, cond, ◌<◌, ◌≤◌, ◌*◌, List, [], ◌∷◌, length, refl, arith, length-append}
+use Rattle.std.specs.Prelude.{All, filter}
 use Rattle.std.specs.List.{enumerate_from, flat_map, range_with_len}
 use Rattle.std.proofs.lemmas.List.{length-map}
 use Rattle.std.proofs.lemmas.List.Elements.{All-weaker}
@@ -14,13 +14,16 @@ use Rattle.hc_records.specs.declared.records.Dir.TheVariants.{Out, In}
 use Rattle.hc_records.specs.Line.{Member}
 use Rattle.hc_records.specs.TaskList.{belongs, slave_areas, task_areas, task_list}
 use Rattle.hc_records.specs.Packing.{opening}
-use Rattle.hc_records.specs.Image.{datagram_count, datagram_length, datagram_offset, logical_address, task_places}
+use Rattle.hc_records.specs.Image.{datagram_count, input_length, output_length, task_places}
 use Rattle.hc_records.proofs.lemmas.Inside.{packed-inside}
 use Rattle.hc_records.proofs.lemmas.Lengths.{length-sendable}
 use Rattle.hc_records.proofs.lemmas.Tasks.{listed}
 use Rattle.hc_places.specs.declared.table.Datagram.{Datagram}
-use Rattle.hc_places.specs.Table.{datagram_of, task_table}
-use Rattle.hc_places.specs.Parts.{AreSendable, IsConfigurable, IsListable, datagram_at, table_at}
+use Rattle.hc_places.specs.Table.{TaskTable, datagram_of, task_table}
+use Rattle.hc_places.specs.Loads.{table_at}
+use Rattle.hc_places.specs.inner.Parts.{AreSendable, IsConfigurable, IsListable}
+use Rattle.hc_places.proofs.lemmas.Loads.{datagram-same, datagram_at, is-loaded, map-agree}
+use Rattle.hc_records.proofs.lemmas.Tiles.{outputs-inside}
 use Rattle.hc_places.proofs.lemmas.Ranks.{expected-low}
 
 -- the datagrams of a task that has at most 16 can be sent
@@ -36,25 +39,24 @@ places-sendable task line configurable few = record {
       omega (arith, same, low);
 }
 
-map-agree : {X Y : Type 0} (f g : X → Y) → ((x : X) → f x ≡ g x) → (xs : List X) → map f xs ≡ map g xs
-map-agree f g same [] = refl
-map-agree f g same (x ∷ xs) = rw (same x, map-agree f g same xs) refl
+abbrev made : List Datagram → ℕ → ℕ → TaskTable
+made datagrams outputs inputs = record { datagrams = datagrams; outputs = outputs; inputs = inputs }
 
-datagram-same : (task : ℕ) (line : List Member) → IsConfigurable line → (d : ℕ) → datagram_at task (task_places task line) d ≡ datagram_of line task d
-datagram-same task line configurable d =
-    let made : ℕ → Datagram = λ count. record {
-      address = logical_address task d;
-      length = datagram_length (task_places task line) d;
-      expected = count;
-      offset = datagram_offset (task_places task line) d;
-    } in
-    ap made (configurable.counted task d)
+same-fields : (ds ds' : List Datagram) (outs outs' ins ins' : ℕ) → ds ≡ ds' → outs ≡ outs' → ins ≡ ins' → made ds outs ins ≡ made ds' outs' ins'
+same-fields ds ds' outs outs' ins ins' one two three = rw (one, two, three) refl
 
+-- its table is put together from what its datagrams hold
 pub table-same : (task : ℕ) (line : List Member) → IsConfigurable line → table_at task (task_places task line) ≡ task_table line task
 table-same task line configurable =
-    let places = task_places task line in
-    let datagrams = map-agree (datagram_at task places) (datagram_of line task) (datagram-same task line configurable) (range_with_len 0 (datagram_count places)) in
-    rw datagrams refl
+    let areas = task_places task line in
+    let is = is-loaded task (task_list task line) (datagram_count areas) (configurable.ascends task) in
+    let inside = outputs-inside areas in
+    let sum = is.bytes in
+    let outs = is.outputs in
+    let outputs : (table_at task areas).outputs ≡ output_length areas = omega arith in
+    let inputs : (table_at task areas).inputs ≡ input_length areas = omega arith in
+    let datagrams = is.datagrams ∙ map-agree (datagram_at task areas) (datagram_of line task) (datagram-same task line configurable) (range_with_len 0 (datagram_count areas)) in
+    same-fields (table_at task areas).datagrams (task_table line task).datagrams _ _ _ _ datagrams outputs inputs
 
 -- a task has few areas
 

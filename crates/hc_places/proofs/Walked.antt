@@ -4,7 +4,7 @@ use Rattle.std.specs.Prelude.{All, AllPairs, nat_lt}
 use Rattle.std.proofs.lemmas.Bool.{cond-true, cond-false, ltb-true, ltb-false}
 use Rattle.std.proofs.lemmas.List.Elements.{All-nil, All-cons, All-append, All-head, All-tail, All-weaker}
 use Rattle.hc_records.proofs.lemmas.Lists.{AllPairs-nil, AllPairs-head, AllPairs-tail, AllPairs-append}
-use Rattle.hc_places.specs.Walk.{Gives, walked}
+use Rattle.hc_places.specs.inner.Walk.{Gives, walked}
 
 -- what holds of two lists, from their heads
 

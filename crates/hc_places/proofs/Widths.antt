@@ -16,7 +16,7 @@ use Rattle.hc_records.specs.TaskList.{Listed, belongs, slave_areas, task_areas}
 use Rattle.hc_records.proofs.lemmas.Lists.{All-enumerate_from, All-flat_map}
 use Rattle.hc_records.proofs.lemmas.Slaves.{line-inside}
 use Rattle.hc_records.proofs.lemmas.Tasks.{listed, slave-areas-all}
-use Rattle.hc_places.specs.Parts.{IsListable}
+use Rattle.hc_places.specs.inner.Parts.{IsListable}
 use Rattle.hc_records.specs.Limits.{IsAreaInside, IsEntryInside, IsPdoInside, IsSlaveInside}
 use Rattle.hc_places.specs.Ranges.{OffersBits}
 

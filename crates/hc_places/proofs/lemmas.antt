@@ -2,6 +2,11 @@
 pub mod Ascends
 pub mod Found
 pub mod Layouts
+pub mod Lines
+pub mod Loads
+pub mod Once
 pub mod Ranks
+pub mod Rows
 pub mod Same
 pub mod Sorted
+pub mod Totals

@@ -1,10 +1,10 @@
 pub mod Found
 pub mod Layout
-pub mod Parts
+pub mod Loads
 pub mod Ranges
 pub mod Recut
 pub mod Room
 pub mod WorkedLines
 pub mod Swap
 pub mod Table
-pub mod Walk
+pub mod inner

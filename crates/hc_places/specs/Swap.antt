@@ -1,5 +1,5 @@
 -- What turns the table of one epoch into that of the next.
-use Rattle.std.specs.Prelude.{ℕ, ◌==◌, ◌&&◌, not, nat_lt, Bool, true, false, if◌then◌else◌, List, [], ◌∷◌, ◌++◌, All, AllPairs, IsTrue, ◌<◌, ◌≤◌, ◌≡◌, ◌≢◌, ◌↔◌, filter, length, map, set, slice_get, Option, Some, None, option_map, unwrap_or, find}
+use Rattle.std.specs.Prelude.{ℕ, ◌==◌, ◌&&◌, not, nat_lt, Bool, true, false, if◌then◌else◌, List, [], ◌∷◌, ◌++◌, All, AllPairs, IsTrue, ◌<◌, ◌≤◌, ◌≡◌, ◌≢◌, ◌↔◌, filter, length, map, set, slice_get, Option, Some, None, is_some, option_map, unwrap_or, find}
 use Rattle.std.specs.Option.{option_map_or}
 use Rattle.std.specs.List.{list_any}
 use Rattle.hc_records.specs.declared.limits.TheConstants.{TASKS}
@@ -50,6 +50,23 @@ with_changed changed (row ∷ rows) =
 abbrev pub merged : List ChangedRow → List Row → List Row
 merged [] rows = rows
 merged (changed ∷ others) rows = with_changed changed (merged others rows)
+
+-- a changed variable keeps its row: it has one, and a new place
+abbrev pub keeps_row : List Row → ChangedRow → Bool
+keeps_row rows changed = is_some (find (λ row. row.0 == changed.0) rows) && is_some changed.1
+
+-- so each changed variable does: none appears or goes
+abbrev pub KeepRows : List Row → List ChangedRow → Type 0
+KeepRows rows changed = All (λ change. IsTrue (keeps_row rows change)) changed
+
+-- a row with one variable changed: the variable's own has its new place, if any
+abbrev pub row_with : ChangedRow → Row → Row
+row_with changed row = if row.0 == changed.0 then (row.0, unwrap_or changed.1 row.1) else row
+
+-- rows that are overwritten where they stand; none comes or goes
+abbrev pub overwritten : List ChangedRow → List Row → List Row
+overwritten [] rows = rows
+overwritten (changed ∷ others) rows = overwritten others (map (row_with changed) rows)
 
 -- tasks with some of them changed; none comes or goes
 abbrev pub replaced : List ChangedTask → List TaskTable → List TaskTable

@@ -4,7 +4,7 @@ ghost use Rattle.std.specs.List.{flat_map};
 ghost use Rattle.hc_records.specs.Area.{width};
 ghost use Rattle.hc_records.specs.TaskList.{belongs, keyed, slave_areas, task_areas};
 ghost use Rattle.hc_records.specs.declared.limits.TheConstants.{MOST_AREA_BITS};
-ghost use Rattle.hc_places.specs.Parts.{IsListable};
+ghost use Rattle.hc_places.specs.inner.Parts.{IsListable};
 
 use hc_records::keys::Key;
 use hc_records::line::Member;
@@ -32,13 +32,6 @@ impl<'a> Listed<'a> {
     ghost use Rattle.hc_records.specs.Area.{width};
     ghost use Rattle.hc_records.specs.TaskList.{keyed};
     ghost use Rattle.hc_records.specs.declared.limits.TheConstants.{MOST_AREA_BITS};
-
-    /// An area with its key.
-    pub(crate) fn of(key: Key, area: &'a Area) -> Listed<'a>
-        ensures { result ≡ record { key = key; area = area.now } }
-    {
-        Listed { key, area }
-    }
 
     /// The area's record.
     pub(crate) fn area(&self) -> &'a Area

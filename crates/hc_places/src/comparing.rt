@@ -2,10 +2,10 @@
 ghost use Rattle.std.specs.Prelude.{◌≡◌, ◌+◌, ◌<◌, ◌++◌, ◌==◌, ℕ, All, IfOk, find, length, option_map, option_to_list, slice_get};
 ghost use Rattle.hc_records.specs.declared.limits.TheConstants.{TASKS};
 ghost use Rattle.hc_places.specs.Swap.{ChangesAscend, IsNewTask, same_place};
-ghost use Rattle.hc_places.specs.Walk.{changes, walked};
+ghost use Rattle.hc_places.specs.inner.Walk.{changes, walked};
 
 use crate::swap::{ChangedRow, ChangedTask};
-use crate::table::{Place, Row, TaskTable};
+use crate::table::{Place, Places, Row, TaskTable};
 use hc_records::limits::TASKS;
 use hc_records::records::VarId;
 use std::alloc::{AllocError, Global};
@@ -31,6 +31,27 @@ pub(crate) fn tasks_between(
         }
     }
     Ok(tasks)
+}
+
+impl Places {
+    ghost use Rattle.std.specs.Prelude.{◌≡◌, ◌<◌, ◌==◌, ℕ, All, IfOk, find, length, option_map, slice_get};
+    ghost use Rattle.hc_records.specs.declared.limits.TheConstants.{TASKS};
+    ghost use Rattle.hc_places.specs.Swap.{ChangesAscend, IsNewTask};
+
+    /// The tasks whose tables differ from these eight new ones, with their new ones, in the order of their
+    /// numbers. `AllocError` where a growth was refused.
+    pub fn changed_tasks(
+        &self,
+        alloc: Global,
+        new: &[TaskTable],
+    ) -> Result<Vec<ChangedTask>, AllocError>
+        requires { length new.now ≡ TASKS }
+        ensures says { IfOk result (λ tasks. (task : ℕ) → IsNewTask (slice_get self.now.tasks task) (slice_get new.now task) (option_map (λ changed. changed.1) (find (λ changed. changed.0 == task) tasks.items))) }
+        ensures ascends { IfOk result (λ tasks. ChangesAscend tasks.items) }
+        ensures eight { IfOk result (λ tasks. All (λ changed. changed.0 < TASKS) tasks.items) }
+    {
+        tasks_between(alloc, self.tasks.as_slice(), new)
+    }
 }
 
 /// Whether two places are the same.

@@ -10,7 +10,7 @@ ghost use Rattle.hc_records.specs.Packing.{opening, packed};
 ghost use Rattle.hc_records.specs.TaskList.{keyed};
 ghost use Rattle.hc_records.specs.declared.limits.TheConstants.{MOST_DATAGRAMS};
 ghost use Rattle.hc_places.specs.Layout.{NamesCrowded, layout_of};
-ghost use Rattle.hc_places.specs.Parts.{IsConfigurable, IsRefusal};
+ghost use Rattle.hc_places.specs.inner.Parts.{IsConfigurable, IsRefusal};
 ghost use Rattle.hc_places.specs.Table.{table_of, task_table};
 ghost use Rattle.hc_tasks.specs.Areas.{areas_by_rank};
 ghost use Rattle.hc_tasks.specs.Kept.{line_kept};
@@ -73,7 +73,8 @@ impl Draft {
     ghost use Rattle.hc_records.specs.TaskList.{keyed};
     ghost use Rattle.hc_records.specs.declared.limits.TheConstants.{MOST_DATAGRAMS, TASKS};
     ghost use Rattle.hc_places.specs.Found.{IsFoundSuiting, found_variables};
-    ghost use Rattle.hc_places.specs.Parts.{AreSendable, IsConfigurable, IsRefusal, table_at};
+    ghost use Rattle.hc_places.specs.Loads.{table_at};
+    ghost use Rattle.hc_places.specs.inner.Parts.{AreSendable, IsConfigurable, IsRefusal};
     ghost use Rattle.hc_places.specs.Ranges.{OffersBits};
     ghost use Rattle.hc_places.specs.Table.{task_table};
 

@@ -1,6 +1,7 @@
 //! What follows from the definitions of the table and of the layout: each function does nothing, and its
 //! contract is a law. Nobody calls it.
 ghost use Rattle.hc_places.specs.Layout.{AreasTellTheLayout};
+ghost use Rattle.hc_places.specs.Loads.{TablesAreLoaded, TablesTellLoads};
 ghost use Rattle.hc_places.specs.Swap.{ChangedVariablesDiffer, ChangedVariablesStandOnce, PlacesTellTables, SameIsEqual, SwapsKeepTheOrder, SwapsMoveTheirVariables, SwapsReplaceTheirTasks};
 ghost use Rattle.hc_places.specs.Table.{TablesHavePlaces};
 
@@ -8,6 +9,19 @@ ghost use Rattle.hc_places.specs.Table.{TablesHavePlaces};
 /// none.
 pub fn tables_have_places()
     ensures { TablesHavePlaces }
+{}
+
+/// The table of a task of a project's line is put together from what its datagrams hold, in their order: each
+/// begins where the one before it ends, the outputs are the sum of theirs, and the inputs are the rest.
+pub fn tables_are_loaded()
+    ensures { TablesAreLoaded }
+{}
+
+/// The table of a project's line tells what each datagram of its tasks holds: the length and the expected
+/// working counter stand there, and the bytes before its first input are those before the end of the task's
+/// outputs.
+pub fn tables_tell_loads()
+    ensures { TablesTellLoads }
 {}
 
 /// Two answers for a variable, a place or none, are told to be the same exactly where they are equal:

@@ -11,7 +11,7 @@ ghost use Rattle.hc_records.specs.Packing.{opening, packed};
 ghost use Rattle.hc_records.specs.Project.{lowest_fault};
 ghost use Rattle.hc_records.specs.declared.limits.TheConstants.{MOST_DATAGRAMS};
 ghost use Rattle.hc_cuts.specs.Firsts.{first_keys};
-ghost use Rattle.hc_places.specs.Parts.{IsConfigurable};
+ghost use Rattle.hc_places.specs.inner.Parts.{IsConfigurable};
 
 use crate::areas::{keyed_areas, task_areas};
 use arrayvec::ArrayVec;
@@ -60,7 +60,7 @@ impl Folded {
     ghost use Rattle.hc_records.specs.Edits.{crowded_task};
     ghost use Rattle.hc_records.specs.TaskList.{task_list};
     ghost use Rattle.hc_records.specs.declared.limits.TheConstants.{MOST_DATAGRAMS, TASKS};
-    ghost use Rattle.hc_places.specs.Parts.{IsConfigurable};
+    ghost use Rattle.hc_places.specs.inner.Parts.{IsConfigurable};
     ghost use Rattle.hc_places.specs.Recut.{list_recut};
 
     /// The list of a task of a line. `AllocError` where a growth was refused.

@@ -1,19 +1,20 @@
 //! A swap carried out on a table: the memory that it needs is taken first, then nothing can be
 //! refused.
-ghost use Rattle.std.specs.Prelude.{◌≡◌, ◌+◌, ◌≤◌, ◌<◌, ◌++◌, [], All, IfSome, length, option_to_list, vec_capacity};
+ghost use Rattle.std.specs.Prelude.{◌≡◌, ◌+◌, ◌≤◌, ◌<◌, [], All, IfSome, length, vec_capacity};
 ghost use Rattle.std.specs.Option.{MatchOption};
-ghost use Rattle.hc_places.specs.Swap.{ChangesAscend, merged, new_row, replaced};
+ghost use Rattle.hc_places.specs.Swap.{ChangesAscend, KeepRows, merged, replaced};
 ghost use Rattle.hc_places.specs.Table.{RowsAscend};
-ghost use Rattle.hc_places.specs.Walk.{merges, walked};
 
+use crate::merging::{keep_rows, overwrite};
+use crate::middle::change_middle;
 use crate::swap::{ChangedRow, ChangedTask, Swap};
 use crate::table::{Places, Row, TaskTable};
 use hc_records::items::Items;
 use std::alloc::{AllocError, Global};
 use std::marker::Model;
 
-/// The memory that carrying a swap out on a table takes: none where no variable changes, else that of
-/// the new rows.
+/// The memory that carrying a swap out on a table needs: none where no variable appears or goes, else
+/// that of as many rows as the table will have, or more.
 #[derive(Debug, Drop)]
 pub struct Room {
     rows: Option<Vec<Row>>,
@@ -39,93 +40,59 @@ fn replace_tasks(tasks: &mut Items<TaskTable>, changed: &[ChangedTask])
     }
 }
 
-/// The new row of a changed variable, if any.
-fn new_row(changed: &ChangedRow) -> Option<Row>
-    ensures { option_to_list result ≡ new_row changed.now }
-{
-    let place = changed.1?;
-    Some((changed.0, place))
-}
-
-/// The row that a change leaves of the variable with the lowest number, and what is left of the
-/// changes and of the rows.
-fn next_row<'a>(
-    changed: &'a [ChangedRow],
-    old: &'a [Row],
-) -> (Option<Row>, &'a [ChangedRow], &'a [Row])
-    ensures rows { option_to_list result.0 ++ walked merges result.2.now result.1.now ≡ walked merges old.now changed.now }
-    ensures fewer { 0 < length changed.now + length old.now → length result.1.now + length result.2.now < length changed.now + length old.now }
-{
-    match (changed, old) {
-        ([], []) => (None, changed, old),
-        ([change, others @ ..], []) => (new_row(change), others, old),
-        ([], [row, rows @ ..]) => (Some(*row), changed, rows),
-        ([change, others @ ..], [row, rows @ ..]) => {
-            if change.0.number() < row.0.number() {
-                (new_row(change), others, old)
-            } else if row.0.number() < change.0.number() {
-                (Some(*row), changed, rows)
-            } else {
-                (new_row(change), others, rows)
-            }
-        }
-    }
-}
-
-/// Puts a table's rows with changes into memory that has the room.
-fn merge(into: Vec<Row>, changed: &[ChangedRow], old: &[Row]) -> Vec<Row>
-    requires empty { into.items ≡ [] }
-    requires room { length (walked merges old.now changed.now) ≤ vec_capacity into }
-    ensures { result.items ≡ walked merges old.now changed.now }
-{
-    let mut rows = into;
-    let mut changes = changed;
-    let mut before = old;
-    while !changes.is_empty() || !before.is_empty() {
-        let (row, others, befores) = next_row(changes, before);
-        if let Some(row) = row {
-            rows.push_reserved(row);
-        }
-        changes = others;
-        before = befores;
-    }
-    rows
-}
-
-/// Makes a table's rows those with changes, in memory that has the room.
+/// Makes a table's rows those with changes: where they stand, if no memory is given, else with the help of
+/// memory that has room for all.
 fn change_rows(rows: &mut Vec<Row>, changed: &[ChangedRow], room: Option<Vec<Row>>)
     requires ascends { RowsAscend rows.old.items }
     requires changes { ChangesAscend changed.now }
     requires empty { IfSome room (λ into. into.items ≡ []) }
-    requires room { MatchOption room (changed.now ≡ []) (λ into. length (merged changed.now rows.old.items) ≤ vec_capacity into) }
+    requires room { MatchOption room (KeepRows rows.old.items changed.now) (λ into. length (merged changed.now rows.old.items) ≤ vec_capacity into) }
     ensures { rows.new.items ≡ merged changed.now rows.old.items }
 {
-    if let Some(into) = room {
-        *rows = merge(into, changed, rows.as_slice());
+    match room {
+        Some(into) => change_middle(rows, changed, into),
+        None => overwrite(rows, changed),
+    }
+}
+
+/// How many rows the memory for a table's change is taken for: all that there may be, and as many again
+/// where the table's own memory may have no room for them, so that this memory, its own from then on, has
+/// room for more.
+fn room_size(rows: &Vec<Row>, changed: &[ChangedRow]) -> usize
+    ensures { length rows.now.items + length changed.now ≤ result }
+{
+    let count = rows.len() + changed.len();
+    if count <= rows.capacity() {
+        count
+    } else {
+        count.saturating_mul(2)
     }
 }
 
 impl Places {
-    ghost use Rattle.std.specs.Prelude.{◌≡◌, IfOk, OnErr, OnOk};
+    ghost use Rattle.std.specs.Prelude.{◌≡◌, IfOk, None, Ok, OnErr, OnOk};
     ghost use Rattle.hc_places.specs.Room.{IsRoomFor};
-    ghost use Rattle.hc_places.specs.Swap.{swapped};
+    ghost use Rattle.hc_places.specs.Swap.{KeepRows, swapped};
 
-    /// The memory that `carry_out` will take for a swap of this table: none where no variable changes.
-    /// `AllocError` where a growth was refused.
+    /// The memory that `carry_out` needs for a swap of this table: none where no variable appears or goes,
+    /// else that of as many rows as the table will have, or more. `AllocError` where a growth was refused.
     pub fn room_for(&self, alloc: Global, swap: &Swap) -> Result<Room, AllocError>
-        ensures { IfOk result (IsRoomFor swap.now.change self.now) }
+        ensures room { IfOk result (IsRoomFor swap.now.change self.now) }
+        ensures without { KeepRows self.now.variables swap.now.change.rows → result ≡ Ok None }
     {
         let changed = swap.changes();
-        if changed.is_empty() {
+        if keep_rows(self.variables(), changed) {
             return Ok(Room { rows: None });
         }
-        let rows = self.variables();
-        let room = Vec::with_capacity(alloc, rows.len() + changed.len())?;
+        let room = Vec::with_capacity(alloc, room_size(&self.variables, changed))?;
         Ok(Room { rows: Some(room) })
     }
 
     /// Becomes the table that a swap leads to, in memory that was taken before: nothing can be refused.
-    /// The rows are gone over once, and not at all where no variable changes.
+    /// The rows of changed variables are looked up. In front of the first variable that appears or goes,
+    /// and behind the last, they are overwritten where they stand; those between are merged in the room and
+    /// put back, and the rows behind are shifted once. Where the table's memory has no room for them, all
+    /// rows are merged in the room, which is the table's from then on.
     pub fn carry_out(&mut self, swap: &Swap, room: Room)
         requires { IsRoomFor swap.now.change self.old room }
         ensures { self.new ≡ swapped swap.now.change self.old }

@@ -1,5 +1,5 @@
 //! The table of a line, in which tasks look up their datagrams and their variables.
-ghost use Rattle.std.specs.Prelude.{◌≡◌, ◌==◌, ◌↔◌, IsTrue, false, find, nat_lt, OnOk, option_map, true};
+ghost use Rattle.std.specs.Prelude.{◌≡◌, ◌≤◌, ◌==◌, ◌↔◌, IsTrue, false, find, length, nat_lt, OnOk, option_map, true};
 ghost use Rattle.std.specs.List.Sorted.{IsNonDecreasingBy, IsPartitionPoint};
 ghost use Rattle.hc_places.specs.Table.{by_number};
 
@@ -172,11 +172,22 @@ fn sort_rows(rows: &mut Vec<Row>) -> Result<(), AllocError>
 }
 
 /// How many rows have a lower number than a variable.
-fn count_below(rows: &[Row], variable: VarId) -> usize
+pub(crate) fn count_below(rows: &[Row], variable: VarId) -> usize
     requires { IsNonDecreasingBy (λ row. row.0) rows.now }
-    ensures { IsPartitionPoint (λ row. nat_lt row.0 variable ≡ true) (λ row. nat_lt row.0 variable ≡ false) rows.now result }
+    ensures bound { result ≤ length rows.now }
+    ensures below { IsPartitionPoint (λ row. nat_lt row.0 variable ≡ true) (λ row. nat_lt row.0 variable ≡ false) rows.now result }
 {
     rows.partition_point(|row| row.0.number() < variable.number())
+}
+
+/// The place of a variable among rows in the order of their numbers, so many of which have a lower one.
+pub(crate) fn place_at(rows: &[Row], below: usize, variable: VarId) -> Option<Place>
+    requires ascends { IsNonDecreasingBy (λ row. row.0) rows.now }
+    requires below { IsPartitionPoint (λ row. nat_lt row.0 variable ≡ true) (λ row. nat_lt row.0 variable ≡ false) rows.now below }
+    ensures { result ≡ option_map (λ row. row.1) (find (λ row. row.0 == variable) rows.now) }
+{
+    let row = *rows.get(below)?;
+    if row.0 == variable { Some(row.1) } else { None }
 }
 
 /// The place of a variable among rows in the order of their numbers.
@@ -184,8 +195,7 @@ fn find_place(rows: &[Row], variable: VarId) -> Option<Place>
     requires { IsNonDecreasingBy (λ row. row.0) rows.now }
     ensures { result ≡ option_map (λ row. row.1) (find (λ row. row.0 == variable) rows.now) }
 {
-    let row = *rows.get(count_below(rows, variable))?;
-    if row.0 == variable { Some(row.1) } else { None }
+    place_at(rows, count_below(rows, variable), variable)
 }
 
 impl Places {

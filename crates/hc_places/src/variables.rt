@@ -5,8 +5,8 @@ ghost use Rattle.hc_records.specs.Area.{bits_of, width};
 ghost use Rattle.hc_records.specs.Image.{area_variables, variables_from};
 ghost use Rattle.hc_records.specs.TaskList.{keyed};
 ghost use Rattle.hc_records.specs.declared.limits.TheConstants.{MOST_AREA_BITS, MOST_DATAGRAMS, TASKS};
-ghost use Rattle.hc_places.specs.Found.{IsFoundSuiting, found_variables};
-ghost use Rattle.hc_places.specs.Parts.{AreSendable, row_at};
+ghost use Rattle.hc_places.specs.Found.{IsFoundSuiting, area_rows, found_variables};
+ghost use Rattle.hc_places.specs.inner.Parts.{AreSendable, row_at};
 ghost use Rattle.hc_records.specs.Limits.{IsEntryInside};
 ghost use Rattle.hc_places.specs.Ranges.{OffersBits};
 
@@ -14,7 +14,7 @@ use crate::areas::Listed;
 use crate::table::Place;
 use hc_cuts::packing::Placed;
 use hc_records::assignment::offered_entries;
-use hc_records::records::{Dir, Entry, VarId};
+use hc_records::records::{Area, Dir, Entry, VarId};
 use hc_tasks::areas::{SlaveAreas, find_area};
 use std::alloc::AllocError;
 
@@ -58,20 +58,21 @@ fn add_entries(
     Ok(bit)
 }
 
-/// Adds the variables of an area that stands in a task.
-fn add_area(
+/// Adds the variables of an area that stands at a place in a task, 0 to 7, with their places, in the order in
+/// which its entries are assigned. The place is that of the area's bits in one of 16 datagrams. `AllocError`
+/// where a growth was refused.
+pub fn add_area(
     rows: &mut Vec<(VarId, Place)>,
     task: u8,
-    listed: &Listed,
+    area: &Area,
     placed: Placed,
 ) -> Result<(), AllocError>
     requires task { task < TASKS }
     requires few { placed.datagram < MOST_DATAGRAMS }
-    requires inside { placed.bit + width listed.now.area ≤ MOST_AREA_BITS }
-    requires offers { OffersBits listed.now.area }
-    ensures { OnOk result (rows.new.items ≡ rows.old.items ++ area_variables task (listed.now, placed)) }
+    requires inside { placed.bit + width area.now ≤ MOST_AREA_BITS }
+    requires offers { OffersBits area.now }
+    ensures { OnOk result (rows.new.items ≡ rows.old.items ++ area_rows task area.now placed) }
 {
-    let area = listed.area();
     let carrier = Carrier {
         task,
         datagram: placed.datagram() as u8,
@@ -100,7 +101,7 @@ pub(crate) fn add_variables(
     ensures { OnOk result (rows.new.items ≡ rows.old.items ++ flat_map (area_variables task) (zip areas.now places.now)) }
 {
     for i in 0..areas.len() {
-        add_area(rows, task, &areas[i], places[i])?;
+        add_area(rows, task, areas[i].area(), places[i])?;
     }
     Ok(())
 }
@@ -120,8 +121,7 @@ pub(crate) fn add_found(
 {
     for placed in places {
         if let Some(area) = find_area(slaves, placed.key()) {
-            let listed = Listed::of(placed.key(), area);
-            add_area(rows, task, &listed, *placed)?;
+            add_area(rows, task, area, *placed)?;
         }
     }
     Ok(())

@@ -12,8 +12,8 @@ use Rattle.hc_records.specs.Line.{Member, is_at, line_from}
 use Rattle.hc_records.specs.Lists.{has_repeat}
 use Rattle.hc_records.specs.Packing.{Placed}
 use Rattle.hc_registers.specs.Blocks.{LineBlock, RegisterBlock, line_blocks, member_blocks, moved_blocks, numbered, same_block, same_bytes, slave_blocks}
-use Rattle.hc_plan.specs.Blocks.{IsLaidOut, IsMappedSlave, slave_blocks_in}
-use Rattle.hc_plan.specs.Moved.{has_block_in, moved_in, moved_of}
+use Rattle.hc_plan.specs.inner.Blocks.{IsLaidOut, IsMappedSlave, slave_blocks_in}
+use Rattle.hc_plan.specs.inner.Moved.{has_block_in, moved_in, moved_of}
 use Rattle.hc_plan.proofs.LineBlocks.{drop-met, drop-past, laid-out-all, length-slave_blocks, slave_blocks-line}
 use Rattle.hc_records.proofs.lemmas.Stations.{IsAbsent, project-distinct, stations}
 

@@ -1,16 +1,19 @@
 -- When an edit is refused, by itself, by the new line or by the epoch, and when it is accepted.
-use Rattle.std.proofs.Common.{◌≡◌, ◌∙◌, ℕ, Bool, true, false, List, [], ◌∷◌, Option, Some, None, refl, sym, ap}
+use Rattle.std.proofs.Common.{◌≡◌, ◌∙◌, ◌+◌, ℕ, Bool, true, false, List, [], ◌∷◌, Option, Some, None, refl, sym, ap}
 use Rattle.std.specs.Prelude.{Ok, Err, ◌==◌, is_some, option_map, unwrap_or}
 use Rattle.hc_records.specs.declared.edit.Edit.{Edit}
 use Rattle.hc_records.specs.declared.faults.EditFault.{EditFault}
 use Rattle.hc_records.specs.declared.faults.EditFault.TheVariants.{TooManyDatagrams, EpochsSpent}
 use Rattle.hc_records.specs.declared.limits.TheConstants.{LAST_EPOCH}
 use Rattle.hc_records.specs.declared.records.Declared.{Declared}
-use Rattle.hc_records.specs.Edits.{changed, crowded_task, edited, refused_by}
-use Rattle.hc_records.specs.Line.{State, line}
+use Rattle.hc_records.specs.Edits.{changed, crowded_task, edited, groups_after, refused_by}
+use Rattle.hc_records.specs.Line.{State, line, line_from}
 use Rattle.hc_records.specs.Lists.{lowest}
+use Rattle.hc_edits.specs.declared.prepared.Prepared.{Prepared}
+use Rattle.hc_edits.specs.Changes.{carried}
 use Rattle.hc_edits.specs.Edits.{own_fault}
 use Rattle.hc_edits.proofs.lemmas.Refusals.{line-decides, line_faults}
+use Rattle.hc_changes.specs.Outlook.{Outlook, outlook_of}
 
 -- an edit's own fault, judged over a slice of the groups
 pub judged : (slice groups : List Declared) (edit : Edit) (found : Option EditFault) → slice ≡ groups → found ≡ own_fault slice edit
@@ -55,3 +58,33 @@ pub spent-refused : (state : State) (edit : Edit) → own_fault state.groups edi
     → (state.epoch == LAST_EPOCH) ≡ true → edited state edit ≡ Err EpochsSpent
 spent-refused state edit none uncrowded last =
     answered state edit (Some EpochsSpent) none (spent-left (crowded_task (line (changed state edit))) (state.epoch == LAST_EPOCH) uncrowded last)
+
+-- the same by the groups that an edit makes of those before it
+
+pub made-accepted : (groups new : List Declared) (epoch : ℕ) (edit : Edit) → own_fault groups edit ≡ None → new ≡ groups_after groups edit → crowded_task (line_from 1 new) ≡ None
+    → (epoch == LAST_EPOCH) ≡ false → edited (record { groups = groups; epoch = epoch }) edit ≡ Ok (record { groups = new; epoch = epoch + 1 })
+made-accepted groups new epoch edit none leads uncrowded more =
+    accepted (record { groups = groups; epoch = epoch }) edit none (ap (λ (g : List Declared). crowded_task (line_from 1 g)) (sym leads) ∙ uncrowded) more
+    ∙ ap (λ (g : List Declared). Ok (record { groups = g; epoch = epoch + 1 })) (sym leads)
+
+pub made-crowded : (groups new : List Declared) (epoch : ℕ) (edit : Edit) (task : ℕ) → own_fault groups edit ≡ None → new ≡ groups_after groups edit → crowded_task (line_from 1 new) ≡ Some task
+    → edited (record { groups = groups; epoch = epoch }) edit ≡ Err (TooManyDatagrams task)
+made-crowded groups new epoch edit task none leads crowded =
+    crowded-refused (record { groups = groups; epoch = epoch }) edit (TooManyDatagrams task) none
+    (ap (option_map TooManyDatagrams) (ap (λ (g : List Declared). crowded_task (line_from 1 g)) (sym leads) ∙ crowded))
+
+pub made-spent : (groups new : List Declared) (epoch : ℕ) (edit : Edit) → own_fault groups edit ≡ None → new ≡ groups_after groups edit → crowded_task (line_from 1 new) ≡ None
+    → (epoch == LAST_EPOCH) ≡ true → edited (record { groups = groups; epoch = epoch }) edit ≡ Err EpochsSpent
+made-spent groups new epoch edit none leads uncrowded last =
+    spent-refused (record { groups = groups; epoch = epoch }) edit none (ap (λ (g : List Declared). crowded_task (line_from 1 g)) (sym leads) ∙ uncrowded) last
+
+-- the groups before an edit and after it, as they are read
+
+pub old-groups : (it : Outlook) (change : Prepared) (slice groups : List Declared) → it ≡ outlook_of change slice → slice ≡ groups → it.old ≡ groups
+old-groups it change slice groups is same = ap (λ (o : Outlook). o.old) is ∙ same
+
+pub carried-groups : (it : Outlook) (change : Prepared) (slice groups new : List Declared) → it ≡ outlook_of change slice → slice ≡ groups → new ≡ carried change groups → it.new ≡ new
+carried-groups it change slice groups new is same made = ap (λ (o : Outlook). o.new) is ∙ ap (carried change) same ∙ sym made
+
+pub new-groups : (change : Prepared) (slice groups : List Declared) (edit : Edit) → carried change slice ≡ groups_after slice edit → slice ≡ groups → carried change groups ≡ groups_after groups edit
+new-groups change slice groups edit leads same = ap (carried change) (sym same) ∙ leads ∙ ap (λ (g : List Declared). groups_after g edit) same

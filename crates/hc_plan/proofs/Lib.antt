@@ -6,5 +6,7 @@ pub mod Mapped
 pub mod Numbered
 pub mod Opening
 pub mod Registers
+pub mod Telling
 pub mod Turned
+pub mod Widths
 pub mod lemmas

@@ -23,7 +23,7 @@ use Rattle.hc_registers.specs.Blocks.{LineBlock, RegisterBlock, area_blocks, lin
 use Rattle.hc_places.specs.Layout.{placed_in}
 use Rattle.hc_places.proofs.lemmas.Found.{find-holds}
 use Rattle.hc_places.proofs.lemmas.Layouts.{placed-in-line}
-use Rattle.hc_plan.specs.Blocks.{IsLaidOut, IsMappedSlave, area_blocks_in, blocks_left, fmmu_block_in, mapping_in, own_left, slave_blocks_in}
+use Rattle.hc_plan.specs.inner.Blocks.{IsLaidOut, IsMappedSlave, area_blocks_in, blocks_left, fmmu_block_in, mapping_in, own_left, slave_blocks_in}
 use Rattle.hc_plan.specs.Configuration.{at_station, block_at, line_block_at}
 use Rattle.hc_plan.proofs.Mapped.{slave-mapped}
 use Rattle.hc_plan.proofs.Numbered.{get-numbered-from-0, numbered-get}

@@ -1,19 +1,17 @@
 -- In the line of a project every area's blocks can be written, by the places that packing gives.
-use Rattle.std.proofs.Common.{◌≡◌, ℕ, ◌+◌, ◌<◌, ◌≤◌, ◌==◌, ◌&&◌, Bool, true, false, List, [], ◌∷◌, refl, sym, ap, subst, ◌∙◌, arith, cond, inl, inr}
-use Rattle.std.specs.Prelude.{All, AllPairs, Option, Some, None, find, map, nat_lt, option_map, slice_get, slice_index_or}
-use Rattle.std.specs.List.{enumerate_from}
-use Rattle.std.proofs.lemmas.Bool.{and_parts, cases_order, eqb-true, ltb-false}
+use Rattle.std.proofs.Common.{◌≡◌, ℕ, ◌+◌, ◌<◌, ◌≤◌, Bool, true, false, List, [], ◌∷◌, refl, sym, ap, subst, ◌∙◌, arith, cond}
+use Rattle.std.specs.Prelude.{All, Option, Some, None, find, map, nat_lt, option_map, slice_get, slice_index_or}
+use Rattle.std.proofs.lemmas.Bool.{ltb-false}
 use Rattle.std.proofs.lemmas.List.Elements.{All-cons, All-nil}
-use Rattle.std.proofs.lemmas.Option.{get_or_from_slice_get, slice_get-get_or, slice_get_within}
+use Rattle.std.proofs.lemmas.Option.{get_or_from_slice_get, slice_get_within}
 use Rattle.hc_records.specs.declared.limits.TheConstants.{MOST_AREA_BITS, MOST_DATAGRAMS, TASKS}
-use Rattle.hc_records.specs.declared.records.Dir.{Dir}
 use Rattle.hc_records.specs.declared.records.Area.{Area}
 use Rattle.hc_records.specs.declared.records.Declared.{Declared}
 use Rattle.hc_records.specs.declared.keys.Key.{Key}
-use Rattle.hc_records.specs.Keys.{same_dir, same_key}
+use Rattle.hc_records.specs.Keys.{same_key}
 use Rattle.hc_records.specs.Area.{width}
 use Rattle.hc_records.specs.Line.{Member, State, line_from}
-use Rattle.hc_records.specs.TaskList.{Keyed, task_list}
+use Rattle.hc_records.specs.TaskList.{task_list}
 use Rattle.hc_records.specs.Packing.{Placed, opening, packed}
 use Rattle.hc_records.specs.Image.{datagram_count, task_places, tasks}
 use Rattle.hc_records.specs.Edits.{crowded_task}
@@ -22,56 +20,17 @@ use Rattle.hc_records.specs.Laws.{IsPackable, LiesInside}
 use Rattle.hc_records.specs.Limits.{IsAreaInside, IsSlaveInside}
 use Rattle.hc_records.proofs.lemmas.Greatest.{greatest-all}
 use Rattle.hc_records.proofs.lemmas.Inside.{packed-inside}
-use Rattle.hc_records.proofs.lemmas.Lines.{RanksBelow, line-ascends}
 use Rattle.hc_records.proofs.lemmas.Lists.{All-unmap}
 use Rattle.hc_records.proofs.lemmas.Packable.{project-packable}
 use Rattle.hc_records.proofs.lemmas.Packed.{area_of, packed-areas}
 use Rattle.hc_records.proofs.lemmas.Slaves.{line-inside}
-use Rattle.hc_records.proofs.lemmas.Tasks.{task-list-all}
 use Rattle.hc_registers.specs.declared.fmmu.Mapping.{Mapping}
 use Rattle.hc_registers.specs.Blocks.{IsMappable, mapping_at}
 use Rattle.hc_places.specs.Layout.{layout_of, placed_in}
 use Rattle.hc_places.proofs.lemmas.Found.{find-holds}
 use Rattle.hc_places.proofs.lemmas.Layouts.{placed-in-line, task-at}
-use Rattle.hc_places.proofs.lemmas.Same.{same-dirs}
-use Rattle.hc_plan.specs.Blocks.{IsMappedArea, IsMappedSlave}
-use Rattle.hc_plan.proofs.Numbered.{numbered-get}
-
--- two slaves of a line with one rank are one
-
-not-below : (members : List Member) (i j : ℕ) (a b : Member) → AllPairs RanksBelow members
-    → slice_get members i ≡ Some a → slice_get members j ≡ Some b → a.rank ≡ b.rank → i < j → a ≡ b
-not-below members i j a b ascending first second same below =
-    let inside = slice_get_within members j b second in
-    let ranks : (slice_index_or members i a).rank < (slice_index_or members j a).rank = ascending i j a below inside in
-    let one : (slice_index_or members i a).rank ≡ a.rank = ap (λ (m : Member). m.rank) (get_or_from_slice_get members i a a first) in
-    let two : (slice_index_or members j a).rank ≡ b.rank = ap (λ (m : Member). m.rank) (get_or_from_slice_get members j b a second) in
-    absurd (omega (arith, ranks, one, two, same))
-
-same-rank : (members : List Member) (i j : ℕ) (a b : Member) → AllPairs RanksBelow members
-    → slice_get members i ≡ Some a → slice_get members j ≡ Some b → a.rank ≡ b.rank → a ≡ b
-same-rank members i j a b ascending first second same = elim (cases_order i j) [
-  | inl equal ↦ cc
-  | inr (inl below) ↦ not-below members i j a b ascending first second same below
-  | inr (inr above) ↦ sym (not-below members j i b a ascending second first (sym same) above)
-]
-
--- a list's key has the width of the area that it names
-pub record NamesArea (line : List Member) (area : Keyed) : Type 0 where
-  pub named : (j : ℕ) (member : Member) (found : Area) → slice_get line j ≡ Some member → member.rank ≡ area.0.rank
-      → slice_get member.slave.areas area.0.area ≡ Some found → area.1 ≡ width found
-
-task-list-names : (task : ℕ) (members : List Member) → AllPairs RanksBelow members → All (NamesArea members) (task_list task members)
-task-list-names task members ascending =
-    task-list-all (NamesArea members) task members (λ dir i d inside k e below belonging. record {
-      named = λ j member found at rank named.
-          let own = slice_index_or members i d in
-          let same : own ≡ member = same-rank members i j own member ascending (slice_get-get_or members i d inside) at (sym rank) in
-          let numbered = numbered-get own.slave.areas k e below in
-          let area : Some (slice_index_or (enumerate_from 0 own.slave.areas) k e).1 ≡ Some found = sym numbered ∙ ap (λ (m : Member). slice_get m.slave.areas (slice_index_or (enumerate_from 0 own.slave.areas) k e).0) same ∙ named in
-          let one : (slice_index_or (enumerate_from 0 own.slave.areas) k e).1 ≡ found = cc in
-          ap width one;
-    })
+use Rattle.hc_plan.specs.inner.Blocks.{IsMappedArea, IsMappedSlave, bits_in}
+use Rattle.hc_plan.proofs.Widths.{area-bits, bits_of}
 
 -- where no task is crowded, each has at most 16 datagrams
 
@@ -92,14 +51,13 @@ few-datagrams members task none below =
     ltb-false MOST_DATAGRAMS (datagram_count (task_places task members)) (ap test (sym (get_or_from_slice_get tasks task task task (task-at task below))) ∙ passes)
 
 -- the areas of a task's list with their places, in the line of a project that isn't crowded
-pub record StandsWell (members : List Member) (placed : Placed) : Type 0 where
+pub record StandsWell (placed : Placed) : Type 0 where
   pub packable : IsPackable (area_of placed)
-  pub names : NamesArea members (area_of placed)
   pub inside : LiesInside placed
   pub early : placed.datagram < MOST_DATAGRAMS
 
 pub places-stand : (groups : List Declared) (task : ℕ) → lowest_fault (map (λ declared. declared.group) groups) ≡ None → crowded_task (line_from 1 groups) ≡ None → task < TASKS
-    → All (StandsWell (line_from 1 groups)) (task_places task (line_from 1 groups))
+    → All StandsWell (task_places task (line_from 1 groups))
 places-stand groups task project uncrowded below i d under =
     let members = line_from 1 groups in
     let list = task_list task members in
@@ -110,21 +68,9 @@ places-stand groups task project uncrowded below i d under =
     let behind : (slice_index_or places i d).datagram + 1 ≤ datagram_count places = greatest-all (λ (placed : Placed). placed.datagram + 1) 0 places i d under in
     record {
       packable = All-unmap IsPackable area_of places (subst (All IsPackable) (sym (packed-areas opening list)) packable) i d under;
-      names = All-unmap (NamesArea members) area_of places (subst (All (NamesArea members)) (sym (packed-areas opening list)) (task-list-names task members (line-ascends 1 groups))) i d under;
       inside = packed-inside opening list packable i d under;
       early = omega (arith, behind, count);
     }
-
-same_key-is : (a b : Key) → same_key a b ≡ true → a ≡ b
-same_key-is a b same =
-    let parts = and_parts (same_dir a.dir b.dir && (a.rank == b.rank)) (a.area == b.area) same in
-    let front = and_parts (same_dir a.dir b.dir) (a.rank == b.rank) parts.0 in
-    let dir = same-dirs a.dir b.dir front.0 in
-    let rank = eqb-true a.rank b.rank front.1 in
-    let area = eqb-true a.area b.area parts.1 in
-    ap (λ (d : Dir). record { dir = d; rank = a.rank; area = a.area }) dir
-    ∙ ap (λ (r : ℕ). record { dir = b.dir; rank = r; area = a.area }) rank
-    ∙ ap (λ (n : ℕ). record { dir = b.dir; rank = b.rank; area = n }) area
 
 -- an area's place in its task's list is where its FMMU maps it
 
@@ -132,12 +78,8 @@ mapped-from : (o : Option Placed) (f : Placed → Mapping) (mapping : Mapping) (
 mapped-from None f mapping P holds is = cc
 mapped-from (Some placed) f mapping P holds is = let same : f placed ≡ mapping = cc in subst P same (holds placed refl)
 
-area-mappable : (members : List Member) (j : ℕ) (member : Member) (index : ℕ) (area : Area) (placed : Placed) → area.task < TASKS
-    → slice_get members j ≡ Some member → slice_get member.slave.areas index ≡ Some area
-    → StandsWell members placed → placed.key ≡ record { dir = area.dir; rank = member.rank; area = index }
-    → IsMappable area (mapping_at area.task placed)
-area-mappable members j member index area placed task at found stands key =
-    let bits : placed.bits ≡ width area = stands.names.named j member area at (sym (ap (λ (k : Key). k.rank) key)) (ap (λ (k : Key). slice_get member.slave.areas k.area) key ∙ found) in
+area-mappable : (area : Area) (placed : Placed) → area.task < TASKS → placed.bits ≡ width area → StandsWell placed → IsMappable area (mapping_at area.task placed)
+area-mappable area placed task bits stands =
     let some : 0 < placed.bits = stands.packable.some in
     let inside : placed.bit + placed.bits ≤ MOST_AREA_BITS = stands.inside in
     let early = stands.early in
@@ -153,16 +95,18 @@ area-mapped : (groups : List Declared) (j : ℕ) (member : Member) (index : ℕ)
 area-mapped groups j member index area project uncrowded at found inside =
     let members = line_from 1 groups in
     let key : Key = record { dir = area.dir; rank = member.rank; area = index } in
+    let bits : bits_in (layout_of members) area.task key ≡ width area = area-bits groups j member index area inside.task at found in
     record {
       manager = inside.manager;
       task = inside.task;
       narrow = inside.narrow;
+      bits = bits;
       mapped = λ mapping is.
           mapped-from (placed_in (layout_of members) area.task key) (mapping_at area.task) mapping (IsMappable area)
           (λ placed has.
-          let stands = find-holds (StandsWell members) (λ (p : Placed). same_key p.key key) (task_places area.task members) placed
+          let stands = find-holds StandsWell (λ (p : Placed). same_key p.key key) (task_places area.task members) placed
           (sym (placed-in-line members area.task key inside.task) ∙ has) (places-stand groups area.task project uncrowded inside.task) in
-          area-mappable members j member index area placed inside.task at found stands.0 (same_key-is placed.key key stands.1))
+          area-mappable area placed inside.task (ap bits_of (sym has) ∙ bits) stands.0)
           is;
     }
 

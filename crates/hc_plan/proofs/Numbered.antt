@@ -8,7 +8,7 @@ use Rattle.hc_records.specs.declared.records.Area.{Area}
 use Rattle.hc_records.specs.Line.{Member}
 use Rattle.hc_records.specs.Packing.{Placed}
 use Rattle.hc_registers.specs.Blocks.{RegisterBlock, sync_manager_block}
-use Rattle.hc_plan.specs.Blocks.{IsMappedArea, IsMappedSlave, area_block_in, fmmu_block_in, slave_blocks_in}
+use Rattle.hc_plan.specs.inner.Blocks.{IsMappedArea, IsMappedSlave, area_block_in, fmmu_block_in, slave_blocks_in}
 
 module _ {X Y : Type 0} (f g : X → Y) where
   -- two for each element: the even ones are the first of each, the odd ones the second

@@ -1,5 +1,4 @@
-pub mod Blocks
 pub mod Configuration
 pub mod Laws
 pub mod Reports
-pub mod Moved
+pub mod inner

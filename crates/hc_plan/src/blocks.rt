@@ -1,15 +1,16 @@
-//! The register blocks of the slaves of a line, by the places that a layout has for their areas.
+//! The register blocks of the slaves of a line, by the places and widths that a layout has for their areas.
 ghost use Rattle.std.specs.Prelude.{◌≡◌, [], ◌∷◌, ◌+◌, ◌*◌, ◌<◌, ◌≤◌, MatchOption, OnSome, length, option_map, slice_get};
 ghost use Rattle.std.specs.Iterator.{YieldsFirst, item_count};
 ghost use Rattle.std.specs.Option.{ForSome};
 ghost use Rattle.hc_records.specs.declared.limits.TheConstants.{MOST_AREAS, TASKS};
 ghost use Rattle.hc_records.specs.Line.{line_from};
-ghost use Rattle.hc_registers.specs.Blocks.{line_blocks};
+ghost use Rattle.hc_registers.specs.Blocks.{line_blocks, mapping_at};
 ghost use Rattle.hc_plan.specs.Configuration.{at_station, block_at, line_block_at};
-ghost use Rattle.hc_plan.specs.Blocks.{IsLaidOut, IsMappedArea, IsMappedSlave, area_block_in, mapping_in, own_left, slave_blocks_in};
+ghost use Rattle.hc_plan.specs.inner.Blocks.{IsLaidOut, IsMappedArea, IsMappedSlave, area_block_in, own_left, slave_blocks_in};
 
+use crate::laid::Laid;
+use hc_cuts::packing::Placed;
 use hc_index::index::Indexed;
-use hc_places::layout::Layout;
 use hc_records::keys::Key;
 use hc_records::line::{LineMembers, Member, members};
 use hc_records::records::{Area, Declared, Slave};
@@ -40,7 +41,7 @@ impl Model for LineBlock {
 /// the list of them.
 #[derive(Debug, Drop)]
 pub struct LineBlocks<'a> {
-    layout: &'a Layout,
+    layout: Laid<'a>,
     // the slave that the walk has reached, none before the first
     member: Option<Member<'a>>,
     // the number of its next block
@@ -53,47 +54,53 @@ impl<'a> Model for LineBlocks<'a> {
     ghost use Rattle.std.specs.Prelude.{All, List};
     ghost use Rattle.std.specs.Option.{ForSome};
     ghost use Rattle.hc_registers.specs.Blocks.{LineBlock};
-    ghost use Rattle.hc_plan.specs.Blocks.{IsMappedSlave, blocks_left};
+    ghost use Rattle.hc_plan.specs.inner.Blocks.{IsMappedSlave, blocks_left};
 
     ghost Value = { List LineBlock };
 
-    ghost view = { λ left. blocks_left left.layout.now left.member left.number left.members };
+    ghost view = { λ left. blocks_left left.layout left.member left.number left.members };
 
-    ghost invariant = { λ left. ForSome left.member (IsMappedSlave left.layout.now) × All (IsMappedSlave left.layout.now) left.members };
+    ghost invariant = { λ left. ForSome left.member (IsMappedSlave left.layout) × All (IsMappedSlave left.layout) left.members };
 }
 
-/// Where the area at an index of a slave with a rank is mapped; none where it has 0 bits.
-fn mapping(layout: &Layout, rank: u16, index: u8, area: &Area) -> Option<Mapping>
-    requires { area.now.task < TASKS }
-    ensures { result ≡ mapping_in layout.now rank index area.now }
+/// Where an area that has a place in a task is mapped.
+fn mapping(task: u8, placed: Placed) -> Mapping
+    requires { task < TASKS }
+    ensures { result ≡ mapping_at task placed }
+{
+    Mapping {
+        address: logical_address(task, placed.datagram()),
+        bit: placed.bit(),
+    }
+}
+
+/// One of the two blocks of the area at an index of a slave with a rank: the sync manager block for an
+/// even number, the FMMU block for an odd one. The layout tells the area's width, so no PDO is read.
+fn area_block(layout: &Laid, rank: u16, index: u8, area: &Area, number: u8) -> Block
+    requires index { index < MOST_AREAS }
+    requires area { IsMappedArea layout.now rank index area.now }
+    ensures { result ≡ area_block_in layout.now rank number (index, area.now) }
 {
     let key = Key {
         dir: area.dir,
         rank,
         area: index,
     };
-    let placed = layout.placed(area.task, key)?;
-    Some(Mapping {
-        address: logical_address(area.task, placed.datagram()),
-        bit: placed.bit(),
-    })
-}
-
-/// One of the two blocks of the area at an index of a slave with a rank: the sync manager block for an
-/// even number, the FMMU block for an odd one.
-fn area_block(layout: &Layout, rank: u16, index: u8, area: &Area, number: u8) -> Block
-    requires index { index < MOST_AREAS }
-    requires area { IsMappedArea layout.now rank index area.now }
-    ensures { result ≡ area_block_in layout.now rank number (index, area.now) }
-{
     if number % 2 == 0 {
-        return Block::sync_manager(area);
+        let bits = layout.bits(area.task, key);
+        return Block::sized_sync_manager(area, bits);
     }
-    Block::fmmu(index, area, mapping(layout, rank, index, area))
+    match layout.placed(area.task, key) {
+        Some(placed) => {
+            let mapping = mapping(area.task, placed);
+            Block::mapped_fmmu(index, area, placed.bits(), mapping)
+        }
+        None => Block::fmmu(index, area, None),
+    }
 }
 
 /// The block with a number, from 0, in the order of a slave with a rank; none where it has fewer.
-fn slave_block(layout: &Layout, rank: u16, slave: &Slave, number: u8) -> Option<Block>
+fn slave_block(layout: &Laid, rank: u16, slave: &Slave, number: u8) -> Option<Block>
     requires { IsMappedSlave layout.now (record { rank = rank; slave = slave.now }) }
     ensures { result ≡ slice_get (slave_blocks_in layout.now (record { rank = rank; slave = slave.now })) number }
 {
@@ -107,7 +114,7 @@ fn slave_block(layout: &Layout, rank: u16, slave: &Slave, number: u8) -> Option<
 }
 
 /// The block with a number, from 0, in the order of a slave of the line; none where it has fewer.
-pub(crate) fn block_of(layout: &Layout, member: &Member<'_>, number: u8) -> Option<Block>
+pub(crate) fn block_of(layout: &Laid, member: &Member<'_>, number: u8) -> Option<Block>
     requires { IsMappedSlave layout.now member.now }
     ensures { result ≡ slice_get (slave_blocks_in layout.now member.now) number }
 {
@@ -117,7 +124,7 @@ pub(crate) fn block_of(layout: &Layout, member: &Member<'_>, number: u8) -> Opti
 /// The block with a number, from 0, in the order of the slave with a station address.
 pub(crate) fn block_at(
     groups: &Indexed<'_>,
-    layout: &Layout,
+    layout: &Laid,
     station: u16,
     number: u8,
 ) -> Option<Block>
@@ -141,7 +148,7 @@ fn with_station(station: u16, block: Option<Block>) -> Option<(u16, Block)>
 }
 
 /// The block with a number, from 0, in line and block order, with its slave's station address.
-pub(crate) fn nth_block(groups: &Indexed<'_>, layout: &Layout, n: u32) -> Option<(u16, Block)>
+pub(crate) fn nth_block(groups: &Indexed<'_>, layout: &Laid, n: u32) -> Option<(u16, Block)>
     requires { IsLaidOut groups.now layout.now }
     ensures { result ≡ line_block_at (line_from 1 groups.now) n }
 {
@@ -151,7 +158,7 @@ pub(crate) fn nth_block(groups: &Indexed<'_>, layout: &Layout, n: u32) -> Option
 }
 
 /// The block with a number, from 0, of a slave, if there is one.
-fn own_block(layout: &Layout, member: &Option<Member<'_>>, number: u8) -> Option<LineBlock>
+fn own_block(layout: &Laid, member: &Option<Member<'_>>, number: u8) -> Option<LineBlock>
     requires { ForSome member.now (IsMappedSlave layout.now) }
     ensures gives { MatchOption result (own_left layout.now member.now number ≡ []) (λ found. own_left layout.now member.now number ≡ found ∷ own_left layout.now member.now (number + 1)) }
     ensures few { OnSome result (number < 16) }
@@ -171,8 +178,8 @@ fn own_block(layout: &Layout, member: &Option<Member<'_>>, number: u8) -> Option
 }
 
 /// The blocks of the line, in line and block order.
-pub(crate) fn line_blocks<'a>(groups: &'a [Declared], layout: &'a Layout) -> LineBlocks<'a>
-    requires { IsLaidOut groups.now layout.now }
+pub(crate) fn line_blocks<'a>(groups: &'a [Declared], layout: Laid<'a>) -> LineBlocks<'a>
+    requires { IsLaidOut groups.now layout }
     ensures { result ≡ line_blocks (line_from 1 groups.now) }
 {
     LineBlocks {
@@ -192,7 +199,7 @@ impl<'a> Iterator for LineBlocks<'a> {
 
     fn next(&mut self) -> Option<LineBlock> {
         loop {
-            if let Some(found) = own_block(self.layout, &self.member, self.number) {
+            if let Some(found) = own_block(&self.layout, &self.member, self.number) {
                 self.number += 1;
                 return Some(found);
             }

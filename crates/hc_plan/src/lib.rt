@@ -2,7 +2,9 @@
 //! and the program ask it for datagrams, places and register blocks.
 #![tactic(auto)]
 
+mod applying;
 pub mod blocks;
+mod laid;
 pub mod laws;
 mod moved;
 pub mod plan;

@@ -5,11 +5,11 @@ ghost use Rattle.std.specs.List.{flat_map, list_any};
 ghost use Rattle.std.specs.Option.{ForSome};
 ghost use Rattle.hc_records.specs.Line.{line_from};
 ghost use Rattle.hc_registers.specs.Blocks.{moved_blocks, numbered, same_bytes};
-ghost use Rattle.hc_plan.specs.Blocks.{IsLaidOut, IsMappedSlave, slave_blocks_in};
-ghost use Rattle.hc_plan.specs.Moved.{has_block_in, moved_in, moved_of};
+ghost use Rattle.hc_plan.specs.inner.Blocks.{IsLaidOut, IsMappedSlave, slave_blocks_in};
+ghost use Rattle.hc_plan.specs.inner.Moved.{has_block_in, moved_in, moved_of};
 
 use crate::blocks::{LineBlock, block_of};
-use hc_places::layout::Layout;
+use crate::laid::Laid;
 use hc_records::line::{Member, line_of, member_at};
 use hc_records::records::Declared;
 use hc_registers::blocks::Block;
@@ -23,7 +23,7 @@ fn is_same(a: &Block, b: &Block) -> bool
 }
 
 /// Whether a slave of the line that a layout is of has a block.
-fn has_own(layout: &Layout, member: &Member<'_>, block: &Block) -> bool
+fn has_own(layout: &Laid, member: &Member<'_>, block: &Block) -> bool
     requires { IsMappedSlave layout.now member.now }
     ensures { result ≡ list_any (same_bytes block.now) (slave_blocks_in layout.now member.now) }
 {
@@ -38,7 +38,7 @@ fn has_own(layout: &Layout, member: &Member<'_>, block: &Block) -> bool
 }
 
 /// Whether a slave, if it stands in the line that a layout is of, has a block.
-fn has_block(layout: &Layout, member: &Option<Member<'_>>, block: &Block) -> bool
+fn has_block(layout: &Laid, member: &Option<Member<'_>>, block: &Block) -> bool
     requires { ForSome member.now (IsMappedSlave layout.now) }
     ensures { result ≡ has_block_in layout.now member.now block.now }
 {
@@ -51,7 +51,7 @@ fn has_block(layout: &Layout, member: &Option<Member<'_>>, block: &Block) -> boo
 /// Adds a block of the line unless its slave had it in the old line.
 fn add_block(
     moved: &mut Vec<LineBlock>,
-    old_layout: &Layout,
+    old_layout: &Laid,
     old: &Option<Member<'_>>,
     found: LineBlock,
 ) -> Result<(), AllocError>
@@ -67,9 +67,9 @@ fn add_block(
 /// Adds the blocks of a slave that it hadn't, if it stood there, in the old line.
 fn add_moved(
     moved: &mut Vec<LineBlock>,
-    old_layout: &Layout,
+    old_layout: &Laid,
     old: &Option<Member<'_>>,
-    layout: &Layout,
+    layout: &Laid,
     member: &Member<'_>,
 ) -> Result<(), AllocError>
     requires old { ForSome old.now (IsMappedSlave old_layout.now) }
@@ -94,9 +94,9 @@ fn add_moved(
 fn moved_in_line(
     alloc: Global,
     old_groups: &[Declared],
-    old_layout: &Layout,
+    old_layout: &Laid,
     line: &[Member<'_>],
-    layout: &Layout,
+    layout: &Laid,
 ) -> Result<Vec<LineBlock>, AllocError>
     requires old { IsLaidOut old_groups.now old_layout.now }
     requires new { All (IsMappedSlave layout.now) line.now }
@@ -116,9 +116,9 @@ fn moved_in_line(
 pub(crate) fn moved_blocks(
     alloc: Global,
     old_groups: &[Declared],
-    old_layout: &Layout,
+    old_layout: &Laid,
     new_groups: &[Declared],
-    new_layout: &Layout,
+    new_layout: &Laid,
 ) -> Result<Vec<LineBlock>, AllocError>
     requires old { IsLaidOut old_groups.now old_layout.now }
     requires new { IsLaidOut new_groups.now new_layout.now }

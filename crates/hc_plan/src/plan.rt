@@ -2,13 +2,14 @@
 ghost use Rattle.std.specs.Prelude.{◌≡◌, IfOk, map};
 ghost use Rattle.hc_records.specs.Line.{opened_group};
 
+use crate::applying::{Applied, work_out};
 use crate::blocks::{LineBlocks, block_at, line_blocks, nth_block};
-use crate::report::{Report, Standing};
-use crate::turning::{open_line, turn_line};
-use hc_edits::faults::own_fault;
-use hc_edits::groups::groups_after;
+use crate::laid::Laid;
+use crate::report::Report;
+use crate::turning::{OpenedLine, open_line};
+use hc_changes::outlook::Outlook;
+use hc_edits::prepared::Prepared;
 use hc_index::index::{Index, Indexed};
-use hc_places::layout::Layout;
 use hc_places::table::Places;
 use hc_records::edit::Edit;
 use hc_records::faults::EditFault;
@@ -41,7 +42,6 @@ pub struct Plan {
     // where the slaves of the line and their blocks are found
     index: Index,
     epoch: u32,
-    layout: Layout,
     places: Places,
     // the tasks of the line, from which an edit cuts the new ones
     cuts: LineCuts,
@@ -53,7 +53,6 @@ impl Drop for Plan {
             groups: _,
             index: _,
             epoch: _,
-            layout: _,
             places: _,
             cuts: _,
         } = self;
@@ -61,19 +60,20 @@ impl Drop for Plan {
 }
 
 impl Model for Plan {
-    ghost use Rattle.std.specs.Prelude.{◌≡◌};
-    ghost use Rattle.hc_records.specs.Line.{State, line_from};
+    ghost use Rattle.std.specs.Prelude.{◌≡◌, None};
+    ghost use Rattle.hc_records.specs.Edits.{crowded_task};
+    ghost use Rattle.hc_records.specs.Line.{State, groups_of, line_from};
+    ghost use Rattle.hc_records.specs.Project.{lowest_fault};
     ghost use Rattle.hc_places.specs.Table.{table_of};
     ghost use Rattle.hc_tasks.specs.Areas.{areas_by_rank};
     ghost use Rattle.hc_tasks.specs.Kept.{line_kept};
     ghost use Rattle.hc_index.specs.Index.{IsIndexOf};
-    ghost use Rattle.hc_plan.specs.Blocks.{IsLaidOut};
 
     ghost Value = { State };
 
     ghost view = { λ plan. record { groups = plan.groups; epoch = plan.epoch } };
 
-    ghost invariant = { λ plan. IsLaidOut plan.groups plan.layout × (plan.places ≡ table_of (line_from 1 plan.groups)) × (plan.cuts ≡ line_kept (areas_by_rank plan.groups)) × IsIndexOf plan.groups plan.index };
+    ghost invariant = { λ plan. (lowest_fault (groups_of plan.groups) ≡ None) × (crowded_task (line_from 1 plan.groups) ≡ None) × (plan.places ≡ table_of (line_from 1 plan.groups)) × (plan.cuts ≡ line_kept (areas_by_rank plan.groups)) × IsIndexOf plan.groups plan.index };
 }
 
 impl Plan {
@@ -85,6 +85,7 @@ impl Plan {
     ghost use Rattle.hc_records.specs.Project.{lowest_fault};
     ghost use Rattle.hc_edits.specs.Edits.{own_fault};
     ghost use Rattle.hc_places.specs.Layout.{NamesCrowded};
+    ghost use Rattle.hc_plan.specs.inner.Blocks.{IsLaidOut};
     ghost use Rattle.hc_plan.specs.Configuration.{block_at, config, line_block_at, position_of, station_at};
     ghost use Rattle.hc_plan.specs.Reports.{AreAnswers, Tells, carried};
 
@@ -98,14 +99,17 @@ impl Plan {
     {
         let groups = opened_groups(alloc, project.into_groups().into_vec())?;
         let index = Index::new(alloc, groups.as_slice())?;
-        let opened = open_line::<Brand>(alloc, groups.as_slice(), Blank::new(1))?;
+        let OpenedLine { cuts, places } = open_line::<Brand>(
+            alloc,
+            groups.as_slice(),
+            Blank::new(1),
+        )?;
         Ok(Plan {
             groups,
             index,
             epoch: 0,
-            layout: opened.configured.layout,
-            places: opened.configured.places,
-            cuts: opened.cuts,
+            places,
+            cuts,
         })
     }
 
@@ -113,7 +117,7 @@ impl Plan {
     pub fn epoch(&self) -> u32
         ensures { result ≡ self.now.epoch }
     {
-        self.standing().epoch()
+        self.epoch
     }
 
     /// The declared groups with their assigned PDOs and tasks, and which of them are present. No fault's
@@ -123,7 +127,7 @@ impl Plan {
         ensures kept { lowest_fault (groups_of self.now.groups) ≡ None }
         ensures uncrowded { crowded_task (line self.now) ≡ None }
     {
-        self.standing().groups()
+        self.groups.as_slice()
     }
 
     /// The table of the present line: its datagrams, parts and variable places. No fault's condition
@@ -149,7 +153,7 @@ impl Plan {
     pub fn block(&self, station: u16, number: u8) -> Option<Block>
         ensures { result ≡ block_at (line self.now) station number }
     {
-        block_at(&self.indexed(), &self.layout, station, number)
+        block_at(&self.indexed(), &self.laid(), station, number)
     }
 
     /// The number of blocks of the present line. It takes no memory.
@@ -164,7 +168,7 @@ impl Plan {
     pub fn nth_block(&self, n: u32) -> Option<(u16, Block)>
         ensures { result ≡ line_block_at (line self.now) n }
     {
-        nth_block(&self.indexed(), &self.layout, n)
+        nth_block(&self.indexed(), &self.laid(), n)
     }
 
     /// The blocks of the present line, in line and block order, one by one: each with its slave's station
@@ -172,7 +176,7 @@ impl Plan {
     pub fn line_blocks(&self) -> LineBlocks<'_>
         ensures { result ≡ (config (line self.now)).blocks }
     {
-        line_blocks(self.groups.as_slice(), &self.layout)
+        line_blocks(self.groups.as_slice(), self.laid())
     }
 
     /// The station address of the slave at a position of the line, from 0; none where the line is
@@ -204,16 +208,11 @@ impl Plan {
         self.index.of(self.groups.as_slice())
     }
 
-    /// The state, with what the line is configured to.
-    fn standing(&self) -> Standing<'_>
-        ensures { result ≡ self.now }
+    /// Where the areas of the line stand.
+    pub(crate) fn laid(&self) -> Laid<'_>
+        ensures { IsLaidOut self.now.groups result }
     {
-        Standing::of(
-            self.groups.as_slice(),
-            self.epoch,
-            &self.layout,
-            &self.places,
-        )
+        Laid::of(self.groups.as_slice(), &self.cuts)
     }
 
     /// Carries an edit out: the plan is then that of the new line, and the report tells what became
@@ -227,30 +226,24 @@ impl Plan {
         ensures own { IfSome (own_fault self.old.groups edit.now) (λ fault. result ≡ Err fault) }
         ensures unchanged { OnErr result (self.new ≡ self.old) }
     {
-        if let Some(fault) = own_fault(self.groups.as_slice(), edit) {
-            return Err(fault);
-        }
-        let groups = groups_after(alloc, self.groups.as_slice(), edit)?;
-        let old = Standing::of(
-            self.groups.as_slice(),
-            self.epoch,
-            &self.layout,
-            &self.places,
-        );
-        let applied = turn_line::<Brand>(
+        let change = Prepared::of(alloc, self.groups.as_slice(), edit)?;
+        let outlook = Outlook::of(alloc, self.groups.as_slice(), &change)?;
+        let applied = work_out::<Brand>(
             alloc,
             edit,
-            &old,
-            groups.as_slice(),
+            &outlook,
+            self.epoch,
             &mut self.cuts,
+            &self.places,
             Blank::new(1),
         )?;
-        self.groups = groups;
+        drop(outlook);
+        let Applied { report, room } = applied;
+        change.carry_out(&mut self.groups);
         self.index.follow(self.groups.as_slice());
+        self.places.carry_out(&report.swap, room);
         self.epoch += 1;
-        self.layout = applied.configured.layout;
-        self.places = applied.configured.places;
-        Ok(applied.report)
+        Ok(report)
     }
 
     /// Carries edits out in their order, as `apply` does each, and gives their answers. The room for the

@@ -1,14 +1,15 @@
 //! Blocks as they are written: bytes at a register.
-ghost use Rattle.std.specs.Prelude.{◌≡◌, ◌<◌, ◌≤◌};
+ghost use Rattle.std.specs.Prelude.{◌≡◌, ◌+◌, ◌*◌, ◌<◌, ◌≤◌};
 ghost use Rattle.std.specs.Option.{ForSome};
 ghost use Rattle.hc_records.specs.Area.{width};
 ghost use Rattle.hc_records.specs.declared.limits.TheConstants.{LAST_SYNC_MANAGER, MOST_AREA_BITS, MOST_AREAS};
+ghost use Rattle.hc_registers.specs.declared.registers.TheConstants.{FMMU_BLOCKS, FMMU_BLOCK_BYTES};
 
-use crate::fmmu::{Mapping, fmmu_block};
+use crate::fmmu::{Mapping, fmmu_block, mapped_block};
 use crate::registers::{
     FMMU_BLOCK_BYTES, FMMU_BLOCKS, SYNC_MANAGER_BLOCK_BYTES, SYNC_MANAGER_BLOCKS,
 };
-use crate::sync_manager::sync_block;
+use crate::sync_manager::sized_block;
 use arrayvec::ArrayVec;
 use hc_records::records::Area;
 use std::marker::Model;
@@ -28,8 +29,23 @@ impl Model for Block {
     ghost view = { λ block. record { register = block.register; bytes = block.bytes.items } };
 }
 
+/// The FMMU block of these bytes for the area at an index of its slave's record.
+fn fmmu_of(index: u8, bytes: [u8; 16]) -> Block
+    requires { index < MOST_AREAS }
+    ensures { result ≡ record { register = FMMU_BLOCKS + FMMU_BLOCK_BYTES * index; bytes = bytes } }
+{
+    let mut block = ArrayVec::new();
+    for byte in bytes {
+        block.push(byte);
+    }
+    Block {
+        register: FMMU_BLOCKS + FMMU_BLOCK_BYTES * u16::from(index),
+        bytes: block,
+    }
+}
+
 impl Block {
-    ghost use Rattle.std.specs.Prelude.{◌≡◌, ◌<◌, ◌≤◌, length};
+    ghost use Rattle.std.specs.Prelude.{◌≡◌, ◌<◌, ◌≤◌, Some, length};
     ghost use Rattle.std.specs.Option.{ForSome};
     ghost use Rattle.hc_records.specs.Area.{width};
     ghost use Rattle.hc_records.specs.declared.limits.TheConstants.{LAST_SYNC_MANAGER, MOST_AREA_BITS, MOST_AREAS};
@@ -41,8 +57,18 @@ impl Block {
         requires number { area.now.sm ≤ LAST_SYNC_MANAGER }
         ensures { result ≡ sync_manager_block area.now }
     {
+        Block::sized_sync_manager(area, area.width())
+    }
+
+    /// The same by a caller that knows the area's width in bits: the area's PDOs aren't walked for it.
+    pub fn sized_sync_manager(area: &Area, bits: u16) -> Block
+        requires width { width area.now ≤ MOST_AREA_BITS }
+        requires number { area.now.sm ≤ LAST_SYNC_MANAGER }
+        requires bits { bits ≡ width area.now }
+        ensures { result ≡ sync_manager_block area.now }
+    {
         let mut bytes = ArrayVec::new();
-        for byte in sync_block(area) {
+        for byte in sized_block(area, bits) {
             bytes.push(byte);
         }
         Block {
@@ -58,14 +84,18 @@ impl Block {
         requires mapping { ForSome mapping (IsMappable area.now) }
         ensures { result ≡ fmmu_block index area.now mapping }
     {
-        let mut bytes = ArrayVec::new();
-        for byte in fmmu_block(area, mapping) {
-            bytes.push(byte);
-        }
-        Block {
-            register: FMMU_BLOCKS + FMMU_BLOCK_BYTES * u16::from(index),
-            bytes,
-        }
+        fmmu_of(index, fmmu_block(area, mapping))
+    }
+
+    /// The same of an area that is mapped, by a caller that knows its width in bits: the area's PDOs
+    /// aren't walked for it.
+    pub fn mapped_fmmu(index: u8, area: &Area, bits: u16, mapping: Mapping) -> Block
+        requires index { index < MOST_AREAS }
+        requires bits { bits ≡ width area.now }
+        requires mapping { IsMappable area.now mapping }
+        ensures { result ≡ fmmu_block index area.now (Some mapping) }
+    {
+        fmmu_of(index, mapped_block(area, bits, mapping))
     }
 
     /// The register at which the block begins.

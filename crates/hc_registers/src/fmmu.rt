@@ -44,13 +44,14 @@ fn type_byte(dir: Dir) -> u8
     }
 }
 
-/// The block of an area that is mapped.
-fn mapped_block(area: &Area, mapping: Mapping) -> [u8; 16]
-    requires { IsMappable area.now mapping }
+/// The block of an area of so many bits that is mapped. No PDO of the area is read.
+pub(crate) fn mapped_block(area: &Area, bits: u16, mapping: Mapping) -> [u8; 16]
+    requires bits { bits ≡ width area.now }
+    requires mapping { IsMappable area.now mapping }
     ensures { result ≡ mapped_bytes area.now mapping }
 {
     let bit = mapping.bit;
-    let last = bit + area.width() - 1;
+    let last = bit + bits - 1;
     let logical = (mapping.address + u32::from(bit / 8)).to_le_bytes();
     let length = (last / 8 - bit / 8 + 1).to_le_bytes();
     let physical = area.phys.to_le_bytes();
@@ -83,7 +84,7 @@ pub fn fmmu_block(area: &Area, mapping: Option<Mapping>) -> [u8; 16]
 {
     match mapping {
         None => [0; 16],
-        Some(mapping) => mapped_block(area, mapping),
+        Some(mapping) => mapped_block(area, area.width(), mapping),
     }
 }
 

@@ -17,13 +17,12 @@ fn control_byte(dir: Dir) -> u8
     }
 }
 
-/// The block of an area of 0 to 11,888 bits: start address, length in bytes, control, status,
-/// activation, PDI control. An area of 0 bits has length 0 and is inactive.
-pub fn sync_block(area: &Area) -> [u8; 8]
-    requires { width area.now ≤ MOST_AREA_BITS }
+/// The block of an area whose width in bits is known. No PDO of the area is read.
+pub(crate) fn sized_block(area: &Area, bits: u16) -> [u8; 8]
+    requires width { width area.now ≤ MOST_AREA_BITS }
+    requires bits { bits ≡ width area.now }
     ensures { result ≡ sync_manager_bytes area.now }
 {
-    let bits = area.width();
     let start = area.phys.to_le_bytes();
     let length = ((bits + 7) / 8).to_le_bytes();
     let active = if bits == 0 { 0 } else { 1 };
@@ -37,6 +36,15 @@ pub fn sync_block(area: &Area) -> [u8; 8]
         active,
         0,
     ]
+}
+
+/// The block of an area of 0 to 11,888 bits: start address, length in bytes, control, status,
+/// activation, PDI control. An area of 0 bits has length 0 and is inactive.
+pub fn sync_block(area: &Area) -> [u8; 8]
+    requires { width area.now ≤ MOST_AREA_BITS }
+    ensures { result ≡ sync_manager_bytes area.now }
+{
+    sized_block(area, area.width())
 }
 
 /// The physical start address: bytes 0 and 1.

@@ -1,10 +1,12 @@
 -- The eight tasks of a line, and those of a line without slaves.
-use Rattle.std.specs.Prelude.{All, None, replicate, slice_index_or}
+use Rattle.std.specs.Prelude.{All, None, map, replicate, slice_index_or}
 use Rattle.std.proofs.Common.{◌≡◌, ℕ, zero, suc, ◌+◌, ◌<◌, ◌≤◌, true, List, [], ◌∷◌, ◌++◌, length, refl, sym, ap, subst, ◌∙◌, arith}
+use Rattle.std.proofs.lemmas.List.{get_or-map}
 use Rattle.std.proofs.lemmas.List.Elements.{All-cons, All-nil}
 use Rattle.hc_records.specs.declared.records.Dir.{Dir}
 use Rattle.hc_records.specs.declared.records.Dir.TheVariants.{Out, In}
 use Rattle.hc_records.specs.declared.records.Area.{Area}
+use Rattle.hc_records.specs.declared.keys.Key.{Key}
 use Rattle.hc_records.specs.Keys.{is_before}
 use Rattle.hc_records.specs.TaskList.{Keyed}
 use Rattle.hc_records.specs.Packing.{opening, packed}
@@ -47,6 +49,13 @@ task-starts task line kept other low is =
     ap (λ (all : List Kept). (slice_index_or all task other).starts) is
     ∙ ap (λ (k : Kept). k.starts) (kept-at 8 0 task line other low)
     ∙ ap (λ (n : ℕ). starts_by n line) number
+
+pub copied-starts : (task : ℕ) (line : List (List Area)) (kept : List Kept) (starts : List (List Key)) → task < 8 → kept ≡ line_kept line → starts ≡ map (λ k. k.starts) kept
+    → slice_index_or starts task [] ≡ starts_by task line
+copied-starts task line kept starts low is copied =
+    ap (λ (all : List (List Key)). slice_index_or all task []) copied
+    ∙ get_or-map (λ k. k.starts) kept task (kept_by 0 line) [] (let eight = ap length is ∙ length-kept 8 0 line in omega arith)
+    ∙ task-starts task line kept (kept_by 0 line) low is
 
 -- a line none of whose slaves is present
 

@@ -1,7 +1,7 @@
 -- A task that is turned into that of another line.
 use Rattle.std.specs.Prelude.{All, filter, map, nat_lt, not, ◌==◌}
 use Rattle.std.proofs.Common.{◌≡◌, ℕ, suc, ◌+◌, ◌<◌, ◌≤◌, Bool, true, false, List, [], ◌∷◌, ◌++◌, length, refl, sym, ap, subst, ◌∙◌, arith, if◌then◌else◌}
-use Rattle.std.proofs.lemmas.Bool.{cond-true, eqb-true, not-false}
+use Rattle.std.proofs.lemmas.Bool.{cond-false, cond-true, eqb-true, not-false}
 use Rattle.std.proofs.lemmas.Bool.Decides.{nat_tests}
 use Rattle.std.proofs.lemmas.List.{append_cancel_right}
 use Rattle.std.proofs.lemmas.List.Elements.{All-append, All-cons, All-head, All-nil, All-tail}
@@ -115,13 +115,13 @@ touched-hulls task old new hulls are =
 
 -- where there is none, the task of the one line is that of the other
 
-untouched-key : (task : ℕ) (old new : List (List Area)) (hulls : Hulls) → AreHulls (differs_at task old new) hulls → are_none hulls ≡ true
+untouched-key : (task : ℕ) (old new : List (List Area)) (hulls : Hulls) → AreHulls (is_touched (list_by task old) (list_by task new)) hulls → are_none hulls ≡ true
     → (key : Key) → is_touched (list_by task old) (list_by task new) key ≡ false
 untouched-key task old new hulls are none key =
     none-passes (is_touched (list_by task old) (list_by task new)) key
-    (subst (λ (h : Hulls). AreHulls (is_touched (list_by task old) (list_by task new)) h) (none-are hulls none) (touched-hulls task old new hulls are))
+    (subst (λ (h : Hulls). AreHulls (is_touched (list_by task old) (list_by task new)) h) (none-are hulls none) are)
 
-pub lists-same : (task : ℕ) (old new : List (List Area)) (hulls : Hulls) → IsLine old → IsLine new → AreHulls (differs_at task old new) hulls → are_none hulls ≡ true
+pub lists-same : (task : ℕ) (old new : List (List Area)) (hulls : Hulls) → IsLine old → IsLine new → AreHulls (is_touched (list_by task old) (list_by task new)) hulls → are_none hulls ≡ true
     → list_by task old ≡ list_by task new
 lists-same task old new hulls first second are none =
     told-by_widths (list_by task old) (list_by task new) (first.lists task) (second.lists task)
@@ -142,45 +142,56 @@ filter-none : (test : Key → Bool) (keys : List Key) → ((key : Key) → test 
 filter-none test [] none = refl
 filter-none test (key ∷ keys) none = rw (none key) (filter-none test keys none)
 
-pub recut-none : (task : ℕ) (old new : List (List Area)) (hulls : Hulls) → AreHulls (differs_at task old new) hulls → are_none hulls ≡ true → 0 ≡ recut_by task old new
+pub none-touched : (task : ℕ) (old new : List (List Area)) (hulls : Hulls) → AreHulls (is_touched (list_by task old) (list_by task new)) hulls → are_none hulls ≡ true
+    → is_touched_by task old new ≡ false
+none-touched task old new hulls are none =
+    ap (λ (keys : List Key). nat_lt 0 (length keys))
+    (filter-none (is_touched (list_by task old) (list_by task new)) (map (λ (area : Keyed). area.0) (list_by task old ++ list_by task new)) (untouched-key task old new hulls are none))
+
+pub recut-none : (task : ℕ) (old new : List (List Area)) (hulls : Hulls) → AreHulls (is_touched (list_by task old) (list_by task new)) hulls → are_none hulls ≡ true → 0 ≡ recut_by task old new
 recut-none task old new hulls are none =
-    sym (ap (λ (keys : List Key). if nat_lt 0 (length keys) then unsettled_spans (list_by task old) (list_by task new) else 0)
-    (filter-none (is_touched (list_by task old) (list_by task new)) (map (λ (area : Keyed). area.0) (list_by task old ++ list_by task new)) (untouched-key task old new hulls are none)))
+    sym (cond-false (is_touched_by task old new) (unsettled_spans (list_by task old) (list_by task new)) 0 (none-touched task old new hulls are none))
 
 -- where there is one, the task is touched
 
 some-above : (n : ℕ) → nat_lt 0 (suc n) ≡ true
 some-above n = grind (arith, nat_tests)
 
-some-by : (task : ℕ) (old new : List (List Area)) (hulls : Hulls) → AreHulls (differs_at task old new) hulls → are_none hulls ≡ false → (keys : List Key)
+some-by : (task : ℕ) (old new : List (List Area)) (hulls : Hulls) → AreHulls (is_touched (list_by task old) (list_by task new)) hulls → are_none hulls ≡ false → (keys : List Key)
     → touched (list_by task old) (list_by task new) ≡ keys → is_touched_by task old new ≡ true
 some-by task old new hulls are some [] is =
-    let none = untouched-none (list_by task old) (list_by task new) hulls (touched-hulls task old new hulls are) is in
+    let none = untouched-none (list_by task old) (list_by task new) hulls are is in
     let never : true ≡ false = sym none ∙ some in
     cc
 some-by task old new hulls are some (key ∷ keys) is = ap (λ (list : List Key). nat_lt 0 (length list)) is ∙ some-above (length keys)
 
-pub some-touched : (task : ℕ) (old new : List (List Area)) (hulls : Hulls) → AreHulls (differs_at task old new) hulls → are_none hulls ≡ false → is_touched_by task old new ≡ true
+pub some-touched : (task : ℕ) (old new : List (List Area)) (hulls : Hulls) → AreHulls (is_touched (list_by task old) (list_by task new)) hulls → are_none hulls ≡ false → is_touched_by task old new ≡ true
 some-touched task old new hulls are some = some-by task old new hulls are some (touched (list_by task old) (list_by task new)) refl
+
+-- so its hulls tell whether it is
+pub tells-touched : (task : ℕ) (old new : List (List Area)) (hulls : Hulls) (none : Bool) → AreHulls (is_touched (list_by task old) (list_by task new)) hulls → none ≡ are_none hulls
+    → not none ≡ is_touched_by task old new
+tells-touched task old new hulls true are is = sym (none-touched task old new hulls are (sym is))
+tells-touched task old new hulls false are is = sym (some-touched task old new hulls are (sym is))
 
 pub one-touched : (task : ℕ) (old new : List (List Area)) → is_touched_by task old new ≡ true → touched_by task old new ≡ 1
 one-touched task old new is = cond-true (is_touched_by task old new) 1 0 is
 
 -- and the spans that are counted are those that are recut
-pub recut-some : (task recut : ℕ) (old new : List (List Area)) (hulls : Hulls) (before mid : Kept) → AreHulls (differs_at task old new) hulls → are_none hulls ≡ false
+pub recut-some : (task recut : ℕ) (old new : List (List Area)) (hulls : Hulls) (before mid : Kept) → AreHulls (is_touched (list_by task old) (list_by task new)) hulls → are_none hulls ≡ false
     → before ≡ kept_by task old → mid.starts ≡ before.starts → mid.tree ≡ tree_by task new
     → ((list : List Keyed) → mid.starts ++ END ∷ [] ≡ boundaries list → AreHulls (is_touched list mid.tree.list) hulls → recut ≡ unsettled_spans list mid.tree.list)
     → recut ≡ recut_by task old new
 recut-some task recut old new hulls before mid are some was starts is counted =
     let list = ap (λ (tree : Tree). tree.list) is in
     let begun = ap (λ (keys : List Key). keys ++ END ∷ []) (starts ∙ ap (λ (kept : Kept). kept.starts) was) in
-    let own = subst (λ (keyed : List Keyed). AreHulls (is_touched (list_by task old) keyed) hulls) (sym list) (touched-hulls task old new hulls are) in
+    let own = subst (λ (keyed : List Keyed). AreHulls (is_touched (list_by task old) keyed) hulls) (sym list) are in
     counted (list_by task old) begun own
     ∙ ap (unsettled_spans (list_by task old)) list
     ∙ sym (cond-true (is_touched_by task old new) (unsettled_spans (list_by task old) (list_by task new)) 0 (some-touched task old new hulls are some))
 
 -- the boundaries of before are those of the one line's task, which differs inside these hulls alone
-pub are-of_before : (task : ℕ) (old new : List (List Area)) (hulls : Hulls) (before mid : Kept) → IsLine old → AreHulls (differs_at task old new) hulls
+pub are-of_before : (task : ℕ) (old new : List (List Area)) (hulls : Hulls) (before mid : Kept) → IsLine old → AreHulls (is_touched (list_by task old) (list_by task new)) hulls
     → before ≡ kept_by task old → mid.starts ≡ before.starts → mid.tree ≡ tree_by task new → AreOfBefore mid.starts hulls mid.tree.list
 are-of_before task old new hulls before mid line are was starts is = record {
   before = list_by task old;
@@ -188,5 +199,5 @@ are-of_before task old new hulls before mid line are was starts is = record {
   keys = ap (λ (keys : List Key). keys ++ END ∷ []) (starts ∙ ap (λ (kept : Kept). kept.starts) was);
   inside =
       subst (λ (keyed : List Keyed). DifferInside hulls (list_by task old) keyed) (sym (ap (λ (tree : Tree). tree.list) is))
-      (hulls-hold hulls (list_by task old) (list_by task new) (touched-hulls task old new hulls are)).differ;
+      (hulls-hold hulls (list_by task old) (list_by task new) are).differ;
 }

@@ -1,4 +1,6 @@
 pub mod Areas
+pub mod Cursors
+pub mod Keeping
 pub mod Kept
 pub mod Laws
 pub mod Recut

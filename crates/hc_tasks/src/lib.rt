@@ -3,6 +3,8 @@
 #![tactic(auto)]
 
 pub mod areas;
+pub mod finder;
+pub mod keeping;
 pub mod laws;
 pub mod starts;
 pub mod tasks;

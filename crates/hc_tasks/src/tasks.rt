@@ -5,6 +5,7 @@ use crate::areas::SlaveAreas;
 use crate::starts::LineStarts;
 use crate::turning::turn_tasks;
 use hc_bitsum::steps::Steps;
+use hc_cuts::cursor::Cursor;
 use hc_cuts::cuts::Cuts;
 use hc_cuts::packing::Placed;
 use hc_records::faults::EditFault;
@@ -46,13 +47,17 @@ fn absent_slaves<'a>(alloc: Global, slaves: usize) -> Result<Vec<SlaveAreas<'a>>
 
 impl LineCuts {
     ghost use Rattle.hc_records.specs.declared.records.Area.{Area};
-    ghost use Rattle.std.specs.Prelude.{◌≡◌, ◌≢◌, ◌+◌, ◌*◌, ◌<◌, ◌≤◌, List, [], IfErr, IfOk, None, OnErr, OnOk, Some, map, option_map, replicate};
+    ghost use Rattle.std.specs.Prelude.{◌≡◌, ◌≢◌, ◌+◌, ◌*◌, ◌<◌, ◌≤◌, List, [], IfErr, IfOk, None, OnErr, OnOk, Some, length, map, option_map, replicate};
+    ghost use Rattle.hc_records.specs.Boundaries.{width_in};
+    ghost use Rattle.hc_records.specs.Image.{inside};
     ghost use Rattle.hc_records.specs.Packing.{opening, packed};
     ghost use Rattle.hc_records.specs.declared.faults.EditFault.TheVariants.{Memory, TooManyDatagrams};
     ghost use Rattle.hc_records.specs.declared.limits.TheConstants.{MOST_DATAGRAMS, MOST_SLAVES, TASKS};
+    ghost use Rattle.hc_cuts.specs.Inputs.{has_inputs};
     ghost use Rattle.hc_cuts.specs.Place.{place_of};
     ghost use Rattle.hc_cuts.specs.Starts.{most_read};
     ghost use Rattle.hc_tasks.specs.Areas.{list_by};
+    ghost use Rattle.hc_tasks.specs.Cursors.{StandInTasks};
     ghost use Rattle.hc_tasks.specs.Kept.{IsLine, crowded_from, line_kept, starts_by};
     ghost use Rattle.hc_tasks.specs.Recut.{recut_from, touched_from};
     ghost use Rattle.hc_tasks.specs.Turn.{HasTurn, IsTurn};
@@ -121,9 +126,33 @@ impl LineCuts {
     /// datagram begins if there is one, and the keys at which the later ones do. It takes no memory.
     pub fn starts(&self, task: u8) -> &[Key]
         requires { task < TASKS }
-        ensures { (line : List (List Area)) → self.now ≡ line_kept line → result.now ≡ starts_by task line }
+        ensures starts { (line : List (List Area)) → self.now ≡ line_kept line → result.now ≡ starts_by task line }
+        ensures few { length result.now ≤ MOST_DATAGRAMS }
     {
         self.tasks[usize::from(task)].starts()
+    }
+
+    /// Whether a task, 0 to 7, has inputs. No area is read. It takes no memory.
+    pub fn has_inputs(&self, task: u8) -> bool
+        requires { task < TASKS }
+        ensures { (line : List (List Area)) → self.now ≡ line_kept line → result ≡ has_inputs (list_by task line) }
+    {
+        self.tasks[usize::from(task)].has_inputs()
+    }
+
+    /// The areas of a datagram of a task, 0 to 7, with their places, in key order; none where the task has no
+    /// datagram with that number. `AllocError` where a growth was refused.
+    pub fn datagram<L: Ledger>(
+        &self,
+        alloc: Global,
+        task: u8,
+        number: u16,
+        steps: &mut Steps<L>,
+    ) -> Result<Vec<Placed>, AllocError>
+        requires { task < TASKS }
+        ensures { IfOk result (λ places. (line : List (List Area)) → self.now ≡ line_kept line → places.items ≡ inside number (packed opening (list_by task line))) }
+    {
+        self.tasks[usize::from(task)].datagram(alloc, number, steps)
     }
 
     /// The areas of a task with their places, in key order. `AllocError` where a growth was refused.
@@ -139,6 +168,15 @@ impl LineCuts {
         self.tasks[usize::from(task)].places(alloc, steps)
     }
 
+    /// The width in bits of an area in a task, 0 to 7, by its key, as `place` takes it; 0 where the task has no
+    /// such area. It takes no memory.
+    pub fn bits(&self, task: u8, key: Key) -> u16
+        requires { task < TASKS }
+        ensures { (line : List (List Area)) → self.now ≡ line_kept line → result ≡ width_in (list_by task line) key }
+    {
+        self.tasks[usize::from(task)].bits(key)
+    }
+
     /// The place of an area in a task, 0 to 7, by its key, any key: the direction, the rank of the slave in
     /// the line, and the area's place in the slave's record. The datagram of the task that carries it, and
     /// its first bit there; none where the task has no such area. It is worked out from the widths and the
@@ -148,6 +186,26 @@ impl LineCuts {
         ensures { (line : List (List Area)) → self.now ≡ line_kept line → result ≡ place_of key (list_by task line) }
     {
         self.tasks[usize::from(task)].place(key)
+    }
+
+    /// A cursor before the first area of each task. It takes no memory.
+    pub(crate) fn cursors(&self) -> [Cursor; 8]
+        ensures { StandInTasks self.now result }
+    {
+        let _tasks = &self.tasks;
+        [Cursor::start(); 8]
+    }
+
+    /// The place of an area in a task, 0 to 7, as `place` gives it, by cursors that stand in the tasks and stand
+    /// in them again. It takes no memory.
+    pub(crate) fn place_from(&self, cursors: &mut [Cursor; 8], task: u8, key: Key) -> Option<Placed>
+        requires task { task < TASKS }
+        requires stood { StandInTasks self.now cursors.old }
+        ensures place { (line : List (List Area)) → self.now ≡ line_kept line → result ≡ place_of key (list_by task line) }
+        ensures stand { StandInTasks self.now cursors.new }
+    {
+        let task = usize::from(task);
+        self.tasks[task].place_from(&mut cursors[task], key)
     }
 
     /// A copy of the boundaries of the eight tasks, to be compared with later ones. It takes no memory.

@@ -1,10 +1,12 @@
 //! The keys of a task whose widths differ between two lines.
 ghost use Rattle.std.specs.Prelude.{◌≡◌, ◌==◌, ◌&&◌, List};
+ghost use Rattle.hc_records.specs.Boundaries.{is_touched};
 ghost use Rattle.hc_records.specs.Keys.{same_key};
 ghost use Rattle.hc_records.specs.declared.records.Area.{Area};
 ghost use Rattle.hc_cuts.specs.Hulls.{AreHulls, TakeIn};
+ghost use Rattle.hc_tasks.specs.Areas.{list_by};
 ghost use Rattle.hc_tasks.specs.Turn.{AreLines, HasLines};
-ghost use Rattle.hc_tasks.specs.Widths.{AreKept, differs, differs_at};
+ghost use Rattle.hc_tasks.specs.Widths.{AreKept, differs};
 
 use crate::areas::SlaveAreas;
 use crate::widths::slave_width;
@@ -61,7 +63,7 @@ fn touch_slave(hulls: &mut Hulls, task: u8, rank: u16, old: &[Area], new: &[Area
 /// where no width does. It takes no memory.
 pub fn touched_hulls(task: u8, first: u16, before: &[SlaveAreas], after: &[SlaveAreas]) -> Hulls
     requires { HasLines first before.now after.now }
-    ensures { (old new : List (List Area)) → AreLines first before.now after.now old new → AreHulls (differs_at task old new) result }
+    ensures { (old new : List (List Area)) → AreLines first before.now after.now old new → AreHulls (is_touched (list_by task old) (list_by task new)) result }
 {
     let mut hulls = Hulls::none();
     for i in 0..before.len() {

@@ -21,6 +21,8 @@ mod lines;
 #[cfg(test)]
 mod records;
 #[cfg(test)]
+mod refused;
+#[cfg(test)]
 mod spans;
 #[cfg(test)]
 mod texts;

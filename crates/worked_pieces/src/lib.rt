@@ -4,6 +4,10 @@
 #![tactic(auto)]
 
 #[cfg(test)]
+mod carried;
+#[cfg(test)]
+mod changes;
+#[cfg(test)]
 mod cuts;
 #[cfg(test)]
 mod edits;
@@ -25,3 +29,5 @@ mod searches;
 mod standing;
 #[cfg(test)]
 mod swaps;
+#[cfg(test)]
+mod tables;

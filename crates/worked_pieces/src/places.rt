@@ -40,7 +40,11 @@ pub fn area(alloc: Global, sm: u8, entries: &[Entry]) -> Result<Area, AllocError
 }
 
 /// Copies of the groups, all present but one with an alias.
-fn present(alloc: Global, groups: &[Group], absent: u16) -> Result<Vec<Declared>, AllocError>
+pub(crate) fn present(
+    alloc: Global,
+    groups: &[Group],
+    absent: u16,
+) -> Result<Vec<Declared>, AllocError>
     ensures { IfOk result (λ declared. map (λ one. one.group) declared.items ≡ groups.now) }
 {
     let mut declared = Vec::new(alloc);
@@ -107,12 +111,9 @@ pub fn tool_and_module(alloc: Global) -> Result<Items<Group>, AllocError> {
 
 /// The line of groups, all present but one with an alias.
 pub fn configured(alloc: Global, groups: Items<Group>, absent: u16) -> Result<Configured, Fail> {
-    let project = Project::checked(alloc, groups).ok().ok_or("a project")?;
+    let project = Project::checked(alloc, groups)?;
     let declared = present(alloc, project.groups(), absent)?;
-    let configured = configure(alloc, declared.as_slice())
-        .ok()
-        .ok_or("few datagrams")?;
-    Ok(configured)
+    Ok(configure(alloc, declared.as_slice())?)
 }
 
 /// The place of an output variable in the first datagram of task 0.

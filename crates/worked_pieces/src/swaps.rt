@@ -124,21 +124,21 @@ fn a_swap_names_its_edit(rt: HostRuntime) -> Result<(), Fail> {
 /// The alias of a group without variables.
 const PADDING: u16 = 10;
 
-/// The tool with a variable of 3 bits, in a task.
-fn tool(alloc: Global, variable: u32, task: u8) -> Result<Group, AllocError> {
+/// A group of a slave with a variable of 3 bits, in a task.
+fn one_in_task(
+    alloc: Global,
+    alias: u16,
+    station: u16,
+    variable: u32,
+    task: u8,
+) -> Result<Group, AllocError> {
     let mut output = area(alloc, 0, &[(VarId::new(variable), 3)])?;
     output.task = task;
     let mut areas = Items::new(alloc);
     areas.push(output)?;
     let mut slaves = Items::new(alloc);
-    slaves.push(Slave {
-        station: 1002,
-        areas,
-    })?;
-    Ok(Group {
-        alias: TOOL,
-        slaves,
-    })
+    slaves.push(Slave { station, areas })?;
+    Ok(Group { alias, slaves })
 }
 
 /// The table of the mandatory slave, the tool with a variable in a task, the module, and a slave that
@@ -146,7 +146,7 @@ fn tool(alloc: Global, variable: u32, task: u8) -> Result<Group, AllocError> {
 fn line(alloc: Global, variable: u32, task: u8, absent: u16) -> Result<Places, Fail> {
     let mut groups = Items::new(alloc);
     groups.push(one_slave(alloc, 0, 1001, 7, 3)?)?;
-    groups.push(tool(alloc, variable, task)?)?;
+    groups.push(one_in_task(alloc, TOOL, 1002, variable, task)?)?;
     groups.push(one_slave(alloc, 8, 1003, 8, 5)?)?;
     groups.push(one_slave(alloc, PADDING, 1004, 0, 4)?)?;
     Ok(configured(alloc, groups, absent)?.places)
@@ -198,6 +198,41 @@ fn each_swap_leads_to_the_next_table(rt: HostRuntime) -> Result<(), Fail> {
     let mut table = line(rt.alloc(), 6, 0, NONE)?;
     for (variable, task, absent, count) in &LINES {
         let next = line(rt.alloc(), *variable, *task, *absent)?;
+        assert!(rt; becomes(rt.alloc(), &mut table, &next, *count)?);
+    }
+    Ok(())
+}
+
+/// How many modules stand in a row.
+const MODULES: u16 = 12;
+
+/// The variable of a module, by its place in the row: numbers in another order than the modules.
+fn variable_of(module: u16) -> u32 {
+    1 + u32::from(module) * 5 % u32::from(MODULES)
+}
+
+/// The table of the mandatory slave and the modules behind it, of which one stands in task 3 and the
+/// others in task 0.
+fn row(alloc: Global, moved: u16) -> Result<Places, Fail> {
+    let mut groups = Items::new(alloc);
+    groups.push(one_slave(alloc, 0, 1001, 40, 3)?)?;
+    for number in 0..MODULES {
+        let task = if number == moved { 3 } else { 0 };
+        let variable = variable_of(number);
+        groups.push(one_in_task(alloc, 20 + number, 1010 + number, variable, task)?)?;
+    }
+    Ok(configured(alloc, groups, NONE)?.places)
+}
+
+/// Row after row: the module in task 3, from none on, and how many variables stand elsewhere than in the
+/// row before. None appears or goes.
+const ROWS: [(u16, u32); 6] = [(0, 12), (1, 2), (9, 9), (9, 0), (11, 3), (MODULES, 1)];
+
+#[test]
+fn variables_that_stand_elsewhere_are_overwritten(rt: HostRuntime) -> Result<(), Fail> {
+    let mut table = row(rt.alloc(), MODULES)?;
+    for (moved, count) in &ROWS {
+        let next = row(rt.alloc(), *moved)?;
         assert!(rt; becomes(rt.alloc(), &mut table, &next, *count)?);
     }
     Ok(())

@@ -260,7 +260,7 @@ compared groups edit found none at =
 
 -- so the blocks that an edit moved are told by the candidates, each compared with the one that had its number
 
-flat_map-among : {X Y : Type 0} (f g : X → List Y) (xs : List X) → All (λ x. f x ≡ g x) xs → flat_map f xs ≡ flat_map g xs
+pub flat_map-among : {X Y : Type 0} (f g : X → List Y) (xs : List X) → All (λ x. f x ≡ g x) xs → flat_map f xs ≡ flat_map g xs
 flat_map-among f g [] all = refl
 flat_map-among f g (x ∷ xs) all =
     ap (λ (ys : List _). ys ++ flat_map f xs) (All-head (λ y. f y ≡ g y) x xs all)

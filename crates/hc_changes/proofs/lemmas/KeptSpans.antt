@@ -1,16 +1,14 @@
 -- A kept datagram carries what it carried.
-use Rattle.std.proofs.Common.{◌≡◌, ℕ, ◌==◌, zero, suc, true, false, List, [], ◌∷◌, ◌++◌, Contains, Option, Some, None, refl, sym, ap, subst, ◌∙◌}
-use Rattle.std.specs.Prelude.{All, map, slice_get, ◌&&◌}
+use Rattle.std.proofs.Common.{◌≡◌, ℕ, zero, suc, true, false, List, [], ◌∷◌, ◌++◌, Option, Some, None, refl, sym, ap, subst, ◌∙◌}
+use Rattle.std.specs.Prelude.{map, slice_get, ◌&&◌}
 use Rattle.std.specs.Option.{option_map_or}
 use Rattle.std.specs.List.{zip}
-use Rattle.std.proofs.lemmas.Bool.{and_parts, eqb-true}
-use Rattle.std.proofs.lemmas.List.Elements.{All-head, All-tail, filter_passes}
-use Rattle.std.proofs.lemmas.Option.{get_or_from_slice_get, slice_get_within}
+use Rattle.std.proofs.lemmas.Bool.{and_parts}
 use Rattle.hc_records.specs.declared.keys.Key.{Key}
 use Rattle.hc_records.specs.declared.keys.TheConstants.Key.{START, END}
 use Rattle.hc_records.specs.Keys.{is_before, same_key}
 use Rattle.hc_records.specs.TaskList.{Keyed}
-use Rattle.hc_records.specs.Packing.{Placed, opening, packed}
+use Rattle.hc_records.specs.Packing.{opening, packed}
 use Rattle.hc_records.specs.Image.{inside}
 use Rattle.hc_records.specs.Boundaries.{Interval, boundaries, is_settled, later_keys, spans}
 use Rattle.hc_records.specs.SpanLaws.{IsTaskList, seen_area}
@@ -19,10 +17,7 @@ use Rattle.hc_records.proofs.lemmas.SettledSpans.{settled-stays}
 use Rattle.hc_records.proofs.lemmas.SpanCuts.{span-alone, span-begins}
 use Rattle.hc_records.proofs.lemmas.SpanDatagrams.{span-datagram}
 use Rattle.hc_cuts.specs.Keeping.{begins_at, is_kept}
-
--- an element that stands at an index is contained
-pub at-contained : {X : Type 0} (xs : List X) (i : ℕ) (x : X) → slice_get xs i ≡ Some x → Contains xs x
-at-contained xs i x is = (i, slice_get_within xs i x is, get_or_from_slice_get xs i x x is)
+use Rattle.hc_cuts.proofs.lemmas.Datagrams.{at-contained, inside-numbered, shown, unseen}
 
 -- a span begins at each boundary but END
 begun : (first : Key) (later : List Key) (i : ℕ) (key : Key) → slice_get (first ∷ (later ++ END ∷ [])) i ≡ Some key → (key ≡ END → ⊥)
@@ -68,22 +63,6 @@ kept-number old new datagram is is' kept =
     let one = span-alone old (span.0, found.0) is (at-contained (spans (boundaries old)) datagram (span.0, found.0) found.1) in
     let two = span-alone old span is same.was_span in
     found.1 ∙ ap (λ (k : Key). Some (span.0, k)) (one.next ∙ sym two.next)
-
--- areas of one datagram are told by what is seen of them
-
-abbrev unseen : ℕ → Key × (ℕ × ℕ) → Placed
-unseen datagram seen = record { key = seen.0; bits = seen.1.0; datagram = datagram; bit = seen.1.1 }
-
-shown : (datagram : ℕ) (areas : List Placed) → All (λ area. area.datagram ≡ datagram) areas → map (unseen datagram) (map seen_area areas) ≡ areas
-shown datagram [] all = refl
-shown datagram (area ∷ areas) all =
-    let here : area.datagram ≡ datagram = All-head (λ a. a.datagram ≡ datagram) area areas all in
-    ap (λ (n : ℕ). record { key = area.key; bits = area.bits; datagram = n; bit = area.bit } ∷ map (unseen datagram) (map seen_area areas)) (sym here)
-    ∙ ap (λ (rest : List Placed). area ∷ rest) (shown datagram areas (All-tail (λ a. a.datagram ≡ datagram) area areas all))
-
-inside-numbered : (datagram : ℕ) (areas : List Placed) → All (λ area. area.datagram ≡ datagram) (inside datagram areas)
-inside-numbered datagram areas k d within =
-    eqb-true _ datagram (filter_passes (λ (area : Placed). area.datagram == datagram) areas k d within)
 
 -- so a kept datagram carries the same areas at the same bits
 pub kept-inside : (old new : List Keyed) (datagram : ℕ) → IsTaskList old → IsTaskList new → is_kept old new datagram ≡ true

@@ -1,17 +1,16 @@
 -- Which areas the candidates and those of slaves that went are, and that a list in order with these areas is theirs.
 use Rattle.std.proofs.Common.{◌≡◌, ℕ, ◌+◌, ◌<◌, ◌≤◌, zero, suc, Bool, true, false, List, [], ◌∷◌, ◌++◌, length, Contains, Option, Some, None, refl, sym, ap, subst, ◌∙◌, inl, inr, ◌⊎◌, arith}
-use Rattle.std.specs.Prelude.{◌↔◌, AllPairs, is_none, map, not, slice_get, ◌&&◌, ◌||◌}
+use Rattle.std.specs.Prelude.{◌↔◌, AllPairs, map, not, slice_get, ◌&&◌, ◌||◌}
 use Rattle.std.specs.Option.{option_map_or}
 use Rattle.std.specs.List.{list_any, zip}
 use Rattle.std.proofs.lemmas.Bool.{and_from}
-use Rattle.std.proofs.lemmas.List.Elements.{All-contains, filter_passes}
+use Rattle.std.proofs.lemmas.List.Elements.{All-contains}
 use Rattle.std.proofs.lemmas.List.Folds.{list_any_at}
 use Rattle.std.proofs.lemmas.List.Kept.{AllPairs-filter}
 use Rattle.std.proofs.lemmas.Option.{get_or_from_slice_get, slice_get_within}
 use Rattle.hc_records.specs.declared.keys.Key.{Key}
 use Rattle.hc_records.specs.declared.keys.TheConstants.Key.{START, END}
 use Rattle.hc_records.specs.declared.records.Dir.TheVariants.{Out, In}
-use Rattle.hc_records.specs.declared.records.Slave.{Slave}
 use Rattle.hc_records.specs.Boundaries.{Interval, boundaries, hull, is_settled, is_touched_task, later_keys, meets_hull, touched}
 use Rattle.hc_records.specs.Image.{datagram_count, task_places}
 use Rattle.hc_records.specs.Keys.{same_key}
@@ -23,24 +22,22 @@ use Rattle.hc_records.specs.TaskList.{Keyed, task_list}
 use Rattle.hc_records.proofs.lemmas.Cuts.{count-later_keys}
 use Rattle.hc_records.proofs.lemmas.Greatest.{greatest-all}
 use Rattle.hc_records.proofs.lemmas.KeyOrder.{same_key-refl, same_key-same}
-use Rattle.hc_records.proofs.lemmas.Lines.{RanksBelow, line-ascends}
+use Rattle.hc_records.proofs.lemmas.Lines.{line-ascends}
 use Rattle.hc_records.proofs.lemmas.Lists.{AllPairs-head, AllPairs-map, AllPairs-tail}
 use Rattle.hc_records.proofs.lemmas.TaskLists.{project-list}
 use Rattle.hc_cuts.specs.Keeping.{begins_at, is_kept}
-use Rattle.hc_changes.specs.Candidates.{DifferAt, LineArea, candidates, is_candidate, is_recut, key_of, line_areas, place_of, slave_of}
+use Rattle.hc_changes.specs.Candidates.{LineArea, candidates, is_candidate, is_recut, key_of, line_areas, place_of}
 use Rattle.hc_changes.specs.Listed.{Precedes, pair_of}
 use Rattle.hc_changes.specs.Laws.{IsRecutAt, IsUnkeptAt}
-use Rattle.hc_changes.specs.Rows.{gone}
-use Rattle.hc_changes.proofs.lemmas.Lists.{contains-behind, contains-first, contains-unfiltered, found-among}
+use Rattle.hc_changes.proofs.lemmas.Lists.{contains-behind, contains-first, found-among}
 use Rattle.hc_changes.proofs.lemmas.Ordered.{InOrder, areas-ordered}
-use Rattle.hc_changes.proofs.lemmas.Others.{area-stands, line-area}
-use Rattle.hc_changes.proofs.lemmas.Rows.{placed-area}
+use Rattle.hc_changes.proofs.lemmas.Others.{area-stands}
+use Rattle.hc_changes.proofs.lemmas.PlacedAreas.{placed-area}
 use Rattle.hc_changes.proofs.lemmas.Tables.{no-length, untouched-lists}
-use Rattle.hc_changes.proofs.lemmas.Told.{slave-there}
 
 -- a datagram of a list is kept by the same list
 
-span-at : (first : Key) (later : List Key) (datagram : ℕ) → datagram < length later + 1
+pub span-at : (first : Key) (later : List Key) (datagram : ℕ) → datagram < length later + 1
     → (span : Interval) × (slice_get (zip (first ∷ (later ++ END ∷ [])) (later ++ END ∷ [])) datagram ≡ Some span) × (slice_get (first ∷ (later ++ END ∷ [])) datagram ≡ Some span.0)
 span-at first [] zero low = ((first, END), refl, refl)
 span-at first (next ∷ later) zero low = ((first, next), refl, refl)
@@ -54,7 +51,7 @@ own-settled list span datagram none begins =
     (ap (same_key span.0) (get_or_from_slice_get (boundaries list) datagram span.0 span.0 begins) ∙ same_key-refl span.0))
     (ap (λ (keys : List Key). not (meets_hull (hull Out keys) span || meets_hull (hull In keys) span)) none)
 
-own-counted : (list : List Keyed) (datagram : ℕ) → IsTaskList list → datagram < datagram_count (packed opening list) → datagram < length (later_keys list) + 1
+pub own-counted : (list : List Keyed) (datagram : ℕ) → IsTaskList list → datagram < datagram_count (packed opening list) → datagram < length (later_keys list) + 1
 own-counted [] datagram is low = absurd (omega arith)
 own-counted (area ∷ areas) datagram is low = let count = count-later_keys area areas is.packable in omega arith
 
@@ -87,23 +84,6 @@ untouched-areas old new found was is none =
     let counted : placed.datagram + 1 ≤ datagram_count (packed opening after) =
     All-contains (λ (p : Placed). p.datagram + 1 ≤ datagram_count (packed opening after)) (packed opening after) placed (greatest-all (λ (p : Placed). p.datagram + 1) 0 (packed opening after)) here.among in
     ap (λ (list : List Keyed). is_kept list after placed.datagram) same ∙ own-kept after placed.datagram (project-list new task is) nothing (omega arith))
-
--- areas of slaves that went are of changed ones
-
-went-by : (here : Bool) (rank : ℕ) (changed : ℕ → Bool) (old new : List Member) (slave : Slave) → changed rank ≡ here → DifferAt changed old new → slave_of old rank ≡ Some slave
-    → is_none (slave_of new rank) ≡ true → here ≡ true
-went-by true rank changed old new slave is differ stood none = refl
-went-by false rank changed old new slave is differ stood none =
-    let stays : is_none (slave_of new rank) ≡ false = ap is_none (sym (differ rank is) ∙ stood) in
-    sym stays ∙ none
-
-pub gone-changed : (changed : ℕ → Bool) (old new : List Member) (found : LineArea) → AllPairs RanksBelow old → DifferAt changed old new → Contains (gone old new) found → changed found.member.rank ≡ true
-gone-changed changed old new found ranks differ at =
-    let test : LineArea → Bool = λ f. is_none (slave_of new f.member.rank) in
-    let stood = contains-unfiltered test (line_areas old) found at in
-    went-by (changed found.member.rank) found.member.rank changed old new found.member.slave refl differ
-    (slave-there old found.member ranks (line-area old found stood).member)
-    (All-contains (λ (f : LineArea). test f ≡ true) (gone old new) found (filter_passes test (line_areas old)) at)
 
 -- two lists in order with the same elements are the same
 

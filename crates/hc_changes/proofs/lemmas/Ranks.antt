@@ -1,18 +1,22 @@
 -- The slave of a line with a rank is the declared one with that rank, where it is present.
 use Rattle.std.proofs.Common.{◌≡◌, ℕ, ◌+◌, ◌<◌, ◌==◌, zero, suc, Bool, true, false, List, [], ◌∷◌, ◌++◌, Option, Some, None, length, refl, sym, ap, ◌∙◌, arith, cond, if◌then◌else◌}
-use Rattle.std.specs.Prelude.{find, map, option_map, slice_index_or}
+use Rattle.std.specs.Prelude.{All, find, map, option_map, slice_index_or}
 use Rattle.std.proofs.lemmas.Bool.{eq-eqb, ne_eqb}
-use Rattle.std.proofs.lemmas.List.Elements.{All-weaker}
+use Rattle.std.proofs.lemmas.List.Elements.{All-weaker, All-head, All-tail}
 use Rattle.hc_records.specs.declared.edit.Edit.{Edit}
 use Rattle.hc_records.specs.declared.records.Declared.{Declared}
 use Rattle.hc_records.specs.declared.records.Slave.{Slave}
 use Rattle.hc_records.specs.Edits.{groups_after}
 use Rattle.hc_records.specs.Line.{Member, line_from, members_from}
 use Rattle.hc_records.proofs.lemmas.Lines.{RankWithin, declared_slaves, line-within}
-use Rattle.hc_cuts.proofs.lemmas.Found.{find-none}
 use Rattle.hc_changes.specs.Candidates.{DifferAt, slave_of}
 use Rattle.hc_changes.specs.Edited.{is_named}
 use Rattle.hc_changes.proofs.lemmas.Slots.{edit-agrees, slot, slots}
+
+-- TEMPORARY
+find-none : {X : Type 0} (test : X → Bool) (xs : List X) → All (λ x. test x ≡ false) xs → find test xs ≡ None
+find-none test [] all = refl
+find-none test (x ∷ xs) all = rw (All-head (λ x. test x ≡ false) x xs all) (find-none test xs (All-tail (λ x. test x ≡ false) x xs all))
 
 -- no slave has a rank below the first one
 pub none-below : (first : ℕ) (groups : List Declared) (rank : ℕ) → rank < first → slave_of (line_from first groups) rank ≡ None

@@ -1,288 +1,396 @@
--- The rows of a line's table are those of its areas.
-use Rattle.std.proofs.Common.{◌≡◌, ℕ, ◌<◌, ◌≤◌, ◌==◌, zero, suc, Bool, true, List, [], ◌∷◌, length, Contains, Option, Some, None, refl, sym, ap, subst, ◌∙◌, ⊎_elim, arith}
-use Rattle.std.specs.Prelude.{AllPairs, filter, find, map, nat_lt, option_map, ◌&&◌}
-use Rattle.std.specs.Option.{option_map_or}
-use Rattle.std.specs.List.{enumerate_from, flat_map, zip}
-use Rattle.std.proofs.lemmas.Bool.{and_parts, eq-eqb, eqb-true}
-use Rattle.std.proofs.lemmas.List.{length-map}
-use Rattle.std.proofs.lemmas.List.Elements.{All-contains, All-contains_itself, Contains-append_cases, filter_passes}
-use Rattle.hc_records.specs.declared.keys.Key.{Key}
+-- The rows that an edit changes are told by the candidates and by the slaves that change.
+use Rattle.std.proofs.Common.{◌≡◌, ℕ, suc, ◌+◌, ◌-◌, ◌<◌, ◌≤◌, ◌==◌, Bool, true, false, cond, List, [], ◌∷◌, ◌++◌, Contains, Option, Some, None, length, refl, sym, ap, subst, ◌∙◌, arith}
+use Rattle.std.specs.Prelude.{All, filter, find, map, not, option_map, slice_index_or, ◌||◌}
+use Rattle.std.specs.List.{flat_map, list_any, zip}
+use Rattle.std.proofs.lemmas.Bool.{eq-eqb, eqb-true, not-true, or_parts}
+use Rattle.std.proofs.lemmas.List.Elements.{All-append, All-contains, All-contains_itself, All-map, All-weaker, Contains-append_left, Contains-append_right, filter_passes}
+use Rattle.std.proofs.lemmas.List.Folds.{list_any_at}
 use Rattle.hc_records.specs.declared.records.Area.{Area}
-use Rattle.hc_records.specs.declared.records.Declared.{Declared}
-use Rattle.hc_records.specs.declared.records.Dir.{Dir}
-use Rattle.hc_records.specs.declared.records.Dir.TheVariants.{Out, In}
-use Rattle.hc_records.specs.Area.{assigned_entries, width}
-use Rattle.hc_records.specs.Image.{VariablePlace, area_variables, task_places, task_variables, tasks, variables_from}
-use Rattle.hc_records.specs.Keys.{same_dir, same_key}
-use Rattle.hc_records.specs.Limits.{IsAreaInside, IsSlaveInside}
-use Rattle.hc_records.specs.Line.{Member, groups_of, line_from}
-use Rattle.hc_records.specs.Packing.{Placed, opening}
+use Rattle.hc_records.specs.Image.{VariablePlace}
+use Rattle.hc_records.specs.Line.{Member, State, groups_of, line}
 use Rattle.hc_records.specs.Project.{lowest_fault}
-use Rattle.hc_records.specs.TaskList.{Listed, belongs, keyed, slave_areas, task_areas, task_list}
-use Rattle.hc_records.proofs.lemmas.Finds.{each-task, mapped-some}
-use Rattle.hc_records.proofs.lemmas.KeyOrder.{same_key-refl, same_key-same}
-use Rattle.hc_records.proofs.lemmas.Lines.{RanksBelow, line-ascends}
-use Rattle.hc_records.proofs.lemmas.Lists.{AllPairs-weaker}
-use Rattle.hc_records.proofs.lemmas.Packed.{area_of, packed-areas}
-use Rattle.hc_records.proofs.lemmas.Slaves.{line-inside}
+use Rattle.hc_records.proofs.lemmas.Finds.{found-none}
+use Rattle.hc_records.proofs.lemmas.Lines.{line-ascends}
 use Rattle.hc_records.proofs.lemmas.TaskLists.{project-list}
-use Rattle.hc_records.proofs.lemmas.Tasks.{listed}
-use Rattle.hc_records.proofs.lemmas.Variables.{IsPlaced, pairs-placed, task_pairs, zip-left, zip-right}
-use Rattle.hc_places.specs.Parts.{row_at}
-use Rattle.hc_places.specs.Table.{Row, by_number, place_in, table_of}
-use Rattle.hc_places.proofs.lemmas.Ascends.{table-ascends}
-use Rattle.hc_places.proofs.lemmas.Same.{same-dirs}
-use Rattle.hc_places.proofs.lemmas.Sorted.{filter-by_number, find-by_number}
-use Rattle.hc_changes.specs.Candidates.{LineArea, key_of, place_of}
-use Rattle.hc_changes.specs.Rows.{rows_of}
-use Rattle.hc_changes.proofs.lemmas.Compared.{area-found}
-use Rattle.hc_changes.proofs.lemmas.Few.{few, found-once, pairs-few, piece-few}
-use Rattle.hc_changes.proofs.lemmas.KeptSpans.{at-contained}
-use Rattle.hc_changes.proofs.lemmas.Lists.{contains-behind, contains-flat_map, contains-unfiltered, flat_map-piece, found-among}
-use Rattle.hc_changes.proofs.lemmas.OneProject.{own-at}
-use Rattle.hc_changes.proofs.lemmas.Others.{IsAreaOf, map-piece, never-both}
-use Rattle.hc_changes.proofs.lemmas.Standing.{placed-found}
+use Rattle.hc_tasks.specs.Areas.{areas_at, areas_by_rank}
+use Rattle.hc_tasks.specs.Turn.{AreLines}
+use Rattle.hc_places.specs.Swap.{ChangedRow, new_place, same_found}
+use Rattle.hc_places.specs.Table.{Row, Table, place_in, table_of}
+use Rattle.hc_places.proofs.lemmas.Once.{of_row, own}
+use Rattle.hc_places.proofs.lemmas.Same.{found-same}
+use Rattle.hc_places.proofs.lemmas.Totals.{total, total-append, total-flat_map, total-less, total-map, total-zip}
+use Rattle.hc_changes.specs.Candidates.{DifferAt, LineArea, candidate_of, candidates, is_candidate, is_recut, line_areas, place_of}
+use Rattle.hc_changes.specs.Rows.{TellPlaces, area_variables_of, assigned_variables, changed_rows, gone_rows, gone_variables, is_assigned, is_new_row, moved_rows, rows_of, variables_by_rank}
+use Rattle.hc_changes.proofs.lemmas.ByRank.{area-at-rank, area-of-rank, rank-offers}
+use Rattle.hc_changes.proofs.lemmas.Counted.{candidates-once, counted, counted-none, filtered-less, offered-once, one-rank, ranks-once}
+use Rattle.hc_changes.proofs.lemmas.InARow.{areas-in-row, contains-pair, rank-index, zip-piece}
+use Rattle.hc_changes.proofs.lemmas.Lists.{contains-filtered, contains-flat_map, contains-unfiltered, flat_map-piece, found-among}
+use Rattle.hc_changes.proofs.lemmas.Moved.{same-place}
+use Rattle.hc_changes.proofs.lemmas.Names.{row-named}
+use Rattle.hc_changes.proofs.lemmas.Others.{IsAreaOf, area-stands, contains-mapped, line-area, map-piece, others-stand}
+use Rattle.hc_changes.proofs.lemmas.Places.{StandsIn, area-stands-at, carried-stands, stands-in}
 
--- elements that stand side by side
+-- two states of one project, between which slaves in a row change
+pub record IsChange (changed : ℕ → Bool) (first : ℕ) (before after : List (List Area)) (old new : State) : Type 0 where
+  pub was_project : lowest_fault (groups_of old.groups) ≡ None
+  pub is_project : lowest_fault (groups_of new.groups) ≡ None
+  pub variables : variables_by_rank new.groups ≡ variables_by_rank old.groups
+  pub slaves : DifferAt changed (line old) (line new)
+  pub areas : AreLines first before after (areas_by_rank old.groups) (areas_by_rank new.groups)
+  pub ranks : (rank : ℕ) → changed rank ≡ true → (first ≤ rank) × (rank < first + length before)
 
-zip-both : {X Y : Type 0} (xs : List X) (ys : List Y) (p : X × Y) → Contains (zip xs ys) p → Contains xs p.0 × Contains ys p.1
-zip-both xs ys p at = (
-  All-contains (λ q. Contains xs q.0) (zip xs ys) p (zip-left (Contains xs) xs ys (All-contains_itself xs)) at,
-  All-contains (λ q. Contains ys q.1) (zip xs ys) p (zip-right (Contains ys) xs ys (All-contains_itself ys)) at,
-)
+abbrev gone_row : ℕ → ChangedRow
+gone_row variable = (variable, None)
 
-zip-second : {X Y : Type 0} (xs : List X) (ys : List Y) (y : Y) → length xs ≡ length ys → Contains ys y → (x : X) × Contains (zip xs ys) (x, y)
-zip-second xs [] y same (k, within, is) = absurd (omega arith)
-zip-second [] (z ∷ ys) y same at = absurd (omega arith)
-zip-second {X} (x ∷ xs) (z ∷ ys) y same (zero, within, is) = (x, (0, omega arith, ap (λ (w : _). (x, w)) is))
-zip-second (x ∷ xs) (z ∷ ys) y same (suc k, within, is) =
-    let rest = zip-second xs ys y (omega arith) (k, omega arith, is) in
-    (rest.0, contains-behind (rest.0, y) (x, z) (zip xs ys) rest.1)
+abbrev moved_row : Row → ChangedRow
+moved_row row = (row.0, Some row.1)
 
--- an area of a task's list is one of the line
-record IsListed (line : List Member) (task : ℕ) (own : Listed) : Type 0 where
+abbrev table : State → Table
+table state = table_of (line state)
+
+-- a changed row has its variable's new place, which isn't the old one
+record IsRight (before after : Table) (changed : ChangedRow) : Type 0 where
+  new : place_in after changed.0 ≡ changed.1
+  other : same_found (place_in before changed.0) changed.1 ≡ false
+
+-- the rows of the candidates
+
+abbrev found_rows : (ℕ → Bool) → State → State → List Row
+found_rows changed old new = flat_map rows_of (map (candidate_of (line new)) (candidates changed (line old) (line new)))
+
+found-stands : (changed : ℕ → Bool) (old new : State) → lowest_fault (groups_of new.groups) ≡ None → (row : Row) → Contains (found_rows changed old new) row
+    → place_in (table new) row.0 ≡ Some row.1
+found-stands changed old new none row at =
+    let all = candidates changed (line old) (line new) in
+    let piece = flat_map-piece rows_of (map (candidate_of (line new)) all) row at in
+    let made = map-piece (candidate_of (line new)) all piece.element piece.among in
+    let among = contains-unfiltered (is_candidate changed (line old) (line new)) (line_areas (line new)) made.0 made.1 in
+    area-stands-at new none made.0 (line-area (line new) made.0 among) row (subst (λ (c : _). Contains (rows_of c) row) (sym made.2) piece.own)
+
+moved-right : (changed : ℕ → Bool) (old new : State) → lowest_fault (groups_of new.groups) ≡ None → All (IsRight (table old) (table new)) (moved_rows (table old) (found_rows changed old new))
+moved-right changed old new none =
+    let rows = found_rows changed old new in
+    let kept = filter (is_new_row (table old)) rows in
+    All-map (IsRight (table old) (table new)) moved_row kept
+    (All-weaker (Contains kept) (λ row. IsRight (table old) (table new) (row.0, Some row.1))
+    (λ row at. record {
+      new = found-stands changed old new none row (contains-unfiltered (is_new_row (table old)) rows row at);
+      other = not-true (same_found (place_in (table old) row.0) (Some row.1)) (All-contains (λ r. is_new_row (table old) r ≡ true) kept row (filter_passes (is_new_row (table old)) rows) at);
+    }) kept (All-contains_itself kept))
+
+-- the variables that went with the slaves that change
+
+assigned-at : (variable : ℕ) (areas : List Area) → is_assigned variable areas ≡ true → Contains (assigned_variables areas) variable
+assigned-at variable areas is = among-at variable (assigned_variables areas) is
+  where
+    at-by : (here : Bool) (other : ℕ) (names : List ℕ) → (other == variable) ≡ here → (here || list_any (λ x. x == variable) names) ≡ true
+        → (list_any (λ x. x == variable) names ≡ true → Contains names variable) → Contains (other ∷ names) variable
+    at-by true other names test some later = (0, omega arith, eqb-true other variable test)
+    at-by false other names test some later = let rest = later some in (suc rest.0, let low = rest.1 in omega arith, rest.2)
+
+    among-at : (variable' : ℕ) (names : List ℕ) → list_any (λ x. x == variable) names ≡ true → Contains names variable
+    among-at variable' [] some = cc
+    among-at variable' (other ∷ names) some = at-by (other == variable) other names refl some (among-at variable' names)
+
+at-assigned : (variable : ℕ) (areas : List Area) → Contains (assigned_variables areas) variable → is_assigned variable areas ≡ true
+at-assigned variable areas at =
+    list_any_at (λ other. other == variable) (assigned_variables areas) at.0 variable at.1 (eq-eqb _ variable at.2)
+
+-- a variable that a slave's areas carry stands in the table, and is offered at its rank
+record IsCarriedAt (state : State) (rank variable : ℕ) : Type 0 where
+  place : VariablePlace
+  stands : place_in (table state) variable ≡ Some place
+  offered : Contains (slice_index_or ([] ∷ variables_by_rank state.groups) rank []) variable
+
+carried-at : (state : State) → lowest_fault (groups_of state.groups) ≡ None → (rank variable : ℕ) → Contains (assigned_variables (areas_at (areas_by_rank state.groups) rank)) variable
+    → IsCarriedAt state rank variable
+carried-at state none rank variable at =
+    let area = flat_map-piece area_variables_of (areas_at (areas_by_rank state.groups) rank) variable at in
+    let ranked = area-of-rank state.groups rank area.element area.among in
+    let own : Contains (area_variables_of ranked.found.area) variable = subst (λ (a : Area). Contains (area_variables_of a) variable) (sym ranked.is) area.own in
+    let stands = carried-stands state none ranked.found ranked.of variable own in
+    record { place = stands.0; stands = stands.1; offered = rank-offers state.groups rank area.element variable area.among area.own }
+
+-- and a variable that stands in the table is carried by the areas of a slave
+record IsCarried (state : State) (variable : ℕ) (place : VariablePlace) : Type 0 where
   found : LineArea
-  of : IsAreaOf line found
-  key : key_of found ≡ own.key
-  area : found.area ≡ own.area
-  task_is : found.area.task ≡ task
+  of : IsAreaOf (line state) found
+  row : Contains (rows_of (candidate_of (line state) found)) (variable, place)
+  own : Contains (area_variables_of found.area) variable
+  ranked : Contains (assigned_variables (areas_at (areas_by_rank state.groups) found.member.rank)) variable
 
-listed-by : (line : List Member) (task : ℕ) (dir : Dir) (own : Listed) → Contains (flat_map (slave_areas task dir) line) own → IsListed line task own
-listed-by line task dir own at =
-    let piece = flat_map-piece (slave_areas task dir) line own at in
-    let member = piece.element in
-    let test : ℕ × Area → Bool = λ e. belongs task dir e.1 in
-    let all = enumerate_from 0 member.slave.areas in
-    let e = map-piece (listed dir member.rank) (filter test all) own piece.own in
-    let belonging : belongs task dir e.0.1 ≡ true = All-contains (λ (x : ℕ × Area). test x ≡ true) (filter test all) e.0 (filter_passes test all) e.1 in
-    let parts = and_parts (e.0.1.task == task) (same_dir e.0.1.dir dir) (and_parts ((e.0.1.task == task) && same_dir e.0.1.dir dir) (nat_lt 0 (width e.0.1)) belonging).0 in
-    let towards : e.0.1.dir ≡ dir = same-dirs e.0.1.dir dir parts.1 in
-    subst (λ (l : Listed). IsListed line task l) e.2
-    (record {
-      found = record { member = member; index = e.0.0; area = e.0.1 };
-      of = record { member = piece.among; own = contains-unfiltered test all e.0 e.1 };
-      key = ap (λ (d : Dir). record { dir = d; rank = member.rank; area = e.0.0 }) towards;
-      area = refl;
-      task_is = eqb-true e.0.1.task task parts.0;
-    })
+own-by : (found : LineArea) (row : Row) (place : Option _) → Contains (rows_of (record { station = 0; rank = 0; index = 0; area = found.area; place = place })) row
+    → Contains (area_variables_of found.area) row.0
+own-by found row None (k, within, is) = absurd (omega arith)
+own-by found row (Some placed) at = row-named found.area.task found.area placed row at
 
-listed-area : (line : List Member) (task : ℕ) (own : Listed) → Contains (task_areas task line) own → IsListed line task own
-listed-area line task own at =
-    ⊎_elim (listed-by line task Out own) (listed-by line task In own) (Contains-append_cases (flat_map (slave_areas task Out) line) (flat_map (slave_areas task In) line) own at)
+is-carried : (state : State) → lowest_fault (groups_of state.groups) ≡ None → (variable : ℕ) (place : VariablePlace) → place_in (table state) variable ≡ Some place → IsCarried state variable place
+is-carried state none variable place is =
+    let stands : StandsIn state (variable, place) = stands-in state none variable place is in
+    let found = stands.found in
+    let own = own-by found (variable, place) (place_of (line state) found) stands.row in
+    let ranked = area-at-rank state.groups found stands.of in
+    record {
+      found = found;
+      of = stands.of;
+      row = stands.row;
+      own = own;
+      ranked = contains-flat_map area_variables_of (areas_at (areas_by_rank state.groups) found.member.rank) found.area variable ranked own;
+    }
 
--- areas of a line that stand alike are one
-pub one-line-area : (line : List Member) (a b : LineArea) → AllPairs RanksBelow line → IsAreaOf line a → IsAreaOf line b → a.member.rank ≡ b.member.rank → a.index ≡ b.index → a ≡ b
-one-line-area line a b ranks of of' rank index =
-    let same : Some a ≡ Some b = sym (area-found line b a ranks of rank index) ∙ area-found line b b ranks of' refl refl in
+gone-by : (changed : ℕ → Bool) (first : ℕ) (before after : List (List Area)) (old new : State) → IsChange changed first before after old new → (rank variable : ℕ)
+    → Contains (assigned_variables (areas_at (areas_by_rank old.groups) rank)) variable → is_assigned variable (areas_at (areas_by_rank new.groups) rank) ≡ false
+    → (place : Option VariablePlace) → place_in (table new) variable ≡ place → place ≡ None
+gone-by changed first before after old new change rank variable carried gone None is = refl
+gone-by changed first before after old new change rank variable carried gone (Some place) is =
+    let was = carried-at old change.was_project rank variable carried in
+    let now : IsCarried new variable place = is-carried new change.is_project variable place is in
+    let rank' = now.found.member.rank in
+    let offered = (carried-at new change.is_project rank' variable now.ranked).offered in
+    let offered' : Contains (slice_index_or ([] ∷ variables_by_rank old.groups) rank' []) variable =
+    subst (λ (lists : List (List ℕ)). Contains (slice_index_or ([] ∷ lists) rank' []) variable) change.variables offered in
+    let same : rank' ≡ rank = one-rank variable (variables_by_rank old.groups) rank' rank (offered-once old.groups change.was_project variable) offered' was.offered in
+    let still : is_assigned variable (areas_at (areas_by_rank new.groups) rank) ≡ true =
+    at-assigned variable (areas_at (areas_by_rank new.groups) rank)
+    (subst (λ (r : ℕ). Contains (assigned_variables (areas_at (areas_by_rank new.groups) r)) variable) same now.ranked) in
     cc
 
--- the rows of an area at a place
-abbrev rows_with : ℕ → Area → Placed → List Row
-rows_with task area placed = map (row_at task placed.datagram area.dir) (variables_from placed.bit (assigned_entries area))
-
--- an area that stands in a line stands there as its task has it
-record IsPairOf (line : List Member) (found : LineArea) : Type 0 where
-  pair : Listed × Placed
-  among : Contains (task_pairs line found.area.task) pair
-  rows : area_variables found.area.task pair ≡ rows_of line found
-
-places-length : (task : ℕ) (line : List Member) → length (task_areas task line) ≡ length (task_places task line)
-places-length task line =
-    sym (length-map (task_areas task line) keyed) ∙ ap length (sym (packed-areas opening (task_list task line))) ∙ length-map (task_places task line) area_of
-
-placed-pair : (line : List Member) (found : LineArea) (placed : Placed) → AllPairs RanksBelow line → IsAreaOf line found → place_of line found ≡ Some placed → IsPairOf line found
-placed-pair line found placed ranks of is =
-    let task = found.area.task in
-    let stood = found-among (λ (p : Placed). same_key p.key (key_of found)) (task_places task line) placed is in
-    let pair = zip-second (task_areas task line) (task_places task line) placed (places-length task line) stood.among in
-    let both = zip-both (task_areas task line) (task_places task line) (pair.0, placed) pair.1 in
-    let own = listed-area line task pair.0 both.0 in
-    let key : key_of own.found ≡ key_of found =
-    own.key ∙ sym (All-contains IsPlaced (task_pairs line task) (pair.0, placed) (pairs-placed line task) pair.1).key ∙ same_key-same placed.key (key_of found) stood.passes in
-    let one = one-line-area line own.found found ranks own.of of (ap (λ (k : Key). k.rank) key) (ap (λ (k : Key). k.area) key) in
-    let area : pair.0.area ≡ found.area = sym own.area ∙ ap (λ (f : LineArea). f.area) one in
+gone-right : (changed : ℕ → Bool) (first : ℕ) (before after : List (List Area)) (old new : State) → IsChange changed first before after old new
+    → (variable : ℕ) → Contains (flat_map gone_variables (zip before after)) variable → IsRight (table old) (table new) (variable, None)
+gone-right changed first before after old new change variable at =
+    let areas = change.areas in
+    let piece = flat_map-piece gone_variables (zip before after) variable at in
+    let pair = piece.element in
+    let index = zip-piece [] before after pair piece.among in
+    let rank = suc (length areas.front + index.at) in
+    let low = index.within in
+    let many = areas.many in
+    let was : areas_at (areas_by_rank old.groups) rank ≡ pair.0 = areas-in-row (areas_by_rank old.groups) areas.front before areas.behind index.at areas.was index.within ∙ index.first in
+    let is : areas_at (areas_by_rank new.groups) rank ≡ pair.1 = areas-in-row (areas_by_rank new.groups) areas.front after areas.behind index.at areas.is (omega arith) ∙ index.second in
+    let test : ℕ → Bool = λ v. not (is_assigned v pair.1) in
+    let among = contains-unfiltered test (assigned_variables pair.0) variable piece.own in
+    let left : is_assigned variable pair.1 ≡ false =
+    not-true (is_assigned variable pair.1) (All-contains (λ v. test v ≡ true) (filter test (assigned_variables pair.0)) variable (filter_passes test (assigned_variables pair.0)) piece.own) in
+    let carried : Contains (assigned_variables (areas_at (areas_by_rank old.groups) rank)) variable =
+    subst (λ (own : List Area). Contains (assigned_variables own) variable) (sym was) among in
+    let gone : is_assigned variable (areas_at (areas_by_rank new.groups) rank) ≡ false = ap (is_assigned variable) is ∙ left in
+    let stood = carried-at old change.was_project rank variable carried in
     record {
-      pair = (pair.0, placed);
-      among = pair.1;
-      rows = ap (λ (a : Area). rows_with task a placed) area
-          ∙ sym (ap (λ (p : Option Placed). option_map_or (λ q. area_variables task (record { key = key_of found; area = found.area }, q)) p []) is);
+      new = gone-by changed first before after old new change rank variable carried gone (place_in (table new) variable) refl;
+      other = ap (λ (place : Option VariablePlace). same_found place None) stood.stands;
     }
 
--- an area in its task's places is one of the line, and stands there
-record IsPlacedArea (line : List Member) (task : ℕ) (own : Area) (placed : Placed) : Type 0 where
-  found : LineArea
-  of : IsAreaOf line found
-  in_task : found.area.task ≡ task
-  area : found.area ≡ own
-  key : key_of found ≡ placed.key
-  place : place_of line found ≡ Some placed
+-- so each row that is told is right
+rows-right : (changed : ℕ → Bool) (first : ℕ) (before after : List (List Area)) (old new : State) → IsChange changed first before after old new
+    → All (IsRight (table old) (table new)) (moved_rows (table old) (found_rows changed old new) ++ gone_rows before after)
+rows-right changed first before after old new change =
+    let gone = flat_map gone_variables (zip before after) in
+    All-append (IsRight (table old) (table new)) (moved_rows (table old) (found_rows changed old new)) (gone_rows before after)
+    (moved-right changed old new change.is_project)
+    (All-map (IsRight (table old) (table new)) gone_row gone
+    (All-weaker (Contains gone) (λ variable. IsRight (table old) (table new) (variable, None)) (λ variable at. gone-right changed first before after old new change variable at) gone (All-contains_itself gone)))
 
-pair-area : (groups : List Declared) → lowest_fault (groups_of groups) ≡ None → (task : ℕ) (pair : Listed × Placed) → Contains (task_pairs (line_from 1 groups) task) pair
-    → IsPlacedArea (line_from 1 groups) task pair.0.area pair.1
-pair-area groups none task pair at =
-    let line = line_from 1 groups in
-    let both = zip-both (task_areas task line) (task_places task line) pair at in
-    let own = listed-area line task pair.0 both.0 in
-    let placed = All-contains IsPlaced (task_pairs line task) pair (pairs-placed line task) at in
-    let key : pair.1.key ≡ key_of own.found = placed.key ∙ sym own.key in
-    let stands : find (λ (p : Placed). same_key p.key (key_of own.found)) (task_places task line) ≡ Some pair.1 =
-    placed-found (task_list task line) (key_of own.found) pair.1 (project-list (record { groups = groups; epoch = 0 }) task none) both.1
-    (subst (λ (k : Key). same_key pair.1.key k ≡ true) key (same_key-refl pair.1.key)) in
+-- and each variable whose place differs is told
+
+abbrev IsTold : ℕ → List ChangedRow → Type 0
+IsTold variable rows = (place : Option VariablePlace) × Contains rows (variable, place)
+
+appears-by : (changed : ℕ → Bool) (first : ℕ) (before after : List (List Area)) (old new : State) → IsChange changed first before after old new → (variable : ℕ) (place : VariablePlace)
+    → (now : IsCarried new variable place) → same_found (place_in (table old) variable) (Some place) ≡ false
+    → (candidate : Bool) → is_candidate changed (line old) (line new) now.found ≡ candidate → IsTold variable (moved_rows (table old) (found_rows changed old new))
+appears-by changed first before after old new change variable place now differs true is =
+    let row : Row = (variable, place) in
+    let all = candidates changed (line old) (line new) in
+    let found = contains-filtered (is_candidate changed (line old) (line new)) (line_areas (line new)) now.found (area-stands (line new) now.found now.of) is in
+    let made = contains-mapped (candidate_of (line new)) all now.found found in
+    let rows = contains-flat_map rows_of (map (candidate_of (line new)) all) (candidate_of (line new) now.found) row made now.row in
+    let kept = contains-filtered (is_new_row (table old)) (found_rows changed old new) row rows (ap not differs) in
+    (Some place, contains-mapped moved_row (filter (is_new_row (table old)) (found_rows changed old new)) row kept)
+appears-by changed first before after old new change variable place now differs false is =
+    let found = now.found in
+    let parts = or_parts (changed found.member.rank) (is_recut (line old) (line new) found) is in
+    let stood = others-stand changed (line old) (line new) (line-ascends 1 new.groups) change.slaves found (area-stands (line new) found now.of) parts.0 in
+    let of = line-area (line old) found stood in
+    let same : place_of (line old) found ≡ place_of (line new) found =
+    same-place found (line old) (line new) (line-ascends 1 old.groups) (project-list old found.area.task change.was_project) (project-list new found.area.task change.is_project) of now.of parts.1 in
+    let row : Contains (rows_of (candidate_of (line old) found)) (variable, place) =
+    subst (λ (p : Option _). Contains (rows_of (record { station = 0; rank = 0; index = 0; area = found.area; place = p })) (variable, place)) (sym same) now.row in
+    let before' : place_in (table old) variable ≡ Some place = area-stands-at old change.was_project found of (variable, place) row in
+    let alike = found-same (place_in (table old) variable) (Some place) before' in
+    cc
+
+swapped-sides : (changed : ℕ → Bool) (old new : List Member) → DifferAt changed old new → DifferAt changed new old
+swapped-sides changed old new differ rank unchanged = sym (differ rank unchanged)
+
+unchanged-stands : (changed : ℕ → Bool) (first : ℕ) (before after : List (List Area)) (old new : State) → IsChange changed first before after old new → (variable : ℕ) (place : VariablePlace)
+    → (was : IsCarried old variable place) → changed was.found.member.rank ≡ false → (now : VariablePlace) × (place_in (table new) variable ≡ Some now)
+unchanged-stands changed first before after old new change variable place was unchanged =
+    let stays = others-stand changed (line new) (line old) (line-ascends 1 old.groups) (swapped-sides changed (line old) (line new) change.slaves) was.found
+    (area-stands (line old) was.found was.of) unchanged in
+    carried-stands new change.is_project was.found (line-area (line new) was.found stays) variable was.own
+
+gone-told : (changed : ℕ → Bool) (first : ℕ) (before after : List (List Area)) (old new : State) → IsChange changed first before after old new → (i variable : ℕ) → i < length before
+    → Contains (assigned_variables (slice_index_or before i [])) variable → is_assigned variable (slice_index_or after i []) ≡ false → IsTold variable (gone_rows before after)
+gone-told changed first before after old new change i variable within carried gone =
+    let pair : List Area × List Area = (slice_index_or before i [], slice_index_or after i []) in
+    let own = contains-filtered (λ v. not (is_assigned v (slice_index_or after i []))) (assigned_variables (slice_index_or before i [])) variable carried (ap not gone) in (
+      None,
+      contains-mapped gone_row (flat_map gone_variables (zip before after)) variable
+          (contains-flat_map gone_variables (zip before after) pair variable (contains-pair [] before after i change.areas.many within) own),
+    )
+
+goes-by : (changed : ℕ → Bool) (first : ℕ) (before after : List (List Area)) (old new : State) → IsChange changed first before after old new → (i variable : ℕ) → i < length before
+    → place_in (table new) variable ≡ None → Contains (assigned_variables (slice_index_or before i [])) variable
+    → (still : Bool) → is_assigned variable (slice_index_or after i []) ≡ still → IsTold variable (gone_rows before after)
+goes-by changed first before after old new change i variable within none carried false is = gone-told changed first before after old new change i variable within carried is
+goes-by changed first before after old new change i variable within none carried true is =
+    let areas = change.areas in
+    let rank = suc (length areas.front + i) in
+    let many = areas.many in
+    let now : areas_at (areas_by_rank new.groups) rank ≡ slice_index_or after i [] = areas-in-row (areas_by_rank new.groups) areas.front after areas.behind i areas.is (omega arith) in
+    let at : Contains (assigned_variables (areas_at (areas_by_rank new.groups) rank)) variable =
+    subst (λ (own : List Area). Contains (assigned_variables own) variable) (sym now) (assigned-at variable (slice_index_or after i []) is) in
+    let stands = (carried-at new change.is_project rank variable at).stands in
+    cc
+
+goes-from : (changed : ℕ → Bool) (first : ℕ) (before after : List (List Area)) (old new : State) → IsChange changed first before after old new → (variable : ℕ) (place : VariablePlace)
+    → place_in (table new) variable ≡ None → (was : IsCarried old variable place) → (changes : Bool) → changed was.found.member.rank ≡ changes → IsTold variable (gone_rows before after)
+goes-from changed first before after old new change variable place none was false is =
+    let stands = (unchanged-stands changed first before after old new change variable place was is).1 in
+    cc
+goes-from changed first before after old new change variable place none was true is =
+    let areas = change.areas in
+    let rank = was.found.member.rank in
+    let range = change.ranks rank is in
+    let begins = areas.rank in
+    let index = rank-index (length areas.front) (length before) rank (omega (arith, begins, range.0)) (omega (arith, begins, range.1)) in
+    let i = rank - suc (length areas.front) in
+    let own : areas_at (areas_by_rank old.groups) rank ≡ slice_index_or before i [] =
+    ap (areas_at (areas_by_rank old.groups)) index.0 ∙ areas-in-row (areas_by_rank old.groups) areas.front before areas.behind i areas.was index.1 in
+    let carried : Contains (assigned_variables (slice_index_or before i [])) variable = subst (λ (own : List Area). Contains (assigned_variables own) variable) own was.ranked in
+    goes-by changed first before after old new change i variable index.1 none carried (is_assigned variable (slice_index_or after i [])) refl
+
+told-left : (variable : ℕ) (rows others : List ChangedRow) → IsTold variable rows → IsTold variable (rows ++ others)
+told-left variable rows others told = (told.0, Contains-append_left rows others (variable, told.0) told.1)
+
+told-right : (variable : ℕ) (rows others : List ChangedRow) → IsTold variable others → IsTold variable (rows ++ others)
+told-right variable rows others told = (told.0, Contains-append_right rows others (variable, told.0) told.1)
+
+told-by : (changed : ℕ → Bool) (first : ℕ) (before after : List (List Area)) (old new : State) → IsChange changed first before after old new → (variable : ℕ) (was is : Option VariablePlace)
+    → place_in (table old) variable ≡ was → place_in (table new) variable ≡ is → same_found was is ≡ false
+    → IsTold variable (moved_rows (table old) (found_rows changed old new) ++ gone_rows before after)
+told-by changed first before after old new change variable was (Some place) stood stands differs =
+    let now = is-carried new change.is_project variable place stands in
+    told-left variable (moved_rows (table old) (found_rows changed old new)) (gone_rows before after)
+    (appears-by changed first before after old new change variable place now (ap (λ (p : Option VariablePlace). same_found p (Some place)) stood ∙ differs)
+    (is_candidate changed (line old) (line new) now.found) refl)
+told-by changed first before after old new change variable (Some place) None stood stands differs =
+    let was = is-carried old change.was_project variable place stood in
+    told-right variable (moved_rows (table old) (found_rows changed old new)) (gone_rows before after)
+    (goes-from changed first before after old new change variable place stands was (changed was.found.member.rank) refl)
+told-by changed first before after old new change variable None None stood stands differs = cc
+
+-- what is said of a variable
+
+said-none : (same : Bool) (rows : List ChangedRow) (variable : ℕ) (now : Option VariablePlace) → All (λ (c : ChangedRow). (c.0 == variable) ≡ false) rows
+    → (same ≡ false → IsTold variable rows) → None ≡ cond same None (Some now)
+said-none true rows variable now none told = refl
+said-none false rows variable now none told =
+    let at = told refl in
+    let other : (variable == variable) ≡ false = All-contains (λ (c : ChangedRow). (c.0 == variable) ≡ false) rows (variable, at.0) none at.1 in
+    let own = eq-eqb variable variable refl in
+    cc
+
+said-some : (old new : Table) (rows : List ChangedRow) (variable : ℕ) (changed : ChangedRow) → All (IsRight old new) rows → find (λ c. c.0 == variable) rows ≡ Some changed
+    → Some changed.1 ≡ new_place (place_in old variable) (place_in new variable)
+said-some old new rows variable changed right is =
+    let found = found-among (λ (c : ChangedRow). c.0 == variable) rows changed is in
+    let number : changed.0 ≡ variable = eqb-true changed.0 variable found.passes in
+    let own : IsRight old new changed = All-contains (IsRight old new) rows changed right found.among in
+    let now : place_in new variable ≡ changed.1 = ap (place_in new) (sym number) ∙ own.new in
+    let differs : same_found (place_in old variable) (place_in new variable) ≡ false =
+    ap (λ (place : Option VariablePlace). same_found (place_in old variable) place) now
+    ∙ ap (λ (v : ℕ). same_found (place_in old v) changed.1) (sym number) ∙ own.other in
+    rw (differs, now) refl
+
+said-by : (old new : Table) (rows : List ChangedRow) (variable : ℕ) → All (IsRight old new) rows
+    → (same_found (place_in old variable) (place_in new variable) ≡ false → IsTold variable rows)
+    → (found : Option ChangedRow) → find (λ c. c.0 == variable) rows ≡ found
+    → option_map (λ (c : ChangedRow). c.1) found ≡ new_place (place_in old variable) (place_in new variable)
+said-by old new rows variable right told None is =
+    said-none (same_found (place_in old variable) (place_in new variable)) rows variable (place_in new variable) (found-none (λ (c : ChangedRow). c.0 == variable) rows is) told
+said-by old new rows variable right told (Some changed) is = said-some old new rows variable changed right is
+
+-- and it is said once
+
+abbrev of_change : ℕ → ChangedRow → ℕ
+of_change variable changed = own variable changed.0
+
+moved-few : (changed : ℕ → Bool) (old new : State) → lowest_fault (groups_of new.groups) ≡ None → (variable : ℕ)
+    → total (of_change variable) (moved_rows (table old) (found_rows changed old new)) ≤ 1
+moved-few changed old new none variable =
+    let rows = found_rows changed old new in
+    let mapped = total-map (of_change variable) moved_row (filter (is_new_row (table old)) rows) in
+    let fewer = filtered-less (of_row variable) (is_new_row (table old)) rows in
+    let one = candidates-once new.groups none variable (is_candidate changed (line old) (line new)) in
+    omega arith
+
+gone-few : (changed : ℕ → Bool) (first : ℕ) (before after : List (List Area)) (old new : State) → IsChange changed first before after old new → (variable : ℕ)
+    → total (of_change variable) (gone_rows before after) ≤ 1
+gone-few changed first before after old new change variable =
+    let areas = change.areas in
+    let count : List Area → ℕ = λ carried. total (own variable) (assigned_variables carried) in
+    let mapped = total-map (of_change variable) gone_row (flat_map gone_variables (zip before after)) in
+    let flat = total-flat_map (own variable) gone_variables (zip before after) in
+    let less = total-less (λ (pair : List Area × List Area). total (own variable) (gone_variables pair)) (λ pair. count pair.0)
+    (λ pair. filtered-less (own variable) (λ v. not (is_assigned v pair.1)) (assigned_variables pair.0)) (zip before after) in
+    let firsts = total-zip count before after in
+    let front = total-append count areas.front (before ++ areas.behind) in
+    let behind = total-append count before areas.behind in
+    let was : total count (areas_by_rank old.groups) ≡ total count (areas.front ++ (before ++ areas.behind)) = ap (total count) areas.was in
+    let one = ranks-once old.groups change.was_project variable in
+    omega arith
+
+some-none : {X : Type 0} (x : X) (found : Option X) → found ≡ Some x → found ≡ None → ⊥
+some-none x found is is' = cc
+
+few-by : (changed : ℕ → Bool) (first : ℕ) (before after : List (List Area)) (old new : State) → IsChange changed first before after old new → (variable : ℕ) (place : Option VariablePlace)
+    → place_in (table new) variable ≡ place
+    → total (of_change variable) (moved_rows (table old) (found_rows changed old new)) + total (of_change variable) (gone_rows before after) ≤ 1
+few-by changed first before after old new change variable None is =
+    let rows = found_rows changed old new in
+    let kept = filter (is_new_row (table old)) rows in
+    let mapped = total-map (of_change variable) moved_row kept in
+    let zero = counted-none (λ (row : Row). row.0) variable kept
+    (All-weaker (Contains kept) (λ row. (variable == row.0) ≡ true → ⊥)
+    (λ row at same. some-none row.1 (place_in (table new) variable)
+    (ap (place_in (table new)) (eqb-true variable row.0 same) ∙ found-stands changed old new change.is_project row (contains-unfiltered (is_new_row (table old)) rows row at)) is)
+    kept (All-contains_itself kept)) in
+    let one = gone-few changed first before after old new change variable in
+    omega arith
+few-by changed first before after old new change variable (Some place) is =
+    let gone = flat_map gone_variables (zip before after) in
+    let mapped = total-map (of_change variable) gone_row gone in
+    let zero = counted-none (λ (v : ℕ). v) variable gone
+    (All-weaker (Contains gone) (λ v. (variable == v) ≡ true → ⊥)
+    (λ v at same. some-none place (place_in (table new) variable) is
+    (ap (place_in (table new)) (eqb-true variable v same) ∙ (gone-right changed first before after old new change v at).new)) gone (All-contains_itself gone)) in
+    let one = moved-few changed old new change.is_project variable in
+    omega arith
+
+pub rows-told : (changed : ℕ → Bool) (first : ℕ) (before after : List (List Area)) (old new : State) → IsChange changed first before after old new
+    → TellPlaces (table_of (line old)) (table_of (line new))
+    (changed_rows (table_of (line old)) (map (candidate_of (line new)) (candidates changed (line old) (line new))) before after)
+rows-told changed first before after old new change =
+    let moved = moved_rows (table old) (found_rows changed old new) in
+    let gone = gone_rows before after in
     record {
-      found = own.found;
-      of = own.of;
-      in_task = own.task_is;
-      area = own.area;
-      key = sym key;
-      place = subst (λ (t : ℕ). find (λ (p : Placed). same_key p.key (key_of own.found)) (task_places t line) ≡ Some pair.1) (sym own.task_is) stands;
-    }
-
--- and so is each area that has a place in the task
-pub record StandsPlaced (line : List Member) (task : ℕ) (placed : Placed) : Type 0 where
-  pub found : LineArea
-  pub of : IsAreaOf line found
-  pub in_task : found.area.task ≡ task
-  pub key : key_of found ≡ placed.key
-  pub place : place_of line found ≡ Some placed
-
-pub placed-area : (groups : List Declared) → lowest_fault (groups_of groups) ≡ None → (task : ℕ) (placed : Placed) → Contains (task_places task (line_from 1 groups)) placed → StandsPlaced (line_from 1 groups) task placed
-placed-area groups none task placed at =
-    let line = line_from 1 groups in
-    let pair = zip-second (task_areas task line) (task_places task line) placed (places-length task line) at in
-    let own = pair-area groups none task (pair.0, placed) pair.1 in
-    record { found = own.found; of = own.of; in_task = own.in_task; key = own.key; place = own.place }
-
--- the rows of all tasks
-abbrev line_rows : List Member → List Row
-line_rows line = flat_map (task_variables line) tasks
-
-abbrev pub of_variable : ℕ → Row → Bool
-of_variable variable row = row.0 == variable
-
--- a row of an area of a line
-pub record IsRowOf (line : List Member) (row : Row) : Type 0 where
-  pub found : LineArea
-  pub of : IsAreaOf line found
-  pub own : Contains (rows_of line found) row
-
--- what is known of the rows of a line
-pub record HasRows (line : List Member) : Type 0 where
-  pub ranks : AllPairs RanksBelow line
-  pub few_rows : (found : LineArea) (variable : ℕ) → IsAreaOf line found → few (of_variable variable) (rows_of line found) ≤ 1
-  pub placed : (found : LineArea) (row : Row) → IsAreaOf line found → Contains (rows_of line found) row → place_in (table_of line) row.0 ≡ Some row.1
-  pub stands : (variable : ℕ) (place : VariablePlace) → place_in (table_of line) variable ≡ Some place → IsRowOf line (variable, place)
-
-module _ (groups : List Declared) (none : lowest_fault (groups_of groups) ≡ None) where
-  table-few : (variable : ℕ) → few (of_variable variable) (line_rows (line_from 1 groups)) ≤ 1
-  table-few variable =
-      let rows = line_rows (line_from 1 groups) in
-      let same : few (of_variable variable) (by_number rows) ≡ few (of_variable variable) rows = ap length (filter-by_number variable rows) in
-      let most = pairs-few (of_variable variable) (by_number rows)
-      (AllPairs-weaker (λ a b. a.0 < b.0) (λ a b. of_variable variable a ≡ true → of_variable variable b ≡ true → ⊥)
-      (λ a b below is is'. never-both variable a.0 b.0 below (eqb-true a.0 variable is) (eqb-true b.0 variable is')) (by_number rows) (table-ascends groups none)) in
-      omega arith
-
-  own-task : (found : LineArea) → IsAreaOf (line_from 1 groups) found → Contains tasks found.area.task
-  own-task found of =
-      let slave = found.member.slave in
-      let inside = All-contains (λ (m : Member). IsSlaveInside m.slave) (line_from 1 groups) found.member (line-inside groups none) of.member in
-      let area = All-contains IsAreaInside slave.areas found.area inside.areas (at-contained slave.areas found.index found.area (own-at slave.areas (found.index, found.area) of.own)) in
-      each-task (Contains tasks) (All-contains_itself tasks) found.area.task area.task
-
-  -- the rows of an area are rows of the line, each variable's once
-  few-by : (found : LineArea) (placed : Option Placed) (variable : ℕ) → IsAreaOf (line_from 1 groups) found → place_of (line_from 1 groups) found ≡ placed → few (of_variable variable) (rows_of (line_from 1 groups) found) ≤ 1
-  few-by found None variable of is =
-      let line = line_from 1 groups in
-      let nothing : rows_of line found ≡ [] = ap (λ (p : Option Placed). option_map_or (λ q. area_variables found.area.task (record { key = key_of found; area = found.area }, q)) p []) is in
-      let zero_few : few (of_variable variable) (rows_of line found) ≡ 0 = ap (few (of_variable variable)) nothing in
-      omega arith
-  few-by found (Some placed) variable of is =
-      let line = line_from 1 groups in
-      let own = placed-pair line found placed (line-ascends 1 groups) of is in
-      let one = piece-few (of_variable variable) (area_variables found.area.task) (task_pairs line found.area.task) own.pair own.among in
-      let two = piece-few (of_variable variable) (task_variables line) tasks found.area.task (own-task found of) in
-      let most = table-few variable in
-      let same : few (of_variable variable) (area_variables found.area.task own.pair) ≡ few (of_variable variable) (rows_of line found) = ap (few (of_variable variable)) own.rows in
-      omega arith
-
-  rows-few : (found : LineArea) (variable : ℕ) → IsAreaOf (line_from 1 groups) found → few (of_variable variable) (rows_of (line_from 1 groups) found) ≤ 1
-  rows-few found variable of = few-by found (place_of (line_from 1 groups) found) variable of refl
-
-  row-by : (found : LineArea) (placed : Option Placed) (row : Row) → IsAreaOf (line_from 1 groups) found → place_of (line_from 1 groups) found ≡ placed → Contains (rows_of (line_from 1 groups) found) row
-      → Contains (line_rows (line_from 1 groups)) row
-  row-by found None row of is at =
-      let line = line_from 1 groups in
-      let nothing : rows_of line found ≡ [] = ap (λ (p : Option Placed). option_map_or (λ q. area_variables found.area.task (record { key = key_of found; area = found.area }, q)) p []) is in
-      absurd (never (subst (λ (rows : List Row). Contains rows row) nothing at))
-    where
-      never : Contains [] row → ⊥
-      never (k, within, is) = omega arith
-  row-by found (Some placed) row of is at =
-      let line = line_from 1 groups in
-      let own = placed-pair line found placed (line-ascends 1 groups) of is in
-      contains-flat_map (task_variables line) tasks found.area.task row (own-task found of)
-      (contains-flat_map (area_variables found.area.task) (task_pairs line found.area.task) own.pair row own.among (subst (λ (rows : List Row). Contains rows row) (sym own.rows) at))
-
-  -- a row of an area is its variable's place
-  row-placed : (found : LineArea) (row : Row) → IsAreaOf (line_from 1 groups) found → Contains (rows_of (line_from 1 groups) found) row → place_in (table_of (line_from 1 groups)) row.0 ≡ Some row.1
-  row-placed found row of at =
-      let rows = line_rows (line_from 1 groups) in
-      ap (option_map (λ (r : Row). r.1))
-      (find-by_number row.0 rows
-      ∙ found-once (of_variable row.0) rows row (table-few row.0) (row-by found (place_of (line_from 1 groups) found) row of refl at) (eq-eqb row.0 row.0 refl))
-
-  -- and a variable with a place has a row of an area
-
-  row-of : (row : Row) → Contains (line_rows (line_from 1 groups)) row → IsRowOf (line_from 1 groups) row
-  row-of row at =
-      let line = line_from 1 groups in
-      let piece = flat_map-piece (task_variables line) tasks row at in
-      let task = piece.element in
-      let inner = flat_map-piece (area_variables task) (task_pairs line task) row piece.own in
-      let pair = inner.element in
-      let own = pair-area groups none task pair inner.among in
-      let rows : area_variables task pair ≡ rows_of line own.found =
-      ap (λ (t : ℕ). rows_with t pair.0.area pair.1) (sym own.in_task)
-      ∙ ap (λ (a : Area). rows_with own.found.area.task a pair.1) (sym own.area)
-      ∙ sym (ap (λ (p : Option Placed). option_map_or (λ q. area_variables own.found.area.task (record { key = key_of own.found; area = own.found.area }, q)) p []) own.place) in
-      record { found = own.found; of = own.of; own = subst (λ (all : List Row). Contains all row) rows inner.own }
-
-  place-row : (variable : ℕ) (place : VariablePlace) → place_in (table_of (line_from 1 groups)) variable ≡ Some place → IsRowOf (line_from 1 groups) (variable, place)
-  place-row variable place is =
-      let rows = line_rows (line_from 1 groups) in
-      let row = mapped-some (λ (r : Row). r.1) (find (of_variable variable) (by_number rows)) place is in
-      let found = found-among (of_variable variable) rows row.0 (sym (find-by_number variable rows) ∙ row.1) in
-      let same : row.0 ≡ (variable, place) = pair-same row.0 variable place (eqb-true row.0.0 variable found.passes) row.2 in
-      row-of (variable, place) (subst (λ (r : Row). Contains rows r) same found.among)
-    where
-      pair-same : (r : Row) (n : ℕ) (p : VariablePlace) → r.0 ≡ n → r.1 ≡ p → r ≡ (n, p)
-      pair-same r n p first second = ap (λ (m : ℕ). (m, r.1)) first ∙ ap (λ (q : VariablePlace). (n, q)) second
-
-pub line-rows : (groups : List Declared) → lowest_fault (groups_of groups) ≡ None → HasRows (line_from 1 groups)
-line-rows groups none =
-    record {
-      ranks = line-ascends 1 groups;
-      few_rows = rows-few groups none;
-      placed = row-placed groups none;
-      stands = place-row groups none;
+      once = λ variable.
+          let same = counted variable (moved ++ gone) in
+          let both = total-append (of_change variable) moved gone in
+          let few = few-by changed first before after old new change variable (place_in (table new) variable) refl in
+          omega arith;
+      says = λ variable. said-by (table old) (table new) (moved ++ gone) variable (rows-right changed first before after old new change)
+          (λ differs. told-by changed first before after old new change variable (place_in (table old) variable) (place_in (table new) variable) refl refl differs)
+          (find (λ c. c.0 == variable) (moved ++ gone)) refl;
     }

@@ -42,7 +42,7 @@ wide-listed line found of wide =
     contains-mapped keyed (task_areas area.task line) (listed area.dir found.member.rank e)
     (by-dir area.dir area.task line found.member (listed area.dir found.member.rank e) of.member made)
 
-all-contained : {X : Type 0} (P : X → Type 0) (xs : List X) → ((x : X) → Contains xs x → P x) → All P xs
+pub all-contained : {X : Type 0} (P : X → Type 0) (xs : List X) → ((x : X) → Contains xs x → P x) → All P xs
 all-contained P xs each = All-weaker (Contains xs) P each xs (All-contains_itself xs)
 
 -- slaves of a line with one rank are one, and so are areas of a slave with one index

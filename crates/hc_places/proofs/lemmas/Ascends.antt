@@ -7,7 +7,7 @@ use Rattle.hc_records.specs.Image.{task_variables, tasks}
 use Rattle.hc_records.specs.Line.{groups_of, line_from}
 use Rattle.hc_records.specs.Project.{lowest_fault}
 use Rattle.hc_places.specs.Table.{RowsAscend, table_of}
-use Rattle.hc_places.proofs.Once.{variable-once}
+use Rattle.hc_places.proofs.lemmas.Once.{variable-once}
 use Rattle.hc_places.proofs.Rising.{ascends-by_number, kept-length}
 
 -- the table of a project's line has each variable once, in the order of their numbers

@@ -18,7 +18,7 @@ use Rattle.hc_records.proofs.lemmas.Packed.{area_of, packed-areas}
 use Rattle.hc_records.proofs.lemmas.Tasks.{listed, task-list-all}
 use Rattle.hc_registers.proofs.lemmas.Counting.{ascending-counted}
 use Rattle.hc_places.specs.Layout.{AreInOrder}
-use Rattle.hc_places.specs.Parts.{counted_inside, keys_inside}
+use Rattle.hc_places.specs.Loads.{counted_inside, keys_inside}
 
 -- the places of a list whose keys ascend stand in order
 pub places-in-order : (list : List Keyed) → Ascends list → AreInOrder (packed opening list)

@@ -1,7 +1,7 @@
 //! Runs that edit the line.
 use super::{
     INPUTS, ONE_SLAVE, OUTPUTS, ends_as, no_commands, prints, push_area, push_slave,
-    push_wide_slave,
+    push_wide_area, push_wide_slave,
 };
 use std::test::Fail;
 
@@ -202,6 +202,32 @@ fn a_seventeenth_datagram_is_refused(rt: HostRuntime) -> Result<(), Fail> {
     input.push_str("%%\nmove 17 0 0\nmove 17 0 2\n")?;
     let text = "refused 12 TooManyDatagrams 0\nepoch 1 recut 2 moved 1\n";
     assert!(rt; ends_as(rt.alloc(), input.as_bytes(), 0, text)?);
+    Ok(())
+}
+
+/// An output area of task 2, without its PDOs.
+const OUTPUTS_IN_TASK_2: &str = "sm = 0\ndir = 'out'\nphys = 0x1000\ntask = 2\n";
+
+/// The blocks of the slave with one bit in task 1.
+const REGISTERS_IN_TASK_1: &str = "\
+sm 0 at 0x0800: 00 10 01 00 64 00 01 00
+fmmu 0 at 0x0600: 00 00 00 02 01 00 00 00 00 10 00 02 01 00 00 00
+";
+
+#[test]
+fn a_crowded_task_leaves_those_before_it(rt: HostRuntime) -> Result<(), Fail> {
+    let mut input = String::new(rt.alloc());
+    for station in 1..=16 {
+        push_slave(&mut input, "slave", station)?;
+        push_wide_area(&mut input, "slave", OUTPUTS_IN_TASK_2, 8 * 1486)?;
+    }
+    input.push_str(ONE_BIT_IN_TASK_1)?;
+    input.push_str("%%\nmove 17 0 2\nregs 17\nmove 17 0 3\n")?;
+    let mut text = String::new(rt.alloc());
+    text.push_str("refused 12 TooManyDatagrams 2\n")?;
+    text.push_str(REGISTERS_IN_TASK_1)?;
+    text.push_str("epoch 1 recut 2 moved 1\n")?;
+    assert!(rt; ends_as(rt.alloc(), input.as_bytes(), 0, text.as_str())?);
     Ok(())
 }
 

@@ -1,4 +1,4 @@
-use Rattle.std.proofs.Common.{◌≡◌, ℕ, ap, ◌∙◌}
+use Rattle.std.proofs.Common.{ap, ◌∙◌}
 use Rattle.hc_cuts.specs.Keeping.{is_kept_by}
 use Rattle.hc_cuts.proofs.KeptBy.{kept-by}
 use Rattle.hc_cuts.proofs.keeping.is_kept.Goals as goal

@@ -1,5 +1,5 @@
 use Rattle.std.proofs.Common.{◌≡◌, ◌+◌, ◌++◌, length}
-use Rattle.hc_places.specs.Walk.{changes, walked}
+use Rattle.hc_places.specs.inner.Walk.{changes, walked}
 use Rattle.hc_places.proofs.comparing.changes_between.Given as goal
 
 -- what is added so far, and what becomes of the rows that are left, is all

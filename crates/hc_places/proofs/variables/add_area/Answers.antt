@@ -1,15 +1,14 @@
 use Rattle.std.proofs.Common.{◌≡◌, ◌+◌, ◌<◌, ◌++◌, ◌∙◌, ap, sym, length, drop, get_or, arith}
 use Rattle.std.specs.List.{flat_map}
 use Rattle.hc_records.specs.Area.{entries_at}
-use Rattle.hc_places.specs.Parts.{row_at}
-use Rattle.hc_records.specs.declared.records.Area.{Area}
+use Rattle.hc_places.specs.inner.Parts.{row_at}
 use Rattle.hc_places.proofs.Widths.{entries-bits}
 use Rattle.hc_places.proofs.Entries.{AddsEntries, added-bits, added-rows, entries-drop}
 use Rattle.hc_places.proofs.variables.add_area.Goals as goal
 
 pub loop-index-preserved : goal.loop-index-preserved
 loop-index-preserved c =
-    let area = c.area-area.result.now in
+    let area = c.args.area.now in
     let i = c.loop-index.index-index in
     let entries = c.offered_entries-entries.result.now in
     let within : i < length area.assigned = omega (arith, ap length c.as_slice-index-items.ensures) in
@@ -28,8 +27,7 @@ loop-index-preserved c =
 
 pub add_entries-requires-clause-widths : goal.add_entries-requires-clause-widths
 add_entries-requires-clause-widths c =
-    let area = c.area-area.result.now in
+    let area = c.args.area.now in
     let entries = c.offered_entries-entries.result.now in
     let is : entries ≡ entries_at area.offered (get_or area.assigned c.loop-index.index-index 0) = cc in
-    let listed : area.offered ≡ c.args.listed.now.area.offered = ap (λ (a : Area). a.offered) c.area-area.ensures in
-    rw is (entries-bits area.offered _ (rw listed c.requires.offers))
+    rw is (entries-bits area.offered _ c.requires.offers)

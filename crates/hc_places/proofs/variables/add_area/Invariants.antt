@@ -3,7 +3,7 @@ use Rattle.std.specs.Prelude.{map}
 use Rattle.std.specs.List.{flat_map}
 use Rattle.hc_records.specs.Area.{assigned_entries, bits_of, entries_at, width}
 use Rattle.hc_records.specs.Image.{variables_from}
-use Rattle.hc_places.specs.Parts.{row_at}
+use Rattle.hc_places.specs.inner.Parts.{row_at}
 use Rattle.hc_places.proofs.variables.add_area.Given as goal
 
 abbrev pub invariant-loop-index : goal.invariant-loop-index

@@ -2,7 +2,7 @@ use Rattle.std.proofs.Common.{◌≡◌, ◌+◌, ◌++◌, drop}
 use Rattle.std.specs.Prelude.{map}
 use Rattle.hc_records.specs.Area.{bits_of}
 use Rattle.hc_records.specs.Image.{variables_from}
-use Rattle.hc_places.specs.Parts.{row_at}
+use Rattle.hc_places.specs.inner.Parts.{row_at}
 use Rattle.hc_places.proofs.variables.add_entries.Given as goal
 
 abbrev pub invariant-loop-entry : goal.invariant-loop-entry

@@ -1,9 +1,6 @@
-use Rattle.std.proofs.Common.{◌∙◌, ap, sym, subst}
+use Rattle.std.proofs.Common.{◌∙◌, ap, sym}
 use Rattle.hc_records.specs.declared.keys.Key.{Key}
-use Rattle.hc_records.specs.declared.records.Area.{Area}
-use Rattle.hc_records.specs.TaskList.{Listed}
 use Rattle.hc_tasks.specs.Areas.{area_in}
-use Rattle.hc_places.specs.Ranges.{OffersBits}
 use Rattle.hc_places.proofs.Founds.{found-meets}
 use Rattle.hc_places.proofs.variables.add_found.Goals as goal
 
@@ -14,6 +11,5 @@ add_area-requires-clause-few c =
 
 pub add_area-requires-clause-offers : goal.add_area-requires-clause-offers
 add_area-requires-clause-offers c =
-    let meets = found-meets c.args.slaves.now c.args.places.now c.loop-placed.placed-index c.placed-item.result c.in-Some.area.now c.requires.sendable c.requires.suit c.loop-placed-test.true c.placed-item.is
-    (ap (λ (k : Key). area_in c.args.slaves.now k) (sym c.key.ensures) ∙ c.in-Some.ensures) in
-    subst (λ (a : Area). OffersBits a) (sym (ap (λ (l : Listed). l.area) c.of-listed.ensures)) meets.offers
+    (found-meets c.args.slaves.now c.args.places.now c.loop-placed.placed-index c.placed-item.result c.in-Some.area.now c.requires.sendable c.requires.suit c.loop-placed-test.true c.placed-item.is
+    (ap (λ (k : Key). area_in c.args.slaves.now k) (sym c.key.ensures) ∙ c.in-Some.ensures)).offers

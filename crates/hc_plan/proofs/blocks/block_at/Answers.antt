@@ -1,7 +1,7 @@
 use Rattle.std.proofs.Common.{◌∙◌, sym, ap, subst}
 use Rattle.std.specs.Prelude.{slice_get}
 use Rattle.hc_records.specs.Line.{Member}
-use Rattle.hc_plan.specs.Blocks.{IsMappedSlave, slave_blocks_in}
+use Rattle.hc_plan.specs.inner.Blocks.{IsMappedSlave, slave_blocks_in}
 use Rattle.hc_plan.proofs.LineBlocks.{found-block, found-mapped, same-member}
 use Rattle.hc_plan.proofs.blocks.block_at.Goals as goal
 

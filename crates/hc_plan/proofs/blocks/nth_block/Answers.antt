@@ -2,7 +2,7 @@ use Rattle.std.proofs.Common.{◌∙◌, sym, ap, subst}
 use Rattle.std.specs.Prelude.{option_map, slice_get}
 use Rattle.hc_records.specs.declared.records.Slave.{Slave}
 use Rattle.hc_records.specs.Line.{Member}
-use Rattle.hc_plan.specs.Blocks.{IsMappedSlave, slave_blocks_in}
+use Rattle.hc_plan.specs.inner.Blocks.{IsMappedSlave, slave_blocks_in}
 use Rattle.hc_plan.specs.Configuration.{at_station}
 use Rattle.hc_plan.proofs.LineBlocks.{owned-none, owner-mapped, owner-tells, same-member}
 use Rattle.hc_plan.proofs.blocks.nth_block.Goals as goal

@@ -1,8 +1,8 @@
 use Rattle.std.proofs.Common.{◌≡◌, [], ◌∷◌, ◌++◌, ◌-◌, ◌+◌, ◌<◌, ◌≤◌, ◌∙◌, None, List, length, ap, sym, append-nil, append_assoc, arith}
 use Rattle.hc_records.specs.declared.records.Slave.{Slave}
 use Rattle.hc_registers.specs.Blocks.{LineBlock, numbered}
-use Rattle.hc_plan.specs.Blocks.{slave_blocks_in}
-use Rattle.hc_plan.specs.Moved.{moved_of}
+use Rattle.hc_plan.specs.inner.Blocks.{slave_blocks_in}
+use Rattle.hc_plan.specs.inner.Moved.{moved_of}
 use Rattle.hc_plan.proofs.Compared.{block-early, moved-next, moved-past, moved_from}
 use Rattle.hc_plan.proofs.moved.add_moved.Goals as goal
 

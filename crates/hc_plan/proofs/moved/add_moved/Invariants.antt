@@ -1,7 +1,7 @@
 use Rattle.std.proofs.Common.{◌≡◌, ◌++◌, ◌-◌, ◌≤◌, length, drop}
 use Rattle.hc_registers.specs.Blocks.{numbered}
-use Rattle.hc_plan.specs.Blocks.{slave_blocks_in}
-use Rattle.hc_plan.specs.Moved.{moved_of}
+use Rattle.hc_plan.specs.inner.Blocks.{slave_blocks_in}
+use Rattle.hc_plan.specs.inner.Moved.{moved_of}
 use Rattle.hc_plan.proofs.moved.add_moved.Given as goal
 
 -- the blocks so far that moved, and those of what is left, are all

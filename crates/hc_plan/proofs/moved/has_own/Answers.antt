@@ -1,6 +1,6 @@
 use Rattle.std.proofs.Common.{◌≡◌, ◌-◌, ◌+◌, ◌<◌, ◌≤◌, ◌∙◌, None, length, sym, arith}
 use Rattle.hc_registers.specs.Blocks.{same_bytes}
-use Rattle.hc_plan.specs.Blocks.{slave_blocks_in}
+use Rattle.hc_plan.specs.inner.Blocks.{slave_blocks_in}
 use Rattle.hc_plan.proofs.Compared.{any-behind, any-here, any-past, block-early}
 use Rattle.hc_plan.proofs.moved.has_own.Goals as goal
 

@@ -1,7 +1,7 @@
 use Rattle.std.proofs.Common.{◌≡◌, ◌-◌, ◌≤◌, length, drop}
 use Rattle.std.specs.List.{list_any}
 use Rattle.hc_registers.specs.Blocks.{same_bytes}
-use Rattle.hc_plan.specs.Blocks.{slave_blocks_in}
+use Rattle.hc_plan.specs.inner.Blocks.{slave_blocks_in}
 use Rattle.hc_plan.proofs.moved.has_own.Given as goal
 
 -- none of the blocks so far is the same

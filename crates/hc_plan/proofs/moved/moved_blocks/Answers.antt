@@ -2,7 +2,7 @@ use Rattle.std.proofs.Common.{◌≡◌, ◌∙◌, IfOk, List, ap, subst}
 use Rattle.std.specs.List.{flat_map}
 use Rattle.hc_records.specs.Line.{line_from}
 use Rattle.hc_registers.specs.Blocks.{LineBlock, moved_blocks}
-use Rattle.hc_plan.specs.Moved.{moved_in}
+use Rattle.hc_plan.specs.inner.Moved.{moved_in}
 use Rattle.hc_records.proofs.lemmas.Slaves.{project-counted}
 use Rattle.hc_plan.proofs.Compared.{line-moved}
 use Rattle.hc_plan.proofs.LineBlocks.{laid-out-all}

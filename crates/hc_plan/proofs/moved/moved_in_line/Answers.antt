@@ -6,8 +6,8 @@ use Rattle.hc_records.specs.declared.records.Slave.{Slave}
 use Rattle.hc_records.specs.Line.{Member, is_at, line_from}
 use Rattle.hc_records.proofs.lemmas.Slaves.{project-counted}
 use Rattle.hc_registers.specs.Blocks.{LineBlock, numbered}
-use Rattle.hc_plan.specs.Moved.{moved_in, moved_of}
-use Rattle.hc_plan.specs.Blocks.{slave_blocks_in}
+use Rattle.hc_plan.specs.inner.Moved.{moved_in, moved_of}
+use Rattle.hc_plan.specs.inner.Blocks.{slave_blocks_in}
 use Rattle.hc_plan.proofs.LineBlocks.{drop-met, found-mapped}
 use Rattle.hc_plan.proofs.moved.moved_in_line.Goals as goal
 

@@ -1,7 +1,7 @@
 use Rattle.std.proofs.Common.{◌≡◌, ◌++◌, drop}
 use Rattle.std.specs.List.{flat_map}
 use Rattle.hc_records.specs.Line.{line_from}
-use Rattle.hc_plan.specs.Moved.{moved_in}
+use Rattle.hc_plan.specs.inner.Moved.{moved_in}
 use Rattle.hc_plan.proofs.moved.moved_in_line.Given as goal
 
 abbrev pub invariant-loop-member : goal.invariant-loop-member

@@ -3,6 +3,7 @@ use Rattle.hc_cuts.specs.Hulls.{AreHulls}
 use Rattle.hc_cuts.specs.declared.hulls.Hulls.{Hulls}
 use Rattle.hc_tasks.proofs.Rows.{lines-behind, lines-front, new-at, old-at, ranks-next, row-kept, row-within}
 use Rattle.hc_tasks.proofs.Taking.{ranks-begin, ranks-end, up_to_rank}
+use Rattle.hc_tasks.proofs.Turned.{touched-hulls}
 use Rattle.hc_tasks.proofs.lemmas.Turning.{back-lines}
 use Rattle.hc_tasks.proofs.touched.touched_hulls.Goals as goal
 
@@ -45,6 +46,7 @@ loop-i-preserved c = λ old new lines.
 pub returns : goal.returns
 returns c = λ old new lines.
     let past = c.loop-i-test.false in
-    ranks-end c.args.task (length lines.front + c.loop-i.i) old new c.loop-i.hulls
+    touched-hulls c.args.task old new c.loop-i.hulls
+    (ranks-end c.args.task (length lines.front + c.loop-i.i) old new c.loop-i.hulls
     (λ rank high. lines-behind c.args.first c.args.before.now c.args.after.now old new lines rank (omega (arith, past, high)))
-    (c.loop-i.invariant old new lines)
+    (c.loop-i.invariant old new lines))

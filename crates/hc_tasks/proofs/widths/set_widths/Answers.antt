@@ -1,6 +1,5 @@
-use Rattle.std.proofs.Common.{◌≡◌, ◌+◌, ℕ, List, length, arith, ap, sym, subst, ◌∙◌}
+use Rattle.std.proofs.Common.{◌≡◌, ◌+◌, ℕ, length, arith, ap, subst, ◌∙◌}
 use Rattle.hc_bitsum.specs.Tree.{Tree}
-use Rattle.hc_records.specs.declared.records.Area.{Area}
 use Rattle.hc_tasks.specs.Widths.{IsSetTo}
 use Rattle.hc_tasks.proofs.Rows.{lines-behind, lines-front, new-at, old-at, row-kept, row-within, slaves-next}
 use Rattle.hc_tasks.proofs.Setting.{slaves-begin, slaves-end, slaves-was, up_to}

@@ -1,9 +1,12 @@
-use Rattle.std.proofs.Common.{◌∙◌, ap, sym}
+use Rattle.std.proofs.Common.{◌≡◌, ◌∙◌, ◌++◌, [], ◌∷◌, ap, sym}
 use Rattle.std.specs.Prelude.{map}
+use Rattle.hc_records.specs.Image.{task_places}
 use Rattle.hc_records.specs.TaskList.{keyed}
 use Rattle.hc_records.specs.Packing.{opening, packed}
 use Rattle.hc_records.proofs.lemmas.Packed.{packed-areas}
-use Rattle.hc_places.proofs.Tables.{areas-few, places-sendable}
+use Rattle.hc_places.specs.Loads.{table_at}
+use Rattle.hc_places.specs.Table.{TaskTable}
+use Rattle.hc_places.proofs.Tables.{areas-few, places-sendable, table-same}
 use Rattle.hc_places.proofs.Widths.{areas-offer}
 use Rattle.hc_places.proofs.configure.Draft.add_task.Goals as goal
 
@@ -32,3 +35,12 @@ add_places-requires-clause-offers c =
     let again = c.as_slice-2.ensures.value in
     let listed = again ∙ c.in_ok-areas.ensures in
     rw listed (areas-offer c.args.task c.args.line.now c.requires.line.listable)
+
+pub returns-clause-tables : goal.returns-clause-tables
+returns-clause-tables c =
+    let task = c.args.task in
+    let line = c.args.line.now in
+    let listed = c.as_slice.ensures.value ∙ c.in_ok-areas.ensures in
+    let is : c.in_ok-places.places.items ≡ task_places task line = c.in_ok-places.ensures.places ∙ ap (λ areas. packed opening (map keyed areas)) listed in
+    c.in_ok-add_places.ensures.tables
+    ∙ ap (λ (table : TaskTable). c.args.self.now.tables.items ++ table ∷ []) (ap (table_at task) is ∙ table-same task line c.requires.line)

@@ -1,7 +1,7 @@
 use Rattle.std.proofs.Common.{◌≡◌, ◌∙◌, ap, subst, sym}
 use Rattle.hc_places.specs.Table.{IsTable, Table}
 use Rattle.hc_places.specs.Swap.{Change, ChangesAscend, SaysWhatDiffers}
-use Rattle.hc_places.specs.Walk.{changes, walked}
+use Rattle.hc_places.specs.inner.Walk.{changes, walked}
 use Rattle.hc_places.proofs.Leading.{says-between, says-count, says-leads}
 use Rattle.hc_places.proofs.Merged.{changes-ascend}
 use Rattle.hc_places.proofs.swap.Swap.between.Goals as goal

@@ -4,7 +4,6 @@ use Rattle.hc_records.specs.declared.records.Declared.{Declared}
 use Rattle.hc_records.specs.Line.{line_from, opened_group}
 use Rattle.hc_records.specs.Project.{lowest_fault}
 use Rattle.hc_index.specs.Index.{IsIndexOf}
-use Rattle.hc_places.specs.Layout.{layout_of}
 use Rattle.hc_places.specs.Table.{table_of}
 use Rattle.hc_tasks.specs.Areas.{areas_by_rank}
 use Rattle.hc_tasks.specs.Kept.{line_kept}
@@ -26,15 +25,11 @@ open_line-requires-clause-project c =
 pub invariant_of-result : goal.invariant_of-result
 invariant_of-result c =
     let groups = c.as_slice-2.ensures in (
-      record {
-        project =
-            opened-project c.into_groups.result c.in_ok-groups.groups
-            (c.in_ok-groups.ensures ∙ ap (map opened_group) c.into_vec.ensures)
-            (ap lowest_fault c.into_groups.ensures.value ∙ c.into_groups.ensures.kept);
-        uncrowded = subst (λ (g : List Declared). crowded_task (line_from 1 g) ≡ None) groups c.in_ok-opened.ensures.accepted;
-        stands = c.in_ok-opened.ensures.layout ∙ ap (λ (g : List Declared). layout_of (line_from 1 g)) groups;
-      },
-      c.in_ok-opened.ensures.places ∙ ap (λ (g : List Declared). table_of (line_from 1 g)) groups,
-      c.in_ok-opened.ensures.kept ∙ ap (λ (g : List Declared). line_kept (areas_by_rank g)) groups,
+      opened-project c.into_groups.result c.in_ok-groups.groups
+          (c.in_ok-groups.ensures ∙ ap (map opened_group) c.into_vec.ensures)
+          (ap lowest_fault c.into_groups.ensures.value ∙ c.into_groups.ensures.kept),
+      subst (λ (g : List Declared). crowded_task (line_from 1 g) ≡ None) groups c.in_ok-cuts.ensures.accepted,
+      c.in_ok-cuts.ensures.places ∙ ap (λ (g : List Declared). table_of (line_from 1 g)) groups,
+      c.in_ok-cuts.ensures.kept ∙ ap (λ (g : List Declared). line_kept (areas_by_rank g)) groups,
       subst (λ (g : List Declared). IsIndexOf g c.in_ok-index.index) c.as_slice.ensures c.in_ok-index.ensures,
     )

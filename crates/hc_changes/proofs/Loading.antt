@@ -1,0 +1,135 @@
+-- A task's table put together a datagram at a time, as long as its boundaries go.
+use Rattle.std.proofs.Common.{◌≡◌, ◌∙◌, ap, ℕ, suc, ◌+◌, ◌*◌, ◌<◌, ◌≤◌, Bool, true, false, List, [], ◌∷◌, length, refl, sym, arith, length-append}
+use Rattle.std.specs.Prelude.{All, None, min, nat_lt}
+use Rattle.std.proofs.Math.Nat.{min-eq_left}
+use Rattle.std.proofs.lemmas.Bool.{ltb-false, ltb-true}
+use Rattle.hc_records.specs.declared.limits.TheConstants.{MOST_DATAGRAM_BYTES}
+use Rattle.hc_records.specs.declared.records.Declared.{Declared}
+use Rattle.hc_records.specs.declared.keys.Key.{Key}
+use Rattle.hc_records.specs.declared.keys.TheConstants.Key.{START}
+use Rattle.hc_records.specs.Boundaries.{later_keys}
+use Rattle.hc_records.specs.Image.{datagram_count, logical_address, task_places}
+use Rattle.hc_records.specs.Laws.{IsPackable}
+use Rattle.hc_records.specs.Line.{groups_of, line_from}
+use Rattle.hc_records.specs.Packing.{Placed, opening, packed}
+use Rattle.hc_records.specs.Project.{lowest_fault}
+use Rattle.hc_records.specs.TaskList.{Keyed, task_list}
+use Rattle.hc_records.proofs.lemmas.Cuts.{count-later_keys}
+use Rattle.hc_records.proofs.lemmas.Lengths.{length-sendable}
+use Rattle.hc_cuts.proofs.lemmas.Datagrams.{inside-none}
+use Rattle.hc_cuts.specs.Starts.{Kept}
+use Rattle.hc_tasks.specs.Areas.{areas_by_rank}
+use Rattle.hc_tasks.specs.Keeping.{Before}
+use Rattle.hc_tasks.specs.Kept.{starts_by}
+use Rattle.hc_tasks.proofs.lemmas.Told.{task-listed}
+use Rattle.hc_places.specs.declared.loads.Load.{Load}
+use Rattle.hc_places.specs.declared.table.Datagram.{Datagram}
+use Rattle.hc_places.specs.Loads.{IsLoad, load_in, load_of, loaded, with_load}
+use Rattle.hc_places.specs.Table.{Table, TaskTable, task_table}
+use Rattle.hc_places.proofs.lemmas.Lines.{table-loaded}
+use Rattle.hc_changes.specs.Tables.{IsEdited}
+use Rattle.hc_changes.proofs.lemmas.Tables.{task-list}
+
+-- so many datagrams of a task, or all where it has fewer
+abbrev pub loaded_up_to : ℕ → List Placed → ℕ → TaskTable
+loaded_up_to task areas number = loaded task areas (min number (datagram_count areas))
+
+-- a datagram that has some bytes is one of the task's
+some-within : (low : Bool) (list : List Keyed) (number : ℕ) → nat_lt number (datagram_count (packed opening list)) ≡ low → 0 < (load_in (packed opening list) number).length
+    → number < datagram_count (packed opening list)
+some-within true list number test some = ltb-true number (datagram_count (packed opening list)) test
+some-within false list number test some =
+    let behind = ltb-false number (datagram_count (packed opening list)) test in
+    let none : (load_in (packed opening list) number).length ≡ 0 = ap (λ (areas : List Placed). (load_of areas).length) (inside-none number (packed opening list) behind) in
+    absurd (omega arith)
+
+pub next-some : (task : ℕ) (list : List Keyed) (number : ℕ) (table : TaskTable) (load : Load) → table ≡ loaded_up_to task (packed opening list) number
+    → load ≡ load_in (packed opening list) number → 0 < load.length → with_load task table load ≡ loaded_up_to task (packed opening list) (number + 1)
+next-some task list number table load is own some =
+    let areas = packed opening list in
+    let count = datagram_count areas in
+    let here : load.length ≡ (load_in areas number).length = ap (λ (l : Load). l.length) own in
+    let within = some-within (nat_lt number count) list number refl (omega arith) in
+    let before : min number count ≡ number = min-eq_left (omega arith) in
+    let after : min (number + 1) count ≡ suc number = min-eq_left {n = number + 1} {m = count} (omega arith) ∙ (omega arith) in
+    ap (λ (t : TaskTable). with_load task t load) (is ∙ ap (loaded task areas) before)
+    ∙ ap (with_load task (loaded task areas number)) own
+    ∙ ap (loaded task areas) (sym after)
+
+-- and one that has none stands behind the last one
+none-behind : (low : Bool) (list : List Keyed) (number : ℕ) → All IsPackable list → nat_lt number (datagram_count (packed opening list)) ≡ low
+    → (load_in (packed opening list) number).length ≡ 0 → datagram_count (packed opening list) ≤ number
+none-behind true list number packable test none =
+    let some = (length-sendable list number packable (ltb-true number (datagram_count (packed opening list)) test)).some in
+    absurd (omega arith)
+none-behind false list number packable test none = ltb-false number (datagram_count (packed opening list)) test
+
+pub next-none : (task : ℕ) (list : List Keyed) (number : ℕ) (table : TaskTable) (load : Load) → All IsPackable list → table ≡ loaded_up_to task (packed opening list) number
+    → load ≡ load_in (packed opening list) number → load.length ≡ 0 → table ≡ loaded_up_to task (packed opening list) (number + 1)
+next-none task list number table load packable is own none =
+    let areas = packed opening list in
+    let count = datagram_count areas in
+    let behind = none-behind (nat_lt number count) list number packable refl (sym (ap (λ (l : Load). l.length) own) ∙ none) in
+    let same : min number count ≡ min (number + 1) count = omega arith in
+    is ∙ ap (loaded task areas) same
+
+-- at the last boundary all datagrams are added
+
+keys-many : (list : List Keyed) → All IsPackable list → datagram_count (packed opening list) ≤ length (START ∷ later_keys list)
+keys-many [] all = omega arith
+keys-many (area ∷ areas) all = let count = count-later_keys area areas all in omega arith
+
+pub all-loaded : (groups : List Declared) (task number : ℕ) (starts : List Key) (table : TaskTable) → lowest_fault (groups_of groups) ≡ None
+    → starts ≡ starts_by task (areas_by_rank groups) → length starts ≤ number → table ≡ loaded_up_to task (task_places task (line_from 1 groups)) number
+    → table ≡ task_table (line_from 1 groups) task
+all-loaded groups task number starts table none stand all is =
+    let areas = task_places task (line_from 1 groups) in
+    let keys : length starts ≡ length (START ∷ later_keys (task_list task (line_from 1 groups))) =
+    ap length (stand ∙ ap (λ (list : List Keyed). START ∷ later_keys list) (sym (task-listed task groups))) in
+    let many = keys-many (task_list task (line_from 1 groups)) (task-list groups task none).packable in
+    let last : min number (datagram_count areas) ≡ datagram_count areas = omega arith in
+    is ∙ ap (loaded task areas) last ∙ sym (table-loaded groups task none)
+
+-- what is known of the table of the datagrams so far
+pub record AreLoaded (old : Table) (known : Before) (trees : List Kept) (task number : ℕ) (table : TaskTable) : Type 0 where
+  pub stand : (before after : List Declared) → IsEdited before after old known trees → table ≡ loaded_up_to task (task_places task (line_from 1 after)) number
+  pub count : length table.datagrams ≤ number
+  pub short : table.outputs + table.inputs ≤ length table.datagrams * MOST_DATAGRAM_BYTES
+
+-- and of what the next one holds
+abbrev IsNext : Table → Before → List Kept → ℕ → ℕ → Load → Type 0
+IsNext old known trees task number load =
+    (before after : List Declared) → IsEdited before after old known trees → load ≡ load_in (task_places task (line_from 1 after)) number
+
+pub adds-some : (old : Table) (known : Before) (trees : List Kept) (task number : ℕ) (table : TaskTable) (load : Load) → AreLoaded old known trees task number table
+    → IsNext old known trees task number load → IsLoad load → 0 < load.length → AreLoaded old known trees task (number + 1) (with_load task table load)
+adds-some old known trees task number table load are next is some =
+    let many = length-append table.datagrams ((with-made task table load) ∷ []) in
+    let count = are.count in
+    let short = are.short in
+    let most = is.most in
+    let part = is.part in
+    record {
+      stand = λ before after edited. next-some task (task_list task (line_from 1 after)) number table load (are.stand before after edited) (next before after edited) some;
+      count = omega arith;
+      short = omega arith;
+    }
+  where
+    with-made : ℕ → TaskTable → Load → Datagram
+    with-made task' table' load' = record {
+      address = logical_address task' (length table'.datagrams);
+      length = load'.length;
+      expected = load'.expected;
+      offset = table'.outputs + table'.inputs;
+    }
+
+pub adds-none : (old : Table) (known : Before) (trees : List Kept) (task number : ℕ) (table : TaskTable) (load : Load) → AreLoaded old known trees task number table
+    → IsNext old known trees task number load → load.length ≤ 0 → AreLoaded old known trees task (number + 1) table
+adds-none old known trees task number table load are next none =
+    let count = are.count in record {
+      stand = λ before after edited.
+          next-none task (task_list task (line_from 1 after)) number table load (task-list after task edited.line.project).packable (are.stand before after edited) (next before after edited)
+          (omega arith);
+      count = omega arith;
+      short = are.short;
+    }

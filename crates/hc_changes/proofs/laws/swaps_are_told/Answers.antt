@@ -1,5 +1,0 @@
-use Rattle.hc_changes.proofs.lemmas.Swaps.{swap-told}
-use Rattle.hc_changes.proofs.laws.swaps_are_told.Goals as goal
-
-pub returns : goal.returns
-returns c changed groups edit tasks none none' differ tells = swap-told changed groups edit tasks none none' differ tells

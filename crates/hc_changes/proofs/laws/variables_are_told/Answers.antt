@@ -1,5 +1,0 @@
-use Rattle.hc_changes.proofs.lemmas.Told.{rows-told}
-use Rattle.hc_changes.proofs.laws.variables_are_told.Goals as goal
-
-pub returns : goal.returns
-returns c changed groups edit none none' differ = rows-told changed groups edit none none' differ

@@ -1,0 +1,123 @@
+-- An area of the new line is a candidate, or none, by what the turned tasks and the tasks before tell.
+use Rattle.std.proofs.Common.{◌≡◌, ℕ, Bool, true, false, cond, List, [], ◌∷◌, Option, refl, sym, ap, ◌∙◌}
+use Rattle.std.specs.Prelude.{length, map, nat_lt, not, ◌||◌}
+use Rattle.std.specs.Option.{option_map_or}
+use Rattle.hc_records.specs.declared.keys.Key.{Key}
+use Rattle.hc_records.specs.declared.records.Area.{Area}
+use Rattle.hc_records.specs.declared.records.Declared.{Declared}
+use Rattle.hc_records.specs.Boundaries.{is_touched_task, touched}
+use Rattle.hc_records.specs.Line.{State, line_from}
+use Rattle.hc_records.specs.Packing.{Placed}
+use Rattle.hc_records.specs.TaskList.{Keyed, task_list}
+use Rattle.hc_cuts.specs.Keeping.{is_kept}
+use Rattle.hc_cuts.specs.Starts.{Kept}
+use Rattle.hc_cuts.specs.Place.{place_of as place_in}
+use Rattle.hc_tasks.specs.Areas.{areas_by_rank, list_by}
+use Rattle.hc_tasks.specs.Keeping.{Before, StandsBefore}
+use Rattle.hc_tasks.specs.Kept.{IsLine, line_kept}
+use Rattle.hc_tasks.specs.Recut.{is_touched_by}
+use Rattle.hc_tasks.proofs.lemmas.Told.{place-told, task-listed}
+use Rattle.hc_changes.specs.Candidates.{LineArea, candidate_of, is_candidate, is_recut, key_of, place_of}
+use Rattle.hc_changes.specs.inner.Found.{IsSight, area_by, area_found, found_among}
+use Rattle.hc_changes.specs.Outlook.{Outlook, changes}
+use Rattle.hc_changes.proofs.lemmas.Listed.{untouched-areas}
+
+-- one area that is a candidate, and one that is none
+
+abbrev judged : Outlook → LineArea → Bool
+judged it found = is_candidate (changes it) (line_from 1 it.old) (line_from 1 it.new) found
+
+found-yes : (it : Outlook) (found : LineArea) → judged it found ≡ true → found_among it (found ∷ []) ≡ candidate_of (line_from 1 it.new) found ∷ []
+unfolding found_among
+found-yes it found is = ap (λ (b : Bool). map (candidate_of (line_from 1 it.new)) (cond b (found ∷ []) [])) is
+
+found-no : (it : Outlook) (found : LineArea) → judged it found ≡ false → found_among it (found ∷ []) ≡ []
+unfolding found_among
+found-no it found is = ap (λ (b : Bool). map (candidate_of (line_from 1 it.new)) (cond b (found ∷ []) [])) is
+
+either-true : (a b : Bool) → a ≡ true → (a || b) ≡ true
+either-true true b is = refl
+either-true false b is = cc
+
+other-one : (a b : Bool) → a ≡ false → (a || b) ≡ b
+other-one true b is = cc
+other-one false b is = refl
+
+-- its place, and whether it stands in a datagram that isn't kept
+
+pub place-is : (it : Outlook) (cuts : List Kept) → cuts ≡ line_kept (areas_by_rank it.new) → (station rank index : ℕ) (area : Area) (key : Key) (place : Option Placed)
+    → key ≡ key_of (area_by station rank index area) → ((slaves : List (List Area)) → cuts ≡ line_kept slaves → place ≡ place_in key (list_by area.task slaves))
+    → place ≡ place_of (line_from 1 it.new) (area_by station rank index area)
+place-is it cuts turned station rank index area key place named tells =
+    tells (areas_by_rank it.new) turned ∙ ap (λ (k : Key). place_in k (list_by area.task (areas_by_rank it.new))) named
+    ∙ place-told it.new area.task (key_of (area_by station rank index area))
+
+pub kept-is : (it : Outlook) (before : Before) (cuts : List Kept) → IsSight it before cuts → (task number : ℕ) (kept : Bool)
+    → ((old new : List (List Area)) → IsLine new → StandsBefore old new before → cuts ≡ line_kept new → kept ≡ is_kept (list_by task old) (list_by task new) number)
+    → kept ≡ is_kept (task_list task (line_from 1 it.old)) (task_list task (line_from 1 it.new)) number
+kept-is it before cuts sight task number kept tells =
+    tells (areas_by_rank it.old) (areas_by_rank it.new) sight.is.lines.new_line sight.stands sight.turned
+    ∙ ap (λ (list : List Keyed). is_kept list (list_by task (areas_by_rank it.new)) number) (sym (task-listed task it.old))
+    ∙ ap (λ (list : List Keyed). is_kept (task_list task (line_from 1 it.old)) list number) (sym (task-listed task it.new))
+
+-- whether its task is touched
+
+abbrev some_touched : List Keyed → List Keyed → Bool
+some_touched old new = nat_lt 0 (length (touched old new))
+
+pub touched-is : (it : Outlook) (before : Before) (cuts : List Kept) → IsSight it before cuts → (task : ℕ) (some : Bool)
+    → ((old new : List (List Area)) → StandsBefore old new before → some ≡ is_touched_by task old new)
+    → some ≡ is_touched_task (line_from 1 it.old) (line_from 1 it.new) task
+touched-is it before cuts sight task some tells =
+    tells (areas_by_rank it.old) (areas_by_rank it.new) sight.stands
+    ∙ ap (λ (list : List Keyed). some_touched list (list_by task (areas_by_rank it.new))) (sym (task-listed task it.old))
+    ∙ ap (λ (list : List Keyed). some_touched (task_list task (line_from 1 it.old)) list) (sym (task-listed task it.new))
+
+-- so it is told
+
+abbrev of_groups : List Declared → State
+of_groups groups = record { groups = groups; epoch = 0 }
+
+-- no area of a task that isn't touched stands in a datagram that isn't kept
+pub untouched-kept : (it : Outlook) (before : Before) (cuts : List Kept) → IsSight it before cuts → (found : LineArea) (some : Bool) → some ≡ false
+    → ((old new : List (List Area)) → StandsBefore old new before → some ≡ is_touched_by found.area.task old new) → is_recut (line_from 1 it.old) (line_from 1 it.new) found ≡ false
+untouched-kept it before cuts sight found some none tells =
+    untouched-areas (of_groups it.old) (of_groups it.new) found sight.is.was_project sight.is.is_project (sym (touched-is it before cuts sight found.area.task some tells) ∙ none)
+
+pub unrecut-none : (it : Outlook) (station rank index : ℕ) (area : Area) → changes it rank ≡ false → is_recut (line_from 1 it.old) (line_from 1 it.new) (area_by station rank index area) ≡ false
+    → area_found it station rank index area ≡ []
+unrecut-none it station rank index area unchanged kept =
+    let found = area_by station rank index area in
+    found-no it found (other-one (changes it rank) (is_recut (line_from 1 it.old) (line_from 1 it.new) found) unchanged ∙ kept)
+
+pub untouched-area : (it : Outlook) (before : Before) (cuts : List Kept) → IsSight it before cuts → (station rank index : ℕ) (area : Area) → changes it rank ≡ false
+    → (some : Bool) → some ≡ false → ((old new : List (List Area)) → StandsBefore old new before → some ≡ is_touched_by area.task old new)
+    → area_found it station rank index area ≡ []
+untouched-area it before cuts sight station rank index area unchanged some none tells =
+    unrecut-none it station rank index area unchanged (untouched-kept it before cuts sight (area_by station rank index area) some none tells)
+
+abbrev recut_by : Outlook → ℕ → Option Placed → Bool
+recut_by it task place =
+    option_map_or (λ (placed : Placed). not (is_kept (task_list task (line_from 1 it.old)) (task_list task (line_from 1 it.new)) placed.datagram)) place false
+
+pub kept-area : (it : Outlook) (station rank index : ℕ) (area : Area) (place : Option Placed) → place ≡ place_of (line_from 1 it.new) (area_by station rank index area)
+    → changes it rank ≡ false → recut_by it area.task place ≡ false → area_found it station rank index area ≡ []
+kept-area it station rank index area place is unchanged kept =
+    let found = area_by station rank index area in
+    found-no it found (other-one (changes it rank) (is_recut (line_from 1 it.old) (line_from 1 it.new) found) unchanged ∙ ap (recut_by it area.task) (sym is) ∙ kept)
+
+pub recut-area : (it : Outlook) (station rank index : ℕ) (area : Area) (place : Option Placed) → place ≡ place_of (line_from 1 it.new) (area_by station rank index area)
+    → changes it rank ≡ false → recut_by it area.task place ≡ true
+    → area_found it station rank index area ≡ record { station = station; rank = rank; index = index; area = area; place = place } ∷ []
+recut-area it station rank index area place is unchanged recut =
+    let found = area_by station rank index area in
+    found-yes it found (other-one (changes it rank) (is_recut (line_from 1 it.old) (line_from 1 it.new) found) unchanged ∙ ap (recut_by it area.task) (sym is) ∙ recut)
+    ∙ ap (λ (p : Option Placed). record { station = station; rank = rank; index = index; area = area; place = p } ∷ []) (sym is)
+
+pub changed-area : (it : Outlook) (station rank index : ℕ) (area : Area) (place : Option Placed) → place ≡ place_of (line_from 1 it.new) (area_by station rank index area)
+    → changes it rank ≡ true
+    → area_found it station rank index area ≡ record { station = station; rank = rank; index = index; area = area; place = place } ∷ []
+changed-area it station rank index area place is changed =
+    let found = area_by station rank index area in
+    found-yes it found (either-true (changes it rank) (is_recut (line_from 1 it.old) (line_from 1 it.new) found) changed)
+    ∙ ap (λ (p : Option Placed). record { station = station; rank = rank; index = index; area = area; place = p } ∷ []) (sym is)

@@ -1,0 +1,203 @@
+-- The candidates by ranks are those of the line: an area, a slave and a group at a time.
+use Rattle.std.proofs.Common.{◌≡◌, ℕ, zero, suc, ◌+◌, ◌-◌, ◌<◌, ◌≤◌, List, [], ◌∷◌, ◌++◌, Contains, None, append-nil, length, length-append, drop, drop-cons, take, refl, sym, ap, subst, ◌∙◌, append_assoc, arith}
+use Rattle.std.specs.Prelude.{if◌then◌else◌, map, slice_index_or}
+use Rattle.std.proofs.lemmas.Grind.{flat_map-append}
+use Rattle.std.proofs.lemmas.List.{length-map}
+use Rattle.hc_records.specs.declared.limits.TheConstants.{MOST_SLAVES, TASKS}
+use Rattle.hc_records.specs.declared.records.Area.{Area}
+use Rattle.hc_records.specs.declared.records.Declared.{Declared}
+use Rattle.hc_records.specs.declared.records.Slave.{Slave}
+use Rattle.hc_records.specs.Line.{State, groups_of}
+use Rattle.hc_records.specs.Project.{lowest_fault}
+use Rattle.hc_tasks.specs.Areas.{areas_at, areas_by_rank, present_areas}
+use Rattle.hc_tasks.proofs.lemmas.Told.{length-present}
+use Rattle.hc_changes.specs.Candidates.{Candidate}
+use Rattle.hc_changes.specs.inner.Found.{IsGroupAt, LieWithin, area_found, areas_found, found_below, rank_found, station_at, stations}
+use Rattle.hc_changes.specs.Outlook.{IsOutlook, Outlook}
+use Rattle.hc_changes.proofs.lemmas.ByRank.{area-of-rank}
+use Rattle.hc_changes.proofs.lemmas.InARow.{areas-in-row, index-front}
+use Rattle.hc_changes.proofs.lemmas.Places.{area-inside}
+
+-- the areas of a slave, one by one
+
+pub areas-next : (it : Outlook) (station rank i : ℕ) (areas : List Area) (area : Area) → i < length areas → area ≡ slice_index_or areas i area
+    → areas_found it station rank i (drop i areas) ≡ area_found it station rank i area ++ areas_found it station rank (i + 1) (drop (i + 1) areas)
+unfolding areas_found
+areas-next it station rank i areas area within is =
+    let next : suc i ≡ i + 1 = omega arith in
+    ap (areas_found it station rank i) (drop-cons areas i area within)
+    ∙ ap (λ (a : Area). area_found it station rank i a ++ areas_found it station rank (i + 1) (drop (suc i) areas)) (sym is)
+    ∙ ap (λ (n : ℕ). area_found it station rank i area ++ areas_found it station rank (i + 1) (drop n areas)) next
+
+pub areas-added : (it : Outlook) (station rank i : ℕ) (areas : List Area) (area : Area) (own found all : List Candidate) → i < length areas → area ≡ slice_index_or areas i area
+    → own ≡ area_found it station rank i area → found ++ areas_found it station rank i (drop i areas) ≡ all
+    → (found ++ own) ++ areas_found it station rank (i + 1) (drop (i + 1) areas) ≡ all
+areas-added it station rank i areas area own found all within is made so_far =
+    let rest = areas_found it station rank (i + 1) (drop (i + 1) areas) in
+    append_assoc found own rest
+    ∙ ap (λ (first : List Candidate). found ++ (first ++ rest)) made
+    ∙ sym (ap (λ (left : List Candidate). found ++ left) (areas-next it station rank i areas area within is))
+    ∙ so_far
+
+past-all : {X : Type 0} (xs : List X) (n : ℕ) → length xs ≤ n → drop n xs ≡ []
+past-all [] zero past = refl
+past-all [] (suc n) past = refl
+past-all (x ∷ xs) zero past = absurd (omega arith)
+past-all (x ∷ xs) (suc n) past = past-all xs n (omega arith)
+
+pub areas-end : (it : Outlook) (station rank i : ℕ) (areas : List Area) (found all : List Candidate) → length areas ≤ i
+    → found ++ areas_found it station rank i (drop i areas) ≡ all → found ≡ all
+unfolding areas_found
+areas-end it station rank i areas found all past so_far =
+    sym (append-nil found) ∙ sym (ap (λ (left : List Area). found ++ areas_found it station rank i left) (past-all areas i past)) ∙ so_far
+
+pub rank-is : (it : Outlook) (rank station : ℕ) (areas : List Area) → station_at it.old rank ≡ station → areas ≡ areas_at (areas_by_rank it.new) rank
+    → areas_found it station rank 0 areas ≡ rank_found it rank
+unfolding rank_found
+rank-is it rank station areas named stand =
+    ap (λ (s : ℕ). areas_found it s rank 0 areas) (sym named) ∙ ap (areas_found it (station_at it.old rank) rank 0) stand
+
+-- an area of a project's line is of one of the eight tasks
+abbrev of_groups : List Declared → State
+of_groups groups = record { groups = groups; epoch = 0 }
+
+pub task-below : (groups : List Declared) (rank i : ℕ) (areas : List Area) (area : Area) → lowest_fault (groups_of groups) ≡ None → areas ≡ areas_at (areas_by_rank groups) rank → i < length areas
+    → area ≡ slice_index_or areas i area → area.task < TASKS
+task-below groups rank i areas area project stand within is =
+    let ranked = area-of-rank groups rank area (subst (λ (own : List Area). Contains own area) stand (i, within, sym is)) in
+    let inside = area-inside (of_groups groups) project ranked.found ranked.of in
+    subst (λ (a : Area). a.task < TASKS) ranked.is inside.task
+
+-- slaves without candidates are passed over
+
+pub passed-over : (it : Outlook) (first count : ℕ) → ((rank : ℕ) → first ≤ rank → rank < first + count → rank_found it rank ≡ []) → found_below it (first + count) ≡ found_below it first
+unfolding found_below
+passed-over it first zero none =
+    let here : first + 0 ≡ first = omega arith in
+    ap (found_below it) here
+passed-over it first (suc count) none =
+    let next : first + suc count ≡ suc (first + count) = omega arith in
+    ap (found_below it) next
+    ∙ ap (λ (own : List Candidate). found_below it (first + count) ++ own) (none (first + count) (omega arith) (omega arith))
+    ∙ append-nil (found_below it (first + count))
+    ∙ passed-over it first count (λ rank low high. none rank low (omega arith))
+
+pub rank-added : (it : Outlook) (rank next : ℕ) → next ≡ suc rank → found_below it rank ++ rank_found it rank ≡ found_below it next
+unfolding found_below
+rank-added it rank next is = sym (ap (found_below it) is)
+
+-- a group among the declared ones
+
+at-mapped : {X Y : Type 0} (f : X → Y) (xs : List X) (i : ℕ) (x : X) (none : Y) → i < length xs → x ≡ slice_index_or xs i x → slice_index_or (map f xs) i none ≡ f x
+at-mapped f [] i x none within is = absurd (omega arith)
+at-mapped f (y ∷ xs) zero x none within is = sym (ap f is)
+at-mapped f (y ∷ xs) (suc i) x none within is = at-mapped f xs i x none (omega arith) is
+
+pub many-stations : (groups : List Declared) → length (stations groups) ≡ length (areas_by_rank groups)
+many-stations [] = refl
+many-stations (declared ∷ groups) =
+    let slaves = declared.group.slaves in
+    let named = length-map {B = ℕ} slaves (λ s. s.station) in
+    let carried = length-present declared.present slaves in
+    let rest = many-stations groups in
+    length-append (map (λ (s : Slave). s.station) slaves) (stations groups)
+    ∙ (omega (arith, named, carried, rest))
+    ∙ sym (length-append (present_areas declared) (areas_by_rank groups))
+
+pub group-areas : (groups : List Declared) (first : ℕ) (declared : Declared) (i : ℕ) (slave : Slave) → IsGroupAt groups first declared → i < length declared.group.slaves
+    → slave ≡ slice_index_or declared.group.slaves i slave → areas_at (areas_by_rank groups) (first + i) ≡ (if declared.present then slave.areas else [])
+group-areas groups first declared i slave at within is =
+    let slaves = declared.group.slaves in
+    let rank = at.rank in
+    let next : first + i ≡ suc (length (areas_by_rank at.front) + i) = omega (arith, rank) in
+    let many = length-present declared.present slaves in
+    ap (areas_at (areas_by_rank groups)) next
+    ∙ areas-in-row (areas_by_rank groups) (areas_by_rank at.front) (present_areas declared) (areas_by_rank at.behind) i
+    (ap areas_by_rank at.stands ∙ flat_map-append present_areas at.front (declared ∷ at.behind)) (omega (arith, many, within))
+    ∙ at-mapped (λ (s : Slave). if declared.present then s.areas else []) slaves i slave [] within is
+
+pub group-station : (groups : List Declared) (first : ℕ) (declared : Declared) (i : ℕ) (slave : Slave) → IsGroupAt groups first declared → i < length declared.group.slaves
+    → slave ≡ slice_index_or declared.group.slaves i slave → station_at groups (first + i) ≡ slave.station
+group-station groups first declared i slave at within is =
+    let slaves = declared.group.slaves in
+    let own = map (λ (s : Slave). s.station) slaves in
+    let rank = at.rank in
+    let front = many-stations at.front in
+    let next : first + i ≡ suc (length (stations at.front) + i) = omega (arith, rank, front) in
+    let many = length-map {B = ℕ} slaves (λ s. s.station) in
+    ap (station_at groups) next
+    ∙ ap (λ (all : List ℕ). slice_index_or all (length (stations at.front) + i) 0)
+    (ap stations at.stands ∙ flat_map-append (λ (d : Declared). map (λ (s : Slave). s.station) d.group.slaves) at.front (declared ∷ at.behind))
+    ∙ index-front 0 (stations at.front) own (stations at.behind) i (omega (arith, many, within))
+    ∙ at-mapped (λ (s : Slave). s.station) slaves i slave 0 within is
+
+pub group-few : (groups : List Declared) (first : ℕ) (declared : Declared) → IsGroupAt groups first declared → first + length declared.group.slaves ≤ length (areas_by_rank groups) + 1
+group-few groups first declared at =
+    let slaves = declared.group.slaves in
+    let rank = at.rank in
+    let many = length-present declared.present slaves in
+    let all = ap length (ap areas_by_rank at.stands ∙ flat_map-append present_areas at.front (declared ∷ at.behind)) in
+    let parts = length-append (areas_by_rank at.front) (present_areas declared ++ areas_by_rank at.behind) in
+    let own = length-append (present_areas declared) (areas_by_rank at.behind) in
+    omega (arith, rank, many, all, parts, own)
+
+pub group-low : (it : Outlook) (first : ℕ) (declared : Declared) → IsOutlook it → IsGroupAt it.old first declared → first + length declared.group.slaves ≤ MOST_SLAVES + 1
+group-low it first declared is at =
+    let few = is.lines.old_line.few in
+    let own = group-few it.old first declared at in
+    omega (arith, few, own)
+
+-- those in front of a group and behind it, where all stand within some ranks
+
+pub front-passed : (it : Outlook) (low high first from : ℕ) → LieWithin it low high → ((i : ℕ) → i < from → low ≤ first + i → ⊥) → found_below it first ≡ found_below it (first + from)
+front-passed it low high first from within out =
+    sym (passed-over it first from
+    (λ rank above below. within rank (λ over under.
+    let here : first + (rank - first) ≡ rank = omega (arith, above) in
+    out (rank - first) (omega (arith, above, below)) (omega (arith, here, over)))))
+
+pub behind-passed : (it : Outlook) (low high first to end : ℕ) → LieWithin it low high → to ≤ end → ((i : ℕ) → to ≤ i → i < end → first + i ≤ high → ⊥)
+    → found_below it (first + to) ≡ found_below it (first + end)
+behind-passed it low high first to end within order out =
+    let all : first + to + (end - to) ≡ first + end = omega (arith, order) in
+    sym (passed-over it (first + to) (end - to)
+    (λ rank above below. within rank (λ over under.
+    let here : first + (rank - first) ≡ rank = omega (arith, above) in
+    out (rank - first) (omega (arith, above)) (omega (arith, above, below, order)) (omega (arith, here, under)))))
+    ∙ ap (found_below it) all
+
+-- the groups one by one
+
+split-at : {X : Type 0} (xs : List X) (i : ℕ) (x : X) → i < length xs → x ≡ slice_index_or xs i x → xs ≡ take i xs ++ (x ∷ drop (i + 1) xs)
+split-at [] i x within is = absurd (omega arith)
+split-at (y ∷ xs) zero x within is = ap (λ (first : _). first ∷ xs) (sym is)
+split-at (y ∷ xs) (suc i) x within is =
+    let next : suc i + 1 ≡ suc (i + 1) = omega arith in
+    ap (λ (rest : List _). y ∷ rest) (split-at xs i x (omega arith) is) ∙ sym (ap (λ (n : ℕ). (y ∷ take i xs) ++ (x ∷ drop n (y ∷ xs))) next)
+
+pub group-at : (groups : List Declared) (first i : ℕ) (declared : Declared) → first ≡ length (areas_by_rank (take i groups)) + 1 → i < length groups
+    → declared ≡ slice_index_or groups i declared → IsGroupAt groups first declared
+group-at groups first i declared rank within is =
+    record { front = take i groups; behind = drop (i + 1) groups; stands = split-at groups i declared within is; rank = rank }
+
+pub taken-all : {X : Type 0} (xs : List X) (n : ℕ) → length xs ≤ n → take n xs ≡ xs
+taken-all [] zero past = refl
+taken-all [] (suc n) past = refl
+taken-all (x ∷ xs) zero past = absurd (omega arith)
+taken-all (x ∷ xs) (suc n) past = ap (λ (rest : List _). x ∷ rest) (taken-all xs n (omega arith))
+
+-- no slave has a rank above all of them
+
+past-none : {X : Type 0} (xs : List (List X)) (n : ℕ) → length xs ≤ n → slice_index_or xs n [] ≡ []
+past-none [] n past = refl
+past-none (x ∷ xs) zero past = absurd (omega arith)
+past-none (x ∷ xs) (suc n) past = past-none xs n (omega arith)
+
+pub above-none : (it : Outlook) (rank : ℕ) → length (areas_by_rank it.new) < rank → rank_found it rank ≡ []
+unfolding rank_found areas_found
+above-none it zero above = absurd (omega arith)
+above-none it (suc i) above = ap (areas_found it (station_at it.old (suc i)) (suc i) 0) (past-none (areas_by_rank it.new) i (omega arith))
+
+pub none-yet : (it : Outlook) → found_below it 1 ≡ []
+unfolding found_below rank_found areas_found
+none-yet it = refl

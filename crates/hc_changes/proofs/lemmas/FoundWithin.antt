@@ -1,0 +1,201 @@
+-- All candidates stand between the ranks of the slaves that change and of those between the boundaries of datagrams that aren't kept.
+use Rattle.std.proofs.Common.{◌≡◌, ℕ, zero, suc, ◌+◌, ◌<◌, ◌≤◌, Bool, true, false, List, [], ◌∷◌, ◌++◌, Contains, length, refl, sym, ap, subst, ◌∙◌, ⊎_elim, arith}
+use Rattle.std.specs.Prelude.{All, filter, slice_get, slice_index_or, Some, ◌==◌}
+use Rattle.std.specs.List.{zip}
+use Rattle.std.proofs.Math.Nat.{eq-or-lt_of_le}
+use Rattle.std.proofs.lemmas.Bool.{and_parts, cases_lt, eq-eqb, or_parts}
+use Rattle.std.proofs.lemmas.List.Elements.{All-cons, All-contains, All-nil, filter_passes}
+use Rattle.hc_records.specs.declared.keys.Key.{Key}
+use Rattle.hc_records.specs.declared.keys.TheConstants.Key.{START, END}
+use Rattle.hc_records.specs.declared.limits.TheConstants.{TASKS}
+use Rattle.hc_records.specs.declared.records.Dir.{Dir}
+use Rattle.hc_records.specs.declared.records.Dir.TheVariants.{Out, In}
+use Rattle.hc_records.specs.declared.records.Area.{Area}
+use Rattle.hc_records.specs.declared.records.Declared.{Declared}
+use Rattle.hc_records.specs.Boundaries.{Interval, later_keys}
+use Rattle.hc_records.specs.Image.{datagram_count, inside, task_places}
+use Rattle.hc_records.specs.Keys.{is_before, is_within, same_dir}
+use Rattle.hc_records.specs.Line.{State, line_from}
+use Rattle.hc_records.specs.Packing.{Placed, opening, packed}
+use Rattle.hc_records.specs.SpanLaws.{IsTaskList, lies_in}
+use Rattle.hc_records.specs.TaskList.{Keyed, task_list}
+use Rattle.hc_records.proofs.lemmas.Greatest.{greatest-all}
+use Rattle.hc_records.proofs.lemmas.Lists.{All-unmap}
+use Rattle.hc_records.proofs.lemmas.Packed.{area_of, packed-areas}
+use Rattle.hc_records.proofs.lemmas.SpanDatagrams.{span-datagram}
+use Rattle.hc_records.proofs.lemmas.TaskLists.{project-list}
+use Rattle.hc_cuts.specs.Inputs.{has_inputs}
+use Rattle.hc_cuts.specs.Keeping.{is_kept}
+use Rattle.hc_cuts.specs.Starts.{Kept}
+use Rattle.hc_tasks.specs.Areas.{areas_at, areas_by_rank, list_by}
+use Rattle.hc_tasks.specs.Keeping.{Before, StandsBefore}
+use Rattle.hc_tasks.specs.Kept.{starts_by}
+use Rattle.hc_tasks.specs.Recut.{is_touched_by}
+use Rattle.hc_tasks.proofs.lemmas.Told.{task-listed}
+use Rattle.hc_changes.specs.Candidates.{is_recut}
+use Rattle.hc_changes.specs.inner.Found.{HoldChanged, HoldRanks, HoldRecut, IsSight, LieWithin, area_by, areas_found, rank_found, station_at}
+use Rattle.hc_changes.specs.Outlook.{IsOutlook, Outlook, changes}
+use Rattle.hc_changes.proofs.lemmas.Finding.{unrecut-none, untouched-kept}
+use Rattle.hc_changes.proofs.lemmas.FoundRanks.{above-none, task-below}
+use Rattle.hc_changes.proofs.lemmas.Listed.{own-counted, recut-unkept}
+use Rattle.hc_changes.proofs.lemmas.Lists.{contains-behind, contains-filtered, contains-first}
+
+-- the boundaries between which a datagram's areas lie
+
+span-keys : (first : Key) (later : List Key) (datagram : ℕ) → datagram < length later + 1
+    → slice_get (zip (first ∷ (later ++ END ∷ [])) (later ++ END ∷ [])) datagram ≡ Some (slice_index_or (first ∷ later) datagram END, slice_index_or (first ∷ later) (suc datagram) END)
+span-keys first [] zero low = refl
+span-keys first (next ∷ later) zero low = refl
+span-keys first [] (suc datagram) low = absurd (omega arith)
+span-keys first (next ∷ later) (suc datagram) low = span-keys next later datagram (omega arith)
+
+placed-between : (list : List Keyed) (placed : Placed) → IsTaskList list → Contains (packed opening list) placed
+    → (placed.datagram < length (START ∷ later_keys list))
+    × (is_within (slice_index_or (START ∷ later_keys list) placed.datagram END) placed.key ≡ true)
+    × (is_before placed.key (slice_index_or (START ∷ later_keys list) (placed.datagram + 1) END) ≡ true)
+placed-between list placed is among =
+    let datagram = placed.datagram in
+    let places = packed opening list in
+    let counted : datagram + 1 ≤ datagram_count places = All-contains (λ (p : Placed). p.datagram + 1 ≤ datagram_count places) places placed (greatest-all (λ (p : Placed). p.datagram + 1) 0 places) among in
+    let low : datagram < length (later_keys list) + 1 = own-counted list datagram is (omega arith) in
+    let span : Interval = (slice_index_or (START ∷ later_keys list) datagram END, slice_index_or (START ∷ later_keys list) (suc datagram) END) in
+    let same : inside datagram places ≡ filter (lies_in span) places = span-datagram list datagram span is (span-keys START (later_keys list) datagram low) in
+    let own : Contains (filter (lies_in span) places) placed =
+    subst (λ (areas : List Placed). Contains areas placed) same (contains-filtered (λ (p : Placed). p.datagram == datagram) places placed among (eq-eqb datagram datagram refl)) in
+    let lies : lies_in span placed ≡ true = All-contains (λ (p : Placed). lies_in span p ≡ true) (filter (lies_in span) places) placed (filter_passes (lies_in span) places) own in
+    let parts = and_parts (is_within span.0 placed.key) (is_before placed.key span.1) lies in
+    let next : suc datagram ≡ datagram + 1 = omega arith in
+    (omega (arith, low), parts.0, subst (λ (n : ℕ). is_before placed.key (slice_index_or (START ∷ later_keys list) n END) ≡ true) next parts.1)
+
+-- where the task has no inputs, each of its areas is an output
+
+dir-out : (dir : Dir) → same_dir dir In ≡ false → dir ≡ Out
+dir-out Out no_input = refl
+dir-out In no_input = cc
+
+no-input : (list : List Keyed) → has_inputs list ≡ false → All (λ (area : Keyed). same_dir area.0.dir In ≡ false) list
+no-input [] none = All-nil (λ (area : Keyed). same_dir area.0.dir In ≡ false)
+no-input (area ∷ areas) none =
+    let parts = or_parts (same_dir area.0.dir In) (has_inputs areas) none in
+    All-cons (λ (other : Keyed). same_dir other.0.dir In ≡ false) area areas parts.0 (no-input areas parts.1)
+
+placed-out : (list : List Keyed) (placed : Placed) → has_inputs list ≡ false → Contains (packed opening list) placed → placed.key.dir ≡ Out
+placed-out list placed none among =
+    let places = packed opening list in
+    let outputs = All-unmap (λ (area : Keyed). same_dir area.0.dir In ≡ false) area_of places
+    (subst (λ (areas : List Keyed). All (λ (area : Keyed). same_dir area.0.dir In ≡ false) areas) (sym (packed-areas opening list)) (no-input list none)) in
+    dir-out placed.key.dir (All-contains (λ (p : Placed). same_dir p.key.dir In ≡ false) places placed outputs among)
+
+-- the ranks of areas in datagrams that aren't kept, among the first ones of a task
+
+abbrev of_groups : List Declared → State
+of_groups groups = record { groups = groups; epoch = 0 }
+
+abbrev kept_in : Outlook → ℕ → ℕ → Bool
+kept_in it task datagram = is_kept (task_list task (line_from 1 it.old)) (task_list task (line_from 1 it.new)) datagram
+
+abbrev pub HoldFirst : Outlook → ℕ → ℕ → ℕ → ℕ → Type 0
+HoldFirst it task count low high =
+    (placed : Placed) → Contains (task_places task (line_from 1 it.new)) placed → placed.datagram < count → placed.key.rank < 65536 → kept_in it task placed.datagram ≡ false
+    → (low ≤ placed.key.rank) × (placed.key.rank ≤ high)
+
+-- a boundary that is there is read alike, whatever stands for others
+pub same-read : {X : Type 0} (xs : List X) (i : ℕ) (none other : X) → i < length xs → slice_index_or xs i none ≡ slice_index_or xs i other
+same-read [] i none other within = absurd (omega arith)
+same-read (x ∷ xs) zero none other within = refl
+same-read (x ∷ xs) (suc i) none other within = same-read xs i none other (omega arith)
+
+pub first-none : (it : Outlook) (task low high : ℕ) → HoldFirst it task 0 low high
+first-none it task low high placed among below = absurd (omega arith)
+
+pub kept-next : (it : Outlook) (task count low high : ℕ) → kept_in it task count ≡ true → HoldFirst it task count low high → HoldFirst it task (count + 1) low high
+kept-next it task count low high kept hold placed among below narrow unkept =
+    ⊎_elim
+    (λ same. let both : true ≡ false = sym kept ∙ sym (ap (kept_in it task) same) ∙ unkept in cc)
+    (λ under. hold placed among under narrow unkept)
+    (eq-or-lt_of_le {n = placed.datagram} {m = count} (omega arith))
+
+pub recut-next : (it : Outlook) (task count low high wide_low wide_high : ℕ) (starts : List Key) (inputs : Bool) → IsOutlook it → starts ≡ starts_by task (areas_by_rank it.new)
+    → inputs ≡ has_inputs (list_by task (areas_by_rank it.new))
+    → HoldRanks wide_low wide_high low high
+    → ((key : Key) → key.rank < 65536 → (inputs ≡ false → key.dir ≡ Out) → is_within (slice_index_or starts count END) key ≡ true → is_before key (slice_index_or starts (count + 1) END) ≡ true → (wide_low ≤ key.rank) × (key.rank ≤ wide_high))
+    → HoldFirst it task count low high → HoldFirst it task (count + 1) wide_low wide_high
+recut-next it task count low high wide_low wide_high starts inputs is stand told wider between hold placed among below narrow unkept =
+    let list = task_list task (line_from 1 it.new) in
+    let keys : START ∷ later_keys list ≡ starts = ap (λ (l : List Keyed). START ∷ later_keys l) (task-listed task it.new) ∙ sym stand in
+    let lies = placed-between list placed (project-list (of_groups it.new) task is.is_project) among in
+    let output : inputs ≡ false → placed.key.dir ≡ Out = λ none. placed-out list placed (ap has_inputs (task-listed task it.new) ∙ sym told ∙ none) among in
+    ⊎_elim
+    (λ same. between placed.key narrow output
+    (subst (λ (n : ℕ). is_within (slice_index_or starts n END) placed.key ≡ true) same (subst (λ (all : List Key). is_within (slice_index_or all placed.datagram END) placed.key ≡ true) keys lies.1))
+    (subst (λ (n : ℕ). is_before placed.key (slice_index_or starts (n + 1) END) ≡ true) same
+    (subst (λ (all : List Key). is_before placed.key (slice_index_or all (placed.datagram + 1) END) ≡ true) keys lies.2)))
+    (λ under. let own = hold placed among under narrow unkept in (omega (arith, own, wider), omega (arith, own, wider)))
+    (eq-or-lt_of_le {n = placed.datagram} {m = count} (omega arith))
+
+pub recut-held : (it : Outlook) (task count low high : ℕ) (starts : List Key) → IsOutlook it → starts ≡ starts_by task (areas_by_rank it.new) → length starts ≤ count
+    → HoldFirst it task count low high → HoldRecut it task low high
+recut-held it task count low high starts is stand all hold found of narrow recut =
+    let list = task_list task (line_from 1 it.new) in
+    let own = recut-unkept (line_from 1 it.old) (line_from 1 it.new) found recut in
+    let placed = own.placed in
+    let among : Contains (task_places task (line_from 1 it.new)) placed = subst (λ (t : ℕ). Contains (task_places t (line_from 1 it.new)) placed) of own.stands in
+    let unkept : kept_in it task placed.datagram ≡ false = subst (λ (t : ℕ). kept_in it t placed.datagram ≡ false) of own.unkept in
+    let keys : START ∷ later_keys list ≡ starts = ap (λ (l : List Keyed). START ∷ later_keys l) (task-listed task it.new) ∙ sym stand in
+    let lies = placed-between list placed (project-list (of_groups it.new) task is.is_project) among in
+    let many = ap length keys in
+    let below : placed.datagram < count = let low = lies.0 in omega (arith, low, many, all) in
+    let rank : placed.key.rank ≡ found.member.rank = ap (λ (key : Key). key.rank) own.key in
+    subst (λ (r : ℕ). (low ≤ r) × (r ≤ high)) rank (hold placed among below (omega (arith, rank, narrow)) unkept)
+
+pub untouched-held : (it : Outlook) (before : Before) (cuts : List Kept) → IsSight it before cuts → (task low high : ℕ) (some : Bool) → some ≡ false
+    → ((old new : List (List Area)) → StandsBefore old new before → some ≡ is_touched_by task old new) → HoldRecut it task low high
+untouched-held it before cuts sight task low high some none tells found of narrow recut =
+    let kept : is_recut (line_from 1 it.old) (line_from 1 it.new) found ≡ false =
+    untouched-kept it before cuts sight found some none (λ old new stands. tells old new stands ∙ ap (λ (t : ℕ). is_touched_by t old new) (sym of)) in
+    let both : true ≡ false = sym recut ∙ kept in
+    cc
+
+-- wider ranks hold them too
+
+pub recut-wider : (it : Outlook) (task low high wide_low wide_high : ℕ) → HoldRanks wide_low wide_high low high → HoldRecut it task low high → HoldRecut it task wide_low wide_high
+recut-wider it task low high wide_low wide_high wider hold found of narrow recut =
+    let own = hold found of narrow recut in
+    (omega (arith, own, wider), omega (arith, own, wider))
+
+pub changed-wider : (it : Outlook) (low high wide_low wide_high : ℕ) → HoldRanks wide_low wide_high low high → HoldChanged it low high → HoldChanged it wide_low wide_high
+changed-wider it low high wide_low wide_high wider hold rank changed =
+    let own = hold rank changed in
+    (omega (arith, own, wider), omega (arith, own, wider))
+
+-- so all candidates stand between the ranks that hold those of all tasks
+
+never-true : (b : Bool) → (b ≡ true → ⊥) → b ≡ false
+never-true true never = absurd (never refl)
+never-true false never = refl
+
+none-found : (it : Outlook) (station rank index : ℕ) (areas : List Area) → changes it rank ≡ false
+    → ((i : ℕ) (area : Area) → Contains areas area → is_recut (line_from 1 it.old) (line_from 1 it.new) (area_by station rank i area) ≡ false) → areas_found it station rank index areas ≡ []
+unfolding areas_found
+none-found it station rank index [] unchanged kept = refl
+none-found it station rank index (area ∷ areas) unchanged kept =
+    ap (λ (own : List _). own ++ areas_found it station rank (index + 1) areas) (unrecut-none it station rank index area unchanged (kept index area (contains-first area areas)))
+    ∙ none-found it station rank (index + 1) areas unchanged (λ i other at. kept i other (contains-behind other area areas at))
+
+rank-none : (it : Outlook) (rank low high : ℕ) → IsOutlook it → HoldChanged it low high → ((task : ℕ) → task < TASKS → HoldRecut it task low high) → (low ≤ rank → rank ≤ high → ⊥) → rank < 65536
+    → rank_found it rank ≡ []
+unfolding rank_found
+rank-none it rank low high is changed recut out narrow =
+    let areas = areas_at (areas_by_rank it.new) rank in
+    let station = station_at it.old rank in
+    none-found it station rank 0 areas (never-true (changes it rank) (λ among. let own = changed rank among in out own.0 own.1))
+    (λ i area (k, within, at).
+    let task : area.task < TASKS = task-below it.new rank k areas area is.is_project refl within (sym at) in
+    never-true (is_recut (line_from 1 it.old) (line_from 1 it.new) (area_by station rank i area))
+    (λ among. let own = recut area.task task (area_by station rank i area) refl narrow among in out own.0 own.1))
+
+pub all-within : (it : Outlook) (low high : ℕ) → IsOutlook it → HoldChanged it low high → ((task : ℕ) → task < TASKS → HoldRecut it task low high) → LieWithin it low high
+all-within it low high is changed recut rank out =
+    let few = is.lines.new_line.few in
+    ⊎_elim (λ above. above-none it rank above) (λ under. rank-none it rank low high is changed recut out (omega (arith, few, under)))
+    (cases_lt (length (areas_by_rank it.new)) rank)

@@ -1,0 +1,52 @@
+-- The slaves that change, by their places in a row.
+use Rattle.std.proofs.Common.{◌≡◌, ℕ, zero, suc, ◌+◌, ◌-◌, ◌<◌, ◌≤◌, List, [], ◌∷◌, ◌++◌, Contains, length, refl, ap, ◌∙◌, arith}
+use Rattle.std.specs.Prelude.{slice_index_or}
+use Rattle.std.specs.List.{zip}
+use Rattle.hc_records.specs.declared.records.Area.{Area}
+use Rattle.hc_tasks.specs.Areas.{areas_at}
+use Rattle.hc_changes.proofs.lemmas.Lists.{contains-behind, contains-first}
+
+-- pairs of two lists as long as one another
+pub record IsPairOf {X : Type 0} (none : X) (xs ys : List X) (pair : X × X) : Type 0 where
+  pub at : ℕ
+  pub within : at < length xs
+  pub first : slice_index_or xs at none ≡ pair.0
+  pub second : slice_index_or ys at none ≡ pair.1
+
+pub zip-piece : {X : Type 0} (none : X) (xs ys : List X) (pair : X × X) → Contains (zip xs ys) pair → IsPairOf none xs ys pair
+zip-piece none [] ys pair (k, within, is) = absurd (omega arith)
+zip-piece none (x ∷ xs) [] pair (k, within, is) = absurd (omega arith)
+zip-piece none (x ∷ xs) (y ∷ ys) pair (zero, within, is) =
+    record { at = 0; within = omega arith; first = ap (λ (p : _ × _). p.0) is; second = ap (λ (p : _ × _). p.1) is }
+zip-piece none (x ∷ xs) (y ∷ ys) pair (suc k, within, is) =
+    let rest = zip-piece none xs ys pair (k, omega arith, is) in
+    record { at = suc rest.at; within = let low = rest.within in omega arith; first = rest.first; second = rest.second }
+
+pub contains-pair : {X : Type 0} (none : X) (xs ys : List X) (i : ℕ) → length ys ≡ length xs → i < length xs → Contains (zip xs ys) (slice_index_or xs i none, slice_index_or ys i none)
+contains-pair none [] ys i same within = absurd (omega arith)
+contains-pair none (x ∷ xs) [] i same within = absurd (omega arith)
+contains-pair none (x ∷ xs) (y ∷ ys) zero same within = contains-first (x, y) (zip xs ys)
+contains-pair none (x ∷ xs) (y ∷ ys) (suc i) same within =
+    contains-behind (slice_index_or xs i none, slice_index_or ys i none) (x, y) (zip xs ys) (contains-pair none xs ys i (omega arith) (omega arith))
+
+-- the areas in a row stand behind those in front
+
+index-own : {X : Type 0} (none : X) (own behind : List X) (i : ℕ) → i < length own → slice_index_or (own ++ behind) i none ≡ slice_index_or own i none
+index-own none [] behind i within = absurd (omega arith)
+index-own none (x ∷ own) behind zero within = refl
+index-own none (x ∷ own) behind (suc i) within = index-own none own behind i (omega arith)
+
+pub index-front : {X : Type 0} (none : X) (front own behind : List X) (i : ℕ) → i < length own → slice_index_or (front ++ (own ++ behind)) (length front + i) none ≡ slice_index_or own i none
+index-front none [] own behind i within =
+    let here : 0 + i ≡ i = omega arith in
+    ap (λ (n : ℕ). slice_index_or (own ++ behind) n none) here ∙ index-own none own behind i within
+index-front none (y ∷ front) own behind i within =
+    let next : suc (length front) + i ≡ suc (length front + i) = omega arith in
+    ap (λ (n : ℕ). slice_index_or (y ∷ (front ++ (own ++ behind))) n none) next ∙ index-front none front own behind i within
+
+pub areas-in-row : (all front own behind : List (List Area)) (i : ℕ) → all ≡ front ++ (own ++ behind) → i < length own → areas_at all (suc (length front + i)) ≡ slice_index_or own i []
+areas-in-row all front own behind i is within =
+    ap (λ (slaves : List (List Area)). areas_at slaves (suc (length front + i))) is ∙ index-front [] front own behind i within
+
+pub rank-index : (front count rank : ℕ) → front < rank → rank ≤ front + count → (rank ≡ suc (front + (rank - suc front))) × (rank - suc front < count)
+rank-index front count rank above within = (omega arith, omega arith)

@@ -1,0 +1,253 @@
+-- The names of the blocks that an edit moves are those of the candidates that differ from the blocks with their numbers.
+use Rattle.std.proofs.Common.{◌≡◌, ℕ, ◌+◌, ◌*◌, ◌<◌, ◌==◌, ◌&&◌, Bool, true, false, cond, List, [], ◌∷◌, ◌++◌, length, get_or, Contains, Option, Some, None, refl, sym, ap, subst, ◌∙◌, arith}
+use Rattle.std.specs.Prelude.{All, find, map, not, option_and_then, option_map, slice_get}
+use Rattle.std.specs.List.{flat_map}
+use Rattle.std.specs.Option.{option_map_or}
+use Rattle.std.proofs.lemmas.Bool.{eq-eqb}
+use Rattle.std.proofs.lemmas.List.{map-append}
+use Rattle.std.proofs.lemmas.List.Elements.{All-contains, All-contains_itself, All-map, All-weaker}
+use Rattle.std.proofs.lemmas.List.Folds.{flat_map-map}
+use Rattle.std.proofs.lemmas.Option.{slice_get_within}
+use Rattle.hc_records.specs.declared.keys.Key.{Key}
+use Rattle.hc_records.specs.declared.records.Area.{Area}
+use Rattle.hc_records.specs.declared.records.Declared.{Declared}
+use Rattle.hc_records.specs.declared.records.Slave.{Slave}
+use Rattle.hc_records.specs.Image.{task_places}
+use Rattle.hc_records.specs.Keys.{same_key}
+use Rattle.hc_records.specs.Laws.{IsPackable}
+use Rattle.hc_records.specs.Limits.{IsAreaInside, IsSlaveInside}
+use Rattle.hc_records.specs.Line.{Member, groups_of, line_from}
+use Rattle.hc_records.specs.Packing.{Placed, opening}
+use Rattle.hc_records.specs.Project.{lowest_fault}
+use Rattle.hc_records.specs.TaskList.{Keyed, task_list}
+use Rattle.hc_records.proofs.lemmas.Finds.{mapped-some}
+use Rattle.hc_records.proofs.lemmas.KeyOrder.{same_key-same}
+use Rattle.hc_records.proofs.lemmas.Lists.{All-unmap}
+use Rattle.hc_records.proofs.lemmas.Packable.{project-packable}
+use Rattle.hc_records.proofs.lemmas.Packed.{area_of, packed-areas}
+use Rattle.hc_records.proofs.lemmas.Slaves.{line-inside}
+use Rattle.hc_registers.specs.Blocks.{LineBlock, RegisterBlock, fmmu_block, mapping_of, moved_blocks, same_block, same_bytes, sync_manager_block}
+use Rattle.hc_cuts.specs.Place.{place_of as place_by}
+use Rattle.hc_tasks.specs.Areas.{area_in, areas_at, areas_by_rank, list_by}
+use Rattle.hc_tasks.proofs.lemmas.Told.{place-told}
+use Rattle.hc_places.specs.Found.{IsFoundSuiting, SuitsPlace}
+use Rattle.hc_places.proofs.lemmas.Rows.{task-suits}
+use Rattle.hc_changes.specs.Candidates.{Candidate, DifferAt, LineArea, blocks_of, candidate_of, candidates, is_candidate, key_of, line_areas, place_of}
+use Rattle.hc_changes.specs.Compared.{counterpart, differing_of, unlike}
+use Rattle.hc_changes.specs.Moved.{HasBitsOf, IsOfLine, IsWritable, area_before, differ_from, mapping_by, name_of, names_if, names_moved, place_before, two_blocks}
+use Rattle.hc_changes.specs.Outlook.{IsOutlook, Outlook, changes}
+use Rattle.hc_changes.proofs.lemmas.ByRank.{area-named, areas-of-rank}
+use Rattle.hc_changes.proofs.lemmas.Compared.{StoodAt, all-compared, area-stood, flat_map-among}
+use Rattle.hc_changes.proofs.lemmas.Lists.{contains-unfiltered, found-among}
+use Rattle.hc_changes.proofs.lemmas.OneProject.{AreOfOneProject, edit-one-project, own-at}
+use Rattle.hc_changes.proofs.lemmas.Others.{IsAreaOf, line-area}
+use Rattle.hc_changes.proofs.lemmas.Places.{area-inside}
+
+-- the blocks of an area of a project's line can be written
+
+placed-bits : (groups : List Declared) → lowest_fault (groups_of groups) ≡ None → (found : LineArea) → IsAreaOf (line_from 1 groups) found
+    → (placed : Placed) → place_of (line_from 1 groups) found ≡ Some placed → HasBitsOf found.area placed
+placed-bits groups none found of placed is =
+    let task = found.area.task in
+    let list = task_list task (line_from 1 groups) in
+    let places = task_places task (line_from 1 groups) in
+    let stood = found-among (λ (p : Placed). same_key p.key (key_of found)) places placed is in
+    let packable : IsPackable (area_of placed) =
+    All-contains (λ (p : Placed). IsPackable (area_of p)) places placed
+    (All-unmap IsPackable area_of places (subst (λ (l : List Keyed). All IsPackable l) (sym (packed-areas opening list)) (project-packable (record { groups = groups; epoch = 0 }) task none))) stood.among in
+    let suits : SuitsPlace placed found.area =
+    All-contains (IsFoundSuiting (areas_by_rank groups)) places placed (task-suits groups none task) stood.among found.area
+    (ap (area_in (areas_by_rank groups)) (same_key-same placed.key (key_of found) stood.passes) ∙ area-named groups found of) in
+    let some = packable.some in
+    let bits = suits.bits in
+    record { some = omega (arith, some, bits); bits = bits }
+
+pub area-writable : (groups : List Declared) → lowest_fault (groups_of groups) ≡ None → (found : LineArea) → IsAreaOf (line_from 1 groups) found
+    → IsWritable found.index found.area (place_of (line_from 1 groups) found)
+area-writable groups none found of =
+    let few = (All-contains (λ (m : Member). IsSlaveInside m.slave) (line_from 1 groups) found.member (line-inside groups none) of.member).few in
+    let below = slice_get_within found.member.slave.areas found.index found.area (own-at found.member.slave.areas (found.index, found.area) of.own) in
+    let inside : IsAreaInside found.area = area-inside (record { groups = groups; epoch = 0 }) none found of in
+    record {
+      early = omega arith;
+      manager = inside.manager;
+      task = inside.task;
+      narrow = inside.narrow;
+      bits = placed-bits groups none found of;
+    }
+
+-- the area that a slave with a rank has at an index is that of the line
+
+area-by : (line : List Member) (found : LineArea) (member : Option Member) → find (λ (m : Member). m.rank == found.member.rank) line ≡ member
+    → slice_get (option_map_or (λ (s : Slave). s.areas) (option_map (λ (m : Member). m.slave) member) []) found.index
+    ≡ option_map (λ (f : LineArea). f.area)
+    (option_and_then (λ (m : Member). option_map (λ (a : Area). record { member = m; index = found.index; area = a }) (slice_get m.slave.areas found.index)) member)
+area-by line found None is = refl
+area-by line found (Some member) is = area-of (slice_get member.slave.areas found.index)
+  where
+    area-of : (area : Option Area) → area ≡ option_map (λ (f : LineArea). f.area) (option_map (λ (a : Area). record { member = member; index = found.index; area = a }) area)
+    area-of None = refl
+    area-of (Some area) = refl
+
+pub area-told : (groups : List Declared) (found : LineArea)
+    → slice_get (areas_at (areas_by_rank groups) found.member.rank) found.index ≡ option_map (λ (f : LineArea). f.area) (counterpart (line_from 1 groups) found)
+area-told groups found =
+    ap (λ (areas : List Area). slice_get areas found.index) (areas-of-rank groups found.member.rank)
+    ∙ area-by (line_from 1 groups) found (find (λ (m : Member). m.rank == found.member.rank) (line_from 1 groups)) refl
+
+-- the names of those of two blocks that differ from two others
+
+and-known : (a b : Bool) → a ≡ true → (a && b) ≡ b
+and-known true b is = refl
+and-known false b is = cc
+
+same-station : (a b : LineBlock) → a.station ≡ b.station → same_block a b ≡ same_bytes a.block b.block
+same-station a b station = and-known (a.station == b.station) (same_bytes a.block b.block) (eq-eqb a.station b.station station)
+
+two-names : (x y : Bool) (a b : LineBlock)
+    → map name_of (cond x (cond y [] (b ∷ [])) (a ∷ cond y [] (b ∷ []))) ≡ cond (not x) (name_of a ∷ []) [] ++ cond (not y) (name_of b ∷ []) []
+two-names true true a b = refl
+two-names true false a b = refl
+two-names false true a b = refl
+two-names false false a b = refl
+
+unlike-names : (a b c d : LineBlock) → a.station ≡ c.station → b.station ≡ d.station
+    → map name_of (unlike (c ∷ d ∷ []) (a ∷ b ∷ []))
+    ≡ cond (not (same_bytes a.block c.block)) (name_of a ∷ []) [] ++ cond (not (same_bytes b.block d.block)) (name_of b ∷ []) []
+unlike-names a b c d first second =
+    two-names (same_block a c) (same_block b d) a b
+    ∙ ap (λ (x : Bool). cond (not x) (name_of a ∷ []) [] ++ cond (not (same_block b d)) (name_of b ∷ []) []) (same-station a c first)
+    ∙ ap (λ (y : Bool). cond (not (same_bytes a.block c.block)) (name_of a ∷ []) [] ++ cond (not y) (name_of b ∷ []) []) (same-station b d second)
+
+-- where an area stood, by the areas of the old line, and the FMMU block that it was there
+
+place-by : (groups : List Declared) (found was : LineArea) → was.member.rank ≡ found.member.rank → was.index ≡ found.index
+    → place_of (line_from 1 groups) was
+    ≡ place_by (record { dir = was.area.dir; rank = found.member.rank; area = found.index }) (list_by was.area.task (areas_by_rank groups))
+place-by groups found was rank index =
+    let places = task_places was.area.task (line_from 1 groups) in
+    let key : ℕ → ℕ → Key = λ r i. record { dir = was.area.dir; rank = r; area = i } in
+    ap (λ (r : ℕ). find (λ (p : Placed). same_key p.key (key r was.index)) places) rank
+    ∙ ap (λ (i : ℕ). find (λ (p : Placed). same_key p.key (key found.member.rank i)) places) index
+    ∙ sym (place-told groups was.area.task (key found.member.rank found.index))
+
+second-before : (groups : List Declared) (found was : LineArea) → was.member.rank ≡ found.member.rank → was.index ≡ found.index
+    → fmmu_block was.index was.area (mapping_of (line_from 1 groups) was.area.task (key_of was))
+    ≡ fmmu_block found.index was.area (mapping_by was.area (place_by (record { dir = was.area.dir; rank = found.member.rank; area = found.index }) (list_by was.area.task (areas_by_rank groups))))
+second-before groups found was rank index =
+    ap (λ (p : Option Placed). fmmu_block was.index was.area (mapping_by was.area p)) (place-by groups found was rank index)
+    ∙ ap (λ (i : ℕ). fmmu_block i was.area
+    (mapping_by was.area (place_by (record { dir = was.area.dir; rank = found.member.rank; area = found.index }) (list_by was.area.task (areas_by_rank groups))))) index
+
+-- so those of an area of the new line are those of its blocks that differ from the blocks with their numbers
+module _ (it : Outlook) (one : AreOfOneProject (line_from 1 it.old) (line_from 1 it.new)) where
+  abbrev old : List Member
+  old = line_from 1 it.old
+
+  abbrev new : List Member
+  new = line_from 1 it.new
+
+  names-by : (found : LineArea) → IsAreaOf new found → (was : Option LineArea) → counterpart old found ≡ was
+      → map name_of (unlike (option_map_or (blocks_of old) was []) (blocks_of new found)) ≡ names_moved it (candidate_of new found)
+  names-by found of None is =
+      let none : area_before it (candidate_of new found) ≡ None = area-told it.old found ∙ ap (option_map (λ (f : LineArea). f.area)) is in
+      rw none refl
+  names-by found of (Some was) is =
+      let stood : StoodAt old found was = area-stood old found was is in
+      let candidate = candidate_of new found in
+      let some : area_before it candidate ≡ Some was.area = area-told it.old found ∙ ap (option_map (λ (f : LineArea). f.area)) is in
+      let station : found.member.slave.station ≡ was.member.slave.station =
+      sym (ap (λ (p : ℕ × List Area). p.0) (one.alike was.member found.member stood.of.member of.member stood.rank)) in
+      let names : RegisterBlock → List (ℕ × ℕ) = λ second.
+      names_if candidate (differ_from (two_blocks found.index found.area candidate.place) (sync_manager_block was.area, second)) in
+      let had : LineBlock = record { station = was.member.slave.station; number = 2 * was.index; block = sync_manager_block was.area } in
+      let second_had : LineBlock = record { station = was.member.slave.station; number = 2 * was.index + 1; block = fmmu_block was.index was.area (mapping_of old was.area.task (key_of was)) } in
+      let has : LineBlock = record { station = found.member.slave.station; number = 2 * found.index; block = sync_manager_block found.area } in
+      let second_has : LineBlock = record { station = found.member.slave.station; number = 2 * found.index + 1; block = fmmu_block found.index found.area (mapping_of new found.area.task (key_of found)) } in
+      unlike-names has second_has had second_had station station
+      ∙ ap names (second-before it.old found was stood.rank stood.index)
+      ∙ sym (ap (λ (area : Option Area). names_if candidate (option_map_or (λ a. differ_from (two_blocks found.index found.area candidate.place) (two_blocks found.index a (place_before it candidate a))) area (true, true))) some)
+
+  names-told : (found : LineArea) → IsAreaOf new found → map name_of (differing_of old new found) ≡ names_moved it (candidate_of new found)
+  names-told found of = names-by found of (counterpart old found) refl
+
+  -- and those of the candidates are all
+  map-flat_map : {X Y Z : Type 0} (g : Y → Z) (f : X → List Y) (xs : List X) → map g (flat_map f xs) ≡ flat_map (λ x. map g (f x)) xs
+  map-flat_map g f [] = refl
+  map-flat_map g f (x ∷ xs) = map-append g (f x) (flat_map f xs) ∙ ap (λ (ys : List _). map g (f x) ++ ys) (map-flat_map g f xs)
+
+  all-names : (changed : ℕ → Bool) → moved_blocks old new ≡ flat_map (differing_of old new) (candidates changed old new)
+      → flat_map (names_moved it) (map (candidate_of new) (candidates changed old new)) ≡ map name_of (moved_blocks old new)
+  all-names changed compared =
+      let all = candidates changed old new in
+      flat_map-map (names_moved it) (candidate_of new) all
+      ∙ sym (flat_map-among (λ found. map name_of (differing_of old new found)) (λ found. names_moved it (candidate_of new found)) all
+      (All-weaker (Contains all) (λ found. map name_of (differing_of old new found) ≡ names_moved it (candidate_of new found))
+      (λ found at. names-told found (line-area new found (contains-unfiltered (is_candidate changed old new) (line_areas new) found at)))
+      all (All-contains_itself all)))
+      ∙ sym (map-flat_map name_of (differing_of old new) all)
+      ∙ sym (ap (map name_of) compared)
+
+-- an edit leads from the one line to the other
+
+pub edited-one-project : (it : Outlook) → IsOutlook it → AreOfOneProject (line_from 1 it.old) (line_from 1 it.new)
+edited-one-project it is =
+    subst (λ (groups : List Declared). AreOfOneProject (line_from 1 it.old) (line_from 1 groups)) (sym is.edited.leads) (edit-one-project it.old is.edited.edit is.was_project)
+
+edited-compared : (it : Outlook) → IsOutlook it → moved_blocks (line_from 1 it.old) (line_from 1 it.new)
+    ≡ flat_map (differing_of (line_from 1 it.old) (line_from 1 it.new)) (candidates (changes it) (line_from 1 it.old) (line_from 1 it.new))
+edited-compared it is =
+    subst (λ (groups : List Declared). lowest_fault (groups_of groups) ≡ None → DifferAt (changes it) (line_from 1 it.old) (line_from 1 groups)
+    → moved_blocks (line_from 1 it.old) (line_from 1 groups)
+    ≡ flat_map (differing_of (line_from 1 it.old) (line_from 1 groups)) (candidates (changes it) (line_from 1 it.old) (line_from 1 groups)))
+    (sym is.edited.leads) (all-compared (changes it) it.old is.edited.edit is.was_project) is.is_project is.slaves
+
+pub moved-named : (it : Outlook) → IsOutlook it
+    → flat_map (names_moved it) (map (candidate_of (line_from 1 it.new)) (candidates (changes it) (line_from 1 it.old) (line_from 1 it.new)))
+    ≡ map name_of (moved_blocks (line_from 1 it.old) (line_from 1 it.new))
+moved-named it is = all-names it (edited-one-project it is) (changes it) (edited-compared it is)
+
+-- each candidate is an area of the new line
+
+pub candidate-stands : (it : Outlook) (found : List Candidate) (i : ℕ) (candidate : Candidate)
+    → found ≡ map (candidate_of (line_from 1 it.new)) (candidates (changes it) (line_from 1 it.old) (line_from 1 it.new)) → i < length found → candidate ≡ get_or found i candidate
+    → IsOfLine (line_from 1 it.new) candidate
+candidate-stands it found i candidate is within met =
+    let new = line_from 1 it.new in
+    let all = candidates (changes it) (line_from 1 it.old) new in
+    let each : All (IsOfLine new) found =
+    subst (λ (own : List Candidate). All (IsOfLine new) own) (sym is)
+    (All-map (IsOfLine new) (candidate_of new) all
+    (All-weaker (Contains all) (λ f. IsOfLine new (candidate_of new f))
+    (λ f at. record { found = f; stands = contains-unfiltered (is_candidate (changes it) (line_from 1 it.old) new) (line_areas new) f at; is = refl })
+    all (All-contains_itself all))) in
+    subst (IsOfLine new) (sym met) (each i candidate within)
+
+-- under its slave's rank and its index, and its blocks can be written, as those can that its slave had there
+
+pub candidate-named : (groups : List Declared) (candidate : Candidate) → IsOfLine (line_from 1 groups) candidate
+    → slice_get (areas_at (areas_by_rank groups) candidate.rank) candidate.index ≡ Some candidate.area
+candidate-named groups candidate of =
+    subst (λ (c : Candidate). slice_get (areas_at (areas_by_rank groups) c.rank) c.index ≡ Some c.area) (sym of.is)
+    (area-named groups of.found (line-area (line_from 1 groups) of.found of.stands))
+
+pub candidate-writable : (groups : List Declared) → lowest_fault (groups_of groups) ≡ None → (candidate : Candidate) → IsOfLine (line_from 1 groups) candidate
+    → IsWritable candidate.index candidate.area candidate.place
+candidate-writable groups none candidate of =
+    subst (λ (c : Candidate). IsWritable c.index c.area c.place) (sym of.is)
+    (area-writable groups none of.found (line-area (line_from 1 groups) of.found of.stands))
+
+pub before-writable : (it : Outlook) → IsOutlook it → (candidate : Candidate) → IsOfLine (line_from 1 it.new) candidate
+    → (area : Area) → area_before it candidate ≡ Some area → IsWritable candidate.index area (place_before it candidate area)
+before-writable it is candidate of =
+    subst (λ (c : Candidate). (area : Area) → area_before it c ≡ Some area → IsWritable c.index area (place_before it c area)) (sym of.is)
+    (λ area before. was-writable of.found area (mapped-some (λ (f : LineArea). f.area) (counterpart (line_from 1 it.old) of.found) area (sym (area-told it.old of.found) ∙ before)))
+  where
+    was-writable : (found : LineArea) (area : Area) → (was : LineArea) × (counterpart (line_from 1 it.old) found ≡ Some was) × (was.area ≡ area)
+        → IsWritable found.index area (place_before it (candidate_of (line_from 1 it.new) found) area)
+    was-writable found area (was, stands, same) =
+        let stood = area-stood (line_from 1 it.old) found was stands in
+        subst (λ (a : Area). IsWritable found.index a (place_before it (candidate_of (line_from 1 it.new) found) a)) same
+        (subst (λ (p : Option Placed). IsWritable found.index was.area p) (place-by it.old found was stood.rank stood.index)
+        (subst (λ (i : ℕ). IsWritable i was.area (place_of (line_from 1 it.old) was)) stood.index
+        (area-writable it.old is.was_project was stood.of)))

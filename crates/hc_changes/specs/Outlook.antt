@@ -1,0 +1,43 @@
+-- What an edit makes of a line, told before it is carried out.
+use Rattle.std.specs.Prelude.{◌≡◌, ℕ, ◌+◌, ◌&&◌, not, nat_lt, Bool, List, None, length, map}
+use Rattle.hc_records.specs.declared.records.Area.{Area}
+use Rattle.hc_records.specs.declared.records.Declared.{Declared}
+use Rattle.hc_records.specs.Line.{groups_of, line_from}
+use Rattle.hc_records.specs.Project.{lowest_fault}
+use Rattle.hc_edits.specs.declared.prepared.Prepared.{Prepared}
+use Rattle.hc_edits.specs.Changes.{carried}
+use Rattle.hc_edits.specs.Rows.{areas_in_line, first_of, row}
+use Rattle.hc_tasks.specs.Areas.{areas_by_rank}
+use Rattle.hc_tasks.specs.Turn.{AreLines}
+use Rattle.hc_changes.specs.Candidates.{DifferAt}
+use Rattle.hc_changes.specs.Edited.{HasEdit}
+
+-- the declared groups before the edit and after it, and the slaves that it concerns: the rank of the first, and the areas that each has in the line before and after
+pub record Outlook : Type 0 where
+  pub old : List Declared
+  pub new : List Declared
+  pub first : ℕ
+  pub before : List (List Area)
+  pub after : List (List Area)
+
+-- what a change makes of the line of some groups
+abbrev pub outlook_of : Prepared → List Declared → Outlook
+outlook_of change groups = record {
+  old = groups;
+  new = carried change groups;
+  first = first_of change;
+  before = map areas_in_line (row change groups);
+  after = map areas_in_line (row change (carried change groups));
+}
+
+-- the slave with a rank is one of those that the edit concerns
+abbrev pub changes : Outlook → ℕ → Bool
+changes outlook rank = not (nat_lt rank outlook.first) && nat_lt rank (outlook.first + length outlook.before)
+
+-- an edit leads from the groups of a project to the new ones, which are a project's again, and the lines differ in the areas of these slaves alone
+pub record IsOutlook (outlook : Outlook) : Type 0 where
+  pub edited : HasEdit outlook.old outlook.new
+  pub was_project : lowest_fault (groups_of outlook.old) ≡ None
+  pub is_project : lowest_fault (groups_of outlook.new) ≡ None
+  pub lines : AreLines outlook.first outlook.before outlook.after (areas_by_rank outlook.old) (areas_by_rank outlook.new)
+  pub slaves : DifferAt (changes outlook) (line_from 1 outlook.old) (line_from 1 outlook.new)

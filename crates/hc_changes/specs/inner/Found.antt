@@ -1,0 +1,82 @@
+-- The candidates of a line as they are found: by the ranks of the declared slaves, and of each slave by the indexes of its areas.
+use Rattle.std.specs.Prelude.{◌≡◌, ℕ, zero, suc, ◌+◌, ◌<◌, ◌≤◌, true, List, [], ◌∷◌, ◌++◌, filter, length, map, slice_index_or}
+use Rattle.std.specs.List.{flat_map}
+use Rattle.hc_records.specs.declared.records.Area.{Area}
+use Rattle.hc_records.specs.declared.records.Declared.{Declared}
+use Rattle.hc_records.specs.Line.{line_from}
+use Rattle.hc_cuts.specs.Starts.{Kept}
+use Rattle.hc_tasks.specs.Areas.{areas_at, areas_by_rank}
+use Rattle.hc_tasks.specs.Keeping.{Before, StandsBefore}
+use Rattle.hc_tasks.specs.Kept.{line_kept}
+use Rattle.hc_changes.specs.Candidates.{Candidate, LineArea, candidate_of, is_candidate, is_recut}
+use Rattle.hc_changes.specs.Outlook.{IsOutlook, Outlook, changes}
+
+-- what is known of a line's tasks before they are turned, and the turned tasks
+pub record IsSight (outlook : Outlook) (before : Before) (cuts : List Kept) : Type 0 where
+  pub is : IsOutlook outlook
+  pub stands : StandsBefore (areas_by_rank outlook.old) (areas_by_rank outlook.new) before
+  pub turned : cuts ≡ line_kept (areas_by_rank outlook.new)
+
+-- the candidates among some areas of the new line
+unfoldable pub found_among : Outlook → List LineArea → List Candidate
+found_among outlook areas =
+    map (candidate_of (line_from 1 outlook.new))
+    (filter (is_candidate (changes outlook) (line_from 1 outlook.old) (line_from 1 outlook.new)) areas)
+
+-- an area by the station address and the rank of its slave, and by its index there; whether it is a candidate doesn't depend on the slave's other areas
+abbrev pub area_by : ℕ → ℕ → ℕ → Area → LineArea
+area_by station rank index area = record {
+  member = record { rank = rank; slave = record { station = station; areas = [] } };
+  index = index;
+  area = area;
+}
+
+abbrev pub area_found : Outlook → ℕ → ℕ → ℕ → Area → List Candidate
+area_found outlook station rank index area = found_among outlook (area_by station rank index area ∷ [])
+
+-- those among a slave's areas, from an index on
+unfoldable pub areas_found : Outlook → ℕ → ℕ → ℕ → List Area → List Candidate
+areas_found outlook station rank index [] = []
+areas_found outlook station rank index (area ∷ areas) =
+    area_found outlook station rank index area ++ areas_found outlook station rank (index + 1) areas
+
+-- the station address of the declared slave with a rank; no slave has rank 0
+abbrev pub stations : List Declared → List ℕ
+stations groups = flat_map (λ declared. map (λ slave. slave.station) declared.group.slaves) groups
+
+abbrev pub station_at : List Declared → ℕ → ℕ
+station_at groups rank = slice_index_or (0 ∷ stations groups) rank 0
+
+-- those among the areas of the slave with a rank
+unfoldable pub rank_found : Outlook → ℕ → List Candidate
+rank_found outlook rank = areas_found outlook (station_at outlook.old rank) rank 0 (areas_at (areas_by_rank outlook.new) rank)
+
+-- those of the slaves with lower ranks
+unfoldable pub found_below : Outlook → ℕ → List Candidate
+found_below outlook zero = []
+found_below outlook (suc rank) = found_below outlook rank ++ rank_found outlook rank
+
+-- a declared group, the first of whose slaves has a rank
+pub record IsGroupAt (groups : List Declared) (first : ℕ) (declared : Declared) : Type 0 where
+  pub front : List Declared
+  pub behind : List Declared
+  pub stands : groups ≡ front ++ (declared ∷ behind)
+  pub rank : first ≡ length (areas_by_rank front) + 1
+
+-- each slave with candidates has a rank from one up to another
+abbrev pub LieWithin : Outlook → ℕ → ℕ → Type 0
+LieWithin outlook low high = (rank : ℕ) → (low ≤ rank → rank ≤ high → ⊥) → rank_found outlook rank ≡ []
+
+-- ranks from one up to another, with others among them
+abbrev pub HoldRanks : ℕ → ℕ → ℕ → ℕ → Type 0
+HoldRanks low high own_low own_high = (low ≤ own_low) × (own_high ≤ high)
+
+-- with those of the slaves that the edit concerns
+abbrev pub HoldChanged : Outlook → ℕ → ℕ → Type 0
+HoldChanged outlook low high = (rank : ℕ) → changes outlook rank ≡ true → (low ≤ rank) × (rank ≤ high)
+
+-- with those of the slaves that have areas of a task in datagrams which weren't kept
+abbrev pub HoldRecut : Outlook → ℕ → ℕ → ℕ → Type 0
+HoldRecut outlook task low high =
+    (found : LineArea) → found.area.task ≡ task → found.member.rank < 65536
+    → is_recut (line_from 1 outlook.old) (line_from 1 outlook.new) found ≡ true → (low ≤ found.member.rank) × (found.member.rank ≤ high)

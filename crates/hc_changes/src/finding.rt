@@ -1,0 +1,265 @@
+//! The areas of a new line that may be configured in another way than in the old one, found slave by slave
+//! where the tasks are turned.
+ghost use Rattle.std.specs.Prelude.{◌≡◌, IfOk, map, slice_index_or};
+ghost use Rattle.hc_records.specs.declared.keys.TheConstants.Key.{END};
+ghost use Rattle.hc_records.specs.Line.{line_from};
+ghost use Rattle.hc_tasks.specs.Areas.{areas_by_rank};
+ghost use Rattle.hc_tasks.specs.Keeping.{StandsBefore};
+ghost use Rattle.hc_tasks.specs.Kept.{line_kept};
+ghost use Rattle.hc_changes.specs.Candidates.{candidate_of, candidates};
+ghost use Rattle.hc_changes.specs.Outlook.{changes};
+
+use crate::candidates::Candidate;
+use crate::outlook::Outlook;
+use crate::ranks::Ranks;
+use hc_cuts::packing::Placed;
+use hc_records::keys::Key;
+use hc_records::limits::TASKS;
+use hc_records::records::{Area, Declared, Slave};
+use hc_tasks::finder::Finder;
+use hc_tasks::keeping::Before;
+use hc_tasks::tasks::LineCuts;
+use std::alloc::{AllocError, Global};
+use std::marker::Model;
+
+/// The key of an area of a slave.
+fn key_of(area: &Area, rank: u16, index: u8) -> Key
+    ensures { result ≡ record { dir = area.now.dir; rank = rank; area = index } }
+{
+    Key {
+        dir: area.dir,
+        rank,
+        area: index,
+    }
+}
+
+/// The boundary of a task with a number, by the boundaries without `Key::END`.
+fn start_at(starts: &[Key], number: usize) -> Key
+    ensures { result ≡ slice_index_or starts.now number END }
+{
+    match starts.get(number) {
+        Some(key) => *key,
+        None => Key::END,
+    }
+}
+
+/// What tells of an area of a line whether it is a candidate, and where it stands: what an edit makes of the
+/// line, what is known of the tasks before they were turned, and the turned tasks. Contracts see the first.
+#[derive(Drop)]
+struct Sight<'b, 'a> {
+    outlook: &'b Outlook<'a>,
+    before: &'b Before,
+    cuts: &'b LineCuts,
+}
+
+impl<'b, 'a> Model for Sight<'b, 'a> {
+    ghost use Rattle.hc_changes.specs.inner.Found.{IsSight};
+    ghost use Rattle.hc_changes.specs.Outlook.{Outlook};
+
+    ghost Value = { Outlook };
+
+    ghost view = { λ sight. sight.outlook.now };
+
+    ghost invariant = { λ sight. IsSight sight.outlook.now sight.before.now sight.cuts.now };
+}
+
+impl<'b, 'a> Sight<'b, 'a> {
+    ghost use Rattle.std.specs.Prelude.{◌≡◌, ◌+◌, ◌<◌, ◌≤◌, ◌++◌, [], OnOk, false, if◌then◌else◌, length, not, option_to_list};
+    ghost use Rattle.std.specs.Option.{option_map_or};
+    ghost use Rattle.hc_records.specs.Line.{line_from};
+    ghost use Rattle.hc_records.specs.TaskList.{task_list};
+    ghost use Rattle.hc_records.specs.declared.limits.TheConstants.{MOST_SLAVES, TASKS};
+    ghost use Rattle.hc_cuts.specs.Keeping.{is_kept};
+    ghost use Rattle.hc_tasks.specs.Areas.{areas_at, areas_by_rank};
+    ghost use Rattle.hc_tasks.specs.Kept.{line_kept};
+    ghost use Rattle.hc_changes.specs.inner.Found.{HoldChanged, HoldRanks, HoldRecut, IsGroupAt, LieWithin, area_found, areas_found, found_below, rank_found, station_at};
+    ghost use Rattle.hc_changes.specs.Outlook.{IsOutlook};
+
+    /// Whether an area of a task with a place, if it has one, stands in a datagram that isn't kept.
+    fn is_recut(&self, task: u8, place: &Option<Placed>) -> bool
+        requires { task < TASKS }
+        ensures { result ≡ option_map_or (λ placed. not (is_kept (task_list task (line_from 1 self.now.old)) (task_list task (line_from 1 self.now.new)) placed.datagram)) place.now false }
+    {
+        match place {
+            Some(placed) => !self.before.is_kept(self.cuts, task, placed.datagram()),
+            None => false,
+        }
+    }
+
+    /// The candidate that an area of the new line is, if it is one, by the station address and the rank of
+    /// its slave, and by its index there. Its place is found among the turned tasks.
+    fn judge(
+        &self,
+        places: &mut Finder,
+        station: u16,
+        rank: u16,
+        index: u8,
+        area: &'a Area,
+    ) -> Option<Candidate<'a>>
+        requires places { places.old ≡ line_kept (areas_by_rank self.now.new) }
+        requires task { area.now.task < TASKS }
+        ensures places { places.new ≡ places.old }
+        ensures found { option_to_list result ≡ area_found self.now station rank index area.now }
+    {
+        let changed = self.outlook.is_changed(rank);
+        if !changed && !self.before.is_touched(area.task) {
+            return None;
+        }
+        let place = places.place(area.task, key_of(area, rank, index));
+        if !changed && !self.is_recut(area.task, &place) {
+            return None;
+        }
+        Some(Candidate {
+            station,
+            rank,
+            index,
+            area,
+            place,
+        })
+    }
+
+    /// Adds the candidates of a declared slave, by its rank, its record before the edit, and whether its
+    /// group was present then.
+    fn add_slave(
+        &self,
+        places: &mut Finder,
+        found: &mut Vec<Candidate<'a>>,
+        rank: u16,
+        present: bool,
+        slave: &'a Slave,
+    ) -> Result<(), AllocError>
+        requires places { places.old ≡ line_kept (areas_by_rank self.now.new) }
+        requires areas { areas_at (areas_by_rank self.now.old) rank ≡ (if present then slave.now.areas else []) }
+        requires station { station_at self.now.old rank ≡ slave.now.station }
+        ensures places { places.new ≡ places.old }
+        ensures found { OnOk result (found.new.items ≡ found.old.items ++ rank_found self.now rank) }
+    {
+        let areas = self.outlook.areas_after(rank, present, slave);
+        for i in 0..areas.len() {
+            if let Some(candidate) = self.judge(places, slave.station, rank, i as u8, &areas[i]) {
+                found.push(candidate)?;
+            }
+        }
+        Ok(())
+    }
+
+    /// Adds those of a declared group's slaves, the first of which has a rank, to those of the slaves with
+    /// lower ranks. The slaves with other ranks than the given ones are passed over.
+    fn add_group(
+        &self,
+        places: &mut Finder,
+        found: &mut Vec<Candidate<'a>>,
+        first: u16,
+        declared: &'a Declared,
+        ranks: Ranks,
+    ) -> Result<(), AllocError>
+        requires places { places.old ≡ line_kept (areas_by_rank self.now.new) }
+        requires group { IsGroupAt self.now.old first declared.now }
+        requires few { first + length declared.now.group.slaves ≤ MOST_SLAVES + 1 }
+        requires ranks { LieWithin self.now ranks.low ranks.high }
+        requires so_far { found.old.items ≡ found_below self.now first }
+        ensures places { places.new ≡ places.old }
+        ensures found { OnOk result (found.new.items ≡ found_below self.now (first + length declared.now.group.slaves)) }
+    {
+        let slaves = declared.group.slaves.as_slice();
+        let (from, to) = ranks.part(first, slaves.len());
+        for i in from..to {
+            self.add_slave(
+                places,
+                found,
+                first + i as u16,
+                declared.present,
+                &slaves[i],
+            )?;
+        }
+        Ok(())
+    }
+
+    /// The ranks of the slaves that the edit concerns.
+    fn changed_ranks(&self) -> Ranks
+        requires { IsOutlook self.now }
+        ensures { HoldChanged self.now result.low result.high }
+    {
+        let first = self.outlook.first();
+        let slaves = self.outlook.before().len();
+        Ranks::of(first, first + slaves as u16 - 1)
+    }
+
+    /// Ranks with those of the slaves that have areas in datagrams of a task which aren't kept.
+    fn with_recut(&self, ranks: Ranks, task: u8) -> Ranks
+        requires { task < TASKS }
+        ensures own { HoldRanks result.low result.high ranks.low ranks.high }
+        ensures recut { HoldRecut self.now task result.low result.high }
+    {
+        let starts = self.cuts.starts(task);
+        let inputs = self.cuts.has_inputs(task);
+        let mut all = ranks;
+        for number in 0..starts.len() {
+            if !self.before.is_kept(self.cuts, task, number as u16) {
+                let next = start_at(starts, number + 1);
+                all = all.joined(Ranks::between(starts[number], next, inputs));
+            }
+        }
+        all
+    }
+
+    /// Ranks between which all candidates stand.
+    fn ranks(&self) -> Ranks
+        requires { IsOutlook self.now }
+        ensures { LieWithin self.now result.low result.high }
+    {
+        let mut ranks = self.changed_ranks();
+        for task in 0..TASKS {
+            if self.before.is_touched(task) {
+                ranks = self.with_recut(ranks, task);
+            }
+        }
+        ranks
+    }
+
+    /// The candidates, which all stand between two ranks, in line and record order, by the declared groups
+    /// before the edit.
+    fn all(
+        &self,
+        alloc: Global,
+        groups: &'a [Declared],
+        ranks: Ranks,
+    ) -> Result<Vec<Candidate<'a>>, AllocError>
+        requires groups { groups.now ≡ self.now.old }
+        requires known { IsOutlook self.now }
+        requires ranks { LieWithin self.now ranks.low ranks.high }
+        ensures { IfOk result (λ found. found.items ≡ map (candidate_of (line_from 1 self.now.new)) (candidates (changes self.now) (line_from 1 self.now.old) (line_from 1 self.now.new))) }
+    {
+        let mut places = Finder::of(self.cuts);
+        let mut found = Vec::new(alloc);
+        let mut first = 1;
+        for declared in groups {
+            self.add_group(&mut places, &mut found, first, declared, ranks)?;
+            first += declared.group.slaves.len() as u16;
+        }
+        Ok(found)
+    }
+}
+
+/// The areas of the line after an edit that may be configured in another way than before it, by what the
+/// edit makes of the line, what was known of the tasks before they were turned, and the turned tasks: those
+/// of the slaves that the edit concerns, and those that stand in datagrams which aren't kept, in line and
+/// record order, each with its place. `AllocError` where a growth was refused.
+pub fn candidates<'a>(
+    alloc: Global,
+    outlook: &Outlook<'a>,
+    before: &Before,
+    cuts: &LineCuts,
+) -> Result<Vec<Candidate<'a>>, AllocError>
+    requires before { StandsBefore (areas_by_rank outlook.now.old) (areas_by_rank outlook.now.new) before.now }
+    requires cuts { cuts.now ≡ line_kept (areas_by_rank outlook.now.new) }
+    ensures { IfOk result (λ found. found.items ≡ map (candidate_of (line_from 1 outlook.now.new)) (candidates (changes outlook.now) (line_from 1 outlook.now.old) (line_from 1 outlook.now.new))) }
+{
+    let groups = outlook.groups();
+    let sight = Sight {
+        outlook,
+        before,
+        cuts,
+    };
+    sight.all(alloc, groups, sight.ranks())
+}

@@ -1,0 +1,164 @@
+//! The variables that stand elsewhere, appear or go with an edit.
+ghost use Rattle.std.specs.Prelude.{◌≡◌, ◌++◌, ◌==◌, not, All, IfOk, OnOk, filter, length, map, None};
+ghost use Rattle.std.specs.List.{flat_map, list_any};
+ghost use Rattle.hc_records.specs.Project.{entry_names};
+ghost use Rattle.hc_changes.specs.Rows.{StandsInside, area_variables_of, assigned_variables, changed_rows, gone_rows, gone_variables, is_new_row, moved_rows, rows_of};
+
+use crate::candidates::Candidate;
+use hc_places::swap::ChangedRow;
+use hc_places::table::{Place, Places};
+use hc_places::variables::add_area;
+use hc_records::assignment::offered_entries;
+use hc_records::records::{Area, Entry, VarId};
+use hc_tasks::areas::SlaveAreas;
+use std::alloc::{AllocError, Global};
+
+/// The variables of candidates with their places.
+fn candidate_rows(
+    alloc: Global,
+    candidates: &[Candidate],
+) -> Result<Vec<(VarId, Place)>, AllocError>
+    requires { All StandsInside candidates.now }
+    ensures { IfOk result (λ rows. rows.items ≡ flat_map rows_of candidates.now) }
+{
+    let mut rows = Vec::new(alloc);
+    for found in candidates {
+        if let Some(placed) = found.place {
+            add_area(&mut rows, found.area.task, found.area, placed)?;
+        }
+    }
+    Ok(rows)
+}
+
+/// Whether a variable stands elsewhere in a table than at a place, or nowhere. It is looked for near the one
+/// before it.
+fn is_new(old: &Places, near: &mut usize, variable: VarId, place: Place) -> bool
+    ensures { result ≡ is_new_row old.now (variable, place) }
+{
+    old.place_near(near, variable) != Some(place)
+}
+
+/// Adds those variables that don't stand in a table where they are to stand.
+fn add_moved(
+    rows: &mut Vec<ChangedRow>,
+    old: &Places,
+    found: &[(VarId, Place)],
+) -> Result<(), AllocError>
+    ensures { OnOk result (rows.new.items ≡ rows.old.items ++ moved_rows old.now found.now) }
+{
+    let mut near = 0;
+    for row in found {
+        let (variable, place) = *row;
+        if is_new(old, &mut near, variable, place) {
+            rows.push((variable, Some(place)))?;
+        }
+    }
+    Ok(())
+}
+
+/// Adds the variables of entries.
+fn add_entry_variables(variables: &mut Vec<VarId>, entries: &[Entry]) -> Result<(), AllocError>
+    ensures { OnOk result (variables.new.items ≡ variables.old.items ++ entry_names entries.now) }
+{
+    for entry in entries {
+        if let Some(variable) = entry.0 {
+            variables.push(variable)?;
+        }
+    }
+    Ok(())
+}
+
+/// Adds those that an area's assigned PDOs carry.
+fn add_area_variables(variables: &mut Vec<VarId>, area: &Area) -> Result<(), AllocError>
+    ensures { OnOk result (variables.new.items ≡ variables.old.items ++ area_variables_of area.now) }
+{
+    for index in area.assigned.as_slice() {
+        let entries = offered_entries(area.offered.as_slice(), *index);
+        add_entry_variables(variables, entries)?;
+    }
+    Ok(())
+}
+
+/// The variables that a slave's areas carry.
+fn slave_variables(alloc: Global, slave: &SlaveAreas) -> Result<Vec<VarId>, AllocError>
+    ensures { IfOk result (λ variables. variables.items ≡ assigned_variables slave.now) }
+{
+    let mut variables = Vec::new(alloc);
+    for area in slave.as_slice() {
+        add_area_variables(&mut variables, area)?;
+    }
+    Ok(variables)
+}
+
+/// Whether a variable is among others.
+fn is_among(variable: VarId, variables: &[VarId]) -> bool
+    ensures { result ≡ list_any (λ other. other == variable) variables.now }
+{
+    variables.iter().any(|other| *other == variable)
+}
+
+/// Adds the variables before that aren't among those after.
+fn add_gone(rows: &mut Vec<ChangedRow>, before: &[VarId], after: &[VarId]) -> Result<(), AllocError>
+    ensures { OnOk result (rows.new.items ≡ rows.old.items ++ map (λ variable. (variable, None)) (filter (λ variable. not (list_any (λ other. other == variable) after.now)) before.now)) }
+{
+    for variable in before {
+        if !is_among(*variable, after) {
+            rows.push((*variable, None))?;
+        }
+    }
+    Ok(())
+}
+
+/// Adds the variables that a slave's areas carried and don't carry any more.
+fn add_slave(
+    alloc: Global,
+    rows: &mut Vec<ChangedRow>,
+    before: &SlaveAreas,
+    after: &SlaveAreas,
+) -> Result<(), AllocError>
+    ensures { OnOk result (rows.new.items ≡ rows.old.items ++ map (λ variable. (variable, None)) (gone_variables (before.now, after.now))) }
+{
+    let carried = slave_variables(alloc, before)?;
+    let carries = slave_variables(alloc, after)?;
+    add_gone(rows, &carried, &carries)
+}
+
+/// Adds those of slaves.
+fn add_slaves(
+    alloc: Global,
+    rows: &mut Vec<ChangedRow>,
+    before: &[SlaveAreas],
+    after: &[SlaveAreas],
+) -> Result<(), AllocError>
+    requires { length before.now ≡ length after.now }
+    ensures { OnOk result (rows.new.items ≡ rows.old.items ++ gone_rows before.now after.now) }
+{
+    for i in 0..before.len() {
+        add_slave(alloc, rows, &before[i], &after[i])?;
+    }
+    Ok(())
+}
+
+/// What an edit changes of the places of a line's variables, by the candidates, the areas of the slaves
+/// that change before and after it, and the table of the line before it: the candidates' variables that
+/// stood elsewhere or nowhere, each with its new place, and then the variables that those slaves carried
+/// and don't carry any more, without one. They are the variables that stand elsewhere, appear or go with the
+/// edit, each once (`laws::changed_rows_are_told`). Each candidate's place lies in one of 16 datagrams
+/// (`laws::candidates_stand_inside`). `AllocError` where a growth was refused.
+pub fn changed_rows(
+    alloc: Global,
+    old: &Places,
+    candidates: &[Candidate],
+    before: &[SlaveAreas],
+    after: &[SlaveAreas],
+) -> Result<Vec<ChangedRow>, AllocError>
+    requires inside { All StandsInside candidates.now }
+    requires many { length before.now ≡ length after.now }
+    ensures { IfOk result (λ rows. rows.items ≡ changed_rows old.now candidates.now before.now after.now) }
+{
+    let found = candidate_rows(alloc, candidates)?;
+    let mut rows = Vec::new(alloc);
+    add_moved(&mut rows, old, &found)?;
+    add_slaves(alloc, &mut rows, before, after)?;
+    Ok(rows)
+}

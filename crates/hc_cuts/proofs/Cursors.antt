@@ -1,0 +1,144 @@
+-- A datagram is filled up to a key, and from there on to another one.
+use Rattle.std.specs.Prelude.{All, slice_index_or}
+use Rattle.std.proofs.Common.{◌≡◌, ℕ, ◌+◌, ◌<◌, Bool, true, false, List, [], ◌∷◌, ◌++◌, length, refl, sym, ap, ◌∙◌, arith}
+use Rattle.std.proofs.lemmas.Bool.{cond-false, cond-true}
+use Rattle.std.proofs.lemmas.List.Elements.{All-cons, All-weaker}
+use Rattle.hc_records.specs.declared.keys.Key.{Key}
+use Rattle.hc_records.specs.declared.keys.TheConstants.Key.{START, END}
+use Rattle.hc_records.specs.Keys.{is_before, is_within}
+use Rattle.hc_records.specs.TaskList.{Keyed}
+use Rattle.hc_records.specs.Boundaries.{boundaries, later_keys, width_in}
+use Rattle.hc_records.specs.SpanLaws.{IsTaskList, areas_from}
+use Rattle.hc_records.proofs.lemmas.KeyOrder.{before-apart, before-else, within-apart, within-else, within-from_before, within-refl, within-trans}
+use Rattle.hc_records.proofs.lemmas.SpanCuts.{areas-from}
+use Rattle.hc_records.proofs.lemmas.Spans.{IsListFrom, filter-keeps, list-behind, list-tail}
+use Rattle.hc_bitsum.specs.declared.filled.Filled.{Filled}
+use Rattle.hc_bitsum.specs.Filling.{areas_between, with_areas}
+use Rattle.hc_bitsum.specs.Tree.{HoldsTaskList, Tree}
+use Rattle.hc_bitsum.proofs.lemmas.Fillings.{with_areas-append}
+use Rattle.hc_cuts.specs.declared.cursor.Cursor.{Cursor}
+use Rattle.hc_cuts.specs.Cursors.{StandsIn, unfilled}
+use Rattle.hc_cuts.specs.Place.{place_of}
+use Rattle.hc_cuts.specs.Walk.{filled_datagram}
+use Rattle.hc_cuts.proofs.Chain.{areas-twice}
+use Rattle.hc_cuts.proofs.Placed.{StandsAt, areas_before, found-at, none-before, room-low}
+use Rattle.hc_cuts.proofs.Whole.{length-end}
+
+-- no area lies from a key on and before it
+
+none-by : (low : Bool) (key : Key) (area : Keyed) (areas : List Keyed) → is_within key area.0 ≡ low → areas_between key key areas ≡ []
+    → areas_between key key (area ∷ areas) ≡ []
+none-by true key area areas low rest =
+    ap (areas_before key) (cond-true (is_within key area.0) (area ∷ areas_from key areas) (areas_from key areas) low)
+    ∙ cond-false (is_before area.0 key) (area ∷ areas_between key key areas) (areas_between key key areas) (within-apart key area.0 low)
+    ∙ rest
+none-by false key area areas low rest =
+    ap (areas_before key) (cond-false (is_within key area.0) (area ∷ areas_from key areas) (areas_from key areas) low) ∙ rest
+
+none-between : (key : Key) (list : List Keyed) → areas_between key key list ≡ []
+none-between key [] = refl
+none-between key (area ∷ areas) = none-by (is_within key area.0) key area areas refl (none-between key areas)
+
+-- what is before a key is before each one that isn't before that
+
+before-low : (a b c : Key) → is_before a b ≡ true → is_within b c ≡ true → is_before a c ≡ true
+before-low a b c before low = before-else a c (none (is_within c a) refl)
+  where
+    none : (back : Bool) → is_within c a ≡ back → is_within c a ≡ false
+    none true back = let round : is_within b a ≡ true = within-trans b c a low back in let apart = before-apart a b before in cc
+    none false back = back
+
+-- the areas before a key are those before a lower one and those between both
+
+splits-by : (before : Bool) (first middle until : Key) (area : Keyed) (areas : List Keyed) → is_before area.0 middle ≡ before → IsListFrom first (area ∷ areas)
+    → is_within middle until ≡ true → areas_before until areas ≡ areas_before middle areas ++ areas_between middle until areas
+    → areas_before until (area ∷ areas) ≡ areas_before middle (area ∷ areas) ++ areas_between middle until (area ∷ areas)
+splits-by true first middle until area areas test is low rest =
+    let later : is_before area.0 until ≡ true = before-low area.0 middle until test low in
+    cond-true (is_before area.0 until) (area ∷ areas_before until areas) (areas_before until areas) later
+    ∙ ap (λ (l : List Keyed). area ∷ l) rest
+    ∙ ap (λ (l : List Keyed). l ++ areas_between middle until areas)
+    (sym (cond-true (is_before area.0 middle) (area ∷ areas_before middle areas) (areas_before middle areas) test))
+    ∙ ap (λ (l : List Keyed). areas_before middle (area ∷ areas) ++ areas_before until l)
+    (sym (cond-false (is_within middle area.0) (area ∷ areas_from middle areas) (areas_from middle areas) (before-apart area.0 middle test)))
+splits-by false first middle until area areas test is low rest =
+    let here : is_within middle area.0 ≡ true = within-else area.0 middle test in
+    let all : All (λ a. is_within middle a.0 ≡ true) (area ∷ areas) =
+    All-cons (λ a. is_within middle a.0 ≡ true) area areas here
+    (All-weaker (λ a. is_before area.0 a.0 ≡ true) (λ a. is_within middle a.0 ≡ true) (λ a later. within-trans middle area.0 a.0 here (within-from_before area.0 a.0 later)) areas
+    (list-behind first area areas is)) in
+    ap (areas_before until) (sym (filter-keeps (λ a. is_within middle a.0) (area ∷ areas) all))
+    ∙ ap (λ (l : List Keyed). l ++ areas_between middle until (area ∷ areas)) (sym (none-before middle (area ∷ areas) all))
+
+splits : (first middle until : Key) (list : List Keyed) → IsListFrom first list → is_within middle until ≡ true
+    → areas_before until list ≡ areas_before middle list ++ areas_between middle until list
+splits first middle until [] is low = refl
+splits first middle until (area ∷ areas) is low =
+    splits-by (is_before area.0 middle) first middle until area areas refl is low (splits first middle until areas (list-tail first area areas is) low)
+
+-- stretches of a task's list join
+
+pub stretches-join : (from middle until : Key) (list : List Keyed) → IsTaskList list → is_within from middle ≡ true → is_within middle until ≡ true
+    → areas_between from until list ≡ areas_between from middle list ++ areas_between middle until list
+stretches-join from middle until list is low high =
+    splits from middle until (areas_from from list) (areas-from from list is) high
+    ∙ ap (λ (l : List Keyed). areas_between from middle list ++ areas_before until l) (areas-twice from middle list low)
+
+pub filling-goes_on : (from middle until : Key) (list : List Keyed) (filled : Filled) → IsTaskList list → is_within from middle ≡ true → is_within middle until ≡ true
+    → filled ≡ with_areas unfilled (areas_between from middle list)
+    → with_areas filled (areas_between middle until list) ≡ with_areas unfilled (areas_between from until list)
+filling-goes_on from middle until list filled is low high so_far =
+    ap (λ (f : Filled). with_areas f (areas_between middle until list)) so_far
+    ∙ sym (with_areas-append unfilled (areas_between from middle list) (areas_between middle until list))
+    ∙ ap (with_areas unfilled) (sym (stretches-join from middle until list is low high))
+
+-- a cursor at the front of a datagram
+
+pub front-stands : (starts : List Key) (list : List Keyed) (key : Key) (datagram : ℕ) → datagram < length starts → slice_index_or starts datagram END ≡ key
+    → StandsIn starts list (record { key = key; datagram = datagram; filled = unfilled })
+front-stands starts list key datagram within is = record {
+  within = within;
+  begun = ap (λ (k : Key). is_within k key) is ∙ within-refl key;
+  filled =
+      ap (with_areas unfilled) (sym (none-between key list)) ∙ ap (λ (k : Key). with_areas unfilled (areas_between k key list)) (sym is);
+  low = omega arith;
+}
+
+-- the first datagram begins at START
+
+pub first-start : (starts : List Key) (list : List Keyed) → starts ++ END ∷ [] ≡ boundaries list → slice_index_or starts 0 END ≡ START
+first-start [] list all = cc
+first-start (key ∷ keys) list all = cc
+
+pub some-start : (starts : List Key) (list : List Keyed) → starts ++ END ∷ [] ≡ boundaries list → 0 < length starts
+some-start starts list all =
+    let many = length-end starts in
+    let more = length-end (START ∷ later_keys list) in
+    let same : length (starts ++ END ∷ []) ≡ length (boundaries list) = ap length all in
+    omega arith
+
+-- from a cursor on, the datagram is filled up to an area that it carries: there the area stands, and a cursor there
+
+pub record GoesOn (tree : Tree) (starts : List Key) (datagram : ℕ) (filled : Filled) (key : Key) (bits : ℕ) : Type 0 where
+  pub area : StandsAt (filled_datagram datagram filled) (key, bits) (place_of key tree.list)
+  pub cursor : StandsIn starts tree.list (record { key = key; datagram = datagram; filled = filled })
+
+pub goes-on : (tree : Tree) (starts : List Key) (from : Cursor) (key : Key) (bits : ℕ) (filled : Filled) → HoldsTaskList tree → starts ++ END ∷ [] ≡ boundaries tree.list
+    → StandsIn starts tree.list from → is_within from.key key ≡ true
+    → (from.datagram + 1 < length starts → is_before key (slice_index_or starts (from.datagram + 1) END) ≡ true) → width_in tree.list key ≡ bits → 0 < bits
+    → filled ≡ with_areas from.filled (areas_between from.key key tree.list) → GoesOn tree starts from.datagram filled key bits
+goes-on tree starts from key bits filled holds all stands low next width some is =
+    let first = slice_index_or starts from.datagram END in
+    let behind : is_within first key ≡ true = within-trans first from.key key stands.begun low in
+    let whole : filled ≡ with_areas unfilled (areas_between first key tree.list) =
+    is ∙ filling-goes_on first from.key key tree.list from.filled holds.list stands.begun low stands.filled in
+    let area = found-at tree starts from.datagram first key END bits filled holds all stands.within refl behind next width some whole in
+    record {
+      area = area;
+      cursor = record {
+        within = stands.within;
+        begun = behind;
+        filled = whole;
+        low = room-low (filled_datagram from.datagram filled) (key, bits) area.room;
+      };
+    }

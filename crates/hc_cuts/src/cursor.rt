@@ -1,0 +1,104 @@
+//! How far a datagram of a task is filled before a key: where many areas of a task are placed in the order of
+//! its list, each fill goes on from the one before it.
+use crate::cuts::end_of;
+use crate::packing::{Front, Placed};
+use crate::place::carrier;
+use hc_bitsum::filled::Filled;
+use hc_bitsum::tree::SumTree;
+use hc_records::keys::Key;
+use hc_records::records::Dir;
+
+/// A key, the number of the datagram that carries it, and how far that is filled before the key. What it
+/// says is true of one task, as long as the task's areas and boundaries stay as they are.
+#[derive(Clone, Copy, Debug)]
+pub struct Cursor {
+    key: Key,
+    datagram: u16,
+    filled: Filled,
+}
+
+impl Cursor {
+    ghost use Rattle.std.specs.Prelude.{◌≡◌, ◌+◌, ◌<◌, ◌≤◌, ◌∷◌, ◌++◌, [], IsTrue, List, length, slice_index_or, true};
+    ghost use Rattle.hc_records.specs.Boundaries.{boundaries};
+    ghost use Rattle.hc_records.specs.Keys.{is_before, is_within};
+    ghost use Rattle.hc_records.specs.TaskList.{Keyed};
+    ghost use Rattle.hc_records.specs.declared.keys.TheConstants.Key.{END};
+    ghost use Rattle.hc_records.specs.declared.limits.TheConstants.{MOST_DATAGRAMS};
+    ghost use Rattle.hc_bitsum.specs.Tree.{HoldsTaskList};
+    ghost use Rattle.hc_cuts.specs.Cursors.{StandsIn};
+    ghost use Rattle.hc_cuts.specs.Place.{place_of};
+
+    /// Before the first area of a task, any task. It takes no memory.
+    pub fn start() -> Cursor
+        ensures { (starts : List Key) → (list : List Keyed) → starts ++ END ∷ [] ≡ boundaries list → StandsIn starts list result }
+    {
+        Cursor::at_front(Key::START, 0)
+    }
+
+    /// At the first key of the datagram with a number.
+    fn at_front(key: Key, datagram: u16) -> Cursor
+        ensures stands { (starts : List Key) → (list : List Keyed) → datagram < length starts → slice_index_or starts datagram END ≡ key → StandsIn starts list result }
+        ensures key { result.key ≡ key }
+        ensures datagram { result.datagram ≡ datagram }
+    {
+        Cursor {
+            key,
+            datagram,
+            filled: Filled {
+                bit: 0,
+                last: Dir::Out,
+            },
+        }
+    }
+
+    /// Whether a key lies in the cursor's datagram, at the cursor's key or behind it.
+    fn leads_to(self, starts: &[Key], key: Key) -> bool
+        requires { self.datagram < length starts.now }
+        ensures low { IsTrue result → is_within self.key key ≡ true }
+        ensures high { IsTrue result → is_before key (slice_index_or (starts.now ++ END ∷ []) (self.datagram + 1) END) ≡ true }
+    {
+        let end = end_of(starts, usize::from(self.datagram));
+        !key.is_before(self.key) && key.is_before(end)
+    }
+
+    /// A cursor from which the filling goes on to a key: this one where it leads there, else one at the
+    /// front of the datagram that carries the key.
+    fn before(self, starts: &[Key], key: Key) -> Cursor
+        requires within { self.datagram < length starts.now }
+        requires few { length starts.now ≤ MOST_DATAGRAMS }
+        requires first { is_within (slice_index_or starts.now 0 END) key ≡ true }
+        ensures stands { (list : List Keyed) → StandsIn starts.now list self → StandsIn starts.now list result }
+        ensures low { is_within result.key key ≡ true }
+        ensures next { result.datagram + 1 < length starts.now → is_before key (slice_index_or starts.now (result.datagram + 1) END) ≡ true }
+    {
+        if self.leads_to(starts, key) {
+            return self;
+        }
+        let datagram = carrier(starts, key);
+        Cursor::at_front(starts[datagram], datagram as u16)
+    }
+
+    /// The place of the area of a task with a key, any key, by the keys at which the task's datagrams begin;
+    /// none where it has no such area, and the cursor stays. Otherwise it then stands at the key.
+    pub(crate) fn place(&mut self, task: &SumTree, starts: &[Key], key: Key) -> Option<Placed>
+        requires holds { HoldsTaskList task.now }
+        requires all { starts.now ++ END ∷ [] ≡ boundaries task.now.list }
+        requires few { length starts.now ≤ MOST_DATAGRAMS }
+        requires stood { StandsIn starts.now task.now.list self.old }
+        ensures place { result ≡ place_of key task.now.list }
+        ensures stands { StandsIn starts.now task.now.list self.new }
+    {
+        let bits = task.bits(key);
+        if bits == 0 {
+            return None;
+        }
+        let from = self.before(starts, key);
+        let filled = task.filled_between(from.key, key, from.filled);
+        *self = Cursor {
+            key,
+            datagram: from.datagram,
+            filled,
+        };
+        Some(Front::filled(from.datagram, filled).place(key, bits))
+    }
+}

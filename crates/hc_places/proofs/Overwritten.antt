@@ -1,0 +1,149 @@
+-- Rows that are overwritten where they stand are merged, where each changed variable keeps its row.
+use Rattle.std.proofs.Common.{◌≡◌, ◌∙◌, ap, ℕ, suc, ◌+◌, ◌<◌, Bool, true, false, cond, List, [], ◌∷◌, drop, drop-cons, get_or, length, map, refl, sym, subst, arith}
+use Rattle.std.specs.Prelude.{IsTrue, Option, Some, None, find, is_some, option_map, unwrap_or, ◌==◌, ◌&&◌}
+use Rattle.std.proofs.lemmas.Bool.{cond-true, cond-false, eq-eqb, eqb-true}
+use Rattle.std.proofs.lemmas.Bool.Decides.{nat_tests}
+use Rattle.std.proofs.lemmas.List.Elements.{All-head, All-tail, All-weaker}
+use Rattle.hc_records.proofs.lemmas.Lists.{AllPairs-map, AllPairs-weaker}
+use Rattle.hc_cuts.proofs.lemmas.Found.{find-none}
+use Rattle.hc_records.specs.Image.{VariablePlace}
+use Rattle.hc_places.specs.Swap.{ChangedRow, ChangesAscend, KeepRows, keeps_row, merged, overwritten, row_with, with_changed}
+use Rattle.hc_places.specs.Table.{Row, RowsAscend}
+use Rattle.hc_places.proofs.Changed.{place_of}
+use Rattle.hc_places.proofs.Merged.{in-place}
+use Rattle.hc_places.proofs.Swapped.{merged-rows-ascend, place-merged, place-with, rows-told, with-ascends}
+use Rattle.hc_places.proofs.Walked.{AreAbove, ascends-above, ascends-rest, by-order}
+
+-- a row that is overwritten keeps its number
+
+own-number : (own : Bool) (row : Row) (place : VariablePlace) → (cond own (row.0, place) row).0 ≡ row.0
+own-number true row place = refl
+own-number false row place = refl
+
+pub same-number : (changed : ChangedRow) (row : Row) → (row_with changed row).0 ≡ row.0
+same-number changed row = own-number (row.0 == changed.0) row (unwrap_or changed.1 row.1)
+
+pub overwritten-ascends : (changed : ChangedRow) (rows : List Row) → RowsAscend rows → RowsAscend (map (row_with changed) rows)
+overwritten-ascends changed rows ascends =
+    AllPairs-map (λ a b. a.0 < b.0) (row_with changed) rows
+    (AllPairs-weaker (λ (a b : Row). a.0 < b.0) (λ (a b : Row). (row_with changed a).0 < (row_with changed b).0)
+    (λ a b less. let first = same-number changed a in let second = same-number changed b in omega (arith, less, first, second)) rows ascends)
+
+found-by : (here : Bool) (one two : Row) (ones twos : Option Row) → is_some ones ≡ is_some twos → is_some (cond here (Some one) ones) ≡ is_some (cond here (Some two) twos)
+found-by true one two ones twos same = refl
+found-by false one two ones twos same = same
+
+-- so it is found as before
+found-still : (changed : ChangedRow) (rows : List Row) (variable : ℕ)
+    → is_some (find (λ (row : Row). row.0 == variable) (map (row_with changed) rows)) ≡ is_some (find (λ (row : Row). row.0 == variable) rows)
+found-still changed [] variable = refl
+found-still changed (row ∷ rows) variable =
+    ap (λ (n : ℕ). is_some (cond (n == variable) (Some (row_with changed row)) (find (λ (r : Row). r.0 == variable) (map (row_with changed) rows)))) (same-number changed row)
+    ∙ found-by (row.0 == variable) (row_with changed row) row (find (λ (r : Row). r.0 == variable) (map (row_with changed) rows)) (find (λ (r : Row). r.0 == variable) rows)
+    (found-still changed rows variable)
+
+pub keeps-still : (changed : ChangedRow) (rows : List Row) (others : List ChangedRow) → KeepRows rows others → KeepRows (map (row_with changed) rows) others
+keeps-still changed rows others keep =
+    All-weaker (λ (c : ChangedRow). IsTrue (keeps_row rows c)) (λ (c : ChangedRow). IsTrue (keeps_row (map (row_with changed) rows) c))
+    (λ c kept. ap (λ (found : Bool). found && is_some c.1) (found-still changed rows c.0) ∙ kept) others keep
+
+-- rows of other numbers stay
+
+pub other-row : (changed : ChangedRow) (row : Row) → (row.0 == changed.0) ≡ false → row_with changed row ≡ row
+other-row changed row other = cond-false _ _ _ other
+
+below-other : (a b : ℕ) → a < b → (a == b) ≡ false
+below-other a b less = grind (arith, nat_tests)
+
+above-other : (a b : ℕ) → b < a → (a == b) ≡ false
+above-other a b less = grind (arith, nat_tests)
+
+pub above-stay : (changed : ChangedRow) (rows : List Row) → AreAbove changed.0 rows → rows ≡ map (row_with changed) rows
+above-stay changed [] above = refl
+above-stay changed (row ∷ rows) above =
+    let here = other-row changed row (above-other row.0 changed.0 (All-head (λ (r : Row). changed.0 < r.0) row rows above)) in
+    let rest = above-stay changed rows (All-tail (λ (r : Row). changed.0 < r.0) row rows above) in
+    ap (λ (r : Row). r ∷ rows) (sym here) ∙ ap (λ (l : List Row). row_with changed row ∷ l) rest
+
+-- a variable that keeps its row has its new place there
+
+not-found : (variable : ℕ) (rows : List Row) → AreAbove variable rows → find (λ (row : Row). row.0 == variable) rows ≡ None
+not-found variable rows above =
+    find-none (λ (row : Row). row.0 == variable) rows
+    (All-weaker (λ (row : Row). variable < row.0) (λ (row : Row). (row.0 == variable) ≡ false) (λ row less. above-other row.0 variable less) rows above)
+
+found-behind : (changed : ChangedRow) (row : Row) (rows : List Row) → (row.0 == changed.0) ≡ false → IsTrue (keeps_row (row ∷ rows) changed) → IsTrue (keeps_row rows changed)
+found-behind changed row rows other keeps =
+    sym (ap (λ (found : Option Row). is_some found && is_some changed.1) (cond-false (row.0 == changed.0) (Some row) (find (λ (r : Row). r.0 == changed.0) rows) other)) ∙ keeps
+
+own-row : (number : ℕ) (place : Option VariablePlace) (row : Row) (rows : List Row) → row.0 ≡ number → (is_some (Some row) && is_some place) ≡ true → AreAbove number rows
+    → map (row_with (number, place)) (row ∷ rows) ≡ with_changed (number, place) (row ∷ rows)
+own-row number None row rows same keeps above = cc
+own-row number (Some place) row rows same keeps above =
+    ap (λ (r : Row). r ∷ map (row_with (number, Some place)) rows) (cond-true _ _ _ (eq-eqb row.0 number same) ∙ ap (λ (n : ℕ). (n, place)) same)
+    ∙ ap (λ (l : List Row). (number, place) ∷ l) (sym (above-stay (number, Some place) rows above))
+    ∙ sym (in-place (number, Some place) row rows same)
+
+row-overwritten : (changed : ChangedRow) (rows : List Row) → RowsAscend rows → IsTrue (keeps_row rows changed) → map (row_with changed) rows ≡ with_changed changed rows
+row-overwritten changed [] ascends keeps = cc
+row-overwritten changed (row ∷ rows) ascends keeps =
+    let above = ascends-above row rows ascends in
+    by-order row.0 changed.0
+    (λ below less.
+    let other = below-other row.0 changed.0 less in
+    ap (λ (r : Row). r ∷ map (row_with changed) rows) (other-row changed row other)
+    ∙ ap (λ (l : List Row). row ∷ l) (row-overwritten changed rows (ascends-rest row rows ascends) (found-behind changed row rows other keeps))
+    ∙ sym (cond-true _ _ _ below))
+    (λ not_less higher less.
+    let behind = found-behind changed row rows (above-other row.0 changed.0 less) keeps in
+    let none = not-found changed.0 rows (All-weaker (λ (r : Row). row.0 < r.0) (λ (r : Row). changed.0 < r.0) (λ r low. omega (arith, low, less)) rows above) in
+    let never : false ≡ true = sym (ap (λ (found : Option Row). is_some found && is_some changed.1) none) ∙ behind in
+    cc)
+    (λ not_less neither same.
+    let here = cond-true (row.0 == changed.0) (Some row) (find (λ (r : Row). r.0 == changed.0) rows) (eq-eqb row.0 changed.0 same) in
+    own-row changed.0 changed.1 row rows same (sym (ap (λ (found : Option Row). is_some found && is_some changed.1) here) ∙ keeps) (rw (← same) above))
+
+-- a change in front of others may as well be made first
+
+swapped-by : (here : Bool) (place : Option VariablePlace) (told : Option (Option VariablePlace)) (old : Option VariablePlace) → (here ≡ true → told ≡ None)
+    → unwrap_or told (cond here place old) ≡ cond here place (unwrap_or told old)
+swapped-by true place told old none = rw (none refl) refl
+swapped-by false place told old none = refl
+
+none-told : (others : List ChangedRow) (variable : ℕ) → AreAbove variable others → option_map (λ (c : ChangedRow). c.1) (find (λ (c : ChangedRow). c.0 == variable) others) ≡ None
+none-told others variable above =
+    ap (option_map (λ (c : ChangedRow). c.1))
+    (find-none (λ (c : ChangedRow). c.0 == variable) others
+    (All-weaker (λ (c : ChangedRow). variable < c.0) (λ (c : ChangedRow). (c.0 == variable) ≡ false) (λ c less. above-other c.0 variable less) others above))
+
+pub first-made : (changed : ChangedRow) (others : List ChangedRow) (rows : List Row) → AreAbove changed.0 others → RowsAscend rows
+    → merged others (with_changed changed rows) ≡ with_changed changed (merged others rows)
+first-made changed others rows above ascends =
+    let all = merged-rows-ascend others rows ascends in
+    let first = with-ascends changed rows ascends in
+    rows-told (merged others (with_changed changed rows)) (with_changed changed (merged others rows)) (merged-rows-ascend others (with_changed changed rows) first) (with-ascends changed (merged others rows) all)
+    (λ variable.
+    let told = option_map (λ (c : ChangedRow). c.1) (find (λ (c : ChangedRow). c.0 == variable) others) in
+    place-merged others (with_changed changed rows) variable first
+    ∙ ap (unwrap_or told) (place-with changed rows variable ascends)
+    ∙ swapped-by (changed.0 == variable) changed.1 told (place_of rows variable)
+    (λ here. none-told others variable (subst (λ (n : ℕ). AreAbove n others) (eqb-true changed.0 variable here) above))
+    ∙ ap (cond (changed.0 == variable) changed.1) (sym (place-merged others rows variable ascends))
+    ∙ sym (place-with changed (merged others rows) variable all))
+
+pub overwritten-merged : (changed : List ChangedRow) (rows : List Row) → ChangesAscend changed → RowsAscend rows → KeepRows rows changed → overwritten changed rows ≡ merged changed rows
+overwritten-merged [] rows changes ascends keep = refl
+overwritten-merged (changed ∷ others) rows changes ascends keep =
+    overwritten-merged others (map (row_with changed) rows) (ascends-rest changed others changes) (overwritten-ascends changed rows ascends)
+    (keeps-still changed rows others (All-tail (λ (c : ChangedRow). IsTrue (keeps_row rows c)) changed others keep))
+    ∙ ap (merged others) (row-overwritten changed rows ascends (All-head (λ (c : ChangedRow). IsTrue (keeps_row rows c)) changed others keep))
+    ∙ first-made changed others rows (ascends-above changed others changes) ascends
+
+-- the changes in their order: behind the first so many the next one is made
+pub overwritten-more : (changed : List ChangedRow) (rows next : List Row) (index : ℕ) (change : ChangedRow) → index < length changed → change ≡ get_or changed index change → next ≡ map (row_with change) rows
+    → overwritten (drop (index + 1) changed) next ≡ overwritten (drop index changed) rows
+overwritten-more changed rows next index change within is made =
+    let more : suc index ≡ index + 1 = omega arith in
+    let first : drop index changed ≡ change ∷ drop (index + 1) changed =
+    drop-cons changed index change within ∙ ap (λ (c : ChangedRow). c ∷ drop (suc index) changed) (sym is) ∙ ap (λ (n : ℕ). change ∷ drop n changed) more in
+    ap (overwritten (drop (index + 1) changed)) made ∙ sym (ap (λ (l : List ChangedRow). overwritten l rows) first)

@@ -1,0 +1,87 @@
+-- A list of which a part is replaced by a longer or a shorter one: what lies behind it is shifted.
+use Rattle.std.proofs.Common.{◌≡◌, ◌∙◌, ap, ℕ, ◌+◌, ◌-◌, ◌≤◌, List, ◌++◌, drop, length, take, sym, arith}
+use lib.Seq.{paste}
+use Rattle.std.proofs.lemmas.List.{drop-append-le, drop_at, length-append, length-drop, length-take, take-append-le, take-take, take_all}
+use Rattle.std.proofs.lemmas.List.Edits.{length-paste, take-paste}
+
+-- behind the first so many of a longer beginning that is kept, a shorter one is kept too
+pub front-kept : {X : Type 0} (low high : ℕ) (new old : List X) → low ≤ high → take high new ≡ take high old → take low new ≡ take low old
+front-kept low high new old order same = sym (take-take low high new order) ∙ ap (take low) same ∙ take-take low high old order
+
+-- a list with more behind it, of which the end is then copied up by as many
+
+pub record Widened {X : Type 0} (old new : List X) (high count : ℕ) : Type 0 where
+  pub size : length new ≡ length old + count
+  pub front : take high new ≡ take high old
+  pub behind : drop (high + count) new ≡ drop high old
+
+end-copied : {X : Type 0} (old more : List X) (high : ℕ) → high ≤ length old → take (length old - high) (drop high (old ++ more)) ≡ drop high old
+end-copied old more high bound =
+    let size = length-drop high old in
+    ap (take (length old - high)) (drop-append-le high old more bound)
+    ∙ take-append-le (length old - high) (drop high old) more (omega (arith, size))
+    ∙ take_all (length old - high) (drop high old) (omega (arith, size))
+
+pub widened : {X : Type 0} (old more new : List X) (high : ℕ) → high ≤ length old → new ≡ paste (old ++ more) (high + length more) (drop high (old ++ more)) (length old - high)
+    → Widened old new high (length more)
+widened {X} old more new high bound is =
+    let all = old ++ more in
+    let at = high + length more in
+    let count = length old - high in
+    let size = length-append old more in
+    let rest = length-drop high all in
+    let held = length-take at all in
+    let whole : at + count ≤ length all = omega (arith, size, bound) in
+    let some : count ≤ length (drop high all) = omega (arith, size, rest, bound) in
+    let own : length new ≡ length old + length more = ap length is ∙ length-paste all at (drop high all) count whole some ∙ size in
+    let parts : new ≡ take at all ++ drop high old =
+    sym (take_all (at + count) new (omega (arith, own, bound)))
+    ∙ ap (take (at + count)) is
+    ∙ take-paste all at (drop high all) count (omega (arith, size, bound)) some
+    ∙ ap (λ (l : List X). take at all ++ l) (end-copied old more high bound) in
+    record {
+      size = own;
+      front =
+          ap (take high) parts
+          ∙ take-append-le high (take at all) (drop high old) (omega (arith, held, size, bound))
+          ∙ take-take high at all (omega arith)
+          ∙ take-append-le high old more bound;
+      behind = ap (drop at) parts ∙ drop_at (take at all) (drop high old) at (omega (arith, held, size, bound));
+    }
+
+-- a list of which the end is copied down, and as many cut off
+pub narrowed : {X : Type 0} (old : List X) (low high count : ℕ) → low ≤ high → high ≤ length old → count ≡ length old - (high - low)
+    → take count (paste old low (drop high old) (length old - high)) ≡ take low old ++ drop high old
+narrowed {X} old low high count order bound is =
+    let size = length-drop high old in
+    let end = length old - high in
+    let at : count ≡ low + end = omega (arith, is, order, bound) in
+    ap (λ (n : ℕ). take n (paste old low (drop high old) end)) at
+    ∙ take-paste old low (drop high old) end (omega (arith, order, bound)) (omega (arith, size))
+    ∙ ap (λ (l : List X). take low old ++ l) (take_all end (drop high old) (omega (arith, size)))
+
+pub record Placed {X : Type 0} (old new : List X) (low high count : ℕ) : Type 0 where
+  pub size : low + count ≤ length new
+  pub front : take low new ≡ take low old
+  pub behind : drop (low + count) new ≡ drop high old
+
+pub placed-wide : {X : Type 0} (old new : List X) (low high count more : ℕ) → low ≤ high → high ≤ length old → more + (high - low) ≡ count → Widened old new high more → Placed old new low high count
+placed-wide old new low high count more order bound is wide =
+    let at : low + count ≡ high + more = omega (arith, order, is) in
+    let own = wide.size in
+    record {
+      size = omega (arith, at, own, bound);
+      front = front-kept low high new old order wide.front;
+      behind = ap (λ (n : ℕ). drop n new) at ∙ wide.behind;
+    }
+
+pub placed-narrow : {X : Type 0} (old new : List X) (low high count : ℕ) → low + count ≤ high → high ≤ length old → new ≡ take (low + count) old ++ drop high old → Placed old new low high count
+placed-narrow old new low high count order bound is =
+    let at = low + count in
+    let held = length-take at old in
+    let all = ap length is ∙ length-append (take at old) (drop high old) in
+    record {
+      size = omega (arith, held, all, order, bound);
+      front = ap (take low) is ∙ take-append-le low (take at old) (drop high old) (omega (arith, held, order, bound)) ∙ take-take low at old (omega arith);
+      behind = ap (drop at) is ∙ drop_at (take at old) (drop high old) at (omega (arith, held, order, bound));
+    }

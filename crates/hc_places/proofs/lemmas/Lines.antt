@@ -1,0 +1,66 @@
+-- The tables of the tasks of a project's line, and what is known of their datagrams.
+use Rattle.std.proofs.Common.{◌≡◌, ◌∙◌, ap, ℕ, ◌<◌, Bool, true, false, cond, List, [], ◌∷◌, refl, sym, subst, arith}
+use Rattle.std.specs.Prelude.{All, None, filter, ◌==◌}
+use Rattle.std.proofs.lemmas.List.Elements.{All-filter}
+use Rattle.hc_records.specs.declared.records.Declared.{Declared}
+use Rattle.hc_records.specs.Image.{inside, task_places}
+use Rattle.hc_records.specs.Laws.{LiesInside}
+use Rattle.hc_records.specs.Line.{groups_of, line_from}
+use Rattle.hc_records.specs.Packing.{Placed, opening, packed}
+use Rattle.hc_records.specs.Project.{lowest_fault}
+use Rattle.hc_records.specs.TaskList.{Keyed, task_list}
+use Rattle.hc_records.proofs.lemmas.Inside.{packed-inside}
+use Rattle.hc_tasks.specs.Areas.{areas_by_rank, list_by}
+use Rattle.hc_tasks.proofs.lemmas.Told.{task-listed}
+use Rattle.hc_places.specs.Loads.{load_in, load_of, table_at}
+use Rattle.hc_places.specs.Loads.{counted_inside}
+use Rattle.hc_places.specs.Table.{task_table}
+use Rattle.hc_places.proofs.Configurable.{project-configurable}
+use Rattle.hc_places.proofs.lemmas.Ranks.{expected-low}
+use Rattle.hc_places.proofs.Tables.{table-same}
+
+-- the table of a task is put together from what its datagrams hold
+pub table-loaded : (groups : List Declared) (task : ℕ) → lowest_fault (groups_of groups) ≡ None
+    → task_table (line_from 1 groups) task ≡ table_at task (task_places task (line_from 1 groups))
+table-loaded groups task none = sym (table-same task (line_from 1 groups) (project-configurable groups none))
+
+-- so its list tells it
+pub same-table : (old new : List Declared) (task : ℕ) → lowest_fault (groups_of old) ≡ None → lowest_fault (groups_of new) ≡ None
+    → task_list task (line_from 1 old) ≡ task_list task (line_from 1 new) → task_table (line_from 1 old) task ≡ task_table (line_from 1 new) task
+same-table old new task none none' same =
+    table-loaded old task none
+    ∙ ap (λ (list : List Keyed). table_at task (packed opening list)) same
+    ∙ sym (table-loaded new task none')
+
+-- the areas of one datagram by themselves
+pub record IsDatagramOf (groups : List Declared) (task datagram : ℕ) (areas : List Placed) : Type 0 where
+  pub inside : All LiesInside areas
+  pub counted : counted_inside datagram areas < 65536
+  pub load : load_in areas datagram ≡ load_in (task_places task (line_from 1 groups)) datagram
+
+kept-by : {X : Type 0} (here : Bool) (test : X → Bool) (x : X) (kept : List X) → test x ≡ here → filter test kept ≡ kept → filter test (cond here (x ∷ kept) kept) ≡ cond here (x ∷ kept) kept
+kept-by true test x kept is rest = rw is (ap (λ (xs : List _). x ∷ xs) rest)
+kept-by false test x kept is rest = rest
+
+kept-twice : {X : Type 0} (test : X → Bool) (xs : List X) → filter test (filter test xs) ≡ filter test xs
+kept-twice test [] = refl
+kept-twice test (x ∷ xs) = kept-by (test x) test x (filter test xs) refl (kept-twice test xs)
+
+pub datagram-of : (groups : List Declared) (task datagram : ℕ) (areas : List Placed) → lowest_fault (groups_of groups) ≡ None
+    → areas ≡ inside datagram (packed opening (list_by task (areas_by_rank groups))) → IsDatagramOf groups task datagram areas
+datagram-of groups task datagram areas none is =
+    let line = line_from 1 groups in
+    let configurable = project-configurable groups none in
+    let here : areas ≡ inside datagram (task_places task line) = is ∙ ap (λ (list : List Keyed). inside datagram (packed opening list)) (sym (task-listed task groups)) in
+    let own : inside datagram areas ≡ inside datagram (task_places task line) =
+    ap (inside datagram) here ∙ kept-twice (λ (area : Placed). area.datagram == datagram) (task_places task line) in
+    let same : counted_inside datagram areas ≡ counted_inside datagram (task_places task line) = ap (λ (load : _). load.expected) (ap load_of own) in
+    let expected = configurable.counted task datagram in
+    let low = expected-low task datagram line in
+    let slaves = configurable.few in
+    record {
+      inside = subst (λ (all : List Placed). All LiesInside all) (sym here)
+          (All-filter (λ area. area.datagram == datagram) LiesInside (task_places task line) (packed-inside opening (task_list task line) (configurable.packable task)));
+      counted = omega (arith, same, expected, low, slaves);
+      load = ap load_of own;
+    }

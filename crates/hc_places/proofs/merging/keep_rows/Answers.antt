@@ -1,0 +1,27 @@
+use Rattle.std.proofs.Common.{◌∙◌, ◌<◌, arith, length, refl, subst, sym}
+use Rattle.std.specs.Prelude.{IsTrue}
+use Rattle.std.proofs.lemmas.List.{take_all}
+use Rattle.std.proofs.lemmas.List.Elements.{All-more}
+use Rattle.hc_places.specs.Swap.{ChangedRow, KeepRows, keeps_row}
+use Rattle.hc_places.proofs.Reached.{lower-next}
+use Rattle.hc_places.proofs.merging.keep_rows.Goals as goal
+
+pub loop-change-preserved : goal.loop-change-preserved
+loop-change-preserved c =
+    let rows = c.args.rows.now in
+    let changed = c.args.changed.now in
+    let index = c.loop-change.change-index in
+    let change : ChangedRow = c.change-item.result in
+    let inside : index < length changed = omega arith in
+    let keeps = sym c.keeps_row.ensures ∙ c.if-not-keeps_row.false in
+    record {
+      within = c.count_with-front.ensures.bound;
+      lower = lower-next rows c.count_with-front.result changed index change c.requires.changes inside c.change-item.is c.count_with-front.ensures.low;
+      kept = All-more (λ (one : ChangedRow). IsTrue (keeps_row rows one)) changed index change inside c.loop-change.invariant.kept
+          (subst (λ (one : ChangedRow). IsTrue (keeps_row rows one)) c.change-item.is keeps);
+    }
+
+pub returns : goal.returns
+returns c =
+    let all = take_all c.loop-change.change-index c.args.changed.now c.loop-change-test.false in
+    (λ yes. subst (KeepRows c.args.rows.now) all c.loop-change.invariant.kept, λ keep. refl)

@@ -1,0 +1,29 @@
+use Rattle.std.proofs.Common.{◌≡◌, ◌∙◌, ◌+◌, ◌<◌, ◌≤◌, List, ap, arith, length, map, subst, sym}
+use Rattle.std.proofs.lemmas.List.{length-map}
+use Rattle.std.specs.List.{AllWithin}
+use Rattle.hc_places.specs.Swap.{ChangedRow, row_with}
+use Rattle.hc_places.specs.Table.{Row, RowsAscend}
+use Rattle.hc_places.proofs.Overwritten.{overwritten-ascends, overwritten-more}
+use Rattle.hc_places.proofs.Reached.{lower-next, lower-still}
+use Rattle.hc_places.proofs.merging.overwrite.Goals as goal
+
+pub loop-change-preserved : goal.loop-change-preserved
+loop-change-preserved c =
+    let rows = c.loop-change.rows.items in
+    let next = c.overwrite_row.new.rows.items in
+    let changed = c.args.changed.now in
+    let index = c.loop-change.change-index in
+    let front = c.count_with-front.result in
+    let change : ChangedRow = c.change-item.result in
+    let inside : index < length changed = omega arith in
+    let is : next ≡ map (row_with change) rows = c.overwrite_row.ensures in
+    let same = c.as_slice-in-loop-change.ensures.value in
+    let bound : front ≤ length rows = subst (λ (l : List Row). front ≤ length l) same c.count_with-front.ensures.bound in
+    let low : AllWithin (λ (row : Row). row.0 ≤ change.0) rows 0 front = subst (λ (l : List Row). AllWithin (λ (row : Row). row.0 ≤ change.0) l 0 front) same c.count_with-front.ensures.low in
+    let size = ap length is ∙ length-map rows (row_with change) in
+    record {
+      is = overwritten-more changed rows next index change inside c.change-item.is is ∙ c.loop-change.invariant.is;
+      ascends = subst RowsAscend (sym is) (overwritten-ascends change rows c.loop-change.invariant.ascends);
+      within = omega (arith, bound, size);
+      lower = lower-still change rows next front changed (index + 1) is bound (lower-next rows front changed index change c.requires.changes inside c.change-item.is low);
+    }

@@ -1,0 +1,33 @@
+use Rattle.std.proofs.Common.{◌≡◌, ◌∙◌, ◌<◌, ap, arith, false, length, sym, true}
+use Rattle.std.proofs.lemmas.Bool.{eq-eqb, eqb-true}
+use Rattle.std.proofs.lemmas.List.{get_or_default}
+use Rattle.hc_places.specs.Table.{Row}
+use Rattle.hc_places.proofs.Reached.{no-place, none-set, row-set}
+use Rattle.hc_places.proofs.merging.overwrite_row.Goals as goal
+use Rattle.hc_places.proofs.merging.overwrite_row.Goals.{else-at-len-via-then-at-len+else-eq, else-at-len-via-else-at-len}
+
+pub returns-in_default : goal.returns-in_default
+returns-in_default c = no-place c.args.changed.now c.args.rows.now.items c.in_default.is
+
+pub returns-then-eq : goal.returns-then-eq
+returns-then-eq c =
+    let rows = c.args.rows.now.items in
+    let changed = c.args.changed.now in
+    let row : Row = c.index.result.now in
+    let inside : c.args.at < length rows = omega (arith, c.if-at-len.true, c.len.ensures, c.args.rows.now.ok.0) in
+    let same = eqb-true row.0 changed.0 (sym c.eq.ensures ∙ c.if-eq.true) in
+    row-set changed c.in-Some.place rows c.args.at row c.in-Some.is c.requires.ascends c.requires.below inside (ap (λ (r : Row). r.0) (sym c.index.ensures) ∙ same)
+
+pub returns-else-at-len : goal.returns-else-at-len
+returns-else-at-len c =
+    let rows = c.args.rows.now.items in
+    let changed = c.args.changed.now in
+    none-set changed rows c.args.at c.requires.ascends c.requires.below
+    (elim c.else-at-len.branch [
+      | else-at-len-via-then-at-len+else-eq w ↦ λ d inside same.
+          let row : Row = w.index.result.now in
+          let here : row.0 ≡ changed.0 = ap (λ (r : Row). r.0) (w.index.ensures ∙ get_or_default rows c.args.at row d inside) ∙ same in
+          let never : false ≡ true = sym w.if-eq.false ∙ w.eq.ensures ∙ eq-eqb row.0 changed.0 here in
+          cc
+      | else-at-len-via-else-at-len w ↦ λ d inside same. omega (arith, inside, w.if-at-len.false, c.len.ensures, c.args.rows.now.ok.0)
+    ])

@@ -1,0 +1,3 @@
+-- Words that contracts of private functions alone use.
+pub mod Walk
+pub mod Parts

@@ -1,0 +1,161 @@
+//! A table's rows with changes of which some bring or take rows: what lies from the first of these to the
+//! last is merged aside and put back, and the rest is overwritten where it stands.
+ghost use Rattle.std.specs.Prelude.{◌≡◌, ◌+◌, ◌-◌, ◌≤◌, ◌++◌, [], IsTrue, drop, length, slice_range, take, vec_capacity};
+ghost use Rattle.std.specs.List.{AllWithin};
+ghost use Rattle.hc_places.specs.Swap.{ChangesAscend, keeps_row, merged};
+ghost use Rattle.hc_places.specs.Table.{RowsAscend};
+
+use crate::merging::{count_from, count_near, count_with, keeps_row, merge, overwrite};
+use crate::swap::ChangedRow;
+use crate::table::Row;
+
+/// How many changes stand in front of the first that brings or takes a row, and how many up to the last,
+/// which is among them; 0 and 0 where none does.
+fn find_middle(rows: &[Row], changed: &[ChangedRow]) -> (usize, usize)
+    requires ascends { RowsAscend rows.now }
+    requires changes { ChangesAscend changed.now }
+    ensures order { result.0 ≤ result.1 }
+    ensures bound { result.1 ≤ length changed.now }
+    ensures front { AllWithin (λ change. IsTrue (keeps_row rows.now change)) changed.now 0 result.0 }
+    ensures behind { AllWithin (λ change. IsTrue (keeps_row rows.now change)) changed.now result.1 (length changed.now) }
+{
+    let mut lower = 0;
+    let mut first = 0;
+    let mut end = 0;
+    for i in 0..changed.len() {
+        let change = &changed[i];
+        let at = count_from(rows, lower, change.0);
+        lower = count_with(rows, at, change.0);
+        if !keeps_row(rows, at, change) {
+            first = if end == 0 { i } else { first };
+            end = i + 1;
+        }
+    }
+    (first, end)
+}
+
+/// How many rows have lower numbers than all changes, and how many no higher number than the last.
+fn find_rows(rows: &[Row], changed: &[ChangedRow]) -> (usize, usize)
+    requires ascends { RowsAscend rows.now }
+    requires changes { ChangesAscend changed.now }
+    ensures order { result.0 ≤ result.1 }
+    ensures bound { result.1 ≤ length rows.now }
+    ensures parts { merged changed.now rows.now ≡ take result.0 rows.now ++ (merged changed.now (slice_range rows.now result.0 result.1) ++ drop result.1 rows.now) }
+{
+    let (Some(first), Some(last)) = (changed.first(), changed.last()) else {
+        return (0, 0);
+    };
+    let low = count_near(rows, first.0);
+    let behind = &rows[low..];
+    (
+        low,
+        low + count_with(behind, count_near(behind, last.0), last.0),
+    )
+}
+
+/// Shifts the rows behind the first `high` up by as many as `more` are, into room that there is.
+fn widen(rows: &mut Vec<Row>, high: usize, more: &[Row])
+    requires bound { high ≤ length rows.old.items }
+    requires room { length rows.old.items + length more.now ≤ vec_capacity rows.old }
+    ensures size { length rows.new.items ≡ length rows.old.items + length more.now }
+    ensures front { take high rows.new.items ≡ take high rows.old.items }
+    ensures behind { drop (high + length more.now) rows.new.items ≡ drop high rows.old.items }
+{
+    let count = rows.len();
+    append(rows, more);
+    rows.copy_within(high..count, high + more.len());
+}
+
+/// Puts rows behind others, into room that there is.
+fn append(rows: &mut Vec<Row>, more: &[Row])
+    requires room { length rows.old.items + length more.now ≤ vec_capacity rows.old }
+    ensures { rows.new.items ≡ rows.old.items ++ more.now }
+{
+    for row in more {
+        rows.push_reserved(*row);
+    }
+}
+
+/// Takes the rows behind the first `low` out, up to the first `high`.
+fn narrow(rows: &mut Vec<Row>, low: usize, high: usize)
+    requires order { low ≤ high }
+    requires bound { high ≤ length rows.old.items }
+    ensures { rows.new.items ≡ take low rows.old.items ++ drop high rows.old.items }
+{
+    let count = rows.len();
+    rows.copy_within(high..count, low);
+    rows.truncate(count - (high - low));
+}
+
+/// Shifts the rows behind the first `high`, so that as many as `new` are lie between these and the first
+/// `low`.
+fn make_place(rows: &mut Vec<Row>, low: usize, high: usize, new: &[Row])
+    requires order { low ≤ high }
+    requires bound { high ≤ length rows.old.items }
+    requires room { length rows.old.items + length new.now ≤ vec_capacity rows.old + (high - low) }
+    ensures size { low + length new.now ≤ length rows.new.items }
+    ensures front { take low rows.new.items ≡ take low rows.old.items }
+    ensures behind { drop (low + length new.now) rows.new.items ≡ drop high rows.old.items }
+{
+    let old = high - low;
+    if old < new.len() {
+        widen(rows, high, &new[old..]);
+    } else {
+        narrow(rows, low + new.len(), high);
+    }
+}
+
+/// Writes rows over those behind the first `low`.
+fn lay(rows: &mut [Row], low: usize, new: &[Row])
+    requires { low + length new.now ≤ length rows.old }
+    ensures { rows.new ≡ take low rows.old ++ (new.now ++ drop (low + length new.now) rows.old) }
+{
+    rows[low..low + new.len()].copy_from_slice(new);
+}
+
+/// Puts new rows in the place of those behind the first `low`, up to the first `high`, into room that there
+/// is.
+fn replace_rows(rows: &mut Vec<Row>, low: usize, high: usize, new: &[Row])
+    requires order { low ≤ high }
+    requires bound { high ≤ length rows.old.items }
+    requires room { length rows.old.items + length new.now ≤ vec_capacity rows.old + (high - low) }
+    ensures { rows.new.items ≡ take low rows.old.items ++ (new.now ++ drop high rows.old.items) }
+{
+    make_place(rows, low, high, new);
+    lay(rows.as_mut_slice(), low, new);
+}
+
+/// Makes rows those with changes, with the help of memory that has room for all: those from the first
+/// change to the last are merged there and put back, or where the rows' own memory has no room for them,
+/// all are merged there and stay.
+fn merge_rows(rows: &mut Vec<Row>, changed: &[ChangedRow], into: Vec<Row>)
+    requires ascends { RowsAscend rows.old.items }
+    requires changes { ChangesAscend changed.now }
+    requires empty { into.items ≡ [] }
+    requires room { length (merged changed.now rows.old.items) ≤ vec_capacity into }
+    ensures { rows.new.items ≡ merged changed.now rows.old.items }
+{
+    let (low, high) = find_rows(rows.as_slice(), changed);
+    let mut new = merge(into, changed, &rows[low..high]);
+    if new.len() <= rows.capacity() - rows.len() + (high - low) {
+        replace_rows(rows, low, high, new.as_slice());
+    } else {
+        new.clear();
+        *rows = merge(new, changed, rows.as_slice());
+    }
+}
+
+/// The same, but changes in front of the first that brings or takes a row, and behind the last, are
+/// overwritten where they stand.
+pub(crate) fn change_middle(rows: &mut Vec<Row>, changed: &[ChangedRow], into: Vec<Row>)
+    requires ascends { RowsAscend rows.old.items }
+    requires changes { ChangesAscend changed.now }
+    requires empty { into.items ≡ [] }
+    requires room { length (merged changed.now rows.old.items) ≤ vec_capacity into }
+    ensures { rows.new.items ≡ merged changed.now rows.old.items }
+{
+    let (first, end) = find_middle(rows.as_slice(), changed);
+    overwrite(rows, &changed[..first]);
+    overwrite(rows, &changed[end..]);
+    merge_rows(rows, &changed[first..end], into);
+}

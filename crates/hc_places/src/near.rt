@@ -1,0 +1,38 @@
+//! Variables that are looked up one after another, each near the one before.
+ghost use Rattle.std.specs.Prelude.{◌≡◌, ◌≤◌, find, length, option_map};
+ghost use Rattle.hc_places.specs.Room.{AreBelow};
+ghost use Rattle.hc_places.specs.Table.{RowsAscend};
+
+use crate::merging::count_from;
+use crate::table::{Place, Places, Row, count_below, place_at};
+use hc_records::records::VarId;
+
+/// How many rows have a lower number than a variable, looked for from a number of rows on if all in front
+/// of it have.
+fn count_beside(rows: &[Row], near: usize, variable: VarId) -> usize
+    requires { RowsAscend rows.now }
+    ensures bound { result ≤ length rows.now }
+    ensures below { AreBelow rows.now variable result }
+{
+    if 0 < near && near <= rows.len() && rows[near - 1].0.number() < variable.number() {
+        return count_from(rows, near, variable);
+    }
+    count_below(rows, variable)
+}
+
+impl Places {
+    ghost use Rattle.std.specs.Prelude.{◌≡◌};
+    ghost use Rattle.hc_places.specs.Table.{place_in};
+
+    /// Where a variable stands, as `place` tells it. `near` is where the one before it was found, or any other
+    /// number, and tells afterwards where this one was: variables that are looked up in the order of their
+    /// numbers are found in few steps each. It takes no memory.
+    pub fn place_near(&self, near: &mut usize, variable: VarId) -> Option<Place>
+        ensures { result ≡ place_in self.now variable }
+    {
+        let rows = self.variables();
+        let at = count_beside(rows, *near, variable);
+        *near = at;
+        place_at(rows, at, variable)
+    }
+}

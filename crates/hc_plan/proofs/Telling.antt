@@ -1,0 +1,62 @@
+-- What is told of an edit leads from the table of the line before it to that of the line after it.
+use Rattle.std.proofs.Common.{◌≡◌, ◌∙◌, ◌<◌, ℕ, List, None, length, map, refl, ap, arith}
+use Rattle.std.specs.Prelude.{All}
+use Rattle.std.proofs.lemmas.List.{length-map}
+use Rattle.hc_records.specs.declared.records.Area.{Area}
+use Rattle.hc_records.specs.declared.records.Declared.{Declared}
+use Rattle.hc_records.specs.Edits.{crowded_task}
+use Rattle.hc_records.specs.Line.{groups_of, line_from}
+use Rattle.hc_records.specs.Project.{lowest_fault}
+use Rattle.hc_registers.specs.Blocks.{moved_blocks}
+use Rattle.hc_places.specs.Layout.{layout_of}
+use Rattle.hc_places.specs.Swap.{AreOnce, ChangedRow, ChangedTask, Leads, LeadsAsSaid, Swap}
+use Rattle.hc_places.specs.Table.{IsTable, Table, table_of}
+use Rattle.hc_places.proofs.lemmas.Ascends.{table-ascends}
+use Rattle.hc_changes.specs.Candidates.{Candidate}
+use Rattle.hc_changes.specs.Outlook.{IsOutlook, Outlook}
+use Rattle.hc_changes.specs.Rows.{StandsInside, changed_rows}
+use Rattle.hc_changes.proofs.lemmas.SwapSays.{candidates-stand, swap-says}
+use Rattle.hc_plan.specs.inner.Applied.{AreSeen}
+use Rattle.hc_plan.specs.Reports.{name_of}
+use Rattle.hc_plan.proofs.LineBlocks.{few-moved}
+
+-- the table of a project's line is one
+is-table : (groups : List Declared) → lowest_fault (groups_of groups) ≡ None → IsTable (table_of (line_from 1 groups))
+is-table groups none = record { eight = refl; ascends = table-ascends groups none }
+
+-- the candidates that were seen stand in datagrams that there are
+pub seen-stand : (it : Outlook) (found read : List Candidate) (tasks : List ChangedTask) → IsOutlook it → crowded_task (line_from 1 it.new) ≡ None → AreSeen it found tasks → read ≡ found
+    → All StandsInside read
+seen-stand it found read tasks is fits seen same = candidates-stand it is fits read (same ∙ seen.candidates)
+
+-- the rows that were told, by what was read
+pub told-rows : (it : Outlook) (table : Table) (found : List Candidate) (before after : List (List Area)) (rows : List ChangedRow) → table ≡ table_of (line_from 1 it.old)
+    → before ≡ it.before → after ≡ it.after → rows ≡ changed_rows table found before after → rows ≡ changed_rows (table_of (line_from 1 it.old)) found it.before it.after
+told-rows it table found before after rows stands was is told =
+    told
+    ∙ ap (λ (t : Table). changed_rows t found before after) stands
+    ∙ ap (λ (s : List (List Area)). changed_rows (table_of (line_from 1 it.old)) found s after) was
+    ∙ ap (λ (s : List (List Area)). changed_rows (table_of (line_from 1 it.old)) found it.before s) is
+
+pub told-once : (it : Outlook) (found read : List Candidate) (tasks : List ChangedTask) (rows : List ChangedRow) → IsOutlook it → AreSeen it found tasks → read ≡ found
+    → rows ≡ changed_rows (table_of (line_from 1 it.old)) read it.before it.after → AreOnce rows
+told-once it found read tasks rows is seen same told = (swap-says it is (table_of (line_from 1 it.old)) refl tasks rows read (same ∙ seen.candidates) told seen.differ).1
+
+pub told-leads : (it : Outlook) (found read : List Candidate) (tasks : List ChangedTask) (rows : List ChangedRow) (swap : Swap) → IsOutlook it → AreSeen it found tasks → read ≡ found
+    → rows ≡ changed_rows (table_of (line_from 1 it.old)) read it.before it.after → LeadsAsSaid (record { tasks = tasks; rows = rows }) swap
+    → Leads (table_of (line_from 1 it.old)) (table_of (line_from 1 it.new)) swap
+told-leads it found read tasks rows swap is seen same told leads =
+    leads (table_of (line_from 1 it.old)) (table_of (line_from 1 it.new)) (is-table it.old is.was_project) (is-table it.new is.is_project)
+    (swap-says it is (table_of (line_from 1 it.old)) refl tasks rows read (same ∙ seen.candidates) told seen.differ).0
+
+-- the moved blocks are as many as their names, and few
+pub named-count : (it : Outlook) (names : List (ℕ × ℕ)) → names ≡ map name_of (moved_blocks (line_from 1 it.old) (line_from 1 it.new))
+    → length names ≡ length (moved_blocks (line_from 1 it.old) (line_from 1 it.new))
+named-count it names is = ap length is ∙ length-map (moved_blocks (line_from 1 it.old) (line_from 1 it.new)) name_of
+
+pub named-few : (it : Outlook) (names : List (ℕ × ℕ)) → IsOutlook it → crowded_task (line_from 1 it.new) ≡ None
+    → names ≡ map name_of (moved_blocks (line_from 1 it.old) (line_from 1 it.new)) → length names < 4294967296
+named-few it names is fits named =
+    let few = few-moved it.new (layout_of (line_from 1 it.new)) (line_from 1 it.old) (record { project = is.is_project; uncrowded = fits; stands = refl }) in
+    let count = named-count it names named in
+    omega (arith, few, count)

@@ -1,0 +1,30 @@
+-- An edit that is worked out on a line, and what is seen of the line that it makes.
+use Rattle.std.specs.Prelude.{◌≡◌, ℕ, ◌<◌, ◌==◌, All, List, None, find, option_map, slice_get}
+use Rattle.hc_records.specs.declared.edit.Edit.{Edit}
+use Rattle.hc_records.specs.declared.limits.TheConstants.{TASKS}
+use Rattle.hc_records.specs.Edits.{crowded_task, groups_after}
+use Rattle.hc_records.specs.Line.{line_from}
+use Rattle.hc_edits.specs.Edits.{own_fault}
+use Rattle.hc_places.specs.Swap.{ChangedTask, ChangesAscend, IsNewTask}
+use Rattle.hc_places.specs.Table.{Table, table_of}
+use Rattle.hc_changes.specs.Candidates.{Candidate}
+use Rattle.hc_changes.specs.Outlook.{IsOutlook, Outlook}
+use Rattle.hc_changes.specs.Rows.{candidates_of}
+
+-- an edit without a fault of its own makes this of a line that has a table, and none of whose tasks is crowded
+pub record Makes (edit : Edit) (table : Table) (outlook : Outlook) : Type 0 where
+  pub is : IsOutlook outlook
+  pub own : own_fault outlook.old edit ≡ None
+  pub leads : outlook.new ≡ groups_after outlook.old edit
+  pub fits : crowded_task (line_from 1 outlook.old) ≡ None
+  pub stands : table ≡ table_of (line_from 1 outlook.old)
+
+-- the candidates of the new line with their places, and the tasks whose tables differ with their new ones
+pub record AreSeen (outlook : Outlook) (found : List Candidate) (tasks : List ChangedTask) : Type 0 where
+  pub candidates : found ≡ candidates_of outlook
+  pub differ :
+      (task : ℕ)
+      → IsNewTask (slice_get (table_of (line_from 1 outlook.old)).tasks task) (slice_get (table_of (line_from 1 outlook.new)).tasks task)
+      (option_map (λ changed. changed.1) (find (λ changed. changed.0 == task) tasks))
+  pub ascends : ChangesAscend tasks
+  pub eight : All (λ changed. changed.0 < TASKS) tasks

@@ -1,0 +1,66 @@
+-- The blocks of a slave, by the places that a layout has for its areas.
+use Rattle.std.specs.Prelude.{◌≡◌, ℕ, ◌<◌, ◌≤◌, ◌%◌, ◌==◌, if◌then◌else◌, List, [], ◌∷◌, ◌++◌, drop, length, option_map, slice_get, Option, Some, None}
+use Rattle.std.specs.Option.{ForSome, option_map_or}
+use Rattle.std.specs.List.{enumerate_from, flat_map}
+use Rattle.hc_records.specs.declared.limits.TheConstants.{LAST_SYNC_MANAGER, MOST_AREA_BITS, MOST_AREAS, TASKS}
+use Rattle.hc_records.specs.declared.keys.Key.{Key}
+use Rattle.hc_records.specs.declared.records.Area.{Area}
+use Rattle.hc_records.specs.declared.records.Declared.{Declared}
+use Rattle.hc_records.specs.Area.{width}
+use Rattle.hc_records.specs.Line.{Member, groups_of, line_from}
+use Rattle.hc_records.specs.Packing.{Placed}
+use Rattle.hc_records.specs.Edits.{crowded_task}
+use Rattle.hc_records.specs.Project.{lowest_fault}
+use Rattle.hc_registers.specs.declared.fmmu.Mapping.{Mapping}
+use Rattle.hc_registers.specs.Blocks.{IsMappable, LineBlock, RegisterBlock, fmmu_block, mapping_at, numbered, sync_manager_block}
+use Rattle.hc_places.specs.Layout.{layout_of, placed_in}
+
+-- where a layout maps the area at an index of a slave with a rank
+abbrev pub mapping_in : List (List Placed) → ℕ → ℕ → Area → Option Mapping
+mapping_in layout rank index area =
+    option_map (mapping_at area.task) (placed_in layout area.task (record { dir = area.dir; rank = rank; area = index }))
+
+-- the width that a layout has beside the place of a key in a task; 0 where it has none
+abbrev pub bits_in : List (List Placed) → ℕ → Key → ℕ
+bits_in layout task key = option_map_or (λ placed. placed.bits) (placed_in layout task key) 0
+
+abbrev pub fmmu_block_in : List (List Placed) → ℕ → ℕ × Area → RegisterBlock
+fmmu_block_in layout rank e = fmmu_block e.0 e.1 (mapping_in layout rank e.0 e.1)
+
+abbrev pub area_blocks_in : List (List Placed) → ℕ → ℕ × Area → List RegisterBlock
+area_blocks_in layout rank e = sync_manager_block e.1 ∷ fmmu_block_in layout rank e ∷ []
+
+-- the first of them for an even number, the second for an odd one
+abbrev pub area_block_in : List (List Placed) → ℕ → ℕ → ℕ × Area → RegisterBlock
+area_block_in layout rank number e = if number % 2 == 0 then sync_manager_block e.1 else fmmu_block_in layout rank e
+
+abbrev pub slave_blocks_in : List (List Placed) → Member → List RegisterBlock
+slave_blocks_in layout member = flat_map (area_blocks_in layout member.rank) (enumerate_from 0 member.slave.areas)
+
+-- those of a slave, if there is one, from a number on, as blocks of the line
+abbrev pub own_left : List (List Placed) → Option Member → ℕ → List LineBlock
+own_left layout None number = []
+own_left layout (Some member) number = numbered member.slave.station number (drop number (slave_blocks_in layout member))
+
+-- those, and those of the slaves behind
+abbrev pub blocks_left : List (List Placed) → Option Member → ℕ → List Member → List LineBlock
+blocks_left layout member number members = own_left layout member number ++ flat_map (λ m. own_left layout (Some m) 0) members
+
+-- a layout is that of the line of a project's groups, in which no task is crowded
+pub record IsLaidOut (groups : List Declared) (layout : List (List Placed)) : Type 0 where
+  pub project : lowest_fault (groups_of groups) ≡ None
+  pub uncrowded : crowded_task (line_from 1 groups) ≡ None
+  pub stands : layout ≡ layout_of (line_from 1 groups)
+
+-- an area whose blocks can be written, where its slave has a rank and it an index; a layout tells its width
+pub record IsMappedArea (layout : List (List Placed)) (rank index : ℕ) (area : Area) : Type 0 where
+  pub manager : area.sm ≤ LAST_SYNC_MANAGER
+  pub task : area.task < TASKS
+  pub narrow : width area ≤ MOST_AREA_BITS
+  pub bits : bits_in layout area.task (record { dir = area.dir; rank = rank; area = index }) ≡ width area
+  pub mapped : ForSome (mapping_in layout rank index area) (IsMappable area)
+
+-- a slave of the line that a layout is of
+pub record IsMappedSlave (layout : List (List Placed)) (member : Member) : Type 0 where
+  pub few : length member.slave.areas ≤ MOST_AREAS
+  pub areas : (index : ℕ) (area : Area) → slice_get member.slave.areas index ≡ Some area → IsMappedArea layout member.rank index area

@@ -1,0 +1,159 @@
+//! An edit worked out on a line whose tasks are kept in trees: what becomes different is found by turning
+//! the trees, and nothing else changes until nothing can be refused any more.
+ghost use Rattle.std.specs.Prelude.{◌≡◌, ◌≢◌, ◌+◌, ◌<◌, Err, IfErr, IfOk, None, Ok, OnErr, OnOk, map};
+ghost use Rattle.hc_records.specs.declared.faults.EditFault.TheVariants.{Memory};
+ghost use Rattle.hc_records.specs.declared.limits.TheConstants.{LAST_EPOCH};
+ghost use Rattle.hc_records.specs.Edits.{changed, crowded_task, edited};
+ghost use Rattle.hc_records.specs.Line.{line_from};
+ghost use Rattle.hc_registers.specs.Blocks.{moved_blocks};
+ghost use Rattle.hc_places.specs.Room.{IsRoomFor};
+ghost use Rattle.hc_places.specs.Swap.{Leads};
+ghost use Rattle.hc_places.specs.Table.{table_of};
+ghost use Rattle.hc_tasks.specs.Areas.{areas_by_rank};
+ghost use Rattle.hc_tasks.specs.Keeping.{StandsBefore};
+ghost use Rattle.hc_tasks.specs.Kept.{line_kept};
+ghost use Rattle.hc_changes.specs.Outlook.{IsOutlook};
+ghost use Rattle.hc_plan.specs.inner.Applied.{AreSeen, Makes};
+ghost use Rattle.hc_plan.specs.Reports.{Tells, name_of};
+
+use crate::report::Report;
+use crate::turning::{turn_back, turn_line, turn_on};
+use hc_bitsum::steps::Steps;
+use hc_changes::candidates::Candidate;
+use hc_changes::finding::candidates;
+use hc_changes::moved::moved_names;
+use hc_changes::outlook::Outlook;
+use hc_changes::rows::changed_rows;
+use hc_changes::tables::changed_tasks;
+use hc_places::room::Room;
+use hc_places::swap::{ChangedTask, Swap};
+use hc_places::table::Places;
+use hc_records::edit::Edit;
+use hc_records::faults::EditFault;
+use hc_records::items::Items;
+use hc_records::limits::LAST_EPOCH;
+use hc_tasks::keeping::Before;
+use hc_tasks::tasks::LineCuts;
+use std::alloc::{AllocError, Global};
+use std::sync::ledger::{Blank, Ledger};
+
+/// What an accepted edit did, and the memory for carrying it out.
+#[derive(Drop)]
+pub(crate) struct Applied {
+    pub(crate) report: Report,
+    pub(crate) room: Room,
+}
+
+/// What is seen of the new line, where its trees stand.
+#[derive(Drop)]
+struct Seen<'a> {
+    candidates: Vec<Candidate<'a>>,
+    tasks: Vec<ChangedTask>,
+}
+
+/// What leads from the old line to the new one, and the memory for it.
+#[derive(Drop)]
+struct Told {
+    blocks: Vec<(u16, u8)>,
+    swap: Swap,
+    room: Room,
+}
+
+/// What is seen of the line that an edit makes, whose trees are those given. `AllocError` where a growth was
+/// refused.
+fn see_new_line<'a, L: Ledger>(
+    alloc: Global,
+    outlook: &Outlook<'a>,
+    known: &Before,
+    cuts: &LineCuts,
+    places: &Places,
+    steps: &mut Steps<L>,
+) -> Result<Seen<'a>, AllocError>
+    requires outlook { IsOutlook outlook.now }
+    requires known { StandsBefore (areas_by_rank outlook.now.old) (areas_by_rank outlook.now.new) known.now }
+    requires trees { cuts.now ≡ line_kept (areas_by_rank outlook.now.new) }
+    requires table { places.now ≡ table_of (line_from 1 outlook.now.old) }
+    ensures { IfOk result (λ seen. AreSeen outlook.now seen.candidates.items seen.tasks.items) }
+{
+    Ok(Seen {
+        candidates: candidates(alloc, outlook, known, cuts)?,
+        tasks: changed_tasks(alloc, cuts, places, known, steps)?,
+    })
+}
+
+/// What leads from a line, whose trees are those given, to the one that an edit makes of it and of which this
+/// was seen. The memory for it is the last that is taken. `AllocError` where a growth was refused.
+fn tell(
+    alloc: Global,
+    edit: &Edit,
+    outlook: &Outlook<'_>,
+    cuts: &LineCuts,
+    places: &Places,
+    seen: Seen<'_>,
+) -> Result<Told, AllocError>
+    requires edit { Makes edit.now places.now outlook.now }
+    requires accepted { crowded_task (line_from 1 outlook.now.new) ≡ None }
+    requires trees { cuts.now ≡ line_kept (areas_by_rank outlook.now.old) }
+    requires seen { AreSeen outlook.now seen.candidates.items seen.tasks.items }
+    ensures blocks { IfOk result (λ told. told.blocks.items ≡ map name_of (moved_blocks (line_from 1 outlook.now.old) (line_from 1 outlook.now.new))) }
+    ensures edit { IfOk result (λ told. told.swap.edit ≡ edit.now) }
+    ensures leads { IfOk result (λ told. Leads (table_of (line_from 1 outlook.now.old)) (table_of (line_from 1 outlook.now.new)) told.swap) }
+    ensures room { IfOk result (λ told. IsRoomFor told.swap.change places.now told.room) }
+{
+    let Seen { candidates, tasks } = seen;
+    let found = candidates.as_slice();
+    let blocks = moved_names(alloc, outlook, cuts, found)?;
+    let rows = changed_rows(alloc, places, found, outlook.before(), outlook.after())?;
+    let swap = Swap::of(alloc, edit, tasks, rows)?;
+    let room = places.room_for(alloc, &swap)?;
+    Ok(Told { blocks, swap, room })
+}
+
+/// Works an edit without a fault of its own out on a line: the trees are then those of the new line, and all
+/// else is as it was. Otherwise the lowest fault whose condition holds, or `Memory` where a growth was refused;
+/// the trees are then as they were.
+pub(crate) fn work_out<L: Ledger>(
+    alloc: Global,
+    edit: &Edit,
+    outlook: &Outlook<'_>,
+    epoch: u32,
+    cuts: &mut LineCuts,
+    places: &Places,
+    blank: Blank,
+) -> Result<Applied, EditFault>
+    requires name { blank.name ≡ L.name }
+    requires parts { blank.parts ≡ L.parts }
+    requires one { L.parts ≡ 1 }
+    requires edit { Makes edit.now places.now outlook.now }
+    requires trees { cuts.old ≡ line_kept (areas_by_rank outlook.now.old) }
+    ensures turned { OnOk result (cuts.new ≡ line_kept (areas_by_rank outlook.now.new)) }
+    ensures fits { OnOk result (crowded_task (line_from 1 outlook.now.new) ≡ None) }
+    ensures more { OnOk result (epoch < LAST_EPOCH) }
+    ensures report { IfOk result (λ applied. Tells (record { groups = outlook.now.old; epoch = epoch }) edit.now (record { groups = outlook.now.new; epoch = epoch + 1 }) applied.report) }
+    ensures room { IfOk result (λ applied. IsRoomFor applied.report.swap.change places.now applied.room) }
+    ensures accepted { OnOk result (edited (record { groups = outlook.now.old; epoch = epoch }) edit.now ≡ Ok (record { groups = outlook.now.new; epoch = epoch + 1 })) }
+    ensures refused { IfErr result (λ fault. fault ≢ Memory → edited (record { groups = outlook.now.old; epoch = epoch }) edit.now ≡ Err fault) }
+    ensures unchanged { OnErr result (cuts.new ≡ cuts.old) }
+{
+    let mut steps: Steps<L> = Steps::start(blank);
+    let known = Before::of(cuts, outlook.first(), outlook.before(), outlook.after());
+    let unsettled = match turn_line(cuts, outlook, &mut steps) {
+        Ok(unsettled) => unsettled,
+        Err(task) => return Err(EditFault::TooManyDatagrams(task)),
+    };
+    let seen = see_new_line(alloc, outlook, &known, cuts, places, &mut steps);
+    turn_back(cuts, outlook, &mut steps);
+    if epoch == LAST_EPOCH {
+        return Err(EditFault::EpochsSpent);
+    }
+    let Told { blocks, swap, room } = tell(alloc, edit, outlook, cuts, places, seen?)?;
+    turn_on(cuts, outlook, &mut steps);
+    let report = Report {
+        epoch: epoch + 1,
+        recut: unsettled,
+        moved: blocks.len() as u32,
+        swap,
+        blocks: Items::of(blocks),
+    };
+    Ok(Applied { report, room })
+}

@@ -1,0 +1,92 @@
+//! Which datagrams of the eight tasks an edit keeps, told by what is known of the tasks before they are turned.
+//! The plan keeps it from the turn to the end of an edit, and the parts of its change ask it.
+ghost use Rattle.std.specs.Prelude.{ℕ, ◌<◌, List, slice_index_or};
+ghost use Rattle.hc_records.specs.Boundaries.{is_touched};
+ghost use Rattle.hc_records.specs.declared.limits.TheConstants.{TASKS};
+ghost use Rattle.hc_records.specs.declared.records.Area.{Area};
+ghost use Rattle.hc_cuts.specs.Hulls.{AreHulls, no_hulls};
+ghost use Rattle.hc_tasks.specs.Areas.{list_by};
+ghost use Rattle.hc_tasks.specs.Turn.{AreLines, HasLines};
+
+use crate::areas::SlaveAreas;
+use crate::starts::LineStarts;
+use crate::tasks::LineCuts;
+use crate::touched::touched_hulls;
+use hc_cuts::hulls::Hulls;
+use hc_cuts::keeping::is_kept;
+use hc_records::limits::TASKS;
+use std::marker::Model;
+
+/// The boundaries of the eight tasks of a line as they were, and the hulls of the keys whose widths differ
+/// where slaves in a row get other areas.
+#[derive(Debug, Drop)]
+pub struct Before {
+    starts: LineStarts,
+    hulls: [Hulls; 8],
+}
+
+impl Model for Before {
+    ghost use Rattle.hc_tasks.specs.Keeping.{Before};
+
+    ghost Value = { Before };
+
+    ghost view = { λ before. record { starts = before.starts; hulls = before.hulls } };
+}
+
+/// The hulls of the keys of the eight tasks whose widths differ, where the slaves of a line from a rank on had
+/// some areas and have others.
+fn all_hulls(first: u16, before: &[SlaveAreas], after: &[SlaveAreas]) -> [Hulls; 8]
+    requires { HasLines first before.now after.now }
+    ensures { (old new : List (List Area)) → AreLines first before.now after.now old new → (task : ℕ) → task < TASKS → AreHulls (is_touched (list_by task old) (list_by task new)) (slice_index_or result task no_hulls) }
+{
+    let mut hulls = [Hulls::none(); 8];
+    for task in 0..TASKS {
+        hulls[usize::from(task)] = touched_hulls(task, first, before, after);
+    }
+    hulls
+}
+
+impl Before {
+    ghost use Rattle.std.specs.Prelude.{◌≡◌, ◌<◌, List};
+    ghost use Rattle.hc_records.specs.declared.limits.TheConstants.{TASKS};
+    ghost use Rattle.hc_records.specs.declared.records.Area.{Area};
+    ghost use Rattle.hc_cuts.specs.Keeping.{is_kept};
+    ghost use Rattle.hc_tasks.specs.Areas.{list_by};
+    ghost use Rattle.hc_tasks.specs.Keeping.{StandsBefore};
+    ghost use Rattle.hc_tasks.specs.Kept.{IsLine, line_kept};
+    ghost use Rattle.hc_tasks.specs.Recut.{is_touched_by};
+    ghost use Rattle.hc_tasks.specs.Turn.{AreLines, HasLines};
+
+    /// What is known of the tasks of a line before they are turned into those of another one, which differs in
+    /// the areas of slaves in a row: `first` is the rank of the first of them, at least 1, and each of them
+    /// has the areas of `before` in the old line and those of `after` in the new one. It takes no memory.
+    pub fn of(cuts: &LineCuts, first: u16, before: &[SlaveAreas], after: &[SlaveAreas]) -> Before
+        requires { HasLines first before.now after.now }
+        ensures { (old new : List (List Area)) → AreLines first before.now after.now old new → cuts.now ≡ line_kept old → StandsBefore old new result }
+    {
+        Before {
+            starts: cuts.copied_starts(),
+            hulls: all_hulls(first, before, after),
+        }
+    }
+
+    /// Whether the width of a key of a task, 0 to 7, differs between the two lines. It takes no memory.
+    pub fn is_touched(&self, task: u8) -> bool
+        requires { task < TASKS }
+        ensures { (old new : List (List Area)) → StandsBefore old new self.now → result ≡ is_touched_by task old new }
+    {
+        !self.hulls[usize::from(task)].are_none()
+    }
+
+    /// Whether the datagram of a task, 0 to 7, with a number, from 0, is kept: it began at the key at which it
+    /// begins now, and its keys up to the next boundary meet neither the interval from the least to the
+    /// greatest output whose width differs nor that of the inputs. The tasks are those of the new line,
+    /// turned. A datagram that isn't there isn't kept. It takes no memory.
+    pub fn is_kept(&self, cuts: &LineCuts, task: u8, number: u16) -> bool
+        requires { task < TASKS }
+        ensures { (old new : List (List Area)) → IsLine new → StandsBefore old new self.now → cuts.now ≡ line_kept new → result ≡ is_kept (list_by task old) (list_by task new) number }
+    {
+        let hulls = &self.hulls[usize::from(task)];
+        is_kept(self.starts.of_task(task), cuts.starts(task), hulls, number)
+    }
+}
