@@ -7,7 +7,7 @@ use Rattle.std.proofs.lemmas.List.Elements.{filter_map-append}
 use Rattle.hc_records.specs.Area.{Entry}
 use Rattle.hc_records.specs.Packing.{Placed}
 use Rattle.hc_records.specs.Project.{entry_names}
-use Rattle.hc_changes.specs.Candidates.{Candidate}
+use Rattle.hc_changes.specs.Movers.{Mover}
 use Rattle.hc_changes.specs.Rows.{HoldsArea, StandsInside}
 
 -- where each that passes a test adds one element
@@ -41,9 +41,9 @@ names-added f xs i d entries had has all within own adds so_far =
     ∙ ap (λ (zs : List _). had ++ entry_names (flat_map f zs)) (sym (drop_more xs i d within))
     ∙ so_far
 
--- a candidate that is met, and its place
-pub stands-at : (candidates : List Candidate) (i : ℕ) (candidate : Candidate) (placed : Placed) → All StandsInside candidates → i < length candidates
-    → candidate ≡ get_or candidates i candidate → candidate.place ≡ Some placed → HoldsArea candidate.area placed
-stands-at candidates i candidate placed all within is place =
-    let own : StandsInside candidate = subst (λ (c : Candidate). StandsInside c) (sym is) (all i candidate within) in
+-- a mover that is met, and its place
+pub stands-at : (movers : List Mover) (i : ℕ) (mover : Mover) (placed : Placed) → All (λ m. StandsInside m.found) movers → i < length movers
+    → mover ≡ get_or movers i mover → mover.found.place ≡ Some placed → HoldsArea mover.found.area placed
+stands-at movers i mover placed all within is place =
+    let own : StandsInside mover.found = subst (λ (m : Mover). StandsInside m.found) (sym is) (all i mover within) in
     own placed place

@@ -16,12 +16,14 @@ pub mod Listed
 pub mod Lists
 pub mod Moved
 pub mod MovedNames
+pub mod Movers
 pub mod Names
 pub mod OneProject
 pub mod Ordered
 pub mod Others
 pub mod Outlooks
 pub mod PlacedAreas
+pub mod PlacedWidths
 pub mod Places
 pub mod Ranks
 pub mod Rows

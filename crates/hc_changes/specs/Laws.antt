@@ -21,8 +21,9 @@ use Rattle.hc_changes.specs.Candidates.{DifferAt, LineArea, blocks_of, candidate
 use Rattle.hc_changes.specs.Compared.{differing_of}
 use Rattle.hc_changes.specs.Edited.{is_named}
 use Rattle.hc_changes.specs.Listed.{Precedes, pair_of}
+use Rattle.hc_changes.specs.Movers.{movers_of}
 use Rattle.hc_changes.specs.Outlook.{IsOutlook, Outlook}
-use Rattle.hc_changes.specs.Rows.{StandsInside, TellPlaces, candidates_of, changed_rows, variables_by_rank}
+use Rattle.hc_changes.specs.Rows.{StandsInside, TellPlaces, changed_rows, variables_by_rank}
 
 -- a kept datagram carries the areas that it carried, each at its bit
 abbrev pub KeptDatagramsStay : Type 0
@@ -135,12 +136,12 @@ CandidatesStandInside =
     (state : State) → lowest_fault (groups_of state.groups) ≡ None → crowded_task (line state) ≡ None
     → All (λ found. StandsInside (candidate_of (line state) found)) (line_areas (line state))
 
--- an edit's rows are told by the candidates and the changed slaves: each variable that stands elsewhere, appears or goes, with its new place or none
+-- an edit's rows are told by the movers and the changed slaves: each variable that stands elsewhere, appears or goes, with its new place or none
 abbrev pub ChangedRowsAreTold : Type 0
 ChangedRowsAreTold =
     (outlook : Outlook) → IsOutlook outlook
     → TellPlaces (table_of (line_from 1 outlook.old)) (table_of (line_from 1 outlook.new))
-    (changed_rows (table_of (line_from 1 outlook.old)) (candidates_of outlook) outlook.before outlook.after)
+    (changed_rows (table_of (line_from 1 outlook.old)) (movers_of outlook) outlook.before outlook.after)
 
 -- tasks that say of each task whose table differs its new table say, with an edit's rows, what differs between the tables of its lines
 abbrev pub SwapsSayWhatDiffers : Type 0
@@ -150,4 +151,4 @@ SwapsSayWhatDiffers =
     → IsNewTask (slice_get (table_of (line_from 1 outlook.old)).tasks task) (slice_get (table_of (line_from 1 outlook.new)).tasks task)
     (option_map (λ changed. changed.1) (find (λ changed. changed.0 == task) tasks)))
     → SaysWhatDiffers (table_of (line_from 1 outlook.old)) (table_of (line_from 1 outlook.new))
-    (record { tasks = tasks; rows = changed_rows (table_of (line_from 1 outlook.old)) (candidates_of outlook) outlook.before outlook.after })
+    (record { tasks = tasks; rows = changed_rows (table_of (line_from 1 outlook.old)) (movers_of outlook) outlook.before outlook.after })

@@ -4,6 +4,7 @@ pub mod Edited
 pub mod Laws
 pub mod Listed
 pub mod Moved
+pub mod Movers
 pub mod Outlook
 pub mod Rows
 pub mod Tables

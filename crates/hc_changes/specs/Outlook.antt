@@ -9,7 +9,7 @@ use Rattle.hc_edits.specs.Changes.{carried}
 use Rattle.hc_edits.specs.Rows.{areas_in_line, first_of, row}
 use Rattle.hc_tasks.specs.Areas.{areas_by_rank}
 use Rattle.hc_tasks.specs.Turn.{AreLines}
-use Rattle.hc_changes.specs.Candidates.{DifferAt}
+use Rattle.hc_changes.specs.Candidates.{Candidate, DifferAt, candidate_of, candidates}
 use Rattle.hc_changes.specs.Edited.{HasEdit}
 
 -- the declared groups before the edit and after it, and the slaves that it concerns: the rank of the first, and the areas that each has in the line before and after
@@ -41,3 +41,8 @@ pub record IsOutlook (outlook : Outlook) : Type 0 where
   pub is_project : lowest_fault (groups_of outlook.new) ≡ None
   pub lines : AreLines outlook.first outlook.before outlook.after (areas_by_rank outlook.old) (areas_by_rank outlook.new)
   pub slaves : DifferAt (changes outlook) (line_from 1 outlook.old) (line_from 1 outlook.new)
+
+-- the candidates of what an edit makes of a line, each with its place there
+abbrev pub candidates_of : Outlook → List Candidate
+candidates_of outlook =
+    map (candidate_of (line_from 1 outlook.new)) (candidates (changes outlook) (line_from 1 outlook.old) (line_from 1 outlook.new))

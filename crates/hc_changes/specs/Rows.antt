@@ -1,4 +1,4 @@
--- Which variables of a line an edit changes, told by the candidates and by the slaves that change.
+-- Which variables of a line an edit changes, told by the movers and by the slaves that change.
 use Rattle.std.specs.Prelude.{◌≡◌, ℕ, ◌+◌, ◌==◌, ◌<◌, ◌≤◌, not, Bool, List, [], ◌++◌, filter, find, map, None, Some, option_map}
 use Rattle.std.specs.List.{flat_map, list_any, zip}
 use Rattle.std.specs.Option.{option_map_or}
@@ -6,15 +6,14 @@ use Rattle.hc_records.specs.declared.limits.TheConstants.{MOST_AREA_BITS, MOST_D
 use Rattle.hc_records.specs.declared.records.Area.{Area}
 use Rattle.hc_records.specs.declared.records.Declared.{Declared}
 use Rattle.hc_records.specs.Area.{assigned_entries, width}
-use Rattle.hc_records.specs.Line.{line_from}
 use Rattle.hc_records.specs.Packing.{Placed}
 use Rattle.hc_records.specs.Project.{area_names, entry_names}
 use Rattle.hc_places.specs.Found.{area_rows}
 use Rattle.hc_places.specs.Ranges.{OffersBits}
 use Rattle.hc_places.specs.Swap.{AreOnce, ChangedRow, new_place, same_found}
 use Rattle.hc_places.specs.Table.{Row, Table, place_in}
-use Rattle.hc_changes.specs.Candidates.{Candidate, candidate_of, candidates}
-use Rattle.hc_changes.specs.Outlook.{Outlook, changes}
+use Rattle.hc_changes.specs.Candidates.{Candidate}
+use Rattle.hc_changes.specs.Movers.{Mover}
 
 -- the variables of a candidate with their places; none where it stands nowhere
 abbrev pub rows_of : Candidate → List Row
@@ -24,7 +23,7 @@ rows_of candidate = option_map_or (area_rows candidate.area.task candidate.area)
 abbrev pub is_new_row : Table → Row → Bool
 is_new_row table row = not (same_found (place_in table row.0) (Some row.1))
 
--- the new places of the candidates' variables that stood elsewhere, or nowhere
+-- the new places of those variables that stood elsewhere, or nowhere
 abbrev pub moved_rows : Table → List Row → List ChangedRow
 moved_rows old rows = map (λ row. (row.0, Some row.1)) (filter (is_new_row old) rows)
 
@@ -45,9 +44,13 @@ gone_variables slave = filter (λ variable. not (is_assigned variable slave.1)) 
 abbrev pub gone_rows : List (List Area) → List (List Area) → List ChangedRow
 gone_rows before after = map (λ variable. (variable, None)) (flat_map gone_variables (zip before after))
 
--- what an edit changes of an old table: the candidates' variables that stand elsewhere, then the variables that go with the changed slaves' areas
-abbrev pub changed_rows : Table → List Candidate → List (List Area) → List (List Area) → List ChangedRow
-changed_rows old candidates before after = moved_rows old (flat_map rows_of candidates) ++ gone_rows before after
+-- those of the variables of movers
+abbrev pub rows_of_movers : List Mover → List Row
+rows_of_movers movers = flat_map (λ mover. rows_of mover.found) movers
+
+-- what an edit changes of an old table: the movers' variables that stand elsewhere, then the variables that go with the changed slaves' areas
+abbrev pub changed_rows : Table → List Mover → List (List Area) → List (List Area) → List ChangedRow
+changed_rows old movers before after = moved_rows old (rows_of_movers movers) ++ gone_rows before after
 
 -- a place lies in one of 16 datagrams of one of the eight tasks, and holds the area, whose entries have 1 to 64 bits
 pub record HoldsArea (area : Area) (placed : Placed) : Type 0 where
@@ -58,11 +61,6 @@ pub record HoldsArea (area : Area) (placed : Placed) : Type 0 where
 
 abbrev pub StandsInside : Candidate → Type 0
 StandsInside candidate = (placed : Placed) → candidate.place ≡ Some placed → HoldsArea candidate.area placed
-
--- the candidates of what an edit makes of a line, each with its place there
-abbrev pub candidates_of : Outlook → List Candidate
-candidates_of outlook =
-    map (candidate_of (line_from 1 outlook.new)) (candidates (changes outlook) (line_from 1 outlook.old) (line_from 1 outlook.new))
 
 -- the variables that each declared slave offers, by rank
 abbrev pub variables_by_rank : List Declared → List (List ℕ)

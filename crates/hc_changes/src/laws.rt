@@ -95,8 +95,8 @@ pub fn candidates_stand_inside()
     ensures { CandidatesStandInside }
 {}
 
-/// The variables that stand elsewhere, appear or go with an edit are told by the candidates and by the areas
-/// of the slaves that change: each once, with its new place or none.
+/// The variables that stand elsewhere, appear or go with an edit are told by the candidates that move and by the
+/// areas of the slaves that change: each once, with its new place or none.
 pub fn changed_rows_are_told()
     ensures { ChangedRowsAreTold }
 {}

@@ -7,6 +7,7 @@ pub mod candidates;
 pub mod finding;
 pub mod laws;
 pub mod moved;
+pub mod movers;
 pub mod outlook;
 mod ranks;
 pub mod rows;

@@ -1,10 +1,10 @@
 //! The variables that stand elsewhere, appear or go with an edit.
 ghost use Rattle.std.specs.Prelude.{◌≡◌, ◌++◌, ◌==◌, not, All, IfOk, OnOk, filter, length, map, None};
-ghost use Rattle.std.specs.List.{flat_map, list_any};
+ghost use Rattle.std.specs.List.{list_any};
 ghost use Rattle.hc_records.specs.Project.{entry_names};
-ghost use Rattle.hc_changes.specs.Rows.{StandsInside, area_variables_of, assigned_variables, changed_rows, gone_rows, gone_variables, is_new_row, moved_rows, rows_of};
+ghost use Rattle.hc_changes.specs.Rows.{StandsInside, area_variables_of, assigned_variables, changed_rows, gone_rows, gone_variables, is_new_row, moved_rows, rows_of_movers};
 
-use crate::candidates::Candidate;
+use crate::movers::Mover;
 use hc_places::swap::ChangedRow;
 use hc_places::table::{Place, Places};
 use hc_places::variables::add_area;
@@ -13,16 +13,14 @@ use hc_records::records::{Area, Entry, VarId};
 use hc_tasks::areas::SlaveAreas;
 use std::alloc::{AllocError, Global};
 
-/// The variables of candidates with their places.
-fn candidate_rows(
-    alloc: Global,
-    candidates: &[Candidate],
-) -> Result<Vec<(VarId, Place)>, AllocError>
-    requires { All StandsInside candidates.now }
-    ensures { IfOk result (λ rows. rows.items ≡ flat_map rows_of candidates.now) }
+/// The variables of movers with their places.
+fn mover_rows(alloc: Global, movers: &[Mover]) -> Result<Vec<(VarId, Place)>, AllocError>
+    requires { All (λ mover. StandsInside mover.found) movers.now }
+    ensures { IfOk result (λ rows. rows.items ≡ rows_of_movers movers.now) }
 {
     let mut rows = Vec::new(alloc);
-    for found in candidates {
+    for mover in movers {
+        let found = mover.found;
         if let Some(placed) = found.place {
             add_area(&mut rows, found.area.task, found.area, placed)?;
         }
@@ -139,24 +137,24 @@ fn add_slaves(
     Ok(())
 }
 
-/// What an edit changes of the places of a line's variables, by the candidates, the areas of the slaves
-/// that change before and after it, and the table of the line before it: the candidates' variables that
+/// What an edit changes of the places of a line's variables, by the candidates that move, the areas of the
+/// slaves that change before and after it, and the table of the line before it: the movers' variables that
 /// stood elsewhere or nowhere, each with its new place, and then the variables that those slaves carried
 /// and don't carry any more, without one. They are the variables that stand elsewhere, appear or go with the
-/// edit, each once (`laws::changed_rows_are_told`). Each candidate's place lies in one of 16 datagrams
+/// edit, each once (`laws::changed_rows_are_told`). Each mover's place lies in one of 16 datagrams
 /// (`laws::candidates_stand_inside`). `AllocError` where a growth was refused.
 pub fn changed_rows(
     alloc: Global,
     old: &Places,
-    candidates: &[Candidate],
+    movers: &[Mover],
     before: &[SlaveAreas],
     after: &[SlaveAreas],
 ) -> Result<Vec<ChangedRow>, AllocError>
-    requires inside { All StandsInside candidates.now }
+    requires inside { All (λ mover. StandsInside mover.found) movers.now }
     requires many { length before.now ≡ length after.now }
-    ensures { IfOk result (λ rows. rows.items ≡ changed_rows old.now candidates.now before.now after.now) }
+    ensures { IfOk result (λ rows. rows.items ≡ changed_rows old.now movers.now before.now after.now) }
 {
-    let found = candidate_rows(alloc, candidates)?;
+    let found = mover_rows(alloc, movers)?;
     let mut rows = Vec::new(alloc);
     add_moved(&mut rows, old, &found)?;
     add_slaves(alloc, &mut rows, before, after)?;

@@ -74,14 +74,3 @@ placed-wide old new low high count more order bound is wide =
       front = front-kept low high new old order wide.front;
       behind = ap (λ (n : ℕ). drop n new) at ∙ wide.behind;
     }
-
-pub placed-narrow : {X : Type 0} (old new : List X) (low high count : ℕ) → low + count ≤ high → high ≤ length old → new ≡ take (low + count) old ++ drop high old → Placed old new low high count
-placed-narrow old new low high count order bound is =
-    let at = low + count in
-    let held = length-take at old in
-    let all = ap length is ∙ length-append (take at old) (drop high old) in
-    record {
-      size = omega (arith, held, all, order, bound);
-      front = ap (take low) is ∙ take-append-le low (take at old) (drop high old) (omega (arith, held, order, bound)) ∙ take-take low at old (omega arith);
-      behind = ap (drop at) is ∙ drop_at (take at old) (drop high old) at (omega (arith, held, order, bound));
-    }

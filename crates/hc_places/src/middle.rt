@@ -100,7 +100,7 @@ fn make_place(rows: &mut Vec<Row>, low: usize, high: usize, new: &[Row])
     let old = high - low;
     if old < new.len() {
         widen(rows, high, &new[old..]);
-    } else {
+    } else if new.len() < old {
         narrow(rows, low + new.len(), high);
     }
 }

@@ -30,7 +30,8 @@ use Rattle.hc_places.specs.Layout.{layout_of, placed_in}
 use Rattle.hc_places.proofs.lemmas.Found.{find-holds}
 use Rattle.hc_places.proofs.lemmas.Layouts.{placed-in-line, task-at}
 use Rattle.hc_plan.specs.inner.Blocks.{IsMappedArea, IsMappedSlave, bits_in}
-use Rattle.hc_plan.proofs.Widths.{area-bits, bits_of}
+use Rattle.hc_changes.specs.Moved.{bits_of}
+use Rattle.hc_plan.proofs.Widths.{area-bits}
 
 -- where no task is crowded, each has at most 16 datagrams
 

@@ -1,5 +1,5 @@
 -- What is told of an edit leads from the table of the line before it to that of the line after it.
-use Rattle.std.proofs.Common.{◌≡◌, ◌∙◌, ◌<◌, ℕ, List, None, length, map, refl, ap, arith}
+use Rattle.std.proofs.Common.{◌≡◌, ◌∙◌, ◌<◌, ℕ, List, None, length, map, refl, sym, ap, subst, arith}
 use Rattle.std.specs.Prelude.{All}
 use Rattle.std.proofs.lemmas.List.{length-map}
 use Rattle.hc_records.specs.declared.records.Area.{Area}
@@ -13,9 +13,11 @@ use Rattle.hc_places.specs.Swap.{AreOnce, ChangedRow, ChangedTask, Leads, LeadsA
 use Rattle.hc_places.specs.Table.{IsTable, Table, table_of}
 use Rattle.hc_places.proofs.lemmas.Ascends.{table-ascends}
 use Rattle.hc_changes.specs.Candidates.{Candidate}
+use Rattle.hc_changes.specs.Movers.{Mover, movers_of}
 use Rattle.hc_changes.specs.Outlook.{IsOutlook, Outlook}
 use Rattle.hc_changes.specs.Rows.{StandsInside, changed_rows}
-use Rattle.hc_changes.proofs.lemmas.SwapSays.{candidates-stand, swap-says}
+use Rattle.hc_changes.proofs.lemmas.Movers.{movers-stand}
+use Rattle.hc_changes.proofs.lemmas.SwapSays.{swap-says}
 use Rattle.hc_plan.specs.inner.Applied.{AreSeen}
 use Rattle.hc_plan.specs.Reports.{name_of}
 use Rattle.hc_plan.proofs.LineBlocks.{few-moved}
@@ -24,30 +26,32 @@ use Rattle.hc_plan.proofs.LineBlocks.{few-moved}
 is-table : (groups : List Declared) → lowest_fault (groups_of groups) ≡ None → IsTable (table_of (line_from 1 groups))
 is-table groups none = record { eight = refl; ascends = table-ascends groups none }
 
--- the candidates that were seen stand in datagrams that there are
-pub seen-stand : (it : Outlook) (found read : List Candidate) (tasks : List ChangedTask) → IsOutlook it → crowded_task (line_from 1 it.new) ≡ None → AreSeen it found tasks → read ≡ found
-    → All StandsInside read
-seen-stand it found read tasks is fits seen same = candidates-stand it is fits read (same ∙ seen.candidates)
+-- the movers stand in datagrams that there are
+pub all-stand : (it : Outlook) (movers read : List Mover) → IsOutlook it → crowded_task (line_from 1 it.new) ≡ None → movers ≡ movers_of it → read ≡ movers
+    → All (λ mover. StandsInside mover.found) read
+all-stand it movers read is fits all same = subst (λ (ms : List Mover). All (λ mover. StandsInside mover.found) ms) (sym (same ∙ all)) (movers-stand it is fits)
 
 -- the rows that were told, by what was read
-pub told-rows : (it : Outlook) (table : Table) (found : List Candidate) (before after : List (List Area)) (rows : List ChangedRow) → table ≡ table_of (line_from 1 it.old)
-    → before ≡ it.before → after ≡ it.after → rows ≡ changed_rows table found before after → rows ≡ changed_rows (table_of (line_from 1 it.old)) found it.before it.after
-told-rows it table found before after rows stands was is told =
+pub told-rows : (it : Outlook) (table : Table) (movers read : List Mover) (before after : List (List Area)) (rows : List ChangedRow) → table ≡ table_of (line_from 1 it.old)
+    → movers ≡ movers_of it → read ≡ movers → before ≡ it.before → after ≡ it.after → rows ≡ changed_rows table read before after
+    → rows ≡ changed_rows (table_of (line_from 1 it.old)) (movers_of it) it.before it.after
+told-rows it table movers read before after rows stands all same was is told =
     told
-    ∙ ap (λ (t : Table). changed_rows t found before after) stands
-    ∙ ap (λ (s : List (List Area)). changed_rows (table_of (line_from 1 it.old)) found s after) was
-    ∙ ap (λ (s : List (List Area)). changed_rows (table_of (line_from 1 it.old)) found it.before s) is
+    ∙ ap (λ (t : Table). changed_rows t read before after) stands
+    ∙ ap (λ (ms : List Mover). changed_rows (table_of (line_from 1 it.old)) ms before after) (same ∙ all)
+    ∙ ap (λ (s : List (List Area)). changed_rows (table_of (line_from 1 it.old)) (movers_of it) s after) was
+    ∙ ap (λ (s : List (List Area)). changed_rows (table_of (line_from 1 it.old)) (movers_of it) it.before s) is
 
-pub told-once : (it : Outlook) (found read : List Candidate) (tasks : List ChangedTask) (rows : List ChangedRow) → IsOutlook it → AreSeen it found tasks → read ≡ found
-    → rows ≡ changed_rows (table_of (line_from 1 it.old)) read it.before it.after → AreOnce rows
-told-once it found read tasks rows is seen same told = (swap-says it is (table_of (line_from 1 it.old)) refl tasks rows read (same ∙ seen.candidates) told seen.differ).1
+pub told-once : (it : Outlook) (found : List Candidate) (tasks : List ChangedTask) (rows : List ChangedRow) → IsOutlook it → AreSeen it found tasks
+    → rows ≡ changed_rows (table_of (line_from 1 it.old)) (movers_of it) it.before it.after → AreOnce rows
+told-once it found tasks rows is seen told = (swap-says it is (table_of (line_from 1 it.old)) refl tasks rows (movers_of it) refl told seen.differ).1
 
-pub told-leads : (it : Outlook) (found read : List Candidate) (tasks : List ChangedTask) (rows : List ChangedRow) (swap : Swap) → IsOutlook it → AreSeen it found tasks → read ≡ found
-    → rows ≡ changed_rows (table_of (line_from 1 it.old)) read it.before it.after → LeadsAsSaid (record { tasks = tasks; rows = rows }) swap
+pub told-leads : (it : Outlook) (found : List Candidate) (tasks : List ChangedTask) (rows : List ChangedRow) (swap : Swap) → IsOutlook it → AreSeen it found tasks
+    → rows ≡ changed_rows (table_of (line_from 1 it.old)) (movers_of it) it.before it.after → LeadsAsSaid (record { tasks = tasks; rows = rows }) swap
     → Leads (table_of (line_from 1 it.old)) (table_of (line_from 1 it.new)) swap
-told-leads it found read tasks rows swap is seen same told leads =
+told-leads it found tasks rows swap is seen told leads =
     leads (table_of (line_from 1 it.old)) (table_of (line_from 1 it.new)) (is-table it.old is.was_project) (is-table it.new is.is_project)
-    (swap-says it is (table_of (line_from 1 it.old)) refl tasks rows read (same ∙ seen.candidates) told seen.differ).0
+    (swap-says it is (table_of (line_from 1 it.old)) refl tasks rows (movers_of it) refl told seen.differ).0
 
 -- the moved blocks are as many as their names, and few
 pub named-count : (it : Outlook) (names : List (ℕ × ℕ)) → names ≡ map name_of (moved_blocks (line_from 1 it.old) (line_from 1 it.new))

@@ -22,6 +22,7 @@ use hc_bitsum::steps::Steps;
 use hc_changes::candidates::Candidate;
 use hc_changes::finding::candidates;
 use hc_changes::moved::moved_names;
+use hc_changes::movers::movers;
 use hc_changes::outlook::Outlook;
 use hc_changes::rows::changed_rows;
 use hc_changes::tables::changed_tasks;
@@ -101,9 +102,15 @@ fn tell(
     ensures room { IfOk result (λ told. IsRoomFor told.swap.change places.now told.room) }
 {
     let Seen { candidates, tasks } = seen;
-    let found = candidates.as_slice();
-    let blocks = moved_names(alloc, outlook, cuts, found)?;
-    let rows = changed_rows(alloc, places, found, outlook.before(), outlook.after())?;
+    let movers = movers(alloc, outlook, cuts, candidates.as_slice())?;
+    let blocks = moved_names(alloc, outlook, movers.as_slice())?;
+    let rows = changed_rows(
+        alloc,
+        places,
+        movers.as_slice(),
+        outlook.before(),
+        outlook.after(),
+    )?;
     let swap = Swap::of(alloc, edit, tasks, rows)?;
     let room = places.room_for(alloc, &swap)?;
     Ok(Told { blocks, swap, room })

@@ -1,8 +1,9 @@
 -- What a list contains, what is found in it, and what a `flat_map` over it needs of its elements.
 use Rattle.std.proofs.Common.{◌≡◌, zero, suc, Bool, true, false, cond, List, [], ◌∷◌, ◌++◌, Contains, refl, sym, ap, subst, ◌∙◌, ⊎_elim, arith}
-use Rattle.std.specs.Prelude.{All, AllPairs, Option, Some, filter, find}
+use Rattle.std.specs.Prelude.{All, AllPairs, Option, Some, filter, find, map}
 use Rattle.std.specs.List.{flat_map}
 use Rattle.std.proofs.lemmas.Grind.{flat_map-append}
+use Rattle.std.proofs.lemmas.List.{map-append}
 use Rattle.std.proofs.lemmas.List.Elements.{All-contains, All-head, All-tail, Contains-append_cases, Contains-append_left, Contains-append_right, filter-append}
 use Rattle.hc_records.proofs.lemmas.Lists.{AllPairs-head, AllPairs-tail}
 
@@ -28,6 +29,10 @@ pub flat_map-flat_map : {X Y Z : Type 0} (g : Y → List Z) (f : X → List Y) (
 flat_map-flat_map g f [] = refl
 flat_map-flat_map g f (x ∷ xs) =
     flat_map-append g (f x) (flat_map f xs) ∙ ap (λ (zs : List _). flat_map g (f x) ++ zs) (flat_map-flat_map g f xs)
+
+pub map-flat_map : {X Y Z : Type 0} (g : Y → Z) (f : X → List Y) (xs : List X) → map g (flat_map f xs) ≡ flat_map (λ x. map g (f x)) xs
+map-flat_map g f [] = refl
+map-flat_map g f (x ∷ xs) = map-append g (f x) (flat_map f xs) ∙ ap (λ (ys : List _). map g (f x) ++ ys) (map-flat_map g f xs)
 
 -- what holds of everything holds of the elements of a list
 pub all-of : {X : Type 0} (P : X → Type 0) (xs : List X) → ((x : X) → P x) → All P xs

@@ -20,7 +20,7 @@ use Rattle.hc_records.proofs.lemmas.KeyOrder.{same_key-refl, same_key-same}
 use Rattle.hc_records.proofs.lemmas.Lines.{RanksBelow, line-ascends}
 use Rattle.hc_records.proofs.lemmas.Packed.{area_of, packed-areas}
 use Rattle.hc_records.proofs.lemmas.TaskLists.{project-list}
-use Rattle.hc_registers.specs.Blocks.{LineBlock, fmmu_block, line_blocks, mapping_at, moved_blocks, numbered, same_block, same_bytes, sync_manager_block}
+use Rattle.hc_registers.specs.Blocks.{LineBlock, RegisterBlock, fmmu_block, line_blocks, mapping_at, moved_blocks, numbered, same_block, same_bytes, sync_manager_block}
 use Rattle.hc_cuts.specs.Keeping.{is_kept}
 use Rattle.hc_changes.specs.Candidates.{DifferAt, LineArea, blocks_of, candidates, is_candidate, is_recut, key_of, line_areas, moved_of, place_of}
 use Rattle.hc_changes.proofs.lemmas.Blocks.{blocks-of-areas}
@@ -82,17 +82,20 @@ blocks_at found place =
 same-blocks : (found : LineArea) (old new : List Member) → place_of old found ≡ place_of new found → blocks_of old found ≡ blocks_of new found
 same-blocks found old new same = ap (blocks_at found) same
 
+pub same_bytes-refl : (block : RegisterBlock) → same_bytes block block ≡ true
+same_bytes-refl block =
+    and_from (block.register == block.register) (bytes_eq block.bytes block.bytes) (eq-eqb block.register block.register refl)
+    ((bytes_eq-Decides block.bytes block.bytes).1 refl)
+
 same_block-refl : (block : LineBlock) → same_block block block ≡ true
 same_block-refl found =
-    and_from (found.station == found.station) (same_bytes found.block found.block) (eq-eqb found.station found.station refl)
-    (and_from (found.block.register == found.block.register) (bytes_eq found.block.bytes found.block.bytes)
-    (eq-eqb found.block.register found.block.register refl) ((bytes_eq-Decides found.block.bytes found.block.bytes).1 refl))
+    and_from (found.station == found.station) (same_bytes found.block found.block) (eq-eqb found.station found.station refl) (same_bytes-refl found.block)
 
 had : (blocks : List LineBlock) (block : LineBlock) → Contains blocks block → list_any (same_block block) blocks ≡ true
 had blocks block at =
     list_any_at (same_block block) blocks at.0 block at.1 (subst (λ (b : LineBlock). same_block block b ≡ true) (sym at.2) (same_block-refl block))
 
-none-kept : {X : Type 0} (test : X → Bool) (xs : List X) → All (λ x. test x ≡ false) xs → filter test xs ≡ []
+pub none-kept : {X : Type 0} (test : X → Bool) (xs : List X) → All (λ x. test x ≡ false) xs → filter test xs ≡ []
 none-kept test [] all = refl
 none-kept test (x ∷ xs) all = rw (All-head (λ x. test x ≡ false) x xs all) (none-kept test xs (All-tail (λ x. test x ≡ false) x xs all))
 

@@ -4,7 +4,6 @@ use Rattle.std.specs.Prelude.{All, find, map, not, option_and_then, option_map, 
 use Rattle.std.specs.List.{flat_map}
 use Rattle.std.specs.Option.{option_map_or}
 use Rattle.std.proofs.lemmas.Bool.{eq-eqb}
-use Rattle.std.proofs.lemmas.List.{map-append}
 use Rattle.std.proofs.lemmas.List.Elements.{All-contains, All-contains_itself, All-map, All-weaker}
 use Rattle.std.proofs.lemmas.List.Folds.{flat_map-map}
 use Rattle.std.proofs.lemmas.Option.{slice_get_within}
@@ -21,33 +20,32 @@ use Rattle.hc_records.specs.Packing.{Placed, opening}
 use Rattle.hc_records.specs.Project.{lowest_fault}
 use Rattle.hc_records.specs.TaskList.{Keyed, task_list}
 use Rattle.hc_records.proofs.lemmas.Finds.{mapped-some}
-use Rattle.hc_records.proofs.lemmas.KeyOrder.{same_key-same}
 use Rattle.hc_records.proofs.lemmas.Lists.{All-unmap}
 use Rattle.hc_records.proofs.lemmas.Packable.{project-packable}
 use Rattle.hc_records.proofs.lemmas.Packed.{area_of, packed-areas}
 use Rattle.hc_records.proofs.lemmas.Slaves.{line-inside}
 use Rattle.hc_registers.specs.Blocks.{LineBlock, RegisterBlock, fmmu_block, mapping_of, moved_blocks, same_block, same_bytes, sync_manager_block}
 use Rattle.hc_cuts.specs.Place.{place_of as place_by}
-use Rattle.hc_tasks.specs.Areas.{area_in, areas_at, areas_by_rank, list_by}
+use Rattle.hc_tasks.specs.Areas.{areas_at, areas_by_rank, list_by}
 use Rattle.hc_tasks.proofs.lemmas.Told.{place-told}
-use Rattle.hc_places.specs.Found.{IsFoundSuiting, SuitsPlace}
-use Rattle.hc_places.proofs.lemmas.Rows.{task-suits}
 use Rattle.hc_changes.specs.Candidates.{Candidate, DifferAt, LineArea, blocks_of, candidate_of, candidates, is_candidate, key_of, line_areas, place_of}
 use Rattle.hc_changes.specs.Compared.{counterpart, differing_of, unlike}
-use Rattle.hc_changes.specs.Moved.{HasBitsOf, IsOfLine, IsWritable, area_before, differ_from, mapping_by, name_of, names_if, names_moved, place_before, two_blocks}
+use Rattle.hc_changes.specs.Moved.{IsOfLine, IsWritable, differ_from, mapping_by, name_of, names_if, names_moved, two_blocks}
+use Rattle.hc_changes.specs.Movers.{Stood, area_before, mover_of, place_before}
 use Rattle.hc_changes.specs.Outlook.{IsOutlook, Outlook, changes}
 use Rattle.hc_changes.proofs.lemmas.ByRank.{area-named, areas-of-rank}
 use Rattle.hc_changes.proofs.lemmas.Compared.{StoodAt, all-compared, area-stood, flat_map-among}
-use Rattle.hc_changes.proofs.lemmas.Lists.{contains-unfiltered, found-among}
+use Rattle.hc_changes.proofs.lemmas.Lists.{contains-unfiltered, found-among, map-flat_map}
 use Rattle.hc_changes.proofs.lemmas.OneProject.{AreOfOneProject, edit-one-project, own-at}
 use Rattle.hc_changes.proofs.lemmas.Others.{IsAreaOf, line-area}
+use Rattle.hc_changes.proofs.lemmas.PlacedWidths.{placed-width}
 use Rattle.hc_changes.proofs.lemmas.Places.{area-inside}
 
 -- the blocks of an area of a project's line can be written
 
-placed-bits : (groups : List Declared) → lowest_fault (groups_of groups) ≡ None → (found : LineArea) → IsAreaOf (line_from 1 groups) found
-    → (placed : Placed) → place_of (line_from 1 groups) found ≡ Some placed → HasBitsOf found.area placed
-placed-bits groups none found of placed is =
+placed-some : (groups : List Declared) → lowest_fault (groups_of groups) ≡ None → (found : LineArea) → (placed : Placed) → place_of (line_from 1 groups) found ≡ Some placed
+    → 0 < placed.bits
+placed-some groups none found placed is =
     let task = found.area.task in
     let list = task_list task (line_from 1 groups) in
     let places = task_places task (line_from 1 groups) in
@@ -55,12 +53,7 @@ placed-bits groups none found of placed is =
     let packable : IsPackable (area_of placed) =
     All-contains (λ (p : Placed). IsPackable (area_of p)) places placed
     (All-unmap IsPackable area_of places (subst (λ (l : List Keyed). All IsPackable l) (sym (packed-areas opening list)) (project-packable (record { groups = groups; epoch = 0 }) task none))) stood.among in
-    let suits : SuitsPlace placed found.area =
-    All-contains (IsFoundSuiting (areas_by_rank groups)) places placed (task-suits groups none task) stood.among found.area
-    (ap (area_in (areas_by_rank groups)) (same_key-same placed.key (key_of found) stood.passes) ∙ area-named groups found of) in
-    let some = packable.some in
-    let bits = suits.bits in
-    record { some = omega (arith, some, bits); bits = bits }
+    packable.some
 
 pub area-writable : (groups : List Declared) → lowest_fault (groups_of groups) ≡ None → (found : LineArea) → IsAreaOf (line_from 1 groups) found
     → IsWritable found.index found.area (place_of (line_from 1 groups) found)
@@ -73,7 +66,8 @@ area-writable groups none found of =
       manager = inside.manager;
       task = inside.task;
       narrow = inside.narrow;
-      bits = placed-bits groups none found of;
+      bits = placed-width groups found of;
+      some = placed-some groups none found;
     }
 
 -- the area that a slave with a rank has at an index is that of the line
@@ -121,7 +115,7 @@ unlike-names a b c d first second =
 
 -- where an area stood, by the areas of the old line, and the FMMU block that it was there
 
-place-by : (groups : List Declared) (found was : LineArea) → was.member.rank ≡ found.member.rank → was.index ≡ found.index
+pub place-by : (groups : List Declared) (found was : LineArea) → was.member.rank ≡ found.member.rank → was.index ≡ found.index
     → place_of (line_from 1 groups) was
     ≡ place_by (record { dir = was.area.dir; rank = found.member.rank; area = found.index }) (list_by was.area.task (areas_by_rank groups))
 place-by groups found was rank index =
@@ -140,6 +134,10 @@ second-before groups found was rank index =
     (mapping_by was.area (place_by (record { dir = was.area.dir; rank = found.member.rank; area = found.index }) (list_by was.area.task (areas_by_rank groups))))) index
 
 -- so those of an area of the new line are those of its blocks that differ from the blocks with their numbers
+
+abbrev pub names_by : Outlook → Candidate → List (ℕ × ℕ)
+names_by it candidate = names_moved (mover_of it candidate)
+
 module _ (it : Outlook) (one : AreOfOneProject (line_from 1 it.old) (line_from 1 it.new)) where
   abbrev old : List Member
   old = line_from 1 it.old
@@ -148,7 +146,7 @@ module _ (it : Outlook) (one : AreOfOneProject (line_from 1 it.old) (line_from 1
   new = line_from 1 it.new
 
   names-by : (found : LineArea) → IsAreaOf new found → (was : Option LineArea) → counterpart old found ≡ was
-      → map name_of (unlike (option_map_or (blocks_of old) was []) (blocks_of new found)) ≡ names_moved it (candidate_of new found)
+      → map name_of (unlike (option_map_or (blocks_of old) was []) (blocks_of new found)) ≡ names_by it (candidate_of new found)
   names-by found of None is =
       let none : area_before it (candidate_of new found) ≡ None = area-told it.old found ∙ ap (option_map (λ (f : LineArea). f.area)) is in
       rw none refl
@@ -166,23 +164,21 @@ module _ (it : Outlook) (one : AreOfOneProject (line_from 1 it.old) (line_from 1
       let second_has : LineBlock = record { station = found.member.slave.station; number = 2 * found.index + 1; block = fmmu_block found.index found.area (mapping_of new found.area.task (key_of found)) } in
       unlike-names has second_has had second_had station station
       ∙ ap names (second-before it.old found was stood.rank stood.index)
-      ∙ sym (ap (λ (area : Option Area). names_if candidate (option_map_or (λ a. differ_from (two_blocks found.index found.area candidate.place) (two_blocks found.index a (place_before it candidate a))) area (true, true))) some)
+      ∙ sym (ap (λ (area : Option Area). names_if candidate
+      (option_map_or (λ (s : Stood). differ_from (two_blocks found.index found.area candidate.place) (two_blocks found.index s.area s.place))
+      (option_map (λ (a : Area). record { area = a; place = place_before it candidate a }) area) (true, true))) some)
 
-  names-told : (found : LineArea) → IsAreaOf new found → map name_of (differing_of old new found) ≡ names_moved it (candidate_of new found)
+  names-told : (found : LineArea) → IsAreaOf new found → map name_of (differing_of old new found) ≡ names_by it (candidate_of new found)
   names-told found of = names-by found of (counterpart old found) refl
 
   -- and those of the candidates are all
-  map-flat_map : {X Y Z : Type 0} (g : Y → Z) (f : X → List Y) (xs : List X) → map g (flat_map f xs) ≡ flat_map (λ x. map g (f x)) xs
-  map-flat_map g f [] = refl
-  map-flat_map g f (x ∷ xs) = map-append g (f x) (flat_map f xs) ∙ ap (λ (ys : List _). map g (f x) ++ ys) (map-flat_map g f xs)
-
   all-names : (changed : ℕ → Bool) → moved_blocks old new ≡ flat_map (differing_of old new) (candidates changed old new)
-      → flat_map (names_moved it) (map (candidate_of new) (candidates changed old new)) ≡ map name_of (moved_blocks old new)
+      → flat_map (names_by it) (map (candidate_of new) (candidates changed old new)) ≡ map name_of (moved_blocks old new)
   all-names changed compared =
       let all = candidates changed old new in
-      flat_map-map (names_moved it) (candidate_of new) all
-      ∙ sym (flat_map-among (λ found. map name_of (differing_of old new found)) (λ found. names_moved it (candidate_of new found)) all
-      (All-weaker (Contains all) (λ found. map name_of (differing_of old new found) ≡ names_moved it (candidate_of new found))
+      flat_map-map (names_by it) (candidate_of new) all
+      ∙ sym (flat_map-among (λ found. map name_of (differing_of old new found)) (λ found. names_by it (candidate_of new found)) all
+      (All-weaker (Contains all) (λ found. map name_of (differing_of old new found) ≡ names_by it (candidate_of new found))
       (λ found at. names-told found (line-area new found (contains-unfiltered (is_candidate changed old new) (line_areas new) found at)))
       all (All-contains_itself all)))
       ∙ sym (map-flat_map name_of (differing_of old new) all)
@@ -203,7 +199,7 @@ edited-compared it is =
     (sym is.edited.leads) (all-compared (changes it) it.old is.edited.edit is.was_project) is.is_project is.slaves
 
 pub moved-named : (it : Outlook) → IsOutlook it
-    → flat_map (names_moved it) (map (candidate_of (line_from 1 it.new)) (candidates (changes it) (line_from 1 it.old) (line_from 1 it.new)))
+    → flat_map (names_by it) (map (candidate_of (line_from 1 it.new)) (candidates (changes it) (line_from 1 it.old) (line_from 1 it.new)))
     ≡ map name_of (moved_blocks (line_from 1 it.old) (line_from 1 it.new))
 moved-named it is = all-names it (edited-one-project it is) (changes it) (edited-compared it is)
 

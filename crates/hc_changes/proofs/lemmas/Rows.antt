@@ -20,7 +20,7 @@ use Rattle.hc_places.proofs.lemmas.Once.{of_row, own}
 use Rattle.hc_places.proofs.lemmas.Same.{found-same}
 use Rattle.hc_places.proofs.lemmas.Totals.{total, total-append, total-flat_map, total-less, total-map, total-zip}
 use Rattle.hc_changes.specs.Candidates.{DifferAt, LineArea, candidate_of, candidates, is_candidate, is_recut, line_areas, place_of}
-use Rattle.hc_changes.specs.Rows.{TellPlaces, area_variables_of, assigned_variables, changed_rows, gone_rows, gone_variables, is_assigned, is_new_row, moved_rows, rows_of, variables_by_rank}
+use Rattle.hc_changes.specs.Rows.{TellPlaces, area_variables_of, assigned_variables, gone_rows, gone_variables, is_assigned, is_new_row, moved_rows, rows_of, variables_by_rank}
 use Rattle.hc_changes.proofs.lemmas.ByRank.{area-at-rank, area-of-rank, rank-offers}
 use Rattle.hc_changes.proofs.lemmas.Counted.{candidates-once, counted, counted-none, filtered-less, offered-once, one-rank, ranks-once}
 use Rattle.hc_changes.proofs.lemmas.InARow.{areas-in-row, contains-pair, rank-index, zip-piece}
@@ -380,7 +380,7 @@ few-by changed first before after old new change variable (Some place) is =
 
 pub rows-told : (changed : ℕ → Bool) (first : ℕ) (before after : List (List Area)) (old new : State) → IsChange changed first before after old new
     → TellPlaces (table_of (line old)) (table_of (line new))
-    (changed_rows (table_of (line old)) (map (candidate_of (line new)) (candidates changed (line old) (line new))) before after)
+    (moved_rows (table_of (line old)) (flat_map rows_of (map (candidate_of (line new)) (candidates changed (line old) (line new)))) ++ gone_rows before after)
 rows-told changed first before after old new change =
     let moved = moved_rows (table old) (found_rows changed old new) in
     let gone = gone_rows before after in

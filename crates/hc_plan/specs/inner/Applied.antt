@@ -8,8 +8,7 @@ use Rattle.hc_edits.specs.Edits.{own_fault}
 use Rattle.hc_places.specs.Swap.{ChangedTask, ChangesAscend, IsNewTask}
 use Rattle.hc_places.specs.Table.{Table, table_of}
 use Rattle.hc_changes.specs.Candidates.{Candidate}
-use Rattle.hc_changes.specs.Outlook.{IsOutlook, Outlook}
-use Rattle.hc_changes.specs.Rows.{candidates_of}
+use Rattle.hc_changes.specs.Outlook.{IsOutlook, Outlook, candidates_of}
 
 -- an edit without a fault of its own makes this of a line that has a table, and none of whose tasks is crowded
 pub record Makes (edit : Edit) (table : Table) (outlook : Outlook) : Type 0 where

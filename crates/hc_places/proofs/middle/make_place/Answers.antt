@@ -1,7 +1,7 @@
 use Rattle.std.proofs.Common.{◌-◌, arith, drop, length, take}
 use Rattle.std.proofs.lemmas.List.{length-drop, length-take}
 use Rattle.hc_places.specs.Table.{Row}
-use Rattle.hc_places.proofs.Shifted.{Widened, placed-narrow, placed-wide}
+use Rattle.hc_places.proofs.Shifted.{Widened, placed-wide}
 use Rattle.hc_places.proofs.middle.make_place.Goals as goal
 
 pub widen-requires-clause-room : goal.widen-requires-clause-room
@@ -24,7 +24,3 @@ returns-then-old-new c =
     let made = placed-wide c.args.rows.now.items c.widen.new.rows.items c.args.low c.args.high (length new) (length more) c.requires.order c.requires.bound (omega (arith, rest, size, c.if-old-new.true)) wide in
     record { size = made.size; front = made.front; behind = made.behind }
 
-pub returns-else-old-new : goal.returns-else-old-new
-returns-else-old-new c =
-    let made = placed-narrow c.args.rows.now.items c.narrow.new.rows.items c.args.low c.args.high (length c.args.new.now) (omega (arith, c.if-old-new.false, c.requires.order)) c.requires.bound c.narrow.ensures in
-    record { size = made.size; front = made.front; behind = made.behind }

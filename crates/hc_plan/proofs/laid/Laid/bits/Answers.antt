@@ -3,7 +3,8 @@ use Rattle.hc_records.specs.Packing.{Placed}
 use Rattle.hc_places.proofs.lemmas.Layouts.{placed-told}
 use Rattle.hc_tasks.specs.Areas.{areas_by_rank, list_by}
 use Rattle.hc_plan.specs.inner.Blocks.{bits_in}
-use Rattle.hc_plan.proofs.Widths.{bits-packed, bits_of}
+use Rattle.hc_changes.specs.Moved.{bits_of}
+use Rattle.hc_changes.proofs.lemmas.PlacedWidths.{bits-packed}
 use Rattle.hc_plan.proofs.laid.Laid.bits.Goals as goal
 
 pub returns : goal.returns

@@ -1,0 +1,208 @@
+-- A candidate that doesn't move has the blocks that it had, and its variables stand where they stood.
+use Rattle.std.proofs.Common.{◌≡◌, ℕ, ◌<◌, ◌==◌, Bool, true, false, List, [], Contains, Option, Some, None, length, get_or, refl, sym, ap, subst, ◌∙◌}
+use Rattle.std.specs.Prelude.{All, filter, map, not, option_map, slice_get}
+use Rattle.std.specs.List.{flat_map}
+use Rattle.std.specs.Option.{option_map_or}
+use Rattle.std.proofs.lemmas.Bool.{and_parts, eqb-true, not_from_true, or_parts}
+use Rattle.std.proofs.lemmas.List.Elements.{All-contains, All-contains_itself, All-map, All-weaker}
+use Rattle.std.proofs.lemmas.List.Folds.{flat_map-map}
+use Rattle.hc_records.specs.declared.records.Area.{Area}
+use Rattle.hc_records.specs.declared.keys.Key.{Key}
+use Rattle.hc_records.specs.Edits.{crowded_task}
+use Rattle.hc_records.specs.Image.{task_places}
+use Rattle.hc_records.specs.Keys.{same_key}
+use Rattle.hc_records.specs.Line.{Member, line_from}
+use Rattle.hc_records.specs.Packing.{Placed}
+use Rattle.hc_records.proofs.lemmas.Finds.{mapped-some}
+use Rattle.hc_records.proofs.lemmas.KeyOrder.{same_key-same}
+use Rattle.hc_records.proofs.lemmas.Lines.{line-ascends}
+use Rattle.hc_registers.specs.Blocks.{RegisterBlock, moved_blocks, same_bytes}
+use Rattle.hc_places.specs.Swap.{ChangedRow, same_found}
+use Rattle.hc_places.specs.Table.{Row, place_in, table_of}
+use Rattle.hc_places.proofs.lemmas.Same.{found-same}
+use Rattle.hc_changes.specs.Candidates.{Candidate, LineArea, candidate_of, candidates, is_candidate, key_of, line_areas, place_of}
+use Rattle.hc_changes.specs.Moved.{IsComparable, IsWritable, bits_of, differ_from, moved_by, name_of, names_if, names_moved, two_blocks}
+use Rattle.hc_changes.specs.Movers.{Mover, Stood, area_before, mover_of, movers_of, moves, place_before, same_spot, stood_of}
+use Rattle.hc_changes.specs.Outlook.{IsOutlook, Outlook, candidates_of, changes}
+use Rattle.hc_changes.specs.Rows.{StandsInside, is_new_row, moved_rows, rows_of, rows_of_movers}
+use Rattle.hc_changes.proofs.lemmas.ByRank.{area-named}
+use Rattle.hc_changes.proofs.lemmas.Inside.{candidates-inside}
+use Rattle.hc_changes.proofs.lemmas.Lists.{contains-unfiltered, filter-flat_map, flat_map-kept, found-among, map-flat_map}
+use Rattle.hc_changes.proofs.lemmas.Moved.{none-kept, same_bytes-refl}
+use Rattle.hc_changes.proofs.lemmas.MovedNames.{area-writable, before-writable, moved-named, place-by}
+use Rattle.hc_changes.proofs.lemmas.Others.{IsAreaOf, area-stands, line-area, others-stand}
+use Rattle.hc_changes.proofs.lemmas.Outlooks.{other-at}
+use Rattle.hc_changes.proofs.lemmas.PlacedWidths.{placed-width}
+use Rattle.hc_changes.proofs.lemmas.Places.{area-stands-at}
+
+-- what holds of the elements of a list holds of those that are kept
+pub all-kept : {X : Type 0} (P : X → Type 0) (test : X → Bool) (xs : List X) → All P xs → All P (filter test xs)
+all-kept P test xs all =
+    All-weaker (Contains (filter test xs)) P (λ x at. All-contains P xs x all (contains-unfiltered test xs x at)) (filter test xs) (All-contains_itself (filter test xs))
+
+from-not : (x : Bool) → not x ≡ false → x ≡ true
+from-not true is = refl
+from-not false is = cc
+
+same-placed : (a b : Placed) → a.key ≡ b.key → a.bits ≡ b.bits → a.datagram ≡ b.datagram → a.bit ≡ b.bit → a ≡ b
+same-placed a b key bits datagram bit =
+    ap (λ (k : Key). record { key = k; bits = a.bits; datagram = a.datagram; bit = a.bit }) key
+    ∙ ap (λ (n : ℕ). record { key = b.key; bits = n; datagram = a.datagram; bit = a.bit }) bits
+    ∙ ap (λ (n : ℕ). record { key = b.key; bits = b.bits; datagram = n; bit = a.bit }) datagram
+    ∙ ap (λ (n : ℕ). record { key = b.key; bits = b.bits; datagram = b.datagram; bit = n }) bit
+
+none-differ : (blocks : RegisterBlock × RegisterBlock) → differ_from blocks blocks ≡ (false, false)
+none-differ blocks =
+    ap (λ (x : Bool). (not x, not (same_bytes blocks.1 blocks.1))) (same_bytes-refl blocks.0)
+    ∙ ap (λ (x : Bool). (false, not x)) (same_bytes-refl blocks.1)
+
+abbrev moved_row : Row → ChangedRow
+moved_row row = (row.0, Some row.1)
+
+module _ (it : Outlook) (is : IsOutlook it) where
+  abbrev old : List Member
+  old = line_from 1 it.old
+
+  abbrev new : List Member
+  new = line_from 1 it.new
+
+  abbrev own : LineArea → Candidate
+  own found = candidate_of new found
+
+  -- what holds of each area of the new line, as a mover, holds of the candidates
+  each-mover : (P : Mover → Type 0) → ((found : LineArea) → IsAreaOf new found → P (mover_of it (own found))) → All P (map (mover_of it) (candidates_of it))
+  each-mover P each =
+      let all = candidates (changes it) old new in
+      All-map P (mover_of it) (candidates_of it)
+      (All-map (λ c. P (mover_of it c)) (candidate_of new) all
+      (All-weaker (Contains all) (λ found. P (mover_of it (own found)))
+      (λ found at. each found (line-area new found (contains-unfiltered (is_candidate (changes it) old new) (line_areas new) found at))) all (All-contains_itself all)))
+
+  -- an area of one record stands at one spot of both lines at one place
+
+  spot-place : (found : LineArea) → IsAreaOf new found → IsAreaOf old found → (now was : Option Placed) → place_of new found ≡ now → place_of old found ≡ was
+      → same_spot now was ≡ true → now ≡ was
+  spot-place found of of' None None here there same = refl
+  spot-place found of of' None (Some b) here there same = cc
+  spot-place found of of' (Some a) None here there same = cc
+  spot-place found of of' (Some a) (Some b) here there same =
+      let places : List Member → List Placed = λ line. task_places found.area.task line in
+      let now = found-among (λ (p : Placed). same_key p.key (key_of found)) (places new) a here in
+      let was = found-among (λ (p : Placed). same_key p.key (key_of found)) (places old) b there in
+      let wide = sym (ap bits_of here) ∙ placed-width it.new found of in
+      let wide' = sym (ap bits_of there) ∙ placed-width it.old found of' in
+      let parts = and_parts (a.datagram == b.datagram) (a.bit == b.bit) same in
+      ap Some
+      (same-placed a b
+      (same_key-same a.key (key_of found) now.passes ∙ sym (same_key-same b.key (key_of found) was.passes))
+      (wide ∙ sym wide')
+      (eqb-true a.datagram b.datagram parts.0)
+      (eqb-true a.bit b.bit parts.1))
+
+  -- an area that doesn't move
+  record Stays (found : LineArea) : Type 0 where
+    was : IsAreaOf old found
+    area : area_before it (own found) ≡ Some found.area
+    stood : place_before it (own found) found.area ≡ place_of old found
+    place : place_of new found ≡ place_of old found
+
+  stays : (found : LineArea) → IsAreaOf new found → moves it (mover_of it (own found)) ≡ false → Stays found
+  stays found of still =
+      let candidate = own found in
+      let elsewhere : Option Stood → Bool = λ stood. option_map_or (λ (s : Stood). not (same_spot candidate.place s.place)) stood true in
+      let make : Area → Stood = λ area. record { area = area; place = place_before it candidate area } in
+      let parts = or_parts (changes it found.member.rank) (elsewhere (stood_of it candidate)) still in
+      let was = line-area old found (others-stand (changes it) old new (line-ascends 1 it.new) is.slaves found (area-stands new found of) parts.0) in
+      let area : area_before it candidate ≡ Some found.area =
+      ap (λ (areas : List Area). slice_get areas found.index) (other-at it is found.member.rank parts.0) ∙ area-named it.new found of in
+      let stood : place_before it candidate found.area ≡ place_of old found = sym (place-by it.old found found refl refl) in
+      let spot : same_spot candidate.place (place_of old found) ≡ true =
+      from-not (same_spot candidate.place (place_of old found))
+      (ap (λ (p : Option Placed). not (same_spot candidate.place p)) (sym stood)
+      ∙ sym (ap (λ (a : Option Area). elsewhere (option_map make a)) area)
+      ∙ parts.1) in
+      record { was = was; area = area; stood = stood; place = spot-place found of was (place_of new found) (place_of old found) refl refl spot }
+
+  -- its blocks are those that it had
+
+  unmoved-names : (found : LineArea) → IsAreaOf new found → moves it (mover_of it (own found)) ≡ false → names_moved (mover_of it (own found)) ≡ []
+  unmoved-names found of still =
+      let candidate = own found in
+      let it-stays = stays found of still in
+      let make : Area → Stood = λ area. record { area = area; place = place_before it candidate area } in
+      let now = two_blocks found.index found.area candidate.place in
+      let by : Option Stood → Bool × Bool = λ stood. option_map_or (λ (s : Stood). differ_from now (two_blocks found.index s.area s.place)) stood (true, true) in
+      let none : moved_by (mover_of it candidate) ≡ (false, false) =
+      ap (λ (a : Option Area). by (option_map make a)) it-stays.area
+      ∙ ap (λ (p : Option Placed). differ_from now (two_blocks found.index found.area p)) (it-stays.stood ∙ sym it-stays.place)
+      ∙ none-differ now in
+      ap (names_if candidate) none
+
+  -- and its variables stand where they stood
+
+  stood-rows : (found : LineArea) → IsAreaOf new found → moves it (mover_of it (own found)) ≡ false → All (λ row. is_new_row (table_of old) row ≡ false) (rows_of (own found))
+  stood-rows found of still =
+      let it-stays = stays found of still in
+      let rows = rows_of (own found) in
+      let here : (row : Row) → Contains rows row → Contains (rows_of (candidate_of old found)) row =
+      λ row at. subst (λ (p : Option Placed). Contains (rows_of (record { station = 0; rank = 0; index = 0; area = found.area; place = p })) row) it-stays.place at in
+      All-weaker (Contains rows) (λ row. is_new_row (table_of old) row ≡ false)
+      (λ row at. not_from_true (same_found (place_in (table_of old) row.0) (Some row.1))
+      (found-same (place_in (table_of old) row.0) (Some row.1)
+      (area-stands-at (record { groups = it.old; epoch = 0 }) is.was_project found it-stays.was row (here row at))))
+      rows (All-contains_itself rows)
+
+  unmoved-rows : (found : LineArea) → IsAreaOf new found → moves it (mover_of it (own found)) ≡ false → moved_rows (table_of old) (rows_of (own found)) ≡ []
+  unmoved-rows found of still =
+      ap (map moved_row) (none-kept (is_new_row (table_of old)) (rows_of (own found)) (stood-rows found of still))
+
+  -- so the movers tell the blocks and the variables that the candidates do
+
+  pub movers-named : flat_map names_moved (movers_of it) ≡ map name_of (moved_blocks old new)
+  movers-named =
+      sym (flat_map-kept names_moved (moves it) (map (mover_of it) (candidates_of it))
+      (each-mover (λ (m : Mover). moves it m ≡ false → names_moved m ≡ []) (λ found of. unmoved-names found of)))
+      ∙ flat_map-map names_moved (mover_of it) (candidates_of it)
+      ∙ moved-named it is
+
+  pub movers-rows : moved_rows (table_of old) (rows_of_movers (movers_of it)) ≡ moved_rows (table_of old) (flat_map rows_of (candidates_of it))
+  movers-rows =
+      let table = table_of old in
+      let all = map (mover_of it) (candidates_of it) in
+      let rows : Mover → List Row = λ mover. rows_of mover.found in
+      let over = λ (xs : List Mover). ap (map moved_row) (filter-flat_map (is_new_row table) rows xs)
+      ∙ map-flat_map moved_row (λ (mover : Mover). filter (is_new_row table) (rows mover)) xs in
+      over (movers_of it)
+      ∙ sym (flat_map-kept (λ (mover : Mover). moved_rows table (rows mover)) (moves it) all
+      (each-mover (λ (m : Mover). moves it m ≡ false → moved_rows table (rows m) ≡ []) (λ found of. unmoved-rows found of)))
+      ∙ sym (over all)
+      ∙ ap (moved_rows table) (flat_map-map rows (mover_of it) (candidates_of it))
+
+  -- the blocks of each mover can be written, and those that its slave had
+
+  had-writable : (found : LineArea) → IsAreaOf new found → (stood : Stood) → stood_of it (own found) ≡ Some stood → IsWritable found.index stood.area stood.place
+  had-writable found of stood has =
+      let candidate = own found in
+      let make : Area → Stood = λ area. record { area = area; place = place_before it candidate area } in
+      let had = mapped-some make (area_before it candidate) stood has in
+      subst (λ (s : Stood). IsWritable found.index s.area s.place) had.2
+      (before-writable it is candidate (record { found = found; stands = area-stands new found of; is = refl }) had.0 had.1)
+
+  movers-comparable : All IsComparable (movers_of it)
+  movers-comparable =
+      all-kept IsComparable (moves it) (map (mover_of it) (candidates_of it))
+      (each-mover IsComparable
+      (λ found of. record { new = area-writable it.new is.is_project found of; old = λ stood has. had-writable found of stood has }))
+
+  pub comparable-at : (movers : List Mover) (i : ℕ) (mover : Mover) → movers ≡ movers_of it → i < length movers → mover ≡ get_or movers i mover → IsComparable mover
+  comparable-at movers i mover all within met =
+      let each : All IsComparable movers = subst (λ (ms : List Mover). All IsComparable ms) (sym all) movers-comparable in
+      subst IsComparable (sym met) (each i mover within)
+
+  -- and where no task needs more, each stands in one of 16 datagrams
+  pub movers-stand : crowded_task new ≡ None → All (λ mover. StandsInside mover.found) (movers_of it)
+  movers-stand fits =
+      let inside = candidates-inside (record { groups = it.new; epoch = 0 }) is.is_project fits in
+      all-kept (λ (mover : Mover). StandsInside mover.found) (moves it) (map (mover_of it) (candidates_of it))
+      (each-mover (λ (mover : Mover). StandsInside mover.found)
+      (λ found of. All-contains (λ (a : LineArea). StandsInside (candidate_of new a)) (line_areas new) found inside (area-stands new found of)))

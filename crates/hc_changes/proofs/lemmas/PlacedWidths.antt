@@ -1,0 +1,53 @@
+-- A place has the width of its area beside it; an area without a place has 0 bits.
+use Rattle.std.proofs.Common.{◌≡◌, ◌&&◌, Bool, true, false, List, [], ◌∷◌, refl, ap, ◌∙◌, cond, if◌then◌else◌}
+use Rattle.std.specs.Prelude.{Option, Some, find, map}
+use Rattle.std.specs.Option.{option_map_or}
+use Rattle.std.proofs.lemmas.Bool.{eq-eqb}
+use Rattle.hc_records.specs.declared.records.Area.{Area}
+use Rattle.hc_records.specs.declared.records.Declared.{Declared}
+use Rattle.hc_records.specs.declared.keys.Key.{Key}
+use Rattle.hc_records.specs.Area.{width}
+use Rattle.hc_records.specs.Boundaries.{width_in}
+use Rattle.hc_records.specs.Keys.{same_dir, same_key}
+use Rattle.hc_records.specs.Line.{line_from}
+use Rattle.hc_records.specs.TaskList.{Keyed, task_list}
+use Rattle.hc_records.specs.Packing.{Placed, opening, packed}
+use Rattle.hc_records.proofs.lemmas.KeyOrder.{same_dir-refl}
+use Rattle.hc_records.proofs.lemmas.Packed.{area_of, packed-areas}
+use Rattle.hc_cuts.specs.Place.{place_of as place_by}
+use Rattle.hc_tasks.specs.Areas.{own_width}
+use Rattle.hc_tasks.proofs.lemmas.Told.{width-told}
+use Rattle.hc_changes.specs.Candidates.{LineArea, key_of, place_of}
+use Rattle.hc_changes.specs.Moved.{bits_of}
+use Rattle.hc_changes.proofs.lemmas.ByRank.{area-named}
+use Rattle.hc_changes.proofs.lemmas.Others.{IsAreaOf}
+
+-- the width of a key in a list is that beside its place
+
+bits-by : (same : Bool) (placed : Placed) (places : Option Placed) (areas : Option Keyed) → bits_of places ≡ option_map_or (λ area. area.1) areas 0
+    → bits_of (cond same (Some placed) places) ≡ option_map_or (λ area. area.1) (cond same (Some (area_of placed)) areas) 0
+bits-by true placed places areas same = refl
+bits-by false placed places areas same = same
+
+bits-beside : (places : List Placed) (key : Key) → bits_of (find (λ placed. same_key placed.key key) places) ≡ width_in (map area_of places) key
+bits-beside [] key = refl
+bits-beside (placed ∷ places) key =
+    bits-by (same_key placed.key key) placed (find (λ p. same_key p.key key) places) (find (λ area. same_key area.0 key) (map area_of places)) (bits-beside places key)
+
+pub bits-packed : (list : List Keyed) (key : Key) → bits_of (place_by key list) ≡ width_in list key
+bits-packed list key = bits-beside (packed opening list) key ∙ ap (λ (areas : List Keyed). width_in areas key) (packed-areas opening list)
+
+-- so that of an area of the line is its own
+
+own-width : (area : Area) → own_width area.task area.dir (Some area) ≡ width area
+own-width area =
+    ap (λ (same : Bool). if same && same_dir area.dir area.dir then width area else 0) (eq-eqb area.task area.task refl)
+    ∙ ap (λ (same : Bool). if same then width area else 0) (same_dir-refl area.dir)
+
+pub placed-width : (groups : List Declared) (found : LineArea) → IsAreaOf (line_from 1 groups) found → bits_of (place_of (line_from 1 groups) found) ≡ width found.area
+placed-width groups found of =
+    let task = found.area.task in
+    bits-packed (task_list task (line_from 1 groups)) (key_of found)
+    ∙ width-told groups task (key_of found)
+    ∙ ap (own_width task found.area.dir) (area-named groups found of)
+    ∙ own-width found.area

@@ -1,0 +1,48 @@
+-- The candidates that move: those of the slaves that an edit concerns, and those that stand elsewhere than before it. The others keep their blocks, and their variables' places.
+use Rattle.std.specs.Prelude.{◌==◌, ◌&&◌, ◌||◌, not, Bool, true, false, List, filter, map, Option, Some, None, option_map, slice_get}
+use Rattle.std.specs.Option.{option_map_or}
+use Rattle.hc_records.specs.declared.records.Area.{Area}
+use Rattle.hc_records.specs.Packing.{Placed}
+use Rattle.hc_cuts.specs.Place.{place_of}
+use Rattle.hc_tasks.specs.Areas.{areas_at, areas_by_rank, list_by}
+use Rattle.hc_changes.specs.Candidates.{Candidate}
+use Rattle.hc_changes.specs.Outlook.{Outlook, candidates_of, changes}
+
+-- the area that a candidate's slave had at its index before the edit, and where that stood
+
+abbrev pub area_before : Outlook → Candidate → Option Area
+area_before outlook found = slice_get (areas_at (areas_by_rank outlook.old) found.rank) found.index
+
+abbrev pub place_before : Outlook → Candidate → Area → Option Placed
+place_before outlook found area =
+    place_of (record { dir = area.dir; rank = found.rank; area = found.index }) (list_by area.task (areas_by_rank outlook.old))
+
+pub record Stood : Type 0 where
+  pub area : Area
+  pub place : Option Placed
+
+abbrev pub stood_of : Outlook → Candidate → Option Stood
+stood_of outlook found = option_map (λ area. record { area = area; place = place_before outlook found area }) (area_before outlook found)
+
+-- a candidate with the area that its slave had at its index; none where it had no such area
+pub record Mover : Type 0 where
+  pub found : Candidate
+  pub stood : Option Stood
+
+abbrev pub mover_of : Outlook → Candidate → Mover
+mover_of outlook found = record { found = found; stood = stood_of outlook found }
+
+-- two places are at the same bit of the same datagram, or neither is there
+abbrev pub same_spot : Option Placed → Option Placed → Bool
+same_spot None None = true
+same_spot None (Some b) = false
+same_spot (Some a) None = false
+same_spot (Some a) (Some b) = (a.datagram == b.datagram) && (a.bit == b.bit)
+
+-- it moves where its slave is one that the edit concerns, or where that area stood elsewhere
+abbrev pub moves : Outlook → Mover → Bool
+moves outlook mover = changes outlook mover.found.rank || option_map_or (λ stood. not (same_spot mover.found.place stood.place)) mover.stood true
+
+-- the movers of an edit, in line and record order
+abbrev pub movers_of : Outlook → List Mover
+movers_of outlook = filter (moves outlook) (map (mover_of outlook) (candidates_of outlook))
