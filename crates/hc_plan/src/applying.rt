@@ -103,14 +103,9 @@ fn tell(
 {
     let Seen { candidates, tasks } = seen;
     let movers = movers(alloc, outlook, cuts, candidates.as_slice())?;
-    let blocks = moved_names(alloc, outlook, movers.as_slice())?;
-    let rows = changed_rows(
-        alloc,
-        places,
-        movers.as_slice(),
-        outlook.before(),
-        outlook.after(),
-    )?;
+    let moving = movers.as_slice();
+    let blocks = moved_names(alloc, outlook, moving)?;
+    let rows = changed_rows(alloc, places, moving, outlook.before(), outlook.after())?;
     let swap = Swap::of(alloc, edit, tasks, rows)?;
     let room = places.room_for(alloc, &swap)?;
     Ok(Told { blocks, swap, room })
