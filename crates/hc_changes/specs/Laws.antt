@@ -1,5 +1,5 @@
 -- What follows from the definitions. Each is the contract of a function of `laws`.
-use Rattle.std.specs.Prelude.{◌≡◌, ◌↔◌, ◌==◌, ◌<◌, ℕ, Bool, true, false, All, AllPairs, Contains, List, find, map, None, option_map, slice_get, Some}
+use Rattle.std.specs.Prelude.{◌≡◌, ◌==◌, ◌<◌, ℕ, Bool, true, false, All, Contains, List, find, None, option_map, slice_get, Some}
 use Rattle.std.specs.List.{flat_map}
 use Rattle.hc_records.specs.declared.edit.Edit.{Edit}
 use Rattle.hc_records.specs.declared.limits.TheConstants.{TASKS}
@@ -20,7 +20,6 @@ use Rattle.hc_cuts.specs.Keeping.{is_kept}
 use Rattle.hc_changes.specs.Candidates.{DifferAt, LineArea, blocks_of, candidate_of, candidates, is_recut, key_of, line_areas, moved_of, place_of}
 use Rattle.hc_changes.specs.Compared.{differing_of}
 use Rattle.hc_changes.specs.Edited.{is_named}
-use Rattle.hc_changes.specs.Listed.{Precedes, pair_of}
 use Rattle.hc_changes.specs.Movers.{movers_of}
 use Rattle.hc_changes.specs.Outlook.{IsOutlook, Outlook}
 use Rattle.hc_changes.specs.Rows.{StandsInside, TellPlaces, changed_rows, variables_by_rank}
@@ -95,21 +94,7 @@ UntouchedAreasStay =
     (old new : State) (found : LineArea) → lowest_fault (groups_of old.groups) ≡ None → lowest_fault (groups_of new.groups) ≡ None
     → is_touched_task (line old) (line new) found.area.task ≡ false → is_recut (line old) (line new) found ≡ false
 
--- the recut areas of a line are those in datagrams that weren't kept
-pub record IsRecutAt (old new : List Member) (task : ℕ) (placed : Placed) : Type 0 where
-  pub found : LineArea
-  pub stands : Contains (line_areas new) found
-  pub in_task : found.area.task ≡ task
-  pub key : key_of found ≡ placed.key
-  pub recut : is_recut old new found ≡ true
-
-abbrev pub UnkeptDatagramsAreRecut : Type 0
-UnkeptDatagramsAreRecut =
-    (old : List Member) (new : State) (task : ℕ) (placed : Placed) → lowest_fault (groups_of new.groups) ≡ None
-    → Contains (task_places task (line new)) placed → is_kept (task_list task old) (task_list task (line new)) placed.datagram ≡ false
-    → IsRecutAt old (line new) task placed
-
--- and each of them stands there
+-- each recut area of a line stands in a datagram that wasn't kept
 pub record IsUnkeptAt (old new : List Member) (found : LineArea) : Type 0 where
   pub placed : Placed
   pub stands : Contains (task_places found.area.task new) placed
@@ -118,13 +103,6 @@ pub record IsUnkeptAt (old new : List Member) (found : LineArea) : Type 0 where
 
 abbrev pub RecutAreasAreUnkept : Type 0
 RecutAreasAreUnkept = (old new : List Member) (found : LineArea) → is_recut old new found ≡ true → IsUnkeptAt old new found
-
--- a list in line and record order with the candidates' ranks and indexes and no others is theirs
-abbrev pub CandidatesAreListed : Type 0
-CandidatesAreListed =
-    (changed : ℕ → Bool) (old : List Member) (new : State) (pairs : List (ℕ × ℕ)) → AllPairs Precedes pairs
-    → ((pair : ℕ × ℕ) → Contains pairs pair ↔ Contains (map pair_of (candidates changed old (line new))) pair)
-    → pairs ≡ map pair_of (candidates changed old (line new))
 
 -- an edit leaves each declared slave the variables that it offers
 abbrev pub EditsKeepTheVariables : Type 0

@@ -2,7 +2,6 @@ pub mod Candidates
 pub mod Compared
 pub mod Edited
 pub mod Laws
-pub mod Listed
 pub mod Moved
 pub mod Movers
 pub mod Outlook

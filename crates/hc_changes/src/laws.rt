@@ -1,6 +1,6 @@
 //! What follows from the definitions of this crate: each function does nothing, and its contract is a
 //! law. Nobody calls it.
-ghost use Rattle.hc_changes.specs.Laws.{BlocksAreTheAreas, CandidatesAreListed, CandidatesStandInside, ChangedRowsAreTold, EditsChangeTheNamed, EditsKeepTheVariables, KeptAreasStay, KeptDatagramsStay, MovedBlocksAreCompared, MovedBlocksAreTold, NumbersTellTheMoved, OldTablesTellKept, OtherAreasStood, RecutAreasAreUnkept, SwapsSayWhatDiffers, UnkeptDatagramsAreRecut, UntouchedAreasStay, UntouchedTasksStay};
+ghost use Rattle.hc_changes.specs.Laws.{BlocksAreTheAreas, CandidatesStandInside, ChangedRowsAreTold, EditsChangeTheNamed, EditsKeepTheVariables, KeptAreasStay, KeptDatagramsStay, MovedBlocksAreCompared, MovedBlocksAreTold, NumbersTellTheMoved, OldTablesTellKept, OtherAreasStood, RecutAreasAreUnkept, SwapsSayWhatDiffers, UntouchedAreasStay, UntouchedTasksStay};
 
 /// A datagram that an edit keeps carries the areas that it carried, each at its bit: so its length and its
 /// expected working counter stay too.
@@ -67,20 +67,9 @@ pub fn untouched_areas_stay()
     ensures { UntouchedAreasStay }
 {}
 
-/// Each area in a datagram that an edit doesn't keep is an area of the line that is recut.
-pub fn unkept_datagrams_are_recut()
-    ensures { UnkeptDatagramsAreRecut }
-{}
-
 /// Each area that is recut stands in a datagram of its task that isn't kept.
 pub fn recut_areas_are_unkept()
     ensures { RecutAreasAreUnkept }
-{}
-
-/// A list of ranks and indexes, in line and record order, that has those of the candidates and no others is
-/// theirs, however it was made.
-pub fn candidates_are_listed()
-    ensures { CandidatesAreListed }
 {}
 
 /// An edit leaves each declared slave the variables that its areas offer: it changes which of them are

@@ -20,7 +20,7 @@ use Rattle.hc_tasks.proofs.lemmas.Told.{place-told, task-listed}
 use Rattle.hc_changes.specs.Candidates.{LineArea, candidate_of, is_candidate, is_recut, key_of, place_of}
 use Rattle.hc_changes.specs.inner.Found.{IsSight, area_by, area_found, found_among}
 use Rattle.hc_changes.specs.Outlook.{Outlook, changes}
-use Rattle.hc_changes.proofs.lemmas.Listed.{untouched-areas}
+use Rattle.hc_changes.proofs.lemmas.Recut.{untouched-areas}
 
 -- one area that is a candidate, and one that is none
 

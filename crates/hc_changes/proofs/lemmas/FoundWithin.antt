@@ -37,7 +37,7 @@ use Rattle.hc_changes.specs.inner.Found.{HoldChanged, HoldRanks, HoldRecut, IsSi
 use Rattle.hc_changes.specs.Outlook.{IsOutlook, Outlook, changes}
 use Rattle.hc_changes.proofs.lemmas.Finding.{unrecut-none, untouched-kept}
 use Rattle.hc_changes.proofs.lemmas.FoundRanks.{above-none, task-below}
-use Rattle.hc_changes.proofs.lemmas.Listed.{own-counted, recut-unkept}
+use Rattle.hc_changes.proofs.lemmas.Recut.{own-counted, recut-unkept}
 use Rattle.hc_changes.proofs.lemmas.Lists.{contains-behind, contains-filtered, contains-first}
 
 -- the boundaries between which a datagram's areas lie

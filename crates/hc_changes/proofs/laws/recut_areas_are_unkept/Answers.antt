@@ -1,4 +1,4 @@
-use Rattle.hc_changes.proofs.lemmas.Listed.{recut-unkept}
+use Rattle.hc_changes.proofs.lemmas.Recut.{recut-unkept}
 use Rattle.hc_changes.proofs.laws.recut_areas_are_unkept.Goals as goal
 
 pub returns : goal.returns

@@ -1,4 +1,4 @@
-use Rattle.hc_changes.proofs.lemmas.Listed.{untouched-areas}
+use Rattle.hc_changes.proofs.lemmas.Recut.{untouched-areas}
 use Rattle.hc_changes.proofs.laws.untouched_areas_stay.Goals as goal
 
 pub returns : goal.returns

@@ -23,4 +23,3 @@ returns-then-old-new c =
     record { size = c.widen.ensures.size; front = c.widen.ensures.front; behind = c.widen.ensures.behind } in
     let made = placed-wide c.args.rows.now.items c.widen.new.rows.items c.args.low c.args.high (length new) (length more) c.requires.order c.requires.bound (omega (arith, rest, size, c.if-old-new.true)) wide in
     record { size = made.size; front = made.front; behind = made.behind }
-

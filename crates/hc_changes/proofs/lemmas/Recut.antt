@@ -1,12 +1,11 @@
--- Which areas the candidates and those of slaves that went are, and that a list in order with these areas is theirs.
-use Rattle.std.proofs.Common.{◌≡◌, ℕ, ◌+◌, ◌<◌, ◌≤◌, zero, suc, Bool, true, false, List, [], ◌∷◌, ◌++◌, length, Contains, Option, Some, None, refl, sym, ap, subst, ◌∙◌, inl, inr, ◌⊎◌, arith}
-use Rattle.std.specs.Prelude.{◌↔◌, AllPairs, map, not, slice_get, ◌&&◌, ◌||◌}
+-- Which areas are recut: none of a task that no edit touched, and none in a kept datagram.
+use Rattle.std.proofs.Common.{◌≡◌, ℕ, ◌+◌, ◌<◌, ◌≤◌, zero, suc, Bool, true, false, List, [], ◌∷◌, ◌++◌, length, Option, Some, None, refl, sym, ap, ◌∙◌, arith}
+use Rattle.std.specs.Prelude.{not, slice_get, ◌&&◌, ◌||◌}
 use Rattle.std.specs.Option.{option_map_or}
 use Rattle.std.specs.List.{list_any, zip}
 use Rattle.std.proofs.lemmas.Bool.{and_from}
 use Rattle.std.proofs.lemmas.List.Elements.{All-contains}
 use Rattle.std.proofs.lemmas.List.Folds.{list_any_at}
-use Rattle.std.proofs.lemmas.List.Kept.{AllPairs-filter}
 use Rattle.std.proofs.lemmas.Option.{get_or_from_slice_get, slice_get_within}
 use Rattle.hc_records.specs.declared.keys.Key.{Key}
 use Rattle.hc_records.specs.declared.keys.TheConstants.Key.{START, END}
@@ -22,17 +21,11 @@ use Rattle.hc_records.specs.TaskList.{Keyed, task_list}
 use Rattle.hc_records.proofs.lemmas.Cuts.{count-later_keys}
 use Rattle.hc_records.proofs.lemmas.Greatest.{greatest-all}
 use Rattle.hc_records.proofs.lemmas.KeyOrder.{same_key-refl, same_key-same}
-use Rattle.hc_records.proofs.lemmas.Lines.{line-ascends}
-use Rattle.hc_records.proofs.lemmas.Lists.{AllPairs-head, AllPairs-map, AllPairs-tail}
 use Rattle.hc_records.proofs.lemmas.TaskLists.{project-list}
 use Rattle.hc_cuts.specs.Keeping.{begins_at, is_kept}
-use Rattle.hc_changes.specs.Candidates.{LineArea, candidates, is_candidate, is_recut, key_of, line_areas, place_of}
-use Rattle.hc_changes.specs.Listed.{Precedes, pair_of}
-use Rattle.hc_changes.specs.Laws.{IsRecutAt, IsUnkeptAt}
-use Rattle.hc_changes.proofs.lemmas.Lists.{contains-behind, contains-first, found-among}
-use Rattle.hc_changes.proofs.lemmas.Ordered.{InOrder, areas-ordered}
-use Rattle.hc_changes.proofs.lemmas.Others.{area-stands}
-use Rattle.hc_changes.proofs.lemmas.PlacedAreas.{placed-area}
+use Rattle.hc_changes.specs.Candidates.{LineArea, is_recut, key_of, place_of}
+use Rattle.hc_changes.specs.Laws.{IsUnkeptAt}
+use Rattle.hc_changes.proofs.lemmas.Lists.{found-among}
 use Rattle.hc_changes.proofs.lemmas.Tables.{no-length, untouched-lists}
 
 -- a datagram of a list is kept by the same list
@@ -85,73 +78,7 @@ untouched-areas old new found was is none =
     All-contains (λ (p : Placed). p.datagram + 1 ≤ datagram_count (packed opening after)) (packed opening after) placed (greatest-all (λ (p : Placed). p.datagram + 1) 0 (packed opening after)) here.among in
     ap (λ (list : List Keyed). is_kept list after placed.datagram) same ∙ own-kept after placed.datagram (project-list new task is) nothing (omega arith))
 
--- two lists in order with the same elements are the same
-
-never-both-ways : (a b : ℕ × ℕ) → Precedes a b → Precedes b a → ⊥
-never-both-ways a b (inl below) (inl above) = omega arith
-never-both-ways a b (inl below) (inr (same, above)) = omega arith
-never-both-ways a b (inr (same, below)) (inl above) = omega arith
-never-both-ways a b (inr (same, below)) (inr (same', above)) = omega arith
-
--- an element of a list is its first, or the first precedes it
-first-or : (x y : ℕ × ℕ) (xs : List (ℕ × ℕ)) → AllPairs Precedes (x ∷ xs) → Contains (x ∷ xs) y → (x ≡ y) ⊎ (Precedes x y × Contains xs y)
-first-or x y xs pairs (zero, within, is) = inl is
-first-or x y xs pairs (suc k, within, is) =
-    let at : Contains xs y = (k, omega arith, is) in
-    inr (All-contains (Precedes x) xs y (AllPairs-head Precedes x xs pairs) at, at)
-
-heads-by : (x y : ℕ × ℕ) (xs ys : List (ℕ × ℕ)) → (x ≡ y) ⊎ (Precedes x y × Contains xs y) → (y ≡ x) ⊎ (Precedes y x × Contains ys x) → x ≡ y
-heads-by x y xs ys (inl same) second = same
-heads-by x y xs ys (inr first) (inl same) = sym same
-heads-by x y xs ys (inr first) (inr second) = absurd (never-both-ways x y first.0 second.0)
-
-behind-by : (x y p : ℕ × ℕ) (ys : List (ℕ × ℕ)) → x ≡ y → Precedes x p → (y ≡ p) ⊎ (Precedes y p × Contains ys p) → Contains ys p
-behind-by x y p ys same below (inl is) =
-    let own : Precedes p p = subst (λ (q : ℕ × ℕ). Precedes q p) (same ∙ is) below in
-    absurd (never-both-ways p p own own)
-behind-by x y p ys same below (inr later) = later.1
-
-pub same-pairs : (xs ys : List (ℕ × ℕ)) → AllPairs Precedes xs → AllPairs Precedes ys → ((p : ℕ × ℕ) → Contains xs p → Contains ys p) → ((p : ℕ × ℕ) → Contains ys p → Contains xs p) → xs ≡ ys
-same-pairs [] [] first second to from = refl
-same-pairs [] (y ∷ ys) first second to from = absurd (never (from y (contains-first y ys)))
-  where
-    never : Contains [] y → ⊥
-    never (k, within, is) = omega arith
-same-pairs (x ∷ xs) [] first second to from = absurd (never (to x (contains-first x xs)))
-  where
-    never : Contains [] x → ⊥
-    never (k, within, is) = omega arith
-same-pairs (x ∷ xs) (y ∷ ys) first second to from =
-    let head : x ≡ y = heads-by x y xs ys (first-or x y xs first (from y (contains-first y ys))) (first-or y x ys second (to x (contains-first x xs))) in
-    let rest : xs ≡ ys =
-    same-pairs xs ys (AllPairs-tail Precedes x xs first) (AllPairs-tail Precedes y ys second)
-    (λ p at. behind-by x y p ys head (All-contains (Precedes x) xs p (AllPairs-head Precedes x xs first) at) (first-or y p ys second (to p (contains-behind p x xs at))))
-    (λ p at. behind-by y x p xs (sym head) (All-contains (Precedes y) ys p (AllPairs-head Precedes y ys second) at) (first-or x p xs first (from p (contains-behind p y ys at)))) in
-    ap (λ (z : ℕ × ℕ). z ∷ xs) head ∙ ap (λ (zs : List (ℕ × ℕ)). y ∷ zs) rest
-
--- so a list in order with the candidates' ranks and indexes is theirs
-pub candidates-listed : (changed : ℕ → Bool) (old : List Member) (new : State) (pairs : List (ℕ × ℕ)) → AllPairs Precedes pairs
-    → ((p : ℕ × ℕ) → Contains pairs p ↔ Contains (map pair_of (candidates changed old (line new))) p) → pairs ≡ map pair_of (candidates changed old (line new))
-candidates-listed changed old new pairs ordered same =
-    same-pairs pairs (map pair_of (candidates changed old (line new))) ordered
-    (AllPairs-map Precedes pair_of (candidates changed old (line new))
-    (AllPairs-filter InOrder (is_candidate changed old (line new)) (line_areas (line new)) (areas-ordered (line new) (line-ascends 1 new.groups))))
-    (λ p at. (same p).0 at) (λ p at. (same p).1 at)
-
--- the recut areas are those of datagrams that weren't kept
-
-pub unkept-recut : (old : List Member) (new : State) (task : ℕ) (placed : Placed) → lowest_fault (groups_of new.groups) ≡ None
-    → Contains (task_places task (line new)) placed → is_kept (task_list task old) (task_list task (line new)) placed.datagram ≡ false → IsRecutAt old (line new) task placed
-unkept-recut old new task placed none at unkept =
-    let own = placed-area new.groups none task placed at in
-    record {
-      found = own.found;
-      stands = area-stands (line new) own.found own.of;
-      in_task = own.in_task;
-      key = own.key;
-      recut = ap (λ (p : Option Placed). option_map_or (λ q. not (is_kept (task_list own.found.area.task old) (task_list own.found.area.task (line new)) q.datagram)) p false) own.place
-          ∙ ap not (subst (λ (t : ℕ). is_kept (task_list t old) (task_list t (line new)) placed.datagram ≡ false) (sym own.in_task) unkept);
-    }
+-- a recut area stands in a datagram that wasn't kept
 
 unkept-by : (old new : List Member) (found : LineArea) (place : Option Placed) → place_of new found ≡ place
     → option_map_or (λ placed. not (is_kept (task_list found.area.task old) (task_list found.area.task new) placed.datagram)) place false ≡ true → IsUnkeptAt old new found
