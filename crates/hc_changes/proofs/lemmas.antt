@@ -20,7 +20,6 @@ pub mod Names
 pub mod OneProject
 pub mod Others
 pub mod Outlooks
-pub mod PlacedAreas
 pub mod PlacedWidths
 pub mod Places
 pub mod Ranks

@@ -34,10 +34,6 @@ pub map-flat_map : {X Y Z : Type 0} (g : Y → Z) (f : X → List Y) (xs : List 
 map-flat_map g f [] = refl
 map-flat_map g f (x ∷ xs) = map-append g (f x) (flat_map f xs) ∙ ap (λ (ys : List _). map g (f x) ++ ys) (map-flat_map g f xs)
 
--- what holds of everything holds of the elements of a list
-pub all-of : {X : Type 0} (P : X → Type 0) (xs : List X) → ((x : X) → P x) → All P xs
-all-of P xs each k d within = each _
-
 -- what a list contains
 
 pub contains-first : {X : Type 0} (x : X) (xs : List X) → Contains (x ∷ xs) x

@@ -219,19 +219,13 @@ candidate-stands it found i candidate is within met =
     all (All-contains_itself all))) in
     subst (IsOfLine new) (sym met) (each i candidate within)
 
--- under its slave's rank and its index, and its blocks can be written, as those can that its slave had there
+-- under its slave's rank and its index, and the blocks that its slave had there can be written
 
 pub candidate-named : (groups : List Declared) (candidate : Candidate) → IsOfLine (line_from 1 groups) candidate
     → slice_get (areas_at (areas_by_rank groups) candidate.rank) candidate.index ≡ Some candidate.area
 candidate-named groups candidate of =
     subst (λ (c : Candidate). slice_get (areas_at (areas_by_rank groups) c.rank) c.index ≡ Some c.area) (sym of.is)
     (area-named groups of.found (line-area (line_from 1 groups) of.found of.stands))
-
-pub candidate-writable : (groups : List Declared) → lowest_fault (groups_of groups) ≡ None → (candidate : Candidate) → IsOfLine (line_from 1 groups) candidate
-    → IsWritable candidate.index candidate.area candidate.place
-candidate-writable groups none candidate of =
-    subst (λ (c : Candidate). IsWritable c.index c.area c.place) (sym of.is)
-    (area-writable groups none of.found (line-area (line_from 1 groups) of.found of.stands))
 
 pub before-writable : (it : Outlook) → IsOutlook it → (candidate : Candidate) → IsOfLine (line_from 1 it.new) candidate
     → (area : Area) → area_before it candidate ≡ Some area → IsWritable candidate.index area (place_before it candidate area)
