@@ -17,8 +17,9 @@ use hc_registers::blocks::Block;
 use hc_registers::fmmu::{Mapping, logical_address};
 use std::alloc::{AllocError, Global};
 
-/// Where an area that has a place in a task is mapped.
-fn mapping(task: u8, placed: Placed) -> Mapping
+/// Where an area that has a place in a task, 0 to 7, is mapped: the logical address of its datagram, and its first
+/// bit there.
+pub fn mapping(task: u8, placed: Placed) -> Mapping
     requires { task < TASKS }
     ensures { result ≡ mapping_at task placed }
 {

@@ -4,18 +4,17 @@ ghost use Rattle.std.specs.Iterator.{YieldsFirst, item_count};
 ghost use Rattle.std.specs.Option.{ForSome};
 ghost use Rattle.hc_records.specs.declared.limits.TheConstants.{MOST_AREAS, TASKS};
 ghost use Rattle.hc_records.specs.Line.{line_from};
-ghost use Rattle.hc_registers.specs.Blocks.{line_blocks, mapping_at};
+ghost use Rattle.hc_registers.specs.Blocks.{line_blocks};
 ghost use Rattle.hc_plan.specs.Configuration.{at_station, block_at, line_block_at};
 ghost use Rattle.hc_plan.specs.inner.Blocks.{IsLaidOut, IsMappedArea, IsMappedSlave, area_block_in, own_left, slave_blocks_in};
 
 use crate::laid::Laid;
-use hc_cuts::packing::Placed;
+use hc_changes::moved::mapping;
 use hc_index::index::Indexed;
 use hc_records::keys::Key;
 use hc_records::line::{LineMembers, Member, members};
 use hc_records::records::{Area, Declared, Slave};
 use hc_registers::blocks::Block;
-use hc_registers::fmmu::{Mapping, logical_address};
 use std::marker::Model;
 
 /// A block of the line that a slave is configured with.
@@ -61,17 +60,6 @@ impl<'a> Model for LineBlocks<'a> {
     ghost view = { λ left. blocks_left left.layout left.member left.number left.members };
 
     ghost invariant = { λ left. ForSome left.member (IsMappedSlave left.layout) × All (IsMappedSlave left.layout) left.members };
-}
-
-/// Where an area that has a place in a task is mapped.
-fn mapping(task: u8, placed: Placed) -> Mapping
-    requires { task < TASKS }
-    ensures { result ≡ mapping_at task placed }
-{
-    Mapping {
-        address: logical_address(task, placed.datagram()),
-        bit: placed.bit(),
-    }
 }
 
 /// One of the two blocks of the area at an index of a slave with a rank: the sync manager block for an

@@ -1,6 +1,8 @@
 //! A plan: the declared groups, those that are present, the epoch, and the configuration of the line.
 ghost use Rattle.std.specs.Prelude.{◌≡◌, IfOk, map};
 ghost use Rattle.hc_records.specs.Line.{opened_group};
+ghost use Rattle.hc_index.specs.Index.{IsIndexOf};
+ghost use Rattle.hc_plan.specs.inner.Applied.{Follows};
 
 use crate::applying::{Applied, work_out};
 use crate::blocks::{LineBlocks, block_at, line_blocks, nth_block};
@@ -32,6 +34,19 @@ fn opened_groups(alloc: Global, groups: Vec<Group>) -> Result<Items<Declared>, A
         opened.push(Declared { group, present })?;
     }
     Ok(Items::of(opened))
+}
+
+/// Makes the index of the groups before an edit, which was carried out in them, that of the groups as they are
+/// now. Where an area got other PDOs or another task it is already: the line has the same slaves, and each has
+/// as many blocks.
+fn follow(index: &mut Index, groups: &[Declared], edit: &Edit)
+    requires { Follows groups.now edit.now index.old }
+    ensures { IsIndexOf groups.now index.new }
+{
+    match edit {
+        Edit::Connect(_) | Edit::Disconnect(_) => index.follow(groups),
+        Edit::Remap { .. } | Edit::Move { .. } => {}
+    }
 }
 
 /// A state of a line and its configuration. Its drop is written out, so that those who own a plan don't
@@ -240,7 +255,7 @@ impl Plan {
         drop(outlook);
         let Applied { report, room } = applied;
         change.carry_out(&mut self.groups);
-        self.index.follow(self.groups.as_slice());
+        follow(&mut self.index, self.groups.as_slice(), edit);
         self.places.carry_out(&report.swap, room);
         self.epoch += 1;
         Ok(report)

@@ -3,7 +3,10 @@ use Rattle.std.specs.Prelude.{◌≡◌, ℕ, ◌<◌, ◌==◌, All, List, None
 use Rattle.hc_records.specs.declared.edit.Edit.{Edit}
 use Rattle.hc_records.specs.declared.limits.TheConstants.{TASKS}
 use Rattle.hc_records.specs.Edits.{crowded_task, groups_after}
-use Rattle.hc_records.specs.Line.{line_from}
+use Rattle.hc_records.specs.Line.{groups_of, line_from}
+use Rattle.hc_records.specs.Project.{lowest_fault}
+use Rattle.hc_records.specs.declared.records.Declared.{Declared}
+use Rattle.hc_index.specs.Index.{Index, IsIndexOf}
 use Rattle.hc_edits.specs.Edits.{own_fault}
 use Rattle.hc_places.specs.Swap.{ChangedTask, ChangesAscend, IsNewTask}
 use Rattle.hc_places.specs.Table.{Table, table_of}
@@ -27,3 +30,10 @@ pub record AreSeen (outlook : Outlook) (found : List Candidate) (tasks : List Ch
       (option_map (λ changed. changed.1) (find (λ changed. changed.0 == task) tasks))
   pub ascends : ChangesAscend tasks
   pub eight : All (λ changed. changed.0 < TASKS) tasks
+
+-- an index is that of a project's groups before an edit, which led to these, a project's again
+pub record Follows (groups : List Declared) (edit : Edit) (index : Index) : Type 0 where
+  pub before : List Declared
+  pub was : IsIndexOf before index
+  pub leads : groups ≡ groups_after before edit
+  pub project : lowest_fault (groups_of groups) ≡ None

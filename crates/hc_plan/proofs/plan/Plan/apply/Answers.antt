@@ -8,8 +8,6 @@ use Rattle.hc_records.specs.Line.{State, groups_of}
 use Rattle.hc_records.specs.Project.{lowest_fault}
 use Rattle.hc_edits.specs.Edits.{own_fault}
 use Rattle.hc_edits.proofs.lemmas.Refusals.{own-refuses}
-use Rattle.hc_index.specs.Index.{IsIndexOfDeclared}
-use Rattle.hc_index.proofs.lemmas.Edited.{kept-declared}
 use Rattle.hc_plan.specs.Reports.{Tells}
 use Rattle.hc_plan.proofs.Editing.{carried-groups, judged, new-groups, old-groups}
 use Rattle.hc_plan.proofs.plan.Plan.apply.Goals as goal
@@ -47,8 +45,8 @@ follow-requires c =
     let edit = c.args.edit.now in
     let leads = c.carry_out.ensures.groups ∙ new-groups c.in_ok-change.change c.as_slice.result.now groups edit c.in_ok-change.ensures.groups c.as_slice.ensures in
     let project = subst (λ (g : List Declared). lowest_fault (groups_of g) ≡ None) (c.in_ok-change.ensures.groups ∙ ap (λ (g : List Declared). groups_after g edit) c.as_slice.ensures) c.in_ok-change.ensures.kept in
-    subst (λ (g : List Declared). IsIndexOfDeclared g c.self.inside.index) (sym (c.as_slice-3.ensures ∙ leads))
-    (kept-declared groups c.self.inside.index edit c.self.invariant.4.declared project)
+    let is = c.as_slice-3.ensures ∙ leads in
+    record { before = groups; was = c.self.invariant.4; leads = is; project = subst (λ (g : List Declared). lowest_fault (groups_of g) ≡ None) (sym is) project }
 
 pub returns-clause-accepted : goal.returns-clause-accepted
 returns-clause-accepted c =
