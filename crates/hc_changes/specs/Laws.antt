@@ -20,7 +20,7 @@ use Rattle.hc_cuts.specs.Keeping.{is_kept}
 use Rattle.hc_changes.specs.Candidates.{DifferAt, LineArea, blocks_of, candidate_of, candidates, is_recut, key_of, line_areas, moved_of, place_of}
 use Rattle.hc_changes.specs.Compared.{differing_of}
 use Rattle.hc_changes.specs.Edited.{is_named}
-use Rattle.hc_changes.specs.Movers.{movers_of}
+use Rattle.hc_changes.specs.Movers.{mover_of, movers_of, moves}
 use Rattle.hc_changes.specs.Outlook.{IsOutlook, Outlook}
 use Rattle.hc_changes.specs.Rows.{StandsInside, TellPlaces, changed_rows, variables_by_rank}
 
@@ -113,6 +113,13 @@ abbrev pub CandidatesStandInside : Type 0
 CandidatesStandInside =
     (state : State) → lowest_fault (groups_of state.groups) ≡ None → crowded_task (line state) ≡ None
     → All (λ found. StandsInside (candidate_of (line state) found)) (line_areas (line state))
+
+-- a candidate that doesn't move is an area of the old line, with the same record, and stood where it stands: so its blocks and its variables' places, which follow from these, stay
+abbrev pub OtherCandidatesStay : Type 0
+OtherCandidatesStay =
+    (outlook : Outlook) (found : LineArea) → IsOutlook outlook → Contains (line_areas (line_from 1 outlook.new)) found
+    → moves outlook (mover_of outlook (candidate_of (line_from 1 outlook.new) found)) ≡ false
+    → Contains (line_areas (line_from 1 outlook.old)) found × (place_of (line_from 1 outlook.old) found ≡ place_of (line_from 1 outlook.new) found)
 
 -- an edit's rows are told by the movers and the changed slaves: each variable that stands elsewhere, appears or goes, with its new place or none
 abbrev pub ChangedRowsAreTold : Type 0

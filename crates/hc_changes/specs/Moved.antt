@@ -1,68 +1,13 @@
--- The names of the register blocks that an edit moves, told by the movers.
-use Rattle.std.specs.Prelude.{◌≡◌, ℕ, ◌+◌, ◌*◌, ◌<◌, ◌≤◌, not, Bool, true, if◌then◌else◌, Contains, List, [], ◌∷◌, ◌++◌, Option, option_map}
-use Rattle.std.specs.Option.{ForSome, option_map_or}
-use Rattle.hc_records.specs.declared.limits.TheConstants.{LAST_SYNC_MANAGER, MOST_AREA_BITS, MOST_AREAS, TASKS}
-use Rattle.hc_records.specs.declared.records.Area.{Area}
-use Rattle.hc_records.specs.Area.{width}
-use Rattle.hc_records.specs.Line.{Member}
+-- The names of the register blocks that an edit moves, and the width that a place tells.
+use Rattle.std.specs.Prelude.{ℕ, Option}
+use Rattle.std.specs.Option.{option_map_or}
 use Rattle.hc_records.specs.Packing.{Placed}
-use Rattle.hc_registers.specs.declared.fmmu.Mapping.{Mapping}
-use Rattle.hc_registers.specs.Blocks.{LineBlock, RegisterBlock, fmmu_block, mapping_at, same_bytes, sync_manager_block}
-use Rattle.hc_changes.specs.Candidates.{Candidate, LineArea, candidate_of, line_areas}
-use Rattle.hc_changes.specs.Movers.{Mover}
+use Rattle.hc_registers.specs.Blocks.{LineBlock}
 
 -- a block of the line by its slave's station address and its number in the slave's order
 abbrev pub name_of : LineBlock → ℕ × ℕ
 name_of found = (found.station, found.number)
 
--- a candidate is an area of a line
-pub record IsOfLine (line : List Member) (candidate : Candidate) : Type 0 where
-  pub found : LineArea
-  pub stands : Contains (line_areas line) found
-  pub is : candidate ≡ candidate_of line found
-
 -- the bits of an area by its place: an area without a place has none
 abbrev pub bits_of : Option Placed → ℕ
 bits_of place = option_map_or (λ placed. placed.bits) place 0
-
--- an area whose blocks can be written, at an index of its slave's record and with a place, which has its bits
-pub record IsWritable (index : ℕ) (area : Area) (place : Option Placed) : Type 0 where
-  pub early : index < MOST_AREAS
-  pub manager : area.sm ≤ LAST_SYNC_MANAGER
-  pub task : area.task < TASKS
-  pub narrow : width area ≤ MOST_AREA_BITS
-  pub bits : bits_of place ≡ width area
-  pub some : ForSome place (λ placed. 0 < placed.bits)
-
--- where an area is mapped, by its place
-abbrev pub mapping_by : Area → Option Placed → Option Mapping
-mapping_by area place = option_map (mapping_at area.task) place
-
--- the sync manager block and the FMMU block of the area at an index, by its place
-abbrev pub two_blocks : ℕ → Area → Option Placed → RegisterBlock × RegisterBlock
-two_blocks index area place = (sync_manager_block area, fmmu_block index area (mapping_by area place))
-
--- of two blocks, whether each has other bytes than that of two others, or another register
-abbrev pub differ_from : RegisterBlock × RegisterBlock → RegisterBlock × RegisterBlock → Bool × Bool
-differ_from blocks others = (not (same_bytes blocks.0 others.0), not (same_bytes blocks.1 others.1))
-
--- of the two blocks of a mover, whether each differs from the one that its slave had with its number: both do where it had no such area
-abbrev pub moved_by : Mover → Bool × Bool
-moved_by mover =
-    option_map_or
-    (λ stood. differ_from (two_blocks mover.found.index mover.found.area mover.found.place) (two_blocks mover.found.index stood.area stood.place))
-    mover.stood
-    (true, true)
-
--- a mover whose blocks can be written, as those can that its slave had
-pub record IsComparable (mover : Mover) : Type 0 where
-  pub new : IsWritable mover.found.index mover.found.area mover.found.place
-  pub old : ForSome mover.stood (λ stood. IsWritable mover.found.index stood.area stood.place)
-
--- the names of those of the two blocks that differ
-abbrev pub names_if : Candidate → Bool × Bool → List (ℕ × ℕ)
-names_if found moved =
-    (if moved.0 then (found.station, 2 * found.index) ∷ [] else []) ++ (if moved.1 then (found.station, 2 * found.index + 1) ∷ [] else [])
-
-abbrev pub names_moved : Mover → List (ℕ × ℕ)
-names_moved mover = names_if mover.found (moved_by mover)

@@ -32,14 +32,14 @@ pub record Mover : Type 0 where
 abbrev pub mover_of : Outlook → Candidate → Mover
 mover_of outlook found = record { found = found; stood = stood_of outlook found }
 
--- two places are at the same bit of the same datagram, or neither is there
+-- two places are at the same bit of the datagram with the same number, or neither is there
 abbrev pub same_spot : Option Placed → Option Placed → Bool
 same_spot None None = true
 same_spot None (Some b) = false
 same_spot (Some a) None = false
 same_spot (Some a) (Some b) = (a.datagram == b.datagram) && (a.bit == b.bit)
 
--- it moves where its slave is one that the edit concerns, or where that area stood elsewhere
+-- it moves where its slave is one that the edit concerns, had no such area, or had it elsewhere
 abbrev pub moves : Outlook → Mover → Bool
 moves outlook mover = changes outlook mover.found.rank || option_map_or (λ stood. not (same_spot mover.found.place stood.place)) mover.stood true
 

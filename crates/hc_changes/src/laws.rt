@@ -1,6 +1,6 @@
 //! What follows from the definitions of this crate: each function does nothing, and its contract is a
 //! law. Nobody calls it.
-ghost use Rattle.hc_changes.specs.Laws.{BlocksAreTheAreas, CandidatesStandInside, ChangedRowsAreTold, EditsChangeTheNamed, EditsKeepTheVariables, KeptAreasStay, KeptDatagramsStay, MovedBlocksAreCompared, MovedBlocksAreTold, NumbersTellTheMoved, OldTablesTellKept, OtherAreasStood, RecutAreasAreUnkept, SwapsSayWhatDiffers, UntouchedAreasStay, UntouchedTasksStay};
+ghost use Rattle.hc_changes.specs.Laws.{BlocksAreTheAreas, CandidatesStandInside, ChangedRowsAreTold, EditsChangeTheNamed, EditsKeepTheVariables, KeptAreasStay, KeptDatagramsStay, MovedBlocksAreCompared, MovedBlocksAreTold, NumbersTellTheMoved, OldTablesTellKept, OtherAreasStood, OtherCandidatesStay, RecutAreasAreUnkept, SwapsSayWhatDiffers, UntouchedAreasStay, UntouchedTasksStay};
 
 /// A datagram that an edit keeps carries the areas that it carried, each at its bit: so its length and its
 /// expected working counter stay too.
@@ -82,6 +82,12 @@ pub fn edits_keep_the_variables()
 /// stands in one of the 16, its bits within the datagram's.
 pub fn candidates_stand_inside()
     ensures { CandidatesStandInside }
+{}
+
+/// A candidate that doesn't move was an area of the line before the edit, with the same record, and stands where
+/// it stood: its register blocks and the places of its variables, which follow from these, stay.
+pub fn other_candidates_stay()
+    ensures { OtherCandidatesStay }
 {}
 
 /// The variables that stand elsewhere, appear or go with an edit are told by the candidates that move and by the

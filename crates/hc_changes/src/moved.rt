@@ -1,11 +1,11 @@
 //! The register blocks that an edit moves, by the candidates that move: each block of one is compared with the
 //! block that its slave had with that number.
 ghost use Rattle.std.specs.Prelude.{◌≡◌, ◌++◌, ◌<◌, IfOk, OnOk, map};
-ghost use Rattle.std.specs.Option.{ForSome};
 ghost use Rattle.hc_records.specs.declared.limits.TheConstants.{MOST_AREAS, TASKS};
 ghost use Rattle.hc_records.specs.Line.{line_from};
 ghost use Rattle.hc_registers.specs.Blocks.{mapping_at, moved_blocks, same_bytes};
-ghost use Rattle.hc_changes.specs.Moved.{IsComparable, IsWritable, differ_from, moved_by, name_of, names_if, two_blocks};
+ghost use Rattle.hc_changes.specs.Moved.{name_of};
+ghost use Rattle.hc_changes.specs.inner.Moved.{IsComparable, IsWritable, differ_from, moved_by, names_if, two_blocks};
 ghost use Rattle.hc_changes.specs.Movers.{movers_of};
 
 use crate::candidates::Candidate;

@@ -4,7 +4,7 @@ ghost use Rattle.std.specs.Prelude.{◌≡◌, IfOk};
 ghost use Rattle.hc_records.specs.Line.{line_from};
 ghost use Rattle.hc_tasks.specs.Areas.{areas_by_rank};
 ghost use Rattle.hc_tasks.specs.Kept.{line_kept};
-ghost use Rattle.hc_changes.specs.Moved.{IsOfLine};
+ghost use Rattle.hc_changes.specs.inner.Moved.{IsOfLine};
 ghost use Rattle.hc_changes.specs.Movers.{movers_of, moves, same_spot, stood_of};
 ghost use Rattle.hc_changes.specs.Outlook.{IsOutlook, candidates_of};
 
@@ -35,7 +35,7 @@ impl<'a> Model for Stood<'a> {
     ghost view = { λ stood. record { area = stood.area.now; place = stood.place } };
 }
 
-/// A candidate that moves: one of a slave that the edit concerns, or one that stands elsewhere than before.
+/// A candidate beside what its slave had at its index before the edit. `movers` gives those that move.
 #[derive(Debug, Drop)]
 pub struct Mover<'b, 'a> {
     /// The candidate.
@@ -102,8 +102,8 @@ fn is_mover(outlook: &Outlook, mover: &Mover) -> bool
 
 /// The candidates that move, in line and record order, by what an edit makes of a line, by the tasks of the
 /// line before it, and by its candidates: those of the slaves that the edit concerns, and those that stand
-/// elsewhere than before. Each other candidate has the register blocks that it had, and its variables stand
-/// where they stood. `AllocError` where a growth was refused.
+/// elsewhere than before. Each other candidate has the record that it had and stands where it stood, and with it
+/// its register blocks and its variables stay (`laws::other_candidates_stay`). `AllocError` where a growth was refused.
 pub fn movers<'b, 'a>(
     alloc: Global,
     outlook: &'b Outlook<'a>,

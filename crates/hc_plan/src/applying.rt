@@ -3,7 +3,7 @@
 ghost use Rattle.std.specs.Prelude.{◌≡◌, ◌≢◌, ◌+◌, ◌<◌, Err, IfErr, IfOk, None, Ok, OnErr, OnOk, map};
 ghost use Rattle.hc_records.specs.declared.faults.EditFault.TheVariants.{Memory};
 ghost use Rattle.hc_records.specs.declared.limits.TheConstants.{LAST_EPOCH};
-ghost use Rattle.hc_records.specs.Edits.{changed, crowded_task, edited};
+ghost use Rattle.hc_records.specs.Edits.{crowded_task, edited};
 ghost use Rattle.hc_records.specs.Line.{line_from};
 ghost use Rattle.hc_registers.specs.Blocks.{moved_blocks};
 ghost use Rattle.hc_places.specs.Room.{IsRoomFor};

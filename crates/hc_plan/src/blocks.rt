@@ -1,8 +1,8 @@
 //! The register blocks of the slaves of a line, by the places and widths that a layout has for their areas.
-ghost use Rattle.std.specs.Prelude.{◌≡◌, [], ◌∷◌, ◌+◌, ◌*◌, ◌<◌, ◌≤◌, MatchOption, OnSome, length, option_map, slice_get};
+ghost use Rattle.std.specs.Prelude.{◌≡◌, [], ◌∷◌, ◌+◌, ◌<◌, MatchOption, OnSome, option_map, slice_get};
 ghost use Rattle.std.specs.Iterator.{YieldsFirst, item_count};
 ghost use Rattle.std.specs.Option.{ForSome};
-ghost use Rattle.hc_records.specs.declared.limits.TheConstants.{MOST_AREAS, TASKS};
+ghost use Rattle.hc_records.specs.declared.limits.TheConstants.{MOST_AREAS};
 ghost use Rattle.hc_records.specs.Line.{line_from};
 ghost use Rattle.hc_registers.specs.Blocks.{line_blocks};
 ghost use Rattle.hc_plan.specs.Configuration.{at_station, block_at, line_block_at};

@@ -92,7 +92,7 @@ impl Model for Plan {
 }
 
 impl Plan {
-    ghost use Rattle.std.specs.Prelude.{◌≡◌, ◌≢◌, Err, IfErr, IfOk, IfSome, None, Ok, OnErr, OnOk, length, map, slice_get};
+    ghost use Rattle.std.specs.Prelude.{◌≡◌, ◌≢◌, Err, IfErr, IfOk, IfSome, None, Ok, OnErr, OnOk, length, map};
     ghost use Rattle.hc_records.specs.declared.faults.EditFault.TheVariants.{Memory};
     ghost use Rattle.std.specs.List.{zip};
     ghost use Rattle.hc_records.specs.Edits.{crowded_task, edited, state_after_all};

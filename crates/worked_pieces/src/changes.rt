@@ -14,7 +14,7 @@ fn declared(alloc: Global, absent: u16) -> Result<Vec<Declared>, Fail> {
     Ok(present(alloc, tool_and_module(alloc)?.as_slice(), absent)?)
 }
 
-/// The variables that go from one line to another, where no area of the new line is a candidate.
+/// The variables that go from one line to another, told by no mover.
 fn gone(alloc: Global, absent: u16, then_absent: u16) -> Result<Vec<ChangedRow>, Fail> {
     let project = Project::checked(alloc, tool_and_module(alloc)?)
         .ok()

@@ -4,7 +4,7 @@ use Rattle.std.specs.Prelude.{All, AllPairs, filter, map, not, option_map}
 use Rattle.std.specs.Option.{option_map_or}
 use Rattle.std.specs.List.{flat_map, list_any}
 use Rattle.std.specs.Str.{bytes_eq}
-use Rattle.std.proofs.lemmas.Bool.{and_from, eq-eqb, not_from_true, or_parts}
+use Rattle.std.proofs.lemmas.Bool.{and_from, eq-eqb, not-false, not_from_true, or_parts}
 use Rattle.std.proofs.lemmas.List.Elements.{All-contains, All-head, All-tail, All-weaker, All-contains_itself}
 use Rattle.std.proofs.lemmas.List.Folds.{list_any_at}
 use Rattle.std.proofs.lemmas.Slice.Eq.{bytes_eq-Decides}
@@ -55,10 +55,6 @@ none-twice found old new ranks of of' none (Some placed) is =
 
 -- an area that isn't recut stands where it stood
 
-kept-from : (kept : Bool) → not kept ≡ false → kept ≡ true
-kept-from true is = refl
-kept-from false is = cc
-
 place-by : (found : LineArea) (old new : List Member) → AllPairs RanksBelow old → IsTaskList (task_list found.area.task old) → IsTaskList (task_list found.area.task new)
     → IsAreaOf old found → IsAreaOf new found → (place : Option Placed) → place_of new found ≡ place
     → option_map_or (λ placed. not (is_kept (task_list found.area.task old) (task_list found.area.task new) placed.datagram)) place false ≡ false
@@ -66,7 +62,7 @@ place-by : (found : LineArea) (old new : List Member) → AllPairs RanksBelow ol
 place-by found old new ranks list list' of of' None is still = none-twice found old new ranks of of' is (place_of old found) refl
 place-by found old new ranks list list' of of' (Some placed) is still =
     kept-place (task_list found.area.task old) (task_list found.area.task new) (key_of found) placed list list' is
-    (kept-from (is_kept (task_list found.area.task old) (task_list found.area.task new) placed.datagram) still)
+    (not-false (is_kept (task_list found.area.task old) (task_list found.area.task new) placed.datagram) still)
 
 pub same-place : (found : LineArea) (old new : List Member) → AllPairs RanksBelow old → IsTaskList (task_list found.area.task old) → IsTaskList (task_list found.area.task new)
     → IsAreaOf old found → IsAreaOf new found → is_recut old new found ≡ false → place_of old found ≡ place_of new found

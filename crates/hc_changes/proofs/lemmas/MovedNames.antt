@@ -30,7 +30,8 @@ use Rattle.hc_tasks.specs.Areas.{areas_at, areas_by_rank, list_by}
 use Rattle.hc_tasks.proofs.lemmas.Told.{place-told}
 use Rattle.hc_changes.specs.Candidates.{Candidate, DifferAt, LineArea, blocks_of, candidate_of, candidates, is_candidate, key_of, line_areas, place_of}
 use Rattle.hc_changes.specs.Compared.{counterpart, differing_of, unlike}
-use Rattle.hc_changes.specs.Moved.{IsOfLine, IsWritable, differ_from, mapping_by, name_of, names_if, names_moved, two_blocks}
+use Rattle.hc_changes.specs.Moved.{name_of}
+use Rattle.hc_changes.specs.inner.Moved.{IsOfLine, IsWritable, differ_from, mapping_by, names_if, names_moved, two_blocks}
 use Rattle.hc_changes.specs.Movers.{Stood, area_before, mover_of, place_before}
 use Rattle.hc_changes.specs.Outlook.{IsOutlook, Outlook, changes}
 use Rattle.hc_changes.proofs.lemmas.ByRank.{area-named, areas-of-rank}

@@ -3,8 +3,8 @@ use Rattle.std.proofs.Common.{◌≡◌, ℕ, ◌<◌, ◌==◌, Bool, true, fal
 use Rattle.std.specs.Prelude.{All, filter, map, not, option_map, slice_get}
 use Rattle.std.specs.List.{flat_map}
 use Rattle.std.specs.Option.{option_map_or}
-use Rattle.std.proofs.lemmas.Bool.{and_parts, eqb-true, not_from_true, or_parts}
-use Rattle.std.proofs.lemmas.List.Elements.{All-contains, All-contains_itself, All-map, All-weaker}
+use Rattle.std.proofs.lemmas.Bool.{and_parts, eqb-true, not-false, not_from_true, or_parts}
+use Rattle.std.proofs.lemmas.List.Elements.{All-contains, All-contains_itself, All-filter, All-map, All-weaker}
 use Rattle.std.proofs.lemmas.List.Folds.{flat_map-map}
 use Rattle.hc_records.specs.declared.records.Area.{Area}
 use Rattle.hc_records.specs.declared.keys.Key.{Key}
@@ -17,11 +17,12 @@ use Rattle.hc_records.proofs.lemmas.Finds.{mapped-some}
 use Rattle.hc_records.proofs.lemmas.KeyOrder.{same_key-same}
 use Rattle.hc_records.proofs.lemmas.Lines.{line-ascends}
 use Rattle.hc_registers.specs.Blocks.{RegisterBlock, moved_blocks, same_bytes}
-use Rattle.hc_places.specs.Swap.{ChangedRow, same_found}
+use Rattle.hc_places.specs.Swap.{same_found}
 use Rattle.hc_places.specs.Table.{Row, place_in, table_of}
 use Rattle.hc_places.proofs.lemmas.Same.{found-same}
 use Rattle.hc_changes.specs.Candidates.{Candidate, LineArea, candidate_of, candidates, is_candidate, key_of, line_areas, place_of}
-use Rattle.hc_changes.specs.Moved.{IsComparable, IsWritable, bits_of, differ_from, moved_by, name_of, names_if, names_moved, two_blocks}
+use Rattle.hc_changes.specs.Moved.{bits_of, name_of}
+use Rattle.hc_changes.specs.inner.Moved.{IsComparable, IsWritable, differ_from, moved_by, names_if, names_moved, two_blocks}
 use Rattle.hc_changes.specs.Movers.{Mover, Stood, area_before, mover_of, movers_of, moves, place_before, same_spot, stood_of}
 use Rattle.hc_changes.specs.Outlook.{IsOutlook, Outlook, candidates_of, changes}
 use Rattle.hc_changes.specs.Rows.{StandsInside, is_new_row, moved_rows, rows_of, rows_of_movers}
@@ -34,15 +35,7 @@ use Rattle.hc_changes.proofs.lemmas.Others.{IsAreaOf, area-stands, line-area, ot
 use Rattle.hc_changes.proofs.lemmas.Outlooks.{other-at}
 use Rattle.hc_changes.proofs.lemmas.PlacedWidths.{placed-width}
 use Rattle.hc_changes.proofs.lemmas.Places.{area-stands-at}
-
--- what holds of the elements of a list holds of those that are kept
-pub all-kept : {X : Type 0} (P : X → Type 0) (test : X → Bool) (xs : List X) → All P xs → All P (filter test xs)
-all-kept P test xs all =
-    All-weaker (Contains (filter test xs)) P (λ x at. All-contains P xs x all (contains-unfiltered test xs x at)) (filter test xs) (All-contains_itself (filter test xs))
-
-from-not : (x : Bool) → not x ≡ false → x ≡ true
-from-not true is = refl
-from-not false is = cc
+use Rattle.hc_changes.proofs.lemmas.Rows.{moved_row}
 
 same-placed : (a b : Placed) → a.key ≡ b.key → a.bits ≡ b.bits → a.datagram ≡ b.datagram → a.bit ≡ b.bit → a ≡ b
 same-placed a b key bits datagram bit =
@@ -55,9 +48,6 @@ none-differ : (blocks : RegisterBlock × RegisterBlock) → differ_from blocks b
 none-differ blocks =
     ap (λ (x : Bool). (not x, not (same_bytes blocks.1 blocks.1))) (same_bytes-refl blocks.0)
     ∙ ap (λ (x : Bool). (false, not x)) (same_bytes-refl blocks.1)
-
-abbrev moved_row : Row → ChangedRow
-moved_row row = (row.0, Some row.1)
 
 module _ (it : Outlook) (is : IsOutlook it) where
   abbrev old : List Member
@@ -117,11 +107,14 @@ module _ (it : Outlook) (is : IsOutlook it) where
       ap (λ (areas : List Area). slice_get areas found.index) (other-at it is found.member.rank parts.0) ∙ area-named it.new found of in
       let stood : place_before it candidate found.area ≡ place_of old found = sym (place-by it.old found found refl refl) in
       let spot : same_spot candidate.place (place_of old found) ≡ true =
-      from-not (same_spot candidate.place (place_of old found))
+      not-false (same_spot candidate.place (place_of old found))
       (ap (λ (p : Option Placed). not (same_spot candidate.place p)) (sym stood)
       ∙ sym (ap (λ (a : Option Area). elsewhere (option_map make a)) area)
       ∙ parts.1) in
       record { was = was; area = area; stood = stood; place = spot-place found of was (place_of new found) (place_of old found) refl refl spot }
+
+  pub others-stay : (found : LineArea) → Contains (line_areas new) found → moves it (mover_of it (own found)) ≡ false → Contains (line_areas old) found × (place_of old found ≡ place_of new found)
+  others-stay found at still = let it-stays = stays found (line-area new found at) still in (area-stands old found it-stays.was, sym it-stays.place)
 
   -- its blocks are those that it had
 
@@ -190,7 +183,7 @@ module _ (it : Outlook) (is : IsOutlook it) where
 
   movers-comparable : All IsComparable (movers_of it)
   movers-comparable =
-      all-kept IsComparable (moves it) (map (mover_of it) (candidates_of it))
+      All-filter (moves it) IsComparable (map (mover_of it) (candidates_of it))
       (each-mover IsComparable
       (λ found of. record { new = area-writable it.new is.is_project found of; old = λ stood has. had-writable found of stood has }))
 
@@ -203,6 +196,6 @@ module _ (it : Outlook) (is : IsOutlook it) where
   pub movers-stand : crowded_task new ≡ None → All (λ mover. StandsInside mover.found) (movers_of it)
   movers-stand fits =
       let inside = candidates-inside (record { groups = it.new; epoch = 0 }) is.is_project fits in
-      all-kept (λ (mover : Mover). StandsInside mover.found) (moves it) (map (mover_of it) (candidates_of it))
+      All-filter (moves it) (λ (mover : Mover). StandsInside mover.found) (map (mover_of it) (candidates_of it))
       (each-mover (λ (mover : Mover). StandsInside mover.found)
       (λ found of. All-contains (λ (a : LineArea). StandsInside (candidate_of new a)) (line_areas new) found inside (area-stands new found of)))

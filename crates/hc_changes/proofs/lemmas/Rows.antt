@@ -42,7 +42,7 @@ pub record IsChange (changed : ℕ → Bool) (first : ℕ) (before after : List 
 abbrev gone_row : ℕ → ChangedRow
 gone_row variable = (variable, None)
 
-abbrev moved_row : Row → ChangedRow
+abbrev pub moved_row : Row → ChangedRow
 moved_row row = (row.0, Some row.1)
 
 abbrev table : State → Table

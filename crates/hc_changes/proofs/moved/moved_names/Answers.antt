@@ -2,7 +2,7 @@ use Rattle.std.proofs.Common.{◌≡◌, ◌∙◌, ◌<◌, ℕ, ap, length, ta
 use Rattle.std.specs.List.{flat_map}
 use Rattle.std.proofs.Math.Seq.{take-length}
 use Rattle.hc_records.specs.declared.limits.TheConstants.{MOST_AREAS}
-use Rattle.hc_changes.specs.Moved.{names_moved}
+use Rattle.hc_changes.specs.inner.Moved.{names_moved}
 use Rattle.hc_changes.specs.Movers.{Mover}
 use Rattle.hc_changes.proofs.lemmas.Movers.{comparable-at, movers-named}
 use Rattle.hc_changes.proofs.moved.moved_names.Goals as goal

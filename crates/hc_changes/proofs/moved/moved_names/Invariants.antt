@@ -1,6 +1,6 @@
 use Rattle.std.proofs.Common.{◌≡◌, take}
 use Rattle.std.specs.List.{flat_map}
-use Rattle.hc_changes.specs.Moved.{names_moved}
+use Rattle.hc_changes.specs.inner.Moved.{names_moved}
 use Rattle.hc_changes.proofs.moved.moved_names.Given as goal
 
 -- the names so far

@@ -4,7 +4,7 @@ use Rattle.hc_records.specs.declared.records.Area.{Area}
 use Rattle.hc_records.specs.Line.{line_from}
 use Rattle.hc_tasks.specs.Areas.{areas_at, areas_by_rank}
 use Rattle.hc_changes.specs.Candidates.{Candidate}
-use Rattle.hc_changes.specs.Moved.{IsOfLine, IsWritable}
+use Rattle.hc_changes.specs.inner.Moved.{IsOfLine, IsWritable}
 use Rattle.hc_changes.specs.Movers.{area_before, place_before}
 use Rattle.hc_changes.specs.Outlook.{IsOutlook, Outlook}
 use Rattle.hc_changes.proofs.lemmas.MovedNames.{before-writable, candidate-named}
