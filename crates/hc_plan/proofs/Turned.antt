@@ -1,6 +1,7 @@
 -- The line of an edit before it and after it, by the areas of their slaves.
 use Rattle.std.proofs.Common.{◌≡◌, ◌∙◌, ℕ, List, None, sym, ap, subst}
 use Rattle.std.specs.Prelude.{Option}
+use Rattle.hc_records.specs.declared.keys.Key.{Key}
 use Rattle.hc_records.specs.declared.records.Area.{Area}
 use Rattle.hc_records.specs.declared.records.Declared.{Declared}
 use Rattle.hc_records.specs.Edits.{crowded_task}
@@ -9,7 +10,7 @@ use Rattle.hc_records.specs.Project.{lowest_fault}
 use Rattle.hc_cuts.specs.Starts.{Kept}
 use Rattle.hc_tasks.specs.Areas.{areas_by_rank}
 use Rattle.hc_tasks.specs.Kept.{IsLine, crowded_from, line_kept}
-use Rattle.hc_tasks.specs.Turn.{AreLines, IsTurn}
+use Rattle.hc_tasks.specs.Turn.{AreLines, AreStartsOf, IsPut, IsTurn}
 use Rattle.hc_tasks.proofs.lemmas.Projects.{line-crowded, project-line}
 use Rattle.hc_tasks.proofs.lemmas.Turning.{back-lines}
 use Rattle.hc_changes.specs.Outlook.{IsOutlook, Outlook}
@@ -44,7 +45,7 @@ pub outlook-lines : (it : Outlook) (first : ℕ) (before after : List (List Area
 outlook-lines it first before after is same second third =
     read-lines first it.first before it.before after it.after (areas_by_rank it.old) (areas_by_rank it.new) same second third is.lines
 
--- the trees of the line before an edit are turned to those of the line after it, and back
+-- the trees of the line before an edit are turned to those of the line after it
 
 pub outlook-turn : (it : Outlook) (kept : List Kept) (first : ℕ) (before after : List (List Area)) → IsOutlook it → kept ≡ line_kept (areas_by_rank it.old)
     → crowded_task (line_from 1 it.old) ≡ None → first ≡ it.first → before ≡ it.before → after ≡ it.after
@@ -55,11 +56,22 @@ outlook-turn it kept first before after is trees fits same second third = record
   fits = line-areas it.old None fits;
 }
 
-pub outlook-back : (it : Outlook) (kept : List Kept) (first : ℕ) (before after : List (List Area)) → IsOutlook it → kept ≡ line_kept (areas_by_rank it.new)
-    → crowded_task (line_from 1 it.new) ≡ None → first ≡ it.first → before ≡ it.before → after ≡ it.after
-    → IsTurn 8 0 kept first after before (areas_by_rank it.new) (areas_by_rank it.old)
-outlook-back it kept first before after is trees fits same second third = record {
+-- and by boundaries that are known
+
+pub outlook-put : (it : Outlook) (kept : List Kept) (first : ℕ) (before after : List (List Area)) (starts : List (List Key)) → IsOutlook it → kept ≡ line_kept (areas_by_rank it.old)
+    → AreStartsOf (areas_by_rank it.new) starts → first ≡ it.first → before ≡ it.before → after ≡ it.after
+    → IsPut 8 0 kept first before after starts (areas_by_rank it.old) (areas_by_rank it.new)
+outlook-put it kept first before after starts is trees known same second third = record {
+  lines = outlook-lines it first before after is same second third;
+  stand = trees;
+  known = known;
+}
+
+pub outlook-back : (it : Outlook) (kept : List Kept) (first : ℕ) (before after : List (List Area)) (starts : List (List Key)) → IsOutlook it → kept ≡ line_kept (areas_by_rank it.new)
+    → AreStartsOf (areas_by_rank it.old) starts → first ≡ it.first → before ≡ it.before → after ≡ it.after
+    → IsPut 8 0 kept first after before starts (areas_by_rank it.new) (areas_by_rank it.old)
+outlook-back it kept first before after starts is trees known same second third = record {
   lines = back-lines first before after (areas_by_rank it.old) (areas_by_rank it.new) (outlook-lines it first before after is same second third);
   stand = trees;
-  fits = line-areas it.new None fits;
+  known = known;
 }

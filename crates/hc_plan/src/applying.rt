@@ -144,12 +144,13 @@ pub(crate) fn work_out<L: Ledger>(
         Err(task) => return Err(EditFault::TooManyDatagrams(task)),
     };
     let seen = see_new_line(alloc, outlook, &known, cuts, places, &mut steps);
-    turn_back(cuts, outlook, &mut steps);
+    let starts = cuts.copied_starts();
+    turn_back(cuts, outlook, &known);
     if epoch == LAST_EPOCH {
         return Err(EditFault::EpochsSpent);
     }
     let Told { blocks, swap, room } = tell(alloc, edit, outlook, cuts, places, seen?)?;
-    turn_on(cuts, outlook, &mut steps);
+    turn_on(cuts, outlook, &starts);
     let report = Report {
         epoch: epoch + 1,
         recut: unsettled,

@@ -7,7 +7,9 @@ ghost use Rattle.hc_records.specs.Project.{lowest_fault};
 ghost use Rattle.hc_places.specs.Layout.{NamesCrowded};
 ghost use Rattle.hc_places.specs.Table.{table_of};
 ghost use Rattle.hc_tasks.specs.Areas.{areas_by_rank};
+ghost use Rattle.hc_tasks.specs.Keeping.{StandsBefore};
 ghost use Rattle.hc_tasks.specs.Kept.{line_kept};
+ghost use Rattle.hc_tasks.specs.Turn.{AreStartsOf};
 ghost use Rattle.hc_changes.specs.Outlook.{IsOutlook};
 
 use hc_bitsum::steps::Steps;
@@ -17,6 +19,8 @@ use hc_places::table::Places;
 use hc_records::faults::EditFault;
 use hc_records::records::Declared;
 use hc_tasks::areas::areas_by_rank;
+use hc_tasks::keeping::Before;
+use hc_tasks::starts::LineStarts;
 use hc_tasks::tasks::LineCuts;
 use std::alloc::Global;
 use std::sync::ledger::{Blank, Ledger};
@@ -71,29 +75,29 @@ pub(crate) fn turn_line<L: Ledger>(
     cuts.turn(outlook.first(), outlook.before(), outlook.after(), steps)
 }
 
-/// Turns the trees of what an edit makes of a line back to those of the line before it, where no task of
-/// either line is crowded.
-pub(crate) fn turn_back<L: Ledger>(cuts: &mut LineCuts, outlook: &Outlook<'_>, steps: &mut Steps<L>)
+/// Turns the trees of what an edit makes of a line back to those of the line before it, by what was known
+/// of them there. It takes no memory.
+pub(crate) fn turn_back(cuts: &mut LineCuts, outlook: &Outlook<'_>, known: &Before)
     requires outlook { IsOutlook outlook.now }
     requires trees { cuts.old ≡ line_kept (areas_by_rank outlook.now.new) }
-    requires fits { crowded_task (line_from 1 outlook.now.old) ≡ None }
-    requires accepted { crowded_task (line_from 1 outlook.now.new) ≡ None }
+    requires known { StandsBefore (areas_by_rank outlook.now.old) (areas_by_rank outlook.now.new) known.now }
     ensures { cuts.new ≡ line_kept (areas_by_rank outlook.now.old) }
 {
-    let Ok(_) = cuts.turn(outlook.first(), outlook.after(), outlook.before(), steps) else {
-        unreachable!()
-    };
+    cuts.put(
+        outlook.first(),
+        outlook.after(),
+        outlook.before(),
+        known.starts(),
+    );
 }
 
-/// Turns the trees of a line's tasks to what an edit makes of it, where no task of either line is crowded.
-pub(crate) fn turn_on<L: Ledger>(cuts: &mut LineCuts, outlook: &Outlook<'_>, steps: &mut Steps<L>)
+/// Turns the trees of a line's tasks to what an edit makes of it again, by the boundaries that they have there.
+/// It takes no memory.
+pub(crate) fn turn_on(cuts: &mut LineCuts, outlook: &Outlook<'_>, starts: &LineStarts)
     requires outlook { IsOutlook outlook.now }
     requires trees { cuts.old ≡ line_kept (areas_by_rank outlook.now.old) }
-    requires fits { crowded_task (line_from 1 outlook.now.old) ≡ None }
-    requires accepted { crowded_task (line_from 1 outlook.now.new) ≡ None }
+    requires starts { AreStartsOf (areas_by_rank outlook.now.new) starts.now }
     ensures { cuts.new ≡ line_kept (areas_by_rank outlook.now.new) }
 {
-    let Ok(_) = turn_line(cuts, outlook, steps) else {
-        unreachable!()
-    };
+    cuts.put(outlook.first(), outlook.before(), outlook.after(), starts);
 }

@@ -2,10 +2,11 @@
 use Rattle.std.specs.Prelude.{All, Err, None, Ok, OnErr, OnOk, Option, Result, Some, drop, replicate, slice_index_or, slice_set, take}
 use Rattle.std.proofs.Common.{◌≡◌, ℕ, suc, ◌+◌, Bool, true, false, if◌then◌else◌, List, [], ◌∷◌, ◌++◌, length, refl, sym, ap, subst, ◌∙◌, arith, length-append}
 use Rattle.std.proofs.Math.Seq.{take-append_seam}
+use Rattle.hc_records.specs.declared.keys.Key.{Key}
 use Rattle.hc_records.specs.declared.records.Area.{Area}
 use Rattle.hc_cuts.specs.Starts.{Kept}
 use Rattle.hc_tasks.specs.Kept.{IsCut, IsLine, crowded_from, is_crowded, kept_by, kept_from, line_kept, tree_by}
-use Rattle.hc_tasks.specs.Turn.{AreLines, IsTaskTurn, IsTurn}
+use Rattle.hc_tasks.specs.Turn.{AreLines, IsPut, IsTaskTurn, IsTurn}
 use Rattle.hc_tasks.specs.Widths.{IsSetTo}
 use Rattle.hc_tasks.specs.Areas.{width_at}
 use Rattle.hc_tasks.proofs.Lines.{absent-fits, absent-line, length-absent, line-is}
@@ -85,6 +86,24 @@ parts task first before after old new all these rest other is one turn =
       ap (λ (list : List Kept). length list) whole,
     )
 
+-- and so are those that are put
+
+pub put-parts : (task first : ℕ) (before after : List (List Area)) (starts : List (List Key)) (old new : List (List Area)) (all these rest : List Kept) (other : Kept) → all ≡ these ++ rest
+    → length these ≡ 1 → IsPut (length all) task all first before after starts old new
+    → (slice_index_or these 0 other ≡ kept_by task old) × IsPut (length rest) (task + 1) rest first before after starts old new × (length all ≡ suc (length rest))
+put-parts task first before after starts old new all these rest other is one put =
+    let whole = split-tasks these rest all other (sym is) one in
+    let own = subst (λ (list : List Kept). IsPut (length list) task list first before after starts old new) whole put in
+    let kept = slice_index_or these 0 other in (
+      head-of kept (kept_by task old) rest (kept_from (length rest) (task + 1) old) own.stand,
+      record {
+        lines = own.lines;
+        stand = tail-of kept (kept_by task old) rest (kept_from (length rest) (task + 1) old) own.stand;
+        known = own.known;
+      },
+      ap (λ (list : List Kept). length list) whole,
+    )
+
 pub set-at : (these : List Kept) (kept other : Kept) → length these ≡ 1 → slice_index_or (slice_set these 0 kept) 0 other ≡ kept
 set-at [] kept other one = absurd (omega arith)
 set-at (first ∷ these) kept other one = refl
@@ -101,21 +120,35 @@ pub eight-turn : (kept lent : List Kept) (first : ℕ) (before after old new : L
 eight-turn kept lent first before after old new is eight turn =
     subst (λ (n : ℕ). IsTurn n 0 lent first before after old new) (sym eight) (subst (λ (ks : List Kept). IsTurn 8 0 ks first before after old new) (sym is) turn)
 
+pub eight-put : (kept lent : List Kept) (first : ℕ) (before after : List (List Area)) (starts : List (List Key)) (old new : List (List Area)) → lent ≡ kept → length lent ≡ 8
+    → IsPut 8 0 kept first before after starts old new → IsPut (length lent) 0 lent first before after starts old new
+eight-put kept lent first before after starts old new is eight put =
+    subst (λ (n : ℕ). IsPut n 0 lent first before after starts old new) (sym eight) (subst (λ (ks : List Kept). IsPut 8 0 ks first before after starts old new) (sym is) put)
+
 are-tasks : (result : Result ℕ ℕ) (lent last : List Kept) (new : List (List Area)) → OnOk result (last ≡ kept_from (length lent) 0 new) → OnErr result (last ≡ lent)
     → (length lent ≡ 8) × All IsCut lent → (length last ≡ 8) × All IsCut last
 are-tasks (Ok recut) lent last new turned same are = line-is last new (turned ∙ ap (λ (n : ℕ). kept_from n 0 new) are.0)
 are-tasks (Err task) lent last new turned same are = subst (λ (ks : List Kept). (length ks ≡ 8) × All IsCut ks) (sym same) are
 
 -- and what they are when it comes back
+
+back-again : (len : ℕ) (kept last : List Kept) → len ≡ length kept → length kept ≡ 8 → (length last ≡ 8) × All IsCut last
+    → (take len (last ++ drop (length last) kept) ≡ last) × (length last ≡ 8) × All IsCut last
+back-again len kept last long eight are = (
+  ap (λ (n : ℕ). take n (last ++ drop (length last) kept)) (long ∙ eight ∙ sym are.0) ∙ take-append_seam last (drop (length last) kept),
+  are.0,
+  are.1,
+)
+
 pub given-back : (len : ℕ) (kept lent last : List Kept) (result : Result ℕ ℕ) (new : List (List Area)) → len ≡ length kept → lent ≡ kept → (length kept ≡ 8) × All IsCut kept
     → OnOk result (last ≡ kept_from (length lent) 0 new) → OnErr result (last ≡ lent)
     → (take len (last ++ drop (length last) kept) ≡ last) × (length last ≡ 8) × All IsCut last
 given-back len kept lent last result new long is are turned same =
-    let all = are-tasks result lent last new turned same (subst (λ (ks : List Kept). (length ks ≡ 8) × All IsCut ks) (sym is) are) in (
-      ap (λ (n : ℕ). take n (last ++ drop (length last) kept)) (long ∙ are.0 ∙ sym all.0) ∙ take-append_seam last (drop (length last) kept),
-      all.0,
-      all.1,
-    )
+    back-again len kept last long are.0 (are-tasks result lent last new turned same (subst (λ (ks : List Kept). (length ks ≡ 8) × All IsCut ks) (sym is) are))
+
+pub put-back : (len : ℕ) (kept last : List Kept) (new : List (List Area)) → len ≡ length kept → length kept ≡ 8 → last ≡ line_kept new
+    → (take len (last ++ drop (length last) kept) ≡ last) × (length last ≡ 8) × All IsCut last
+put-back len kept last new long eight is = back-again len kept last long eight (line-is last new is)
 
 -- those of a line without slaves are turned into those of any line
 pub absent-turn : (count : ℕ) (kept : List Kept) (absent line : List (List Area)) → absent ≡ replicate count [] → kept ≡ line_kept (replicate count []) → length line ≡ count

@@ -1,5 +1,5 @@
 -- What is known of the tasks of a line when they are turned: their boundaries before, and the hulls of their touched keys.
-use Rattle.std.specs.Prelude.{◌≡◌, ℕ, ◌<◌, List, [], slice_index_or}
+use Rattle.std.specs.Prelude.{ℕ, ◌<◌, List, slice_index_or}
 use Rattle.hc_records.specs.declared.keys.Key.{Key}
 use Rattle.hc_records.specs.declared.limits.TheConstants.{TASKS}
 use Rattle.hc_records.specs.declared.records.Area.{Area}
@@ -7,7 +7,7 @@ use Rattle.hc_records.specs.Boundaries.{is_touched}
 use Rattle.hc_cuts.specs.declared.hulls.Hulls.{Hulls}
 use Rattle.hc_cuts.specs.Hulls.{AreHulls, no_hulls}
 use Rattle.hc_tasks.specs.Areas.{list_by}
-use Rattle.hc_tasks.specs.Kept.{starts_by}
+use Rattle.hc_tasks.specs.Turn.{AreStartsOf}
 
 -- the boundaries of each task without END, and its hulls
 pub record Before : Type 0 where
@@ -16,5 +16,5 @@ pub record Before : Type 0 where
 
 -- those of the eight tasks of an old line, and the hulls of the keys whose widths differ in a new one
 pub record StandsBefore (old new : List (List Area)) (before : Before) : Type 0 where
-  pub starts : (task : ℕ) → task < TASKS → slice_index_or before.starts task [] ≡ starts_by task old
+  pub starts : AreStartsOf old before.starts
   pub hulls : (task : ℕ) → task < TASKS → AreHulls (is_touched (list_by task old) (list_by task new)) (slice_index_or before.hulls task no_hulls)

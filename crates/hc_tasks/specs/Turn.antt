@@ -1,9 +1,11 @@
 -- Two lines that differ in the areas of slaves in a row, and tasks that are turned from the one to the other.
-use Rattle.std.specs.Prelude.{◌≡◌, ℕ, ◌+◌, List, ◌++◌, length, None, false}
+use Rattle.std.specs.Prelude.{◌≡◌, ℕ, ◌+◌, ◌<◌, List, [], ◌++◌, length, slice_index_or, None, false}
+use Rattle.hc_records.specs.declared.keys.Key.{Key}
+use Rattle.hc_records.specs.declared.limits.TheConstants.{TASKS}
 use Rattle.hc_records.specs.declared.records.Area.{Area}
 use Rattle.hc_bitsum.specs.Tree.{Tree}
 use Rattle.hc_cuts.specs.Starts.{Kept}
-use Rattle.hc_tasks.specs.Kept.{IsLine, crowded_from, is_crowded, kept_by, kept_from, tree_by}
+use Rattle.hc_tasks.specs.Kept.{IsLine, crowded_from, is_crowded, kept_by, kept_from, starts_by, tree_by}
 
 -- slaves in a row, the first of which has the rank `first`, have the areas `before` in the old line and `after` in the new one; each other slave has the same in both
 pub record AreLines (first : ℕ) (before after old new : List (List Area)) : Type 0 where
@@ -59,3 +61,19 @@ pub record HasTree (task : ℕ) (tree : Tree) (first : ℕ) (before after : List
   pub new : List (List Area)
   pub lines : AreLines first before after old new
   pub holds : tree ≡ tree_by task old
+
+-- boundaries, but END, are those of the eight tasks of a line
+abbrev pub AreStartsOf : List (List Area) → List (List Key) → Type 0
+AreStartsOf line starts = (task : ℕ) → task < TASKS → slice_index_or starts task [] ≡ starts_by task line
+
+-- so many tasks from one on are kept of the old line, and the boundaries of the new one's are known
+pub record IsPut (count task : ℕ) (kept : List Kept) (first : ℕ) (before after : List (List Area)) (starts : List (List Key)) (old new : List (List Area)) : Type 0 where
+  pub lines : AreLines first before after old new
+  pub stand : kept ≡ kept_from count task old
+  pub known : AreStartsOf new starts
+
+-- there are two such lines
+pub record HasPut (count task : ℕ) (kept : List Kept) (first : ℕ) (before after : List (List Area)) (starts : List (List Key)) : Type 0 where
+  pub old : List (List Area)
+  pub new : List (List Area)
+  pub put : IsPut count task kept first before after starts old new

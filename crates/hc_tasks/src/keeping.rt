@@ -70,6 +70,13 @@ impl Before {
         }
     }
 
+    /// The boundaries of the eight tasks of the old line. It takes no memory.
+    pub fn starts(&self) -> &LineStarts
+        ensures { result.now ≡ self.now.starts }
+    {
+        &self.starts
+    }
+
     /// Whether the width of a key of a task, 0 to 7, differs between the two lines. It takes no memory.
     pub fn is_touched(&self, task: u8) -> bool
         requires { task < TASKS }

@@ -28,6 +28,16 @@ impl TaskStarts {
     {
         self.keys.as_slice()
     }
+
+    /// A copy of them.
+    fn copied(&self) -> ArrayVec<Key, 16>
+        ensures { result.items ≡ self.now }
+    {
+        let Ok(keys) = ArrayVec::try_from(self.keys.as_slice()) else {
+            unreachable!()
+        };
+        keys
+    }
 }
 
 /// The boundaries of the eight tasks of a line, but `Key::END`, as they were when they were copied.
@@ -71,5 +81,13 @@ impl LineStarts {
         ensures { result.now ≡ slice_index_or self.now task [] }
     {
         self.tasks[usize::from(task)].as_slice()
+    }
+
+    /// A copy of those of a task, 0 to 7.
+    pub(crate) fn copied(&self, task: u8) -> ArrayVec<Key, 16>
+        requires { task < TASKS }
+        ensures { result.items ≡ slice_index_or self.now task [] }
+    {
+        self.tasks[usize::from(task)].copied()
     }
 }

@@ -3,7 +3,7 @@ ghost use Rattle.std.specs.Prelude.{◌≡◌, [], IfOk, replicate};
 
 use crate::areas::SlaveAreas;
 use crate::starts::LineStarts;
-use crate::turning::turn_tasks;
+use crate::turning::{put_tasks, turn_tasks};
 use hc_bitsum::steps::Steps;
 use hc_cuts::cursor::Cursor;
 use hc_cuts::cuts::Cuts;
@@ -60,7 +60,7 @@ impl LineCuts {
     ghost use Rattle.hc_tasks.specs.Cursors.{StandInTasks};
     ghost use Rattle.hc_tasks.specs.Kept.{IsLine, crowded_from, line_kept, starts_by};
     ghost use Rattle.hc_tasks.specs.Recut.{recut_from, touched_from};
-    ghost use Rattle.hc_tasks.specs.Turn.{HasTurn, IsTurn};
+    ghost use Rattle.hc_tasks.specs.Turn.{AreStartsOf, HasPut, HasTurn, IsPut, IsTurn};
 
     /// The tasks of a line of so many declared slaves, at most 2,048, none of which is present.
     fn new(alloc: Global, slaves: u16) -> Result<LineCuts, AllocError>
@@ -100,6 +100,16 @@ impl LineCuts {
         ensures most { IfOk result (λ recut. steps.new ≤ steps.old + most_read * recut) }
     {
         turn_tasks(self.tasks.as_mut_slice(), 0, first, before, after, steps)
+    }
+
+    /// Turns the tasks of a line into those of another one, whose boundaries are known, as those of a line
+    /// are to which the tasks are turned back. Ranks and areas are as `turn` takes them. No boundary is
+    /// searched, so it takes no steps and nothing is refused. It takes no memory.
+    pub fn put(&mut self, first: u16, from: &[SlaveAreas], to: &[SlaveAreas], starts: &LineStarts)
+        requires { HasPut 8 0 self.old first from.now to.now starts.now }
+        ensures { (old new : List (List Area)) → IsPut 8 0 self.old first from.now to.now starts.now old new → self.new ≡ line_kept new }
+    {
+        put_tasks(self.tasks.as_mut_slice(), 0, first, from, to, starts);
     }
 
     /// The tasks of a line, from nothing. `TooManyDatagrams` with the lowest task that needs more than
@@ -208,9 +218,11 @@ impl LineCuts {
         self.tasks[task].place_from(&mut cursors[task], key)
     }
 
-    /// A copy of the boundaries of the eight tasks, to be compared with later ones. It takes no memory.
+    /// A copy of the boundaries of the eight tasks, to be compared with later ones or put again. It takes no
+    /// memory.
     pub fn copied_starts(&self) -> LineStarts
-        ensures { result ≡ map (λ kept. kept.starts) self.now }
+        ensures copy { result ≡ map (λ kept. kept.starts) self.now }
+        ensures starts { (line : List (List Area)) → self.now ≡ line_kept line → AreStartsOf line result }
     {
         LineStarts::of(self.tasks.as_slice())
     }

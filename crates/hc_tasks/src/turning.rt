@@ -1,15 +1,17 @@
 //! The tasks of a line turned into those of another: widths that differ are set, and the boundaries of a task
 //! in which one does are repaired. Where a task would need too many datagrams, it and those before it are
-//! put back, and those behind it aren't looked at.
+//! put back, and those behind it aren't looked at. Where the boundaries are known, as they are on the way back,
+//! they are put in place of a repair.
 ghost use Rattle.std.specs.Prelude.{◌≡◌, ◌+◌, ◌*◌, ◌≤◌, IfErr, IfOk, List, None, OnErr, OnOk, Some, false, length, true};
 ghost use Rattle.hc_records.specs.declared.limits.TheConstants.{MOST_DATAGRAMS};
 ghost use Rattle.hc_records.specs.declared.records.Area.{Area};
 ghost use Rattle.hc_cuts.specs.Starts.{most_read};
 ghost use Rattle.hc_tasks.specs.Kept.{crowded_from, is_crowded, kept_by, kept_from, starts_by, tree_by};
 ghost use Rattle.hc_tasks.specs.Recut.{recut_by, recut_from, touched_by, touched_from};
-ghost use Rattle.hc_tasks.specs.Turn.{AreLines, HasTaskTurn, HasTree, HasTurn, IsTaskTurn, IsTurn};
+ghost use Rattle.hc_tasks.specs.Turn.{AreLines, HasPut, HasTaskTurn, HasTree, HasTurn, IsPut, IsTaskTurn, IsTurn};
 
 use crate::areas::SlaveAreas;
+use crate::starts::LineStarts;
 use crate::touched::touched_hulls;
 use crate::widths::set_widths;
 use arrayvec::ArrayVec;
@@ -55,7 +57,7 @@ fn turn_task<L: Ledger>(
     }
 }
 
-/// Puts a task back that was turned, with the boundaries that it had.
+/// Puts a task at that of another line, whose boundaries are known.
 fn put_task(
     cuts: &mut Cuts,
     task: u8,
@@ -108,4 +110,25 @@ pub(crate) fn turn_tasks<L: Ledger>(
             Err(crowded)
         }
     }
+}
+
+/// Puts tasks in a row, the first of which has a number, at those of another line, whose boundaries are known.
+pub(crate) fn put_tasks(
+    tasks: &mut [Cuts],
+    task: u8,
+    first: u16,
+    from: &[SlaveAreas],
+    to: &[SlaveAreas],
+    starts: &LineStarts,
+)
+    requires numbers { task + length tasks.old ≤ 8 }
+    requires lines { HasPut (length tasks.old) task tasks.old first from.now to.now starts.now }
+    ensures { (old new : List (List Area)) → IsPut (length tasks.old) task tasks.old first from.now to.now starts.now old new → tasks.new ≡ kept_from (length tasks.old) task new }
+{
+    if tasks.is_empty() {
+        return;
+    }
+    let (these, rest) = tasks.split_at_mut(1);
+    put_task(&mut these[0], task, first, from, to, starts.copied(task));
+    put_tasks(rest, task + 1, first, from, to, starts);
 }
