@@ -36,13 +36,6 @@ pub record HasTurn (count task : ℕ) (kept : List Kept) (first : ℕ) (before a
   pub new : List (List Area)
   pub turn : IsTurn count task kept first before after old new
 
--- the eight tasks of a line are kept, and none of the tasks of either line needs more than 16 datagrams
-pub record HasAcceptedTurn (kept : List Kept) (first : ℕ) (before after : List (List Area)) : Type 0 where
-  pub old : List (List Area)
-  pub new : List (List Area)
-  pub turn : IsTurn 8 0 kept first before after old new
-  pub fits : crowded_from 8 0 new ≡ None
-
 -- the same of one task
 
 pub record IsTaskTurn (task : ℕ) (kept : Kept) (first : ℕ) (before after old new : List (List Area)) : Type 0 where

@@ -4,7 +4,7 @@ use Rattle.std.proofs.Common.{◌≡◌, ℕ, List, [], length, refl, sym, appen
 use Rattle.hc_records.specs.declared.records.Area.{Area}
 use Rattle.hc_cuts.specs.Starts.{Kept}
 use Rattle.hc_tasks.specs.Kept.{IsLine, crowded_from, line_kept}
-use Rattle.hc_tasks.specs.Turn.{AreLines, HasAcceptedTurn, IsTurn}
+use Rattle.hc_tasks.specs.Turn.{AreLines, IsTurn}
 
 -- two lines that may differ in the areas of all their slaves
 whole-lines : (old new : List (List Area)) → IsLine old → IsLine new → length new ≡ length old → AreLines 1 old new old new
@@ -35,19 +35,4 @@ back-lines first before after old new lines = record {
   is = lines.was;
   old_line = lines.new_line;
   new_line = lines.old_line;
-}
-
--- tasks that were turned are turned back
-pub back-turn : (kept last : List Kept) (first : ℕ) (before after old new : List (List Area)) → IsTurn 8 0 kept first before after old new → last ≡ line_kept new
-    → crowded_from 8 0 new ≡ None → IsTurn 8 0 last first after before new old
-back-turn kept last first before after old new turn stand fits = record { lines = back-lines first before after old new turn.lines; stand = stand; fits = fits }
-
--- and no task refuses that
-pub back-accepted : (kept last : List Kept) (first : ℕ) (before after old new : List (List Area)) → IsTurn 8 0 kept first before after old new → last ≡ line_kept new
-    → crowded_from 8 0 new ≡ None → HasAcceptedTurn last first after before
-back-accepted kept last first before after old new turn stand fits = record {
-  old = new;
-  new = old;
-  turn = back-turn kept last first before after old new turn stand fits;
-  fits = turn.fits;
 }
