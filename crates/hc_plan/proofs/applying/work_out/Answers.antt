@@ -1,9 +1,26 @@
 use Rattle.std.proofs.Common.{◌≡◌, ◌∙◌, length, refl, arith}
 use Rattle.std.proofs.lemmas.Bool.{eq-eqb, ne_eqb}
 use Rattle.hc_records.specs.declared.limits.TheConstants.{LAST_EPOCH}
+use Rattle.hc_tasks.specs.Areas.{areas_by_rank}
+use Rattle.hc_plan.proofs.Turned.{outlook-lines}
 use Rattle.hc_plan.proofs.Editing.{made-accepted, made-crowded, made-spent}
 use Rattle.hc_plan.proofs.Telling.{named-count, named-few}
 use Rattle.hc_plan.proofs.applying.work_out.Goals as goal
+
+pub see_new_line-seen-requires-clause-known : goal.see_new_line-seen-requires-clause-known
+see_new_line-seen-requires-clause-known g c =
+    let it = c.args.outlook.now in
+    c.of-known.ensures (areas_by_rank it.old) (areas_by_rank it.new) (outlook-lines it c.first.result c.before-2.result.now c.after.result.now c.requires.edit.is c.first.ensures c.before-2.ensures c.after.ensures)
+    c.requires.trees
+
+pub turn_back-requires-clause-known : goal.turn_back-requires-clause-known
+turn_back-requires-clause-known g c =
+    let it = c.args.outlook.now in
+    c.of-known.ensures (areas_by_rank it.old) (areas_by_rank it.new) (outlook-lines it c.first.result c.before-2.result.now c.after.result.now c.requires.edit.is c.first.ensures c.before-2.ensures c.after.ensures)
+    c.requires.trees
+
+pub turn_on-requires-clause-starts : goal.turn_on-requires-clause-starts
+turn_on-requires-clause-starts g c = c.copied_starts-starts.ensures.starts (areas_by_rank c.args.outlook.now.new) c.in-Ok.ensures.turned
 
 pub returns-in-Err-clause-refused : goal.returns-in-Err-clause-refused
 returns-in-Err-clause-refused g c =
