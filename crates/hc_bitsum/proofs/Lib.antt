@@ -12,6 +12,7 @@ pub mod Parts
 pub mod Sums
 pub mod Nodes
 pub mod Stretches
+pub mod Between
 pub mod Strides
 pub mod Anew
 pub mod Blank

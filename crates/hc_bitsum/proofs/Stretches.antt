@@ -232,12 +232,12 @@ filter-swap : (p q : Keyed → Bool) (xs : List Keyed) → filter p (filter q xs
 filter-swap p q [] = refl
 filter-swap p q (x ∷ xs) = swap-by (p x) (q x) p q x xs refl refl (filter-swap p q xs)
 
-between-wide : (from until : Key) (xs : List Keyed) → areas_between from until (filter has_width xs) ≡ filter has_width (areas_between from until xs)
+pub between-wide : (from until : Key) (xs : List Keyed) → areas_between from until (filter has_width xs) ≡ filter has_width (areas_between from until xs)
 between-wide from until xs =
     ap (filter (λ area. is_before area.0 until)) (filter-swap (λ area. is_within from area.0) has_width xs)
     ∙ filter-swap (λ area. is_before area.0 until) has_width (areas_from from xs)
 
-between-append : (from until : Key) (xs ys : List Keyed) → areas_between from until (xs ++ ys) ≡ areas_between from until xs ++ areas_between from until ys
+pub between-append : (from until : Key) (xs ys : List Keyed) → areas_between from until (xs ++ ys) ≡ areas_between from until xs ++ areas_between from until ys
 between-append from until xs ys =
     ap (filter (λ area. is_before area.0 until)) (filter-append (λ area. is_within from area.0) xs ys)
     ∙ filter-append (λ area. is_before area.0 until) (areas_from from xs) (areas_from from ys)

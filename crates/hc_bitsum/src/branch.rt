@@ -1,18 +1,19 @@
 //! A part of a tree: the areas of one direction, a row for each slave, and above the rows a tree of sums in an array.
 //! Node 1 is the root, below node `k` stand `2 * k` and `2 * k + 1`, and the last level has a node for each row.
-ghost use Rattle.std.specs.Prelude.{◌≡◌, ◌+◌, ◌-◌, ◌*◌, ◌^◌, ◌<◌, ◌≤◌, ℕ, All, IfOk, length, drop, get_or};
+ghost use Rattle.std.specs.Prelude.{◌≡◌, ◌+◌, ◌-◌, ◌*◌, ◌^◌, ◌<◌, ◌≤◌, ◌++◌, ◌∷◌, [], ℕ, All, IfOk, IsTrue, OnOk, length, drop, filter, get_or};
 ghost use Rattle.hc_records.specs.declared.limits.TheConstants.{MOST_AREA_BITS};
 ghost use Rattle.hc_bitsum.specs.Branch.{AreForks, AreRowSums, AreSums, IsBranch, IsNode, areas_behind, node_areas, slots_of};
 ghost use Rattle.hc_bitsum.specs.Filling.{areas_between, with_areas};
 ghost use Rattle.hc_bitsum.specs.Rows.{IsRow, blank_slots, part};
 ghost use Rattle.hc_bitsum.specs.Search.{IsInRoom, scan};
-ghost use Rattle.hc_bitsum.specs.Slots.{IsShaped, bits_at, stretch, with_bits};
+ghost use Rattle.hc_bitsum.specs.Slots.{IsShaped, bits_at, key_at, stretch, with_bits};
 ghost use Rattle.hc_bitsum.specs.Strides.{HasClimbed, StandsAt};
 ghost use Rattle.hc_bitsum.specs.Sums.{ended, sum_of};
+ghost use Rattle.hc_bitsum.specs.Tree.{has_width};
 ghost use Rattle.hc_bitsum.specs.declared.sum.Sum.TheVariants.{Empty};
 
 use crate::filled::Filled;
-use crate::row::{Fit, Row, fit_row, places_before, row_sum};
+use crate::row::{Fit, Row, fit_row, key_at, places_before, row_sum};
 use crate::steps::Steps;
 use crate::sum::Sum;
 use hc_records::keys::Key;
@@ -383,5 +384,87 @@ impl Branch {
         let row = (at / 8) as usize;
         self.rows[row][(at % 8) as usize] = bits;
         sum_anew(self.dir, self.levels, &self.rows, &mut self.sums, row);
+    }
+
+    /// Whether no area of a row has a width, by the row's sum.
+    fn is_blank(&self, row: usize) -> bool
+        requires branch { IsBranch self.now }
+        requires within { row < length self.now.rows.items }
+        ensures { IsTrue result → filter has_width (part self.now.dir self.now.rows.items row 1) ≡ [] }
+    {
+        match self.sums[self.rows.len() + row] {
+            Sum::Empty => true,
+            Sum::Run { .. } => false,
+        }
+    }
+
+    /// Whether it has no area with a width, by the sum of all.
+    fn is_empty(&self) -> bool
+        requires { IsBranch self.now }
+        ensures { IsTrue result → filter has_width (slots_of self.now).areas ≡ [] }
+    {
+        match self.total() {
+            Sum::Empty => true,
+            Sum::Run { .. } => false,
+        }
+    }
+
+    /// Adds the area behind `at` others to areas, if it has a width. `AllocError` where a growth was refused.
+    fn add_area(&self, areas: &mut Vec<(Key, u16)>, at: u32) -> Result<(), AllocError>
+        requires branch { IsBranch self.now }
+        requires within { at < length (slots_of self.now).areas }
+        ensures { OnOk result (areas.new.items ≡ areas.old.items ++ filter has_width ((key_at self.now.dir at, bits_at at (slots_of self.now).areas) ∷ [])) }
+    {
+        let bits = self.bits(at);
+        if bits > 0 {
+            areas.push((key_at(self.dir, at), bits))?;
+        }
+        Ok(())
+    }
+
+    /// Adds those of its areas from one place up to another that have a width to others, in their order. Rows
+    /// without such an area are passed over. `AllocError` where a growth was refused.
+    fn add_stretch(
+        &self,
+        areas: &mut Vec<(Key, u16)>,
+        first: u32,
+        end: u32,
+    ) -> Result<(), AllocError>
+        requires branch { IsBranch self.now }
+        requires order { first ≤ end }
+        requires within { end ≤ length (slots_of self.now).areas }
+        ensures { OnOk result (areas.new.items ≡ areas.old.items ++ filter has_width (stretch first end (slots_of self.now).areas)) }
+    {
+        let mut at = first;
+        'places: while at < end {
+            if at % 8 == 0 && at + 8 <= end && self.is_blank((at / 8) as usize) {
+                at += 8;
+            } else {
+                self.add_area(areas, at)?;
+                at += 1;
+            }
+        }
+        Ok(())
+    }
+
+    /// Adds its areas from one key on and before another that have a width to others, in key order. The room
+    /// for them is taken first; `AllocError` where a growth was refused.
+    pub(crate) fn add_between(
+        &self,
+        areas: &mut Vec<(Key, u16)>,
+        from: Key,
+        until: Key,
+    ) -> Result<(), AllocError>
+        requires { IsBranch self.now }
+        ensures { OnOk result (areas.new.items ≡ areas.old.items ++ filter has_width (areas_between from until (slots_of self.now).areas)) }
+    {
+        let places = 8 * self.rows.len() as u32;
+        let first = places_before(self.dir, from, places);
+        let end = places_before(self.dir, until, places);
+        if end <= first || self.is_empty() {
+            return Ok(());
+        }
+        areas.reserve((end - first) as usize)?;
+        self.add_stretch(areas, first, end)
     }
 }

@@ -111,6 +111,48 @@ fn areas_between_two_keys_fill_a_datagram(rt: HostRuntime) -> Result<(), Fail> {
     Ok(())
 }
 
+/// Whether the areas of a tree from one key on and before another are these.
+fn are_between(
+    alloc: Global,
+    tree: &SumTree,
+    from: Key,
+    until: Key,
+    wanted: &[(Key, u16)],
+) -> Result<bool, AllocError> {
+    let areas = tree.areas_between(alloc, from, until)?;
+    if areas.len() != wanted.len() {
+        return Ok(false);
+    }
+    for i in 0..areas.len() {
+        if areas[i] != wanted[i] {
+            return Ok(false);
+        }
+    }
+    Ok(true)
+}
+
+#[test]
+fn a_tree_gives_its_areas_between_two_keys(rt: HostRuntime) -> Result<(), Fail> {
+    let alloc = rt.alloc();
+    let tree = filled_tree(alloc)?;
+    let second = key(Dir::Out, 2, 7);
+    let third = key(Dir::Out, 3, 1);
+    let input = key(Dir::In, 1, 1);
+    let all = [
+        (key(Dir::Out, 1, 0), 11880),
+        (second, 8),
+        (third, 1),
+        (input, 12),
+    ];
+    assert!(rt;
+        are_between(alloc, &tree, Key::START, Key::END, &all)?
+            && are_between(alloc, &tree, second, Key::END, &all[1..])?
+            && are_between(alloc, &tree, second, third, &all[1..2])?
+            && are_between(alloc, &tree, third, second, &[])?
+    );
+    Ok(())
+}
+
 /// The bit behind a run that starts at bit 0.
 fn ends(sum: &Sum) -> Option<u32> {
     match sum {

@@ -189,6 +189,23 @@ impl SumTree {
         self.inputs.filled_between(from, until, outputs)
     }
 
+    /// Its areas from one key on, that one included, and before another, in key order, each with its width. The
+    /// keys may be any, as for `filled_between`. The rows of slaves without such areas are passed over, each by
+    /// its sum; it takes no steps. `AllocError` where a growth was refused.
+    pub fn areas_between(
+        &self,
+        alloc: Global,
+        from: Key,
+        until: Key,
+    ) -> Result<Vec<(Key, u16)>, AllocError>
+        ensures { IfOk result (λ areas. areas.items ≡ areas_between from until self.now.list) }
+    {
+        let mut areas = Vec::new(alloc);
+        self.outputs.add_between(&mut areas, from, until)?;
+        self.inputs.add_between(&mut areas, from, until)?;
+        Ok(areas)
+    }
+
     /// The sum of all its areas.
     pub fn total(&self) -> Sum
         ensures { result ≡ sum_of self.now.list }

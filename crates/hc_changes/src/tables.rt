@@ -1,5 +1,5 @@
 //! The tasks whose tables an edit changes. What a kept datagram holds stands in the old table; the areas of
-//! each other one are walked.
+//! each other one are gone over.
 ghost use Rattle.std.specs.Prelude.{◌≡◌, ◌<◌, ◌==◌, ℕ, All, IfOk, List, find, length, map, option_map, slice_get};
 ghost use Rattle.hc_records.specs.declared.limits.TheConstants.{TASKS};
 ghost use Rattle.hc_records.specs.declared.records.Declared.{Declared};
@@ -10,7 +10,6 @@ ghost use Rattle.hc_places.specs.Swap.{ChangesAscend, IsNewTask};
 ghost use Rattle.hc_places.specs.Table.{table_of, task_table};
 ghost use Rattle.hc_changes.specs.Tables.{AreOfLine, IsEdited};
 
-use hc_bitsum::steps::Steps;
 use hc_places::loads::Load;
 use hc_places::swap::ChangedTask;
 use hc_places::table::{Places, TaskTable};
@@ -18,17 +17,15 @@ use hc_records::limits::TASKS;
 use hc_tasks::keeping::Before;
 use hc_tasks::tasks::LineCuts;
 use std::alloc::{AllocError, Global};
-use std::sync::ledger::Ledger;
 
 /// What a datagram of a task of the new line holds: a kept one what it held.
-fn load_in<L: Ledger>(
+fn load_in(
     alloc: Global,
     cuts: &LineCuts,
     old: &Places,
     before: &Before,
     task: u8,
     number: u16,
-    steps: &mut Steps<L>,
 ) -> Result<Load, AllocError>
     requires task { task < TASKS }
     requires line { AreOfLine cuts.now }
@@ -38,18 +35,17 @@ fn load_in<L: Ledger>(
     if before.is_kept(cuts, task, number) {
         return Ok(old.load(task, number));
     }
-    let areas = cuts.datagram(alloc, task, number, steps)?;
+    let areas = cuts.datagram(alloc, task, number)?;
     Ok(Load::of(areas.as_slice(), number))
 }
 
 /// The table of a task of the new line.
-fn new_table<L: Ledger>(
+fn new_table(
     alloc: Global,
     cuts: &LineCuts,
     old: &Places,
     before: &Before,
     task: u8,
-    steps: &mut Steps<L>,
 ) -> Result<TaskTable, AllocError>
     requires task { task < TASKS }
     requires line { AreOfLine cuts.now }
@@ -57,7 +53,7 @@ fn new_table<L: Ledger>(
 {
     let mut table = TaskTable::empty();
     for number in 0..cuts.starts(task).len() {
-        let load = load_in(alloc, cuts, old, before, task, number as u16, steps)?;
+        let load = load_in(alloc, cuts, old, before, task, number as u16)?;
         if load.length > 0 {
             table.add(task, load);
         }
@@ -66,12 +62,11 @@ fn new_table<L: Ledger>(
 }
 
 /// The tables of the eight tasks of the new line.
-fn new_tables<L: Ledger>(
+fn new_tables(
     alloc: Global,
     cuts: &LineCuts,
     old: &Places,
     before: &Before,
-    steps: &mut Steps<L>,
 ) -> Result<Vec<TaskTable>, AllocError>
     requires { AreOfLine cuts.now }
     ensures tables { IfOk result (λ tables. (was is : List Declared) → IsEdited was is old.now before.now cuts.now → tables.items ≡ map (task_table (line_from 1 is)) tasks) }
@@ -79,27 +74,26 @@ fn new_tables<L: Ledger>(
 {
     let mut tables = Vec::with_capacity(alloc, usize::from(TASKS))?;
     for task in 0..TASKS {
-        tables.push(new_table(alloc, cuts, old, before, task, steps)?)?;
+        tables.push(new_table(alloc, cuts, old, before, task)?)?;
     }
     Ok(tables)
 }
 
 /// The tasks whose tables an edit changes, with their new ones, in the order of their numbers: from the trees
 /// of the new line, the old line's table, and what was known of its tasks before they were turned. What a kept
-/// datagram holds stands in the old table, and takes no steps; the areas of each other one are walked.
+/// datagram holds stands in the old table; the areas of each other one are gone over.
 /// `AllocError` where a growth was refused.
-pub fn changed_tasks<L: Ledger>(
+pub fn changed_tasks(
     alloc: Global,
     cuts: &LineCuts,
     old: &Places,
     before: &Before,
-    steps: &mut Steps<L>,
 ) -> Result<Vec<ChangedTask>, AllocError>
     requires { AreOfLine cuts.now }
     ensures says { IfOk result (λ changed. (was is : List Declared) → IsEdited was is old.now before.now cuts.now → (task : ℕ) → IsNewTask (slice_get old.now.tasks task) (slice_get (table_of (line_from 1 is)).tasks task) (option_map (λ found. found.1) (find (λ found. found.0 == task) changed.items))) }
     ensures ascends { IfOk result (λ changed. ChangesAscend changed.items) }
     ensures eight { IfOk result (λ changed. All (λ found. found.0 < TASKS) changed.items) }
 {
-    let tables = new_tables(alloc, cuts, old, before, steps)?;
+    let tables = new_tables(alloc, cuts, old, before)?;
     old.changed_tasks(alloc, tables.as_slice())
 }

@@ -238,13 +238,8 @@ impl Cuts {
 
     /// The areas of one of its datagrams with their places, in key order; none where it has no datagram with
     /// that number. The boundaries are those of its areas, as `cut` leaves them; the areas of the datagram
-    /// alone are walked in the tree. `AllocError` where a growth was refused.
-    pub fn datagram<L: Ledger>(
-        &self,
-        alloc: Global,
-        number: u16,
-        steps: &mut Steps<L>,
-    ) -> Result<Vec<Placed>, AllocError>
+    /// alone are gone over. `AllocError` where a growth was refused.
+    pub fn datagram(&self, alloc: Global, number: u16) -> Result<Vec<Placed>, AllocError>
         requires { self.now.starts ++ END ∷ [] ≡ boundaries self.now.tree.list }
         ensures { IfOk result (λ places. places.items ≡ inside number (packed opening self.now.tree.list)) }
     {
@@ -255,18 +250,14 @@ impl Cuts {
             return Ok(places);
         }
         let span = (starts[first], end_of(starts, first));
-        add_span(&mut places, &self.tree, span, number, steps)?;
+        add_span(alloc, &mut places, &self.tree, span, number)?;
         Ok(places)
     }
 
     /// The areas of the task with their places, in key order: packed one after another from the empty
-    /// first datagram. The boundaries are those of its areas, as `cut` leaves them; the areas of each
-    /// datagram are walked in the tree. `AllocError` where a growth was refused.
-    pub fn places<L: Ledger>(
-        &self,
-        alloc: Global,
-        steps: &mut Steps<L>,
-    ) -> Result<Vec<Placed>, AllocError>
+    /// first datagram. The boundaries are those of its areas, as `cut` leaves them. `AllocError` where a
+    /// growth was refused.
+    pub fn places(&self, alloc: Global) -> Result<Vec<Placed>, AllocError>
         requires { self.now.starts ++ END ∷ [] ≡ boundaries self.now.tree.list }
         ensures { IfOk result (λ places. places.items ≡ packed opening self.now.tree.list) }
     {
@@ -274,7 +265,7 @@ impl Cuts {
         let starts = self.starts.as_slice();
         for i in 0..starts.len() {
             let span = (starts[i], end_of(starts, i));
-            add_span(&mut places, &self.tree, span, i as u16, steps)?;
+            add_span(alloc, &mut places, &self.tree, span, i as u16)?;
         }
         Ok(places)
     }

@@ -20,7 +20,6 @@ use crate::datagrams::task_table;
 use crate::layout::Layout;
 use crate::table::{Place, Places, TaskTable};
 use crate::variables::{add_found, add_variables};
-use hc_bitsum::steps::Steps;
 use hc_cuts::fold::fold_cuts;
 use hc_cuts::packing::{Placed, pack};
 use hc_records::faults::EditFault;
@@ -31,7 +30,6 @@ use hc_records::records::{Declared, VarId};
 use hc_tasks::areas::{SlaveAreas, areas_by_rank};
 use hc_tasks::tasks::LineCuts;
 use std::alloc::{AllocError, Global};
-use std::sync::ledger::Ledger;
 
 /// What a line is configured to: where its areas, datagrams and variables stand.
 #[derive(Debug, Drop)]
@@ -179,12 +177,7 @@ pub fn configure(alloc: Global, groups: &[Declared]) -> Result<Configured, EditF
 }
 
 /// Adds the eight tasks of a line, whose areas are kept in trees, to no task.
-fn draft_kept<L: Ledger>(
-    alloc: Global,
-    groups: &[Declared],
-    cuts: &LineCuts,
-    steps: &mut Steps<L>,
-) -> Result<Draft, AllocError>
+fn draft_kept(alloc: Global, groups: &[Declared], cuts: &LineCuts) -> Result<Draft, AllocError>
     requires project { lowest_fault (groups_of groups.now) ≡ None }
     requires kept { cuts.now ≡ line_kept (areas_by_rank groups.now) }
     requires fits { crowded_task (line_from 1 groups.now) ≡ None }
@@ -199,21 +192,20 @@ fn draft_kept<L: Ledger>(
         rows: Vec::new(alloc),
     };
     for task in 0..TASKS {
-        let places = cuts.places(alloc, task, steps)?;
+        let places = cuts.places(alloc, task)?;
         draft.add_kept(task, slaves.as_slice(), places)?;
     }
     Ok(draft)
 }
 
 /// Configures the line of declared groups from the trees of its tasks: the areas of each datagram are
-/// walked from a boundary to the next, and no task's list is built. The groups are those of a project,
+/// gone over from a boundary to the next, and no task's list is built. The groups are those of a project,
 /// the trees those of their line, none of whose tasks needs more than 16 datagrams. `AllocError` where
 /// a growth was refused.
-pub fn configure_kept<L: Ledger>(
+pub fn configure_kept(
     alloc: Global,
     groups: &[Declared],
     cuts: &LineCuts,
-    steps: &mut Steps<L>,
 ) -> Result<Configured, AllocError>
     requires project { lowest_fault (groups_of groups.now) ≡ None }
     requires kept { cuts.now ≡ line_kept (areas_by_rank groups.now) }
@@ -225,7 +217,7 @@ pub fn configure_kept<L: Ledger>(
         layout,
         tables,
         rows,
-    } = draft_kept(alloc, groups, cuts, steps)?;
+    } = draft_kept(alloc, groups, cuts)?;
     Ok(Configured {
         layout: Layout::of(layout),
         places: Places::of(tables, rows)?,

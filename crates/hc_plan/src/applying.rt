@@ -62,13 +62,12 @@ struct Told {
 
 /// What is seen of the line that an edit makes, whose trees are those given. `AllocError` where a growth was
 /// refused.
-fn see_new_line<'a, L: Ledger>(
+fn see_new_line<'a>(
     alloc: Global,
     outlook: &Outlook<'a>,
     known: &Before,
     cuts: &LineCuts,
     places: &Places,
-    steps: &mut Steps<L>,
 ) -> Result<Seen<'a>, AllocError>
     requires outlook { IsOutlook outlook.now }
     requires known { StandsBefore (areas_by_rank outlook.now.old) (areas_by_rank outlook.now.new) known.now }
@@ -78,7 +77,7 @@ fn see_new_line<'a, L: Ledger>(
 {
     Ok(Seen {
         candidates: candidates(alloc, outlook, known, cuts)?,
-        tasks: changed_tasks(alloc, cuts, places, known, steps)?,
+        tasks: changed_tasks(alloc, cuts, places, known)?,
     })
 }
 
@@ -143,7 +142,7 @@ pub(crate) fn work_out<L: Ledger>(
         Ok(unsettled) => unsettled,
         Err(task) => return Err(EditFault::TooManyDatagrams(task)),
     };
-    let seen = see_new_line(alloc, outlook, &known, cuts, places, &mut steps);
+    let seen = see_new_line(alloc, outlook, &known, cuts, places);
     let starts = cuts.copied_starts();
     turn_back(cuts, outlook, &known);
     if epoch == LAST_EPOCH {

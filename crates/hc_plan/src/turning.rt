@@ -51,7 +51,7 @@ pub(crate) fn open_line<L: Ledger>(
     let mut steps: Steps<L> = Steps::start(blank);
     let slaves = areas_by_rank(alloc, groups)?;
     let cuts = LineCuts::open(alloc, slaves.as_slice(), &mut steps)?;
-    let Configured { layout: _, places } = configure_kept(alloc, groups, &cuts, &mut steps)?;
+    let Configured { layout: _, places } = configure_kept(alloc, groups, &cuts)?;
     Ok(OpenedLine { cuts, places })
 }
 

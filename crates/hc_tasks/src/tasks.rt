@@ -152,30 +152,19 @@ impl LineCuts {
 
     /// The areas of a datagram of a task, 0 to 7, with their places, in key order; none where the task has no
     /// datagram with that number. `AllocError` where a growth was refused.
-    pub fn datagram<L: Ledger>(
-        &self,
-        alloc: Global,
-        task: u8,
-        number: u16,
-        steps: &mut Steps<L>,
-    ) -> Result<Vec<Placed>, AllocError>
+    pub fn datagram(&self, alloc: Global, task: u8, number: u16) -> Result<Vec<Placed>, AllocError>
         requires { task < TASKS }
         ensures { IfOk result (λ places. (line : List (List Area)) → self.now ≡ line_kept line → places.items ≡ inside number (packed opening (list_by task line))) }
     {
-        self.tasks[usize::from(task)].datagram(alloc, number, steps)
+        self.tasks[usize::from(task)].datagram(alloc, number)
     }
 
     /// The areas of a task with their places, in key order. `AllocError` where a growth was refused.
-    pub fn places<L: Ledger>(
-        &self,
-        alloc: Global,
-        task: u8,
-        steps: &mut Steps<L>,
-    ) -> Result<Vec<Placed>, AllocError>
+    pub fn places(&self, alloc: Global, task: u8) -> Result<Vec<Placed>, AllocError>
         requires { task < TASKS }
         ensures { IfOk result (λ places. (line : List (List Area)) → self.now ≡ line_kept line → places.items ≡ packed opening (list_by task line)) }
     {
-        self.tasks[usize::from(task)].places(alloc, steps)
+        self.tasks[usize::from(task)].places(alloc)
     }
 
     /// The width in bits of an area in a task, 0 to 7, by its key, as `place` takes it; 0 where the task has no

@@ -5,30 +5,11 @@ ghost use Rattle.hc_records.specs.declared.keys.TheConstants.Key.{END};
 
 use crate::repairs::{input, out};
 use crate::searches::{cut, task_of};
-use hc_bitsum::steps::Steps;
 use hc_cuts::cuts::Cuts;
 use hc_cuts::packing::Placed;
 use hc_records::keys::Key;
 use std::alloc::{AllocError, Global};
-use std::marker::Brand;
-use std::sync::ledger::{Blank, Ledger};
 use std::test::Fail;
-
-/// The areas of a datagram, by steps that nobody reads.
-fn carried<L: Ledger>(
-    alloc: Global,
-    cuts: &Cuts,
-    number: u16,
-    blank: Blank,
-) -> Result<Vec<Placed>, AllocError>
-    requires name { blank.name ≡ L.name }
-    requires parts { blank.parts ≡ L.parts }
-    requires one { L.parts ≡ 1 }
-    requires cut { cuts.now.starts ++ END ∷ [] ≡ boundaries cuts.now.tree.list }
-{
-    let mut steps: Steps<L> = Steps::start(blank);
-    cuts.datagram(alloc, number, &mut steps)
-}
 
 /// Whether areas stand in a datagram, in this order, at these bits.
 fn are_carried(areas: &[Placed], number: u16, wanted: &[(Key, u16)]) -> bool {
@@ -53,7 +34,7 @@ fn carries(
 ) -> Result<bool, AllocError>
     requires { cuts.now.starts ++ END ∷ [] ≡ boundaries cuts.now.tree.list }
 {
-    let areas = carried::<Brand>(alloc, cuts, number, Blank::new(1))?;
+    let areas = cuts.datagram(alloc, number)?;
     Ok(are_carried(areas.as_slice(), number, wanted))
 }
 

@@ -52,7 +52,7 @@ fn changed_between<L: Ledger>(
     let mut cuts = LineCuts::open(alloc, was, &mut steps)?;
     let known = Before::of(&cuts, 1, was, is);
     match cuts.turn(1, was, is, &mut steps) {
-        Ok(_) => Ok(changed_tasks(alloc, &cuts, &old.places, &known, &mut steps)?),
+        Ok(_) => Ok(changed_tasks(alloc, &cuts, &old.places, &known)?),
         Err(task) => Err(EditFault::TooManyDatagrams(task)),
     }
 }

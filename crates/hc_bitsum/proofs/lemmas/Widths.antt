@@ -82,6 +82,7 @@ told-by_widths xs ys is is' same = told-from START xs ys (task-list-from xs is) 
 -- a width set
 
 -- what a filter by keys leaves of a key's width
+
 filter-by : (passes same : Bool) (p : Key → Bool) (x : Keyed) (xs : List Keyed) (key : Key) → p x.0 ≡ passes → same_key x.0 key ≡ same
     → width_in (filter (λ area. p area.0) xs) key ≡ (if p key then width_in xs key else 0)
     → width_in (if passes then x ∷ filter (λ area. p area.0) xs else filter (λ area. p area.0) xs) key ≡ (if p key then width_in (x ∷ xs) key else 0)
@@ -99,7 +100,7 @@ width-none : (passes : Bool) (none : ℕ) → none ≡ (if passes then none else
 width-none true none = refl
 width-none false none = refl
 
-width-filter : (p : Key → Bool) (list : List Keyed) (key : Key) → width_in (filter (λ area. p area.0) list) key ≡ (if p key then width_in list key else 0)
+pub width-filter : (p : Key → Bool) (list : List Keyed) (key : Key) → width_in (filter (λ area. p area.0) list) key ≡ (if p key then width_in list key else 0)
 width-filter p [] key = width-none (p key) 0
 width-filter p (x ∷ xs) key = filter-by (p x.0) (same_key x.0 key) p x xs key refl refl (width-filter p xs key)
 

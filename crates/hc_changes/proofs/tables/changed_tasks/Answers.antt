@@ -12,7 +12,7 @@ abbrev said : List ChangedTask → ℕ → Option TaskTable
 said changed task = option_map (λ (found : ChangedTask). found.1) (find (λ (found : ChangedTask). found.0 == task) changed)
 
 pub returns-clause-says : goal.returns-clause-says
-returns-clause-says g c =
+returns-clause-says c =
     let old = c.args.old.now in
     let tables = c.as_slice.result.now in
     IfOk-weaker c.changed_tasks.result

@@ -12,19 +12,19 @@ use Rattle.hc_changes.proofs.lemmas.Tables.{kept-listed, kept-told}
 use Rattle.hc_changes.proofs.tables.load_in.Goals as goal
 
 pub of-requires-clause-inside : goal.of-requires-clause-inside
-of-requires-clause-inside g c =
+of-requires-clause-inside c =
     let groups = c.requires.line.groups in
     let is = datagram-of groups c.args.task c.args.number c.in_ok-areas.areas.items c.requires.line.line.project (c.in_ok-areas.ensures (areas_by_rank groups) c.requires.line.line.stand) in
     subst (λ (areas : List Placed). All LiesInside areas) (sym c.as_slice.ensures.value) is.inside
 
 pub of-requires-clause-counted : goal.of-requires-clause-counted
-of-requires-clause-counted g c =
+of-requires-clause-counted c =
     let groups = c.requires.line.groups in
     let is = datagram-of groups c.args.task c.args.number c.in_ok-areas.areas.items c.requires.line.line.project (c.in_ok-areas.ensures (areas_by_rank groups) c.requires.line.line.stand) in
     subst (λ (areas : List Placed). counted_inside c.args.number areas < 65536) (sym c.as_slice.ensures.value) is.counted
 
 pub returns-then-is_kept-clause-value : goal.returns-then-is_kept-clause-value
-returns-then-is_kept-clause-value g c before after edited =
+returns-then-is_kept-clause-value c before after edited =
     let said = c.is_kept.ensures (areas_by_rank before) (areas_by_rank after) (project-line after edited.line.project) edited.tasks edited.line.stand in
     c.load.ensures.value
     ∙ ap (λ (table : Table). load_told table c.args.task c.args.number) edited.table
@@ -32,7 +32,7 @@ returns-then-is_kept-clause-value g c before after edited =
     (kept-listed before after c.args.task c.args.number ∙ sym said ∙ c.if-is_kept.true)
 
 pub returns-clause-value : goal.returns-clause-value
-returns-clause-value g c before after edited =
+returns-clause-value c before after edited =
     c.of.ensures.value
     ∙ ap (λ (areas : List Placed). load_in areas c.args.number) c.as_slice.ensures.value
     ∙ (datagram-of after c.args.task c.args.number c.in_ok-areas.areas.items edited.line.project (c.in_ok-areas.ensures (areas_by_rank after) edited.line.stand)).load

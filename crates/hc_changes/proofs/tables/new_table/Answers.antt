@@ -5,7 +5,7 @@ use Rattle.hc_changes.proofs.tables.new_table.Goals as goal
 use Rattle.hc_changes.proofs.tables.new_table.Goals.{then-load-gt0, else-load-gt0}
 
 pub loop-number-preserved : goal.loop-number-preserved
-loop-number-preserved g c =
+loop-number-preserved c =
     let old = c.args.old.now in
     let known = c.args.before.now in
     let trees = c.args.cuts.now in
@@ -22,6 +22,6 @@ loop-number-preserved g c =
     ]
 
 pub returns : goal.returns
-returns g c before after edited =
+returns c before after edited =
     all-loaded after c.args.task c.loop-number.number c.starts-number-end.result.now c.loop-number.table edited.line.project (c.starts-number-end.ensures.starts (areas_by_rank after) edited.line.stand)
     (omega (arith, c.loop-number-test.false)) (c.loop-number.invariant.stand before after edited)

@@ -7,7 +7,7 @@ use Rattle.hc_places.specs.Table.{TaskTable, task_table}
 use Rattle.hc_changes.proofs.tables.new_tables.Goals as goal
 
 pub loop-task-preserved : goal.loop-task-preserved
-loop-task-preserved g c =
+loop-task-preserved c =
     let task = c.loop-task.task in
     let tables = c.loop-task.tables.items in
     let more = length-append tables (c.in_ok-new_table.field-0 ∷ []) in
@@ -22,7 +22,7 @@ loop-task-preserved g c =
     }
 
 pub returns-clause-tables : goal.returns-clause-tables
-returns-clause-tables g c before after edited =
+returns-clause-tables c before after edited =
     let low = c.loop-task.auto.task-end in
     let high = c.loop-task-test.false in
     let last : c.loop-task.task ≡ 8 = omega arith in

@@ -9,7 +9,7 @@ use Rattle.hc_changes.proofs.tables.new_tables.Given as goal
 
 -- the tables so far
 abbrev pub invariant-loop-task : goal.invariant-loop-task
-invariant-loop-task g l = record {
+invariant-loop-task l = record {
   tables : (before after : List Declared) → IsEdited before after l.old l.before l.cuts → l.tables.items ≡ map (task_table (line_from 1 after)) (range_with_len 0 l.task);
   count : length l.tables.items ≡ l.task;
 }

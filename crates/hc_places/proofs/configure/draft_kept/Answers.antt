@@ -12,18 +12,18 @@ use Rattle.hc_tasks.specs.Areas.{areas_by_rank}
 use Rattle.hc_places.proofs.configure.draft_kept.Goals as goal
 
 pub add_kept-requires-clause-sendable : goal.add_kept-requires-clause-sendable
-add_kept-requires-clause-sendable g c =
+add_kept-requires-clause-sendable c =
     let groups = c.args.groups.now in
     (kept-task groups c.loop-task.task c.in_ok-places.places.items c.loop-task-test.true c.requires.project c.requires.fits (c.in_ok-places.ensures (areas_by_rank groups) c.requires.kept)).sendable
 
 pub add_kept-requires-clause-suit : goal.add_kept-requires-clause-suit
-add_kept-requires-clause-suit g c =
+add_kept-requires-clause-suit c =
     let groups = c.args.groups.now in
     let slaves = c.as_slice.ensures.value ∙ c.in_ok-slaves.ensures in
     rw slaves (kept-task groups c.loop-task.task c.in_ok-places.places.items c.loop-task-test.true c.requires.project c.requires.fits (c.in_ok-places.ensures (areas_by_rank groups) c.requires.kept)).suit
 
 pub loop-task-preserved : goal.loop-task-preserved
-loop-task-preserved g c =
+loop-task-preserved c =
     let groups = c.args.groups.now in
     let line = line_from 1 groups in
     let task = c.loop-task.task in
@@ -44,10 +44,10 @@ loop-task-preserved g c =
     }
 
 pub returns-clause-layout : goal.returns-clause-layout
-returns-clause-layout g c = map-last (λ task. task_places task (line_from 1 c.args.groups.now)) c.loop-task.task _ _ c.loop-task-test.false c.loop-task.invariant.layout
+returns-clause-layout c = map-last (λ task. task_places task (line_from 1 c.args.groups.now)) c.loop-task.task _ _ c.loop-task-test.false c.loop-task.invariant.layout
 
 pub returns-clause-tables : goal.returns-clause-tables
-returns-clause-tables g c = map-last (task_table (line_from 1 c.args.groups.now)) c.loop-task.task _ _ c.loop-task-test.false c.loop-task.invariant.tables
+returns-clause-tables c = map-last (task_table (line_from 1 c.args.groups.now)) c.loop-task.task _ _ c.loop-task-test.false c.loop-task.invariant.tables
 
 pub returns-clause-rows : goal.returns-clause-rows
-returns-clause-rows g c = flat_map-last (task_variables (line_from 1 c.args.groups.now)) c.loop-task.task _ _ c.loop-task-test.false c.loop-task.invariant.rows
+returns-clause-rows c = flat_map-last (task_variables (line_from 1 c.args.groups.now)) c.loop-task.task _ _ c.loop-task-test.false c.loop-task.invariant.rows

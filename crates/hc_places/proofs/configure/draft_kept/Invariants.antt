@@ -10,7 +10,7 @@ use Rattle.hc_places.proofs.configure.draft_kept.Given as goal
 
 -- the tasks so far, and those that are left, are all
 abbrev pub invariant-loop-task : goal.invariant-loop-task
-invariant-loop-task g l = record {
+invariant-loop-task l = record {
   layout : l.draft.layout.items ++ map (λ task. task_places task (line_from 1 l.groups)) (tasks_from l.task) ≡ layout_of (line_from 1 l.groups);
   tables : l.draft.tables.items ++ map (task_table (line_from 1 l.groups)) (tasks_from l.task) ≡ map (task_table (line_from 1 l.groups)) tasks;
   rows : l.draft.rows.items ++ flat_map (task_variables (line_from 1 l.groups)) (tasks_from l.task) ≡ flat_map (task_variables (line_from 1 l.groups)) tasks;

@@ -11,27 +11,21 @@ use Rattle.hc_cuts.proofs.lemmas.Datagrams.{span-inside}
 use Rattle.hc_cuts.proofs.cuts.Cuts.datagram.Goals as goal
 
 pub returns-then-first-starts : goal.returns-then-first-starts
-returns-then-first-starts g c =
+returns-then-first-starts c =
     let starts = c.as_slice-starts.result.now in
     let all = own-boundaries c.args.self.now _ starts c.self.view_is c.as_slice-starts.ensures.value c.requires in
     c.new-places.ensures.items
     ∙ sym (behind-starts c.self.inside.tree.list starts c.args.number c.self.invariant.list.packable all (omega arith))
     ∙ ap (λ (kept : Kept). inside c.args.number (packed opening kept.tree.list)) c.self.view_is
 
-pub add_span-requires-clause-begins : goal.add_span-requires-clause-begins
-add_span-requires-clause-begins g c =
-    let starts = c.as_slice-starts.result.now in
-    let all = own-boundaries c.args.self.now _ starts c.self.view_is c.as_slice-starts.ensures.value c.requires in
-    (is-span_at c.self.inside.tree starts c.from-first.result _ c.end_of.result START c.self.invariant all (omega arith) refl c.end_of.ensures).begins
-
 pub add_span-requires-clause-ends : goal.add_span-requires-clause-ends
-add_span-requires-clause-ends g c =
+add_span-requires-clause-ends c =
     let starts = c.as_slice-starts.result.now in
     let all = own-boundaries c.args.self.now _ starts c.self.view_is c.as_slice-starts.ensures.value c.requires in
     (is-span_at c.self.inside.tree starts c.from-first.result _ c.end_of.result START c.self.invariant all (omega arith) refl c.end_of.ensures).ends
 
 pub returns : goal.returns
-returns g c =
+returns c =
     let starts = c.as_slice-starts.result.now in
     let tree = c.self.inside.tree in
     let from = slice_index_or starts c.from-first.result START in

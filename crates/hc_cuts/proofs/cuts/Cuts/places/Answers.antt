@@ -7,22 +7,17 @@ use Rattle.hc_cuts.proofs.Whole.{is-span_at, own-boundaries, places_from, spans-
 use Rattle.hc_cuts.proofs.cuts.Cuts.places.Goals as goal
 
 pub loop-i-init : goal.loop-i-init
-loop-i-init g c =
+loop-i-init c =
     let all = own-boundaries c.args.self.now _ c.as_slice-starts.result.now c.self.view_is c.as_slice-starts.ensures.value c.requires in
     rw c.new-places.ensures.items (spans-begin (c.as_slice-starts.result.now ++ END ∷ []) c.self.inside.tree.list c.self.invariant.list all)
 
-pub add_span-requires-clause-begins : goal.add_span-requires-clause-begins
-add_span-requires-clause-begins g c =
-    let all = own-boundaries c.args.self.now _ c.as_slice-starts.result.now c.self.view_is c.as_slice-starts.ensures.value c.requires in
-    (is-span_at c.self.inside.tree c.as_slice-starts.result.now c.loop-i.i _ c.end_of.result START c.self.invariant all c.loop-i-test.true refl c.end_of.ensures).begins
-
 pub add_span-requires-clause-ends : goal.add_span-requires-clause-ends
-add_span-requires-clause-ends g c =
+add_span-requires-clause-ends c =
     let all = own-boundaries c.args.self.now _ c.as_slice-starts.result.now c.self.view_is c.as_slice-starts.ensures.value c.requires in
     (is-span_at c.self.inside.tree c.as_slice-starts.result.now c.loop-i.i _ c.end_of.result START c.self.invariant all c.loop-i-test.true refl c.end_of.ensures).ends
 
 pub loop-i-preserved : goal.loop-i-preserved
-loop-i-preserved g c =
+loop-i-preserved c =
     let starts = c.as_slice-starts.result.now in
     let at = c.loop-i.i in
     let tree = c.self.inside.tree in
@@ -35,7 +30,7 @@ loop-i-preserved g c =
     ∙ c.loop-i.invariant)
 
 pub returns : goal.returns
-returns g c =
+returns c =
     let starts = c.as_slice-starts.result.now in
     let tree = c.self.inside.tree in
     let low = c.loop-i.auto.i-end in

@@ -6,4 +6,4 @@ use Rattle.hc_cuts.proofs.cuts.Cuts.places.Given as goal
 
 -- the places so far, and those of the areas from the next boundary on, are all
 abbrev pub invariant-loop-i : goal.invariant-loop-i
-invariant-loop-i g l = l.places.items ++ places_from l.i (l.starts ++ END ∷ []) l.self-inside.tree.list ≡ packed opening l.self-inside.tree.list
+invariant-loop-i l = l.places.items ++ places_from l.i (l.starts ++ END ∷ []) l.self-inside.tree.list ≡ packed opening l.self-inside.tree.list

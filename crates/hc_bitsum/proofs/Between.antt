@@ -1,0 +1,82 @@
+-- The areas with a width between two keys, one row or place after another.
+use Rattle.std.specs.Prelude.{filter, nat_lt}
+use Rattle.std.proofs.Common.{◌≡◌, ℕ, ◌+◌, ◌-◌, ◌*◌, ◌<◌, ◌≤◌, ◌==◌, Bool, true, false, List, [], ◌∷◌, ◌++◌, length, refl, sym, ap, ◌∙◌, arith, if◌then◌else◌, append_assoc, append-nil}
+use Rattle.std.proofs.lemmas.Bool.Decides.{nat_tests}
+use Rattle.std.proofs.lemmas.List.Elements.{filter-append}
+use Rattle.hc_records.specs.declared.records.Dir.{Dir}
+use Rattle.hc_records.specs.declared.keys.Key.{Key}
+use Rattle.hc_records.specs.TaskList.{Keyed}
+use Rattle.hc_bitsum.specs.declared.branch.Branch.{Branch}
+use Rattle.hc_bitsum.specs.declared.sum.Sum.{Sum}
+use Rattle.hc_bitsum.specs.declared.sum.Sum.TheVariants.{Empty, Run}
+use Rattle.hc_bitsum.specs.Branch.{IsBranch, slots_of}
+use Rattle.hc_bitsum.specs.Filling.{areas_between}
+use Rattle.hc_bitsum.specs.Rows.{part}
+use Rattle.hc_bitsum.specs.Slots.{bits_at, key_at, stretch}
+use Rattle.hc_bitsum.specs.Sums.{area_end, ends_by, joined, sum_of}
+use Rattle.hc_bitsum.specs.Tree.{has_width}
+use Rattle.hc_bitsum.proofs.Stretches.{between-append, between-wide, branch-keys, part-stretch, stretch-one, stretch-split}
+
+-- no area of an empty sum has a width
+
+run-some : (first last : Dir) (ends : List ℕ) (later : Sum) → joined (Run first last ends) later ≡ Empty → ⊥
+run-some first last ends Empty is = cc
+run-some first last ends (Run next end laters) is = cc
+
+none-by : (none : Bool) (area : Keyed) (areas : List Keyed) → (area.1 == 0) ≡ none
+    → joined (if none then Empty else Run area.0.dir area.0.dir (ends_by (area_end area.1))) (sum_of areas) ≡ Empty
+    → (sum_of areas ≡ Empty → filter has_width areas ≡ []) → filter has_width (area ∷ areas) ≡ []
+none-by true area areas test is rest =
+    let narrow : nat_lt 0 area.1 ≡ false = grind (arith, nat_tests) in
+    rw narrow (rest is)
+none-by false area areas test is rest = absurd (run-some area.0.dir area.0.dir (ends_by (area_end area.1)) (sum_of areas) is)
+
+pub sum-none : (areas : List Keyed) → sum_of areas ≡ Empty → filter has_width areas ≡ []
+sum-none [] is = refl
+sum-none (area ∷ areas) is = none-by (area.1 == 0) area areas refl is (sum-none areas)
+
+-- the areas with a width up to a place, and then one more, or a row without any
+
+pub wide-one : (branch : Branch) (first at : ℕ) (old now next : List Keyed) → IsBranch branch → first ≤ at → at < length (slots_of branch).areas
+    → now ≡ old ++ filter has_width (stretch first at (slots_of branch).areas)
+    → next ≡ now ++ filter has_width ((key_at branch.dir at, bits_at at (slots_of branch).areas) ∷ [])
+    → next ≡ old ++ filter has_width (stretch first (at + 1) (slots_of branch).areas)
+wide-one branch first at old now next is low within so_far added =
+    let areas = (slots_of branch).areas in
+    let one : List Keyed = (key_at branch.dir at, bits_at at areas) ∷ [] in
+    let so_far' : List Keyed = filter has_width (stretch first at areas) in
+    let more : filter has_width (stretch first (at + 1) areas) ≡ so_far' ++ filter has_width one =
+    ap (filter has_width) (stretch-one branch.dir first at areas (branch-keys branch is) low within) ∙ filter-append has_width (stretch first at areas) one in
+    added ∙ ap (λ (xs : List Keyed). xs ++ filter has_width one) so_far ∙ append_assoc old so_far' (filter has_width one) ∙ ap (λ (xs : List Keyed). old ++ xs) (sym more)
+
+pub wide-row : (branch : Branch) (first at row : ℕ) (old now : List Keyed) → IsBranch branch → first ≤ at → at ≡ 8 * row → row < length branch.rows.items
+    → now ≡ old ++ filter has_width (stretch first at (slots_of branch).areas)
+    → filter has_width (part branch.dir branch.rows.items row 1) ≡ []
+    → now ≡ old ++ filter has_width (stretch first (at + 8) (slots_of branch).areas)
+wide-row branch first at row old now is low at-row within so_far blank =
+    let areas = (slots_of branch).areas in
+    let dir = branch.dir in
+    let rows = branch.rows.items in
+    let one : row + 1 - row ≡ 1 = omega arith in
+    let here : 8 * row ≡ at = sym at-row in
+    let next : 8 * (row + 1) ≡ at + 8 = omega arith in
+    let own : stretch at (at + 8) areas ≡ part dir rows row 1 =
+    ap (λ n. stretch n (at + 8) areas) (sym here) ∙ ap (λ n. stretch (8 * row) n areas) (sym next)
+    ∙ sym (part-stretch branch row (row + 1) is (omega arith) (omega arith)) ∙ ap (part dir rows row) one in
+    so_far
+    ∙ ap (λ xs. old ++ xs)
+    (sym (ap (filter has_width) (stretch-split first at (at + 8) areas low (omega arith)) ∙ filter-append has_width (stretch first at areas) (stretch at (at + 8) areas)
+    ∙ ap (λ xs. filter has_width (stretch first at areas) ++ filter has_width xs) own ∙ ap (λ xs. filter has_width (stretch first at areas) ++ xs) blank
+    ∙ append-nil (filter has_width (stretch first at areas))))
+
+-- of an empty part there are none between any keys
+pub none-between : (from until : Key) (areas : List Keyed) → filter has_width areas ≡ [] → filter has_width (areas_between from until areas) ≡ []
+none-between from until areas none = sym (between-wide from until areas) ∙ ap (areas_between from until) none
+
+-- in both directions
+pub both-between : (from until : Key) (outputs inputs : List Keyed)
+    → filter has_width (areas_between from until outputs) ++ filter has_width (areas_between from until inputs) ≡ areas_between from until (filter has_width (outputs ++ inputs))
+both-between from until outputs inputs =
+    sym (between-wide from until (outputs ++ inputs)
+    ∙ ap (filter has_width) (between-append from until outputs inputs)
+    ∙ filter-append has_width (areas_between from until outputs) (areas_between from until inputs))

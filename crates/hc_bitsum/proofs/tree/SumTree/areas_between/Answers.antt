@@ -1,0 +1,20 @@
+use Rattle.std.proofs.Common.{◌++◌, List, ap, ◌∙◌}
+use Rattle.std.specs.Prelude.{filter}
+use Rattle.hc_records.specs.TaskList.{Keyed}
+use Rattle.hc_bitsum.specs.Branch.{slots_of}
+use Rattle.hc_bitsum.specs.Filling.{areas_between}
+use Rattle.hc_bitsum.specs.Tree.{Tree, has_width}
+use Rattle.hc_bitsum.proofs.Between.{both-between}
+use Rattle.hc_bitsum.proofs.tree.SumTree.areas_between.Goals as goal
+
+pub returns : goal.returns
+returns c =
+    let outputs = (slots_of c.self.inside.outputs).areas in
+    let inputs = (slots_of c.self.inside.inputs).areas in
+    let from = c.args.from in
+    let until = c.args.until in
+    c.in_ok-add_between-2.ensures
+    ∙ ap (λ (xs : List Keyed). xs ++ filter has_width (areas_between from until inputs))
+    (c.in_ok-add_between.ensures ∙ ap (λ (xs : List Keyed). xs ++ filter has_width (areas_between from until outputs)) c.new-areas.ensures.items)
+    ∙ both-between from until outputs inputs
+    ∙ ap (λ (tree : Tree). areas_between from until tree.list) c.self.view_is
