@@ -1,4 +1,4 @@
--- Which areas of a new line may be configured in another way than in the old one: those of changed slaves, and those in datagrams that weren't kept.
+-- Which areas of a new line may be configured in another way than in the old one: those of changed slaves, and those up to which their datagrams weren't kept.
 use Rattle.std.specs.Prelude.{◌≡◌, ℕ, ◌*◌, ◌==◌, ◌||◌, not, Bool, false, List, filter, find, map, Option, option_map}
 use Rattle.std.specs.Option.{option_map_or}
 use Rattle.std.specs.List.{enumerate_from, flat_map, list_any}
@@ -10,7 +10,7 @@ use Rattle.hc_records.specs.Line.{Member}
 use Rattle.hc_records.specs.TaskList.{task_list}
 use Rattle.hc_records.specs.Packing.{Placed}
 use Rattle.hc_records.specs.Image.{task_places}
-use Rattle.hc_cuts.specs.Keeping.{is_kept}
+use Rattle.hc_cuts.specs.Keeping.{is_kept_up_to}
 use Rattle.hc_registers.specs.Blocks.{LineBlock, area_blocks, line_blocks, numbered, same_block}
 
 -- the slave of a line with a rank, where it is present
@@ -41,10 +41,10 @@ key_of found = record { dir = found.area.dir; rank = found.member.rank; area = f
 abbrev pub place_of : List Member → LineArea → Option Placed
 place_of line found = find (λ placed. same_key placed.key (key_of found)) (task_places found.area.task line)
 
--- it stands in a datagram that wasn't kept
+-- it stands in a datagram that wasn't kept up to it
 abbrev pub is_recut : List Member → List Member → LineArea → Bool
 is_recut old new found =
-    option_map_or (λ placed. not (is_kept (task_list found.area.task old) (task_list found.area.task new) placed.datagram)) (place_of new found) false
+    option_map_or (λ placed. not (is_kept_up_to (task_list found.area.task old) (task_list found.area.task new) placed.datagram placed.key)) (place_of new found) false
 
 abbrev pub is_candidate : (ℕ → Bool) → List Member → List Member → LineArea → Bool
 is_candidate changed old new found = changed found.member.rank || is_recut old new found

@@ -16,7 +16,7 @@ use Rattle.hc_records.specs.SpanLaws.{IsTaskList}
 use Rattle.hc_places.specs.Loads.{load_in, load_told}
 use Rattle.hc_places.specs.Swap.{ChangedTask, IsNewTask, SaysWhatDiffers}
 use Rattle.hc_places.specs.Table.{table_of, task_table}
-use Rattle.hc_cuts.specs.Keeping.{is_kept}
+use Rattle.hc_cuts.specs.Keeping.{is_kept, is_kept_up_to}
 use Rattle.hc_changes.specs.Candidates.{DifferAt, LineArea, blocks_of, candidate_of, candidates, is_recut, key_of, line_areas, moved_of, place_of}
 use Rattle.hc_changes.specs.Compared.{differing_of}
 use Rattle.hc_changes.specs.Edited.{is_named}
@@ -45,11 +45,11 @@ OtherAreasStood =
     (changed : ℕ → Bool) (old new : State) (found : LineArea) → DifferAt changed (line old) (line new)
     → Contains (line_areas (line new)) found → changed found.member.rank ≡ false → Contains (line_areas (line old)) found
 
--- an area that stands in a kept datagram of a project's line stood there in the old line, at the same bit
+-- an area of a project's line that stands in a datagram which is kept up to it stood there in the old line, at the same bit
 abbrev pub KeptAreasStay : Type 0
 KeptAreasStay =
     (old new : State) (found : LineArea) (placed : Placed) → lowest_fault (groups_of old.groups) ≡ None → lowest_fault (groups_of new.groups) ≡ None
-    → place_of (line new) found ≡ Some placed → is_kept (task_list found.area.task (line old)) (task_list found.area.task (line new)) placed.datagram ≡ true
+    → place_of (line new) found ≡ Some placed → is_kept_up_to (task_list found.area.task (line old)) (task_list found.area.task (line new)) placed.datagram placed.key ≡ true
     → place_of (line old) found ≡ Some placed
 
 -- between two lines of one project, the blocks that moved are those of the candidates that weren't blocks of the old line
@@ -94,12 +94,12 @@ UntouchedAreasStay =
     (old new : State) (found : LineArea) → lowest_fault (groups_of old.groups) ≡ None → lowest_fault (groups_of new.groups) ≡ None
     → is_touched_task (line old) (line new) found.area.task ≡ false → is_recut (line old) (line new) found ≡ false
 
--- each recut area of a line stands in a datagram that wasn't kept
+-- each recut area of a line stands in a datagram that wasn't kept up to it
 pub record IsUnkeptAt (old new : List Member) (found : LineArea) : Type 0 where
   pub placed : Placed
   pub stands : Contains (task_places found.area.task new) placed
   pub key : placed.key ≡ key_of found
-  pub unkept : is_kept (task_list found.area.task old) (task_list found.area.task new) placed.datagram ≡ false
+  pub unkept : is_kept_up_to (task_list found.area.task old) (task_list found.area.task new) placed.datagram placed.key ≡ false
 
 abbrev pub RecutAreasAreUnkept : Type 0
 RecutAreasAreUnkept = (old new : List Member) (found : LineArea) → is_recut old new found ≡ true → IsUnkeptAt old new found

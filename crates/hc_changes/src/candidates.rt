@@ -4,7 +4,7 @@ use hc_records::records::Area;
 use std::marker::Model;
 
 /// An area that may be configured in another way: one of a slave that changes, or one in a datagram that
-/// isn't kept.
+/// isn't kept up to it.
 #[derive(Debug, Drop)]
 pub struct Candidate<'a> {
     /// The station address of its slave.

@@ -1,7 +1,9 @@
 //! The areas of a new line that may be configured in another way than in the old one, found slave by slave
 //! where the tasks are turned.
-ghost use Rattle.std.specs.Prelude.{◌≡◌, IfOk, map, slice_index_or};
+ghost use Rattle.std.specs.Prelude.{◌≡◌, IfOk, map, slice_index_or, true};
+ghost use Rattle.hc_records.specs.declared.keys.Key.{Key};
 ghost use Rattle.hc_records.specs.declared.keys.TheConstants.Key.{END};
+ghost use Rattle.hc_records.specs.Keys.{is_within};
 ghost use Rattle.hc_records.specs.Line.{line_from};
 ghost use Rattle.hc_tasks.specs.Areas.{areas_by_rank};
 ghost use Rattle.hc_tasks.specs.Keeping.{StandsBefore};
@@ -43,6 +45,13 @@ fn start_at(starts: &[Key], number: usize) -> Key
     }
 }
 
+/// The higher of two keys.
+fn higher(one: Key, other: Key) -> Key
+    ensures { (key : Key) → is_within one key ≡ true → is_within other key ≡ true → is_within result key ≡ true }
+{
+    if one.is_before(other) { other } else { one }
+}
+
 /// What tells of an area of a line whether it is a candidate, and where it stands: what an edit makes of the
 /// line, what is known of the tasks before they were turned, and the turned tasks. Contracts see the first.
 #[derive(Drop)]
@@ -64,24 +73,30 @@ impl<'b, 'a> Model for Sight<'b, 'a> {
 }
 
 impl<'b, 'a> Sight<'b, 'a> {
-    ghost use Rattle.std.specs.Prelude.{◌≡◌, ◌+◌, ◌<◌, ◌≤◌, ◌++◌, [], OnOk, false, if◌then◌else◌, length, not, option_to_list};
+    ghost use Rattle.std.specs.Prelude.{◌≡◌, ◌+◌, ◌<◌, ◌≤◌, ◌++◌, [], IfSome, OnOk, false, if◌then◌else◌, length, not, option_to_list, true};
     ghost use Rattle.std.specs.Option.{option_map_or};
     ghost use Rattle.hc_records.specs.Line.{line_from};
     ghost use Rattle.hc_records.specs.TaskList.{task_list};
     ghost use Rattle.hc_records.specs.declared.limits.TheConstants.{MOST_SLAVES, TASKS};
-    ghost use Rattle.hc_cuts.specs.Keeping.{is_kept};
+    ghost use Rattle.hc_cuts.specs.Keeping.{is_kept_up_to};
+    ghost use Rattle.hc_records.specs.Keys.{is_before};
+    ghost use Rattle.hc_records.specs.declared.keys.TheConstants.Key.{END};
     ghost use Rattle.hc_tasks.specs.Areas.{areas_at, areas_by_rank};
     ghost use Rattle.hc_tasks.specs.Kept.{line_kept};
     ghost use Rattle.hc_changes.specs.inner.Found.{HoldChanged, HoldRanks, HoldRecut, IsGroupAt, LieWithin, area_found, areas_found, found_below, rank_found, station_at};
     ghost use Rattle.hc_changes.specs.Outlook.{IsOutlook};
 
-    /// Whether an area of a task with a place, if it has one, stands in a datagram that isn't kept.
+    /// Whether an area of a task with a place, if it has one, stands in a datagram that isn't kept up to it.
     fn is_recut(&self, task: u8, place: &Option<Placed>) -> bool
-        requires { task < TASKS }
-        ensures { result ≡ option_map_or (λ placed. not (is_kept (task_list task (line_from 1 self.now.old)) (task_list task (line_from 1 self.now.new)) placed.datagram)) place.now false }
+        requires task { task < TASKS }
+        requires below { IfSome place.now (λ placed. is_before placed.key END ≡ true) }
+        ensures { result ≡ option_map_or (λ placed. not (is_kept_up_to (task_list task (line_from 1 self.now.old)) (task_list task (line_from 1 self.now.new)) placed.datagram placed.key)) place.now false }
     {
         match place {
-            Some(placed) => !self.before.is_kept(self.cuts, task, placed.datagram()),
+            Some(placed) => {
+                let kept = self.before.kept_until(self.cuts, task, placed.datagram());
+                !placed.key().is_before(kept)
+            }
             None => false,
         }
     }
@@ -185,7 +200,7 @@ impl<'b, 'a> Sight<'b, 'a> {
         Ranks::of(first, first + slaves as u16 - 1)
     }
 
-    /// Ranks with those of the slaves that have areas in datagrams of a task which aren't kept.
+    /// Ranks with those of the slaves that have areas in datagrams of a task which aren't kept up to them.
     fn with_recut(&self, ranks: Ranks, task: u8) -> Ranks
         requires { task < TASKS }
         ensures own { HoldRanks result.low result.high ranks.low ranks.high }
@@ -195,9 +210,11 @@ impl<'b, 'a> Sight<'b, 'a> {
         let inputs = self.cuts.has_inputs(task);
         let mut all = ranks;
         for number in 0..starts.len() {
-            if !self.before.is_kept(self.cuts, task, number as u16) {
-                let next = start_at(starts, number + 1);
-                all = all.joined(Ranks::between(starts[number], next, inputs));
+            let kept = self.before.kept_until(self.cuts, task, number as u16);
+            let from = higher(starts[number], kept);
+            let next = start_at(starts, number + 1);
+            if from.is_before(next) {
+                all = all.joined(Ranks::between(from, next, inputs));
             }
         }
         all
@@ -243,8 +260,8 @@ impl<'b, 'a> Sight<'b, 'a> {
 
 /// The areas of the line after an edit that may be configured in another way than before it, by what the
 /// edit makes of the line, what was known of the tasks before they were turned, and the turned tasks: those
-/// of the slaves that the edit concerns, and those that stand in datagrams which aren't kept, in line and
-/// record order, each with its place. `AllocError` where a growth was refused.
+/// of the slaves that the edit concerns, and those that stand in datagrams which aren't kept up to them, in
+/// line and record order, each with its place. `AllocError` where a growth was refused.
 pub fn candidates<'a>(
     alloc: Global,
     outlook: &Outlook<'a>,

@@ -25,8 +25,8 @@ pub fn other_areas_stood()
     ensures { OtherAreasStood }
 {}
 
-/// An area of a project's line that stands in a datagram which an edit keeps stood there before it, at
-/// the same bit.
+/// An area of a project's line that stands in a datagram which an edit keeps up to it stood there before it,
+/// at the same bit.
 pub fn kept_areas_stay()
     ensures { KeptAreasStay }
 {}
@@ -67,7 +67,7 @@ pub fn untouched_areas_stay()
     ensures { UntouchedAreasStay }
 {}
 
-/// Each area that is recut stands in a datagram of its task that isn't kept.
+/// Each area that is recut stands in a datagram of its task that isn't kept up to it.
 pub fn recut_areas_are_unkept()
     ensures { RecutAreasAreUnkept }
 {}

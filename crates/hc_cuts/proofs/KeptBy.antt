@@ -1,21 +1,25 @@
 -- Which datagrams of a task an edit keeps, by the keys at which they begin and by hulls.
 use native.Mathlib.Numerals.{unary_clauses}
-use Rattle.std.proofs.Common.{◌≡◌, ℕ, zero, suc, true, false, Bool, List, [], ◌∷◌, ◌++◌, Contains, Option, Some, None, refl, sym, ap, ◌∙◌}
+use Rattle.std.proofs.Common.{◌≡◌, ℕ, zero, suc, true, false, Bool, List, [], ◌∷◌, ◌++◌, Contains, Option, Some, None, refl, sym, ap, ◌∙◌, arith}
 use Rattle.std.specs.Prelude.{◌&&◌, ◌||◌, not, drop, slice_get, option_map}
 use Rattle.std.specs.Option.{option_map_or}
 use Rattle.std.specs.List.{list_any, zip}
+use Rattle.std.proofs.lemmas.Bool.{and_from, and_parts, not-true, or_parts}
+use Rattle.std.proofs.lemmas.Bool.Decides.{nat_tests}
 use Rattle.std.proofs.lemmas.Option.{get_or_from_slice_get, slice_get_within}
 use Rattle.hc_records.specs.declared.keys.Key.{Key}
-use Rattle.hc_records.specs.declared.keys.TheConstants.Key.{END}
+use Rattle.hc_records.specs.declared.keys.TheConstants.Key.{START, END}
+use Rattle.hc_records.specs.declared.records.Dir.{Dir}
 use Rattle.hc_records.specs.declared.records.Dir.TheVariants.{Out, In}
-use Rattle.hc_records.specs.Keys.{same_key}
+use Rattle.hc_records.specs.Keys.{is_before, is_within, same_key}
 use Rattle.hc_records.specs.TaskList.{Keyed}
 use Rattle.hc_records.specs.Boundaries.{Interval, boundaries, hull, is_settled, is_touched, meets_hull, spans, touched}
 use Rattle.hc_records.specs.SpanLaws.{IsTaskList}
+use Rattle.hc_records.proofs.lemmas.KeyOrder.{before-apart as kr-apart, before-else, within-apart, within-else, within-trans}
 use Rattle.hc_records.proofs.lemmas.SpanCuts.{span-begins}
 use Rattle.hc_cuts.specs.declared.hulls.Hulls.{Hulls}
 use Rattle.hc_cuts.specs.Hulls.{AreHulls}
-use Rattle.hc_cuts.specs.Keeping.{begins_at, is_kept, is_kept_by, span_from}
+use Rattle.hc_cuts.specs.Keeping.{begins_at, is_kept, is_kept_by, is_kept_up_to, is_kept_up_to_by, span_from}
 use Rattle.hc_cuts.specs.Repair.{meets_either}
 use Rattle.hc_cuts.proofs.lemmas.HullKeys.{hulls-are}
 use Rattle.hc_cuts.proofs.lemmas.Order.{before-apart}
@@ -65,33 +69,136 @@ settles false false meets so = refl
 contained : (keys : List Interval) (i : ℕ) (x : Interval) → slice_get keys i ≡ Some x → Contains keys x
 contained keys i x is = (i, slice_get_within keys i x is, get_or_from_slice_get keys i x x is)
 
-kept-span : (hulls : Hulls) (old new : List Keyed) (starts : List Key) (datagram : ℕ) (span : Interval) → IsTaskList new → AreHulls (is_touched old new) hulls
-    → starts ++ END ∷ [] ≡ boundaries old → slice_get (spans (boundaries new)) datagram ≡ Some span
-    → (is_settled old new span && begins_at old datagram span.0) ≡ (option_map_or (same_key span.0) (slice_get starts datagram) false && not (meets_either hulls span))
-kept-span hulls old new starts datagram span is are same stands =
+-- so an interval from a boundary on is settled, with the datagram of the same number beginning there, exactly where the datagram did begin there and the interval meets no hull
+settled-from : (hulls : Hulls) (old new : List Keyed) (starts : List Key) (datagram : ℕ) (start reach : Key) → same_key start END ≡ false → AreHulls (is_touched old new) hulls
+    → starts ++ END ∷ [] ≡ boundaries old
+    → (is_settled old new (start, reach) && begins_at old datagram start) ≡ (option_map_or (same_key start) (slice_get starts datagram) false && not (meets_either hulls (start, reach)))
+settled-from hulls old new starts datagram start reach other are same =
     let both = hulls-are old new hulls are in
-    let other = before-apart span.0 END (span-begins new span is (contained (spans (boundaries new)) datagram span stands)) in
-    let begins = ap (λ (keys : List Key). option_map_or (same_key span.0) (slice_get keys datagram) false) (sym same) ∙ begun-at starts datagram span.0 other in
-    let any = list_any (same_key span.0) (boundaries old) in
+    let span : Interval = (start, reach) in
+    let begins = ap (λ (keys : List Key). option_map_or (same_key start) (slice_get keys datagram) false) (sym same) ∙ begun-at starts datagram start other in
+    let any = list_any (same_key start) (boundaries old) in
     let meets : (meets_hull (hull Out (touched old new)) span || meets_hull (hull In (touched old new)) span) ≡ meets_either hulls span = rw (both.0, both.1) refl in
-    ap (λ (m : Bool). (any && not m) && begins_at old datagram span.0) meets
-    ∙ settles any (begins_at old datagram span.0) (meets_either hulls span) (one-of (boundaries old) datagram span.0)
+    ap (λ (m : Bool). (any && not m) && begins_at old datagram start) meets
+    ∙ settles any (begins_at old datagram start) (meets_either hulls span) (one-of (boundaries old) datagram start)
     ∙ ap (λ (b : Bool). b && not (meets_either hulls span)) begins
+
+-- no span begins at END
+start-apart : (new : List Keyed) (datagram : ℕ) (span : Interval) → IsTaskList new → slice_get (spans (boundaries new)) datagram ≡ Some span → same_key span.0 END ≡ false
+start-apart new datagram span is stands = before-apart span.0 END (span-begins new span is (contained (spans (boundaries new)) datagram span stands))
+
+-- the span of a datagram of the new list, by the keys at which its datagrams begin
+span-told : (starts : List Key) (new : List Keyed) (datagram : ℕ) → starts ++ END ∷ [] ≡ boundaries new
+    → slice_get (spans (boundaries new)) datagram ≡ option_map (span_from starts datagram) (slice_get starts datagram)
+span-told starts new datagram same = ap (λ (keys : List Key). slice_get (spans keys) datagram) (sym same) ∙ span-at starts datagram
+
+-- so what is said of that span may be told by the key at which the datagram begins, where it says the same of each key but END
+told-by : (starts : List Key) (new : List Keyed) (datagram : ℕ) (by_start : Key → Bool) (by_span : Interval → Bool) → IsTaskList new → starts ++ END ∷ [] ≡ boundaries new
+    → ((start : Key) → same_key start END ≡ false → by_span (span_from starts datagram start) ≡ by_start start)
+    → option_map_or by_start (slice_get starts datagram) false ≡ option_map_or by_span (slice_get (spans (boundaries new)) datagram) false
+told-by starts new datagram by_start by_span is same each = by (slice_get starts datagram) refl
+  where
+    by : (start : Option Key) → slice_get starts datagram ≡ start
+        → option_map_or by_start (slice_get starts datagram) false ≡ option_map_or by_span (slice_get (spans (boundaries new)) datagram) false
+    by None found =
+        let none : slice_get (spans (boundaries new)) datagram ≡ None = span-told starts new datagram same ∙ ap (option_map (span_from starts datagram)) found in
+        rw (found, none) refl
+    by (Some start) found =
+        let span = span_from starts datagram start in
+        let stands : slice_get (spans (boundaries new)) datagram ≡ Some span = span-told starts new datagram same ∙ ap (option_map (span_from starts datagram)) found in
+        rw (found, stands) (sym (each start (start-apart new datagram span is stands)))
 
 -- an edit keeps a datagram exactly where it is kept by its hulls
 pub kept-by : (hulls : Hulls) (old_starts new_starts : List Key) (datagram : ℕ) (old new : List Keyed) → IsTaskList new → old_starts ++ END ∷ [] ≡ boundaries old
     → new_starts ++ END ∷ [] ≡ boundaries new → AreHulls (is_touched old new) hulls → is_kept_by hulls old_starts new_starts datagram ≡ is_kept old new datagram
-kept-by hulls old_starts new_starts datagram old new is same same' are = by (slice_get new_starts datagram) refl
-  where
-    at : slice_get (spans (boundaries new)) datagram ≡ option_map (span_from new_starts datagram) (slice_get new_starts datagram)
-    at = ap (λ (keys : List Key). slice_get (spans keys) datagram) (sym same') ∙ span-at new_starts datagram
+kept-by hulls old_starts new_starts datagram old new is same same' are =
+    told-by new_starts new datagram
+    (λ start. option_map_or (same_key start) (slice_get old_starts datagram) false && not (meets_either hulls (span_from new_starts datagram start)))
+    (λ span. is_settled old new span && begins_at old datagram span.0) is same'
+    (λ start other. settled-from hulls old new old_starts datagram start (span_from new_starts datagram start).1 other are same)
 
-    by : (start : Option Key) → slice_get new_starts datagram ≡ start → is_kept_by hulls old_starts new_starts datagram ≡ is_kept old new datagram
-    by None found =
-        let none : slice_get (spans (boundaries new)) datagram ≡ None = at ∙ ap (option_map (span_from new_starts datagram)) found in
-        rw (found, none) refl
-    by (Some start) found =
-        let span = span_from new_starts datagram start in
-        let stands : slice_get (spans (boundaries new)) datagram ≡ Some span = at ∙ ap (option_map (span_from new_starts datagram)) found in
-        let told = kept-span hulls old new old_starts datagram span is are same stands in
-        rw (found, stands) (sym told)
+-- and up to a key
+pub kept-up_to : (hulls : Hulls) (old_starts new_starts : List Key) (datagram : ℕ) (old new : List Keyed) → IsTaskList new → old_starts ++ END ∷ [] ≡ boundaries old
+    → new_starts ++ END ∷ [] ≡ boundaries new → AreHulls (is_touched old new) hulls → (key : Key)
+    → is_kept_up_to_by hulls old_starts new_starts datagram key ≡ is_kept_up_to old new datagram key
+kept-up_to hulls old_starts new_starts datagram old new is same same' are key =
+    told-by new_starts new datagram
+    (λ start. option_map_or (same_key start) (slice_get old_starts datagram) false && not (meets_either hulls (start, key)))
+    (λ span. is_settled old new (span.0, key) && begins_at old datagram span.0) is same'
+    (λ start other. settled-from hulls old new old_starts datagram start key other are same)
+
+-- a datagram that is kept whole is kept up to each of its keys
+
+not-met : (hull : Option Interval) (start reach key : Key) → is_within key reach ≡ true → meets_hull hull (start, reach) ≡ false → meets_hull hull (start, key) ≡ false
+not-met None start reach key low clear = refl
+not-met (Some hull) start reach key low clear = by (is_within hull.0 key) refl
+  where
+    by : (begun : Bool) → is_within hull.0 key ≡ begun → (is_within hull.0 key && is_within start hull.1) ≡ false
+    by true begun =
+        let reached : is_within hull.0 reach ≡ true = within-trans hull.0 key reach begun low in
+        rw begun (sym (ap (λ (b : Bool). b && is_within start hull.1) reached) ∙ clear)
+    by false begun = rw begun refl
+
+neither : (first second : Bool) → first ≡ false → second ≡ false → not (first || second) ≡ true
+neither first second none nor = rw (none, nor) refl
+
+throughout : (old new : List Keyed) (datagram : ℕ) (span : Interval) (key : Key) → (is_settled old new span && begins_at old datagram span.0) ≡ true → is_within key span.1 ≡ true
+    → (is_settled old new (span.0, key) && begins_at old datagram span.0) ≡ true
+throughout old new datagram span key kept low =
+    let parts = and_parts (is_settled old new span) (begins_at old datagram span.0) kept in
+    let outputs = hull Out (touched old new) in
+    let inputs = hull In (touched old new) in
+    let settled = and_parts (list_any (same_key span.0) (boundaries old)) (not (meets_hull outputs span || meets_hull inputs span)) parts.0 in
+    let clear = or_parts (meets_hull outputs span) (meets_hull inputs span) (not-true (meets_hull outputs span || meets_hull inputs span) settled.1) in
+    and_from (is_settled old new (span.0, key)) (begins_at old datagram span.0)
+    (and_from (list_any (same_key span.0) (boundaries old)) (not (meets_hull outputs (span.0, key) || meets_hull inputs (span.0, key))) settled.0
+    (neither (meets_hull outputs (span.0, key)) (meets_hull inputs (span.0, key)) (not-met outputs span.0 span.1 key low clear.0) (not-met inputs span.0 span.1 key low clear.1)))
+    parts.1
+
+pub kept-throughout : (old new : List Keyed) (datagram : ℕ) (span : Interval) (key : Key) → slice_get (spans (boundaries new)) datagram ≡ Some span → is_kept old new datagram ≡ true
+    → is_within key span.1 ≡ true → is_kept_up_to old new datagram key ≡ true
+kept-throughout old new datagram span key stands kept low =
+    let own : (is_settled old new span && begins_at old datagram span.0) ≡ true =
+    sym (ap (λ (s : Option Interval). option_map_or (λ t. is_settled old new t && begins_at old datagram t.0) s false) stands) ∙ kept in
+    ap (λ (s : Option Interval). option_map_or (λ t. is_settled old new (t.0, key) && begins_at old datagram t.0) s false) stands
+    ∙ throughout old new datagram span key own low
+
+-- the first key that makes an interval from a key on meet a hull
+
+start-by : (dir : Dir) (rank area : ℕ) → is_before (record { dir = dir; rank = rank; area = area }) START ≡ false
+start-by Out rank area = grind (arith, nat_tests)
+start-by In rank area = refl
+
+pub before-start : (key : Key) → is_before key START ≡ false
+before-start key = start-by key.dir key.rank key.area
+
+-- a key is before another exactly where that one isn't it or before it
+not-within : (a b : Key) → is_before b a ≡ not (is_within a b)
+not-within a b = by (is_within a b) refl
+  where
+    by : (within : Bool) → is_within a b ≡ within → is_before b a ≡ not within
+    by true within = within-apart a b within
+    by false within = before-else b a within
+
+both-true : (a b : Bool) → b ≡ true → (a && b) ≡ a
+both-true true b is = is
+both-true false b is = refl
+
+both-false : (a b : Bool) → b ≡ false → (a && b) ≡ false
+both-false true b is = is
+both-false false b is = refl
+
+-- where the hull ends before the interval begins, none does
+pub met-never : (hull : Interval) (start key : Key) → is_before hull.1 start ≡ true → is_before key END ≡ true → is_before key END ≡ not (meets_hull (Some hull) (start, key))
+met-never hull start key ends low =
+    low ∙ sym (ap not (both-false (is_within hull.0 key) (is_within start hull.1) (kr-apart hull.1 start ends)))
+
+-- else the hull's first key does
+pub met-first : (hull : Interval) (start key : Key) → is_before hull.1 start ≡ false → is_before key hull.0 ≡ not (meets_hull (Some hull) (start, key))
+met-first hull start key ends =
+    not-within hull.0 key ∙ sym (ap not (both-true (is_within hull.0 key) (is_within start hull.1) (within-else hull.1 start ends)))
+
+-- of two hulls, that which is met first
+pub met-either : {first second : Bool} (outputs inputs : Bool) → first ≡ not outputs → second ≡ not inputs → (first && second) ≡ not (outputs || inputs)
+met-either true inputs is is' = rw is refl
+met-either false inputs is is' = rw is is'

@@ -231,7 +231,7 @@ skips-span at list key is within low =
     (carried (blank_datagram at) left) (carried-before from (blank_datagram at) left (areas-from from list is)))
     ∙ ap (λ (n : ℕ). find (has_key key) (places_from n keys list)) more
 
-skips-spans : (at : ℕ) (list : List Keyed) (key : Key) → IsTaskList list → at + 1 < length (boundaries list) → is_within (boundary (boundaries list) at) key ≡ true
+pub skips-spans : (at : ℕ) (list : List Keyed) (key : Key) → IsTaskList list → at + 1 < length (boundaries list) → is_within (boundary (boundaries list) at) key ≡ true
     → find (has_key key) (places_from 0 (boundaries list) list) ≡ find (has_key key) (places_from at (boundaries list) list)
 skips-spans zero list key is within low = refl
 skips-spans (suc at) list key is within low =

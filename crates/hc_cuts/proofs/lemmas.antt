@@ -2,5 +2,6 @@
 pub mod Datagrams
 pub mod Found
 pub mod HullKeys
+pub mod KeptPlaces
 pub mod Order
 pub mod Repairs

@@ -1,18 +1,19 @@
 //! Which datagrams of a task an edit keeps: they carry the areas that they carried, each at its bit.
-ghost use Rattle.std.specs.Prelude.{◌≡◌, ◌&&◌, ◌++◌, ◌∷◌, List, [], false, not, slice_get};
+ghost use Rattle.std.specs.Prelude.{◌≡◌, ◌&&◌, ◌++◌, ◌∷◌, List, [], false, not, slice_get, true};
 ghost use Rattle.std.specs.Option.{option_map_or};
-ghost use Rattle.hc_records.specs.Boundaries.{boundaries, is_touched};
-ghost use Rattle.hc_records.specs.Keys.{same_key};
+ghost use Rattle.hc_records.specs.Boundaries.{boundaries, is_touched, meets_hull};
+ghost use Rattle.hc_records.specs.Keys.{is_before, same_key};
 ghost use Rattle.hc_records.specs.SpanLaws.{IsTaskList};
 ghost use Rattle.hc_records.specs.TaskList.{Keyed};
+ghost use Rattle.hc_records.specs.declared.keys.Key.{Key};
 ghost use Rattle.hc_records.specs.declared.keys.TheConstants.Key.{END};
 ghost use Rattle.hc_cuts.specs.Hulls.{AreHulls};
-ghost use Rattle.hc_cuts.specs.Keeping.{is_kept, is_kept_by};
+ghost use Rattle.hc_cuts.specs.Keeping.{is_kept, is_kept_by, is_kept_up_to, is_kept_up_to_by};
 ghost use Rattle.hc_cuts.specs.Repair.{meets_either};
 
 use crate::cuts::end_of;
 use crate::hulls::Hulls;
-use crate::settled::meets_hull;
+use crate::repair::meets_either;
 use hc_records::keys::Key;
 
 /// Whether the datagram with a number began at a key, by the keys at which datagrams began.
@@ -23,13 +24,6 @@ fn began_at(starts: &[Key], number: usize, key: Key) -> bool
         Some(start) => key.is_same(*start),
         None => false,
     }
-}
-
-/// Whether a span meets the hull of the outputs or that of the inputs.
-fn meets_either(hulls: &Hulls, span: (Key, Key)) -> bool
-    ensures { result ≡ meets_either hulls.now span }
-{
-    meets_hull(hulls.outputs, span) || meets_hull(hulls.inputs, span)
 }
 
 /// Whether a datagram began at the key at which its span does, which meets no hull.
@@ -58,4 +52,54 @@ pub fn is_kept(old_starts: &[Key], new_starts: &[Key], hulls: &Hulls, number: u1
     ensures { (old new : List Keyed) → IsTaskList new → old_starts.now ++ END ∷ [] ≡ boundaries old → new_starts.now ++ END ∷ [] ≡ boundaries new → AreHulls (is_touched old new) hulls.now → result ≡ is_kept old new number }
 {
     is_kept_by(old_starts, new_starts, hulls, usize::from(number))
+}
+
+/// The first key that makes an interval meet a hull, among those up to which it may reach from a key on:
+/// `Key::END` where none does.
+fn first_met(hull: Option<(Key, Key)>, start: Key) -> Key
+    ensures { (key : Key) → is_before key END ≡ true → is_before key result ≡ not (meets_hull hull (start, key)) }
+{
+    match hull {
+        Some((first, last)) if !last.is_before(start) => first,
+        _ => Key::END,
+    }
+}
+
+/// The lower of two keys.
+fn lower(one: Key, other: Key) -> Key
+    ensures { (key : Key) → is_before key result ≡ (is_before key one && is_before key other) }
+{
+    if one.is_before(other) { one } else { other }
+}
+
+/// The first key that makes an interval from another one on meet either hull; `Key::END` where none does.
+fn first_met_of_either(hulls: &Hulls, start: Key) -> Key
+    ensures { (key : Key) → is_before key END ≡ true → is_before key result ≡ not (meets_either hulls.now (start, key)) }
+{
+    lower(
+        first_met(hulls.outputs, start),
+        first_met(hulls.inputs, start),
+    )
+}
+
+/// The key before which the areas of a datagram are kept by these hulls.
+fn kept_until_by(old_starts: &[Key], new_starts: &[Key], hulls: &Hulls, number: usize) -> Key
+    ensures { (key : Key) → is_before key END ≡ true → is_before key result ≡ is_kept_up_to_by hulls.now old_starts.now new_starts.now number key }
+{
+    match new_starts.get(number) {
+        Some(start) if began_at(old_starts, number, *start) => {
+            first_met_of_either(hulls, *start)
+        }
+        _ => Key::START,
+    }
+}
+
+/// The key before which the areas of a datagram of a task stand where they stood, by the number of the
+/// datagram, from 0: where it began at the key at which it begins now, the first of its keys that makes the
+/// interval from there on meet a hull of the touched keys, or `Key::END` where none does; `Key::START` where
+/// it began elsewhere or isn't there. Starts, hulls and memory as for `is_kept`.
+pub fn kept_until(old_starts: &[Key], new_starts: &[Key], hulls: &Hulls, number: u16) -> Key
+    ensures { (old new : List Keyed) → IsTaskList new → old_starts.now ++ END ∷ [] ≡ boundaries old → new_starts.now ++ END ∷ [] ≡ boundaries new → AreHulls (is_touched old new) hulls.now → (key : Key) → is_before key END ≡ true → is_before key result ≡ is_kept_up_to old new number key }
+{
+    kept_until_by(old_starts, new_starts, hulls, usize::from(number))
 }

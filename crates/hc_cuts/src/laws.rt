@@ -1,6 +1,7 @@
 //! What follows from the definitions of this crate: each function does nothing, and its contract is a
 //! law. Nobody calls it.
 ghost use Rattle.hc_cuts.specs.Firsts.{CrowdedHasNoCut};
+ghost use Rattle.hc_cuts.specs.Keeping.{KeptDatagramsAreKeptThroughout};
 ghost use Rattle.hc_cuts.specs.Repair.{HullsHoldTheTouched};
 ghost use Rattle.hc_cuts.specs.Starts.{NextBoundariesFollow};
 
@@ -14,6 +15,12 @@ pub fn crowded_has_no_cut()
 /// themselves, is the one behind it in the list.
 pub fn next_boundaries_follow()
     ensures { NextBoundariesFollow }
+{}
+
+/// A datagram that an edit keeps is kept up to each of its keys: as the areas up to the last one stand where
+/// they stood, so do those up to any other one.
+pub fn kept_datagrams_are_kept_throughout()
+    ensures { KeptDatagramsAreKeptThroughout }
 {}
 
 /// Where hulls are those of the keys whose widths differ, they hold each of them, and the spans that

@@ -24,7 +24,7 @@ use hc_records::keys::Key;
 use std::sync::ledger::Ledger;
 
 /// Whether a span has a key in common with the hull of the outputs or with that of the inputs.
-fn meets_either(hulls: &Hulls, span: (Key, Key)) -> bool
+pub(crate) fn meets_either(hulls: &Hulls, span: (Key, Key)) -> bool
     ensures { result ≡ meets_either hulls.now span }
 {
     meets_hull(hulls.outputs, span) || meets_hull(hulls.inputs, span)

@@ -13,7 +13,8 @@ use crate::starts::LineStarts;
 use crate::tasks::LineCuts;
 use crate::touched::touched_hulls;
 use hc_cuts::hulls::Hulls;
-use hc_cuts::keeping::is_kept;
+use hc_cuts::keeping::{is_kept, kept_until};
+use hc_records::keys::Key;
 use hc_records::limits::TASKS;
 use std::marker::Model;
 
@@ -47,10 +48,13 @@ fn all_hulls(first: u16, before: &[SlaveAreas], after: &[SlaveAreas]) -> [Hulls;
 }
 
 impl Before {
-    ghost use Rattle.std.specs.Prelude.{◌≡◌, ◌<◌, List};
+    ghost use Rattle.std.specs.Prelude.{◌≡◌, ◌<◌, List, true};
+    ghost use Rattle.hc_records.specs.Keys.{is_before};
+    ghost use Rattle.hc_records.specs.declared.keys.Key.{Key};
+    ghost use Rattle.hc_records.specs.declared.keys.TheConstants.Key.{END};
     ghost use Rattle.hc_records.specs.declared.limits.TheConstants.{TASKS};
     ghost use Rattle.hc_records.specs.declared.records.Area.{Area};
-    ghost use Rattle.hc_cuts.specs.Keeping.{is_kept};
+    ghost use Rattle.hc_cuts.specs.Keeping.{is_kept, is_kept_up_to};
     ghost use Rattle.hc_tasks.specs.Areas.{list_by};
     ghost use Rattle.hc_tasks.specs.Keeping.{StandsBefore};
     ghost use Rattle.hc_tasks.specs.Kept.{IsLine, line_kept};
@@ -95,5 +99,18 @@ impl Before {
     {
         let hulls = &self.hulls[usize::from(task)];
         is_kept(self.starts.of_task(task), cuts.starts(task), hulls, number)
+    }
+
+    /// The key before which the areas of a datagram stand where they stood, by its task, 0 to 7, and its
+    /// number, from 0: where it began at the key at which it begins now, the first of its keys up to which the
+    /// interval from there on meets that from the least to the greatest output whose width differs or that of
+    /// the inputs, or `Key::END` where none does; `Key::START` where it began elsewhere or isn't there. The
+    /// tasks are those of the new line, turned. It takes no memory.
+    pub fn kept_until(&self, cuts: &LineCuts, task: u8, number: u16) -> Key
+        requires { task < TASKS }
+        ensures { (old new : List (List Area)) → IsLine new → StandsBefore old new self.now → cuts.now ≡ line_kept new → (key : Key) → is_before key END ≡ true → is_before key result ≡ is_kept_up_to (list_by task old) (list_by task new) number key }
+    {
+        let hulls = &self.hulls[usize::from(task)];
+        kept_until(self.starts.of_task(task), cuts.starts(task), hulls, number)
     }
 }

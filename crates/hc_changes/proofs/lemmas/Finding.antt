@@ -1,15 +1,20 @@
 -- An area of the new line is a candidate, or none, by what the turned tasks and the tasks before tell.
 use Rattle.std.proofs.Common.{◌≡◌, ℕ, Bool, true, false, cond, List, [], ◌∷◌, Option, refl, sym, ap, ◌∙◌}
-use Rattle.std.specs.Prelude.{length, map, nat_lt, not, ◌||◌}
+use Rattle.std.specs.Prelude.{IfSome, None, Some, length, map, nat_lt, not, ◌||◌}
 use Rattle.std.specs.Option.{option_map_or}
 use Rattle.hc_records.specs.declared.keys.Key.{Key}
+use Rattle.hc_records.specs.declared.keys.TheConstants.Key.{END}
+use Rattle.hc_records.specs.Keys.{is_before, same_key}
+use Rattle.hc_records.proofs.lemmas.TaskLists.{project-list}
 use Rattle.hc_records.specs.declared.records.Area.{Area}
 use Rattle.hc_records.specs.declared.records.Declared.{Declared}
 use Rattle.hc_records.specs.Boundaries.{is_touched_task, touched}
-use Rattle.hc_records.specs.Line.{State, line_from}
+use Rattle.hc_records.specs.Line.{State, groups_of, line_from}
+use Rattle.hc_records.specs.Image.{task_places}
+use Rattle.hc_records.specs.Project.{lowest_fault}
 use Rattle.hc_records.specs.Packing.{Placed}
 use Rattle.hc_records.specs.TaskList.{Keyed, task_list}
-use Rattle.hc_cuts.specs.Keeping.{is_kept}
+use Rattle.hc_cuts.specs.Keeping.{is_kept_up_to}
 use Rattle.hc_cuts.specs.Starts.{Kept}
 use Rattle.hc_cuts.specs.Place.{place_of as place_in}
 use Rattle.hc_tasks.specs.Areas.{areas_by_rank, list_by}
@@ -20,7 +25,9 @@ use Rattle.hc_tasks.proofs.lemmas.Told.{place-told, task-listed}
 use Rattle.hc_changes.specs.Candidates.{LineArea, candidate_of, is_candidate, is_recut, key_of, place_of}
 use Rattle.hc_changes.specs.inner.Found.{IsSight, area_by, area_found, found_among}
 use Rattle.hc_changes.specs.Outlook.{Outlook, changes}
+use Rattle.hc_changes.proofs.lemmas.Lists.{found-among}
 use Rattle.hc_changes.proofs.lemmas.Recut.{untouched-areas}
+use Rattle.hc_changes.proofs.lemmas.Standing.{placed-below}
 
 -- one area that is a candidate, and one that is none
 
@@ -43,7 +50,10 @@ other-one : (a b : Bool) → a ≡ false → (a || b) ≡ b
 other-one true b is = cc
 other-one false b is = refl
 
--- its place, and whether it stands in a datagram that isn't kept
+abbrev of_groups : List Declared → State
+of_groups groups = record { groups = groups; epoch = 0 }
+
+-- its place, and whether it stands in a datagram that isn't kept up to it
 
 pub place-is : (it : Outlook) (cuts : List Kept) → cuts ≡ line_kept (areas_by_rank it.new) → (station rank index : ℕ) (area : Area) (key : Key) (place : Option Placed)
     → key ≡ key_of (area_by station rank index area) → ((slaves : List (List Area)) → cuts ≡ line_kept slaves → place ≡ place_in key (list_by area.task slaves))
@@ -52,13 +62,22 @@ place-is it cuts turned station rank index area key place named tells =
     tells (areas_by_rank it.new) turned ∙ ap (λ (k : Key). place_in k (list_by area.task (areas_by_rank it.new))) named
     ∙ place-told it.new area.task (key_of (area_by station rank index area))
 
-pub kept-is : (it : Outlook) (before : Before) (cuts : List Kept) → IsSight it before cuts → (task number : ℕ) (kept : Bool)
-    → ((old new : List (List Area)) → IsLine new → StandsBefore old new before → cuts ≡ line_kept new → kept ≡ is_kept (list_by task old) (list_by task new) number)
-    → kept ≡ is_kept (task_list task (line_from 1 it.old)) (task_list task (line_from 1 it.new)) number
-kept-is it before cuts sight task number kept tells =
-    tells (areas_by_rank it.old) (areas_by_rank it.new) sight.is.lines.new_line sight.stands sight.turned
-    ∙ ap (λ (list : List Keyed). is_kept list (list_by task (areas_by_rank it.new)) number) (sym (task-listed task it.old))
-    ∙ ap (λ (list : List Keyed). is_kept (task_list task (line_from 1 it.old)) list number) (sym (task-listed task it.new))
+-- a place that is found is of a key before END
+pub place-below : (it : Outlook) (station rank index : ℕ) (area : Area) (place : Option Placed) → lowest_fault (groups_of it.new) ≡ None
+    → place ≡ place_of (line_from 1 it.new) (area_by station rank index area) → IfSome place (λ placed. is_before placed.key END ≡ true)
+place-below it station rank index area None project is = tt
+place-below it station rank index area (Some placed) project is =
+    let here = found-among (λ (p : Placed). same_key p.key (key_of (area_by station rank index area))) (task_places area.task (line_from 1 it.new)) placed (sym is) in
+    placed-below (task_list area.task (line_from 1 it.new)) placed (project-list (of_groups it.new) area.task project) here.among
+
+pub kept-is : (it : Outlook) (before : Before) (cuts : List Kept) → IsSight it before cuts → (task number : ℕ) (until : Key)
+    → ((old new : List (List Area)) → IsLine new → StandsBefore old new before → cuts ≡ line_kept new
+    → (key : Key) → is_before key END ≡ true → is_before key until ≡ is_kept_up_to (list_by task old) (list_by task new) number key)
+    → (key : Key) → is_before key END ≡ true → is_before key until ≡ is_kept_up_to (task_list task (line_from 1 it.old)) (task_list task (line_from 1 it.new)) number key
+kept-is it before cuts sight task number until tells key low =
+    tells (areas_by_rank it.old) (areas_by_rank it.new) sight.is.lines.new_line sight.stands sight.turned key low
+    ∙ ap (λ (list : List Keyed). is_kept_up_to list (list_by task (areas_by_rank it.new)) number key) (sym (task-listed task it.old))
+    ∙ ap (λ (list : List Keyed). is_kept_up_to (task_list task (line_from 1 it.old)) list number key) (sym (task-listed task it.new))
 
 -- whether its task is touched
 
@@ -75,10 +94,7 @@ touched-is it before cuts sight task some tells =
 
 -- so it is told
 
-abbrev of_groups : List Declared → State
-of_groups groups = record { groups = groups; epoch = 0 }
-
--- no area of a task that isn't touched stands in a datagram that isn't kept
+-- no area of a task that isn't touched stands in a datagram that isn't kept up to it
 pub untouched-kept : (it : Outlook) (before : Before) (cuts : List Kept) → IsSight it before cuts → (found : LineArea) (some : Bool) → some ≡ false
     → ((old new : List (List Area)) → StandsBefore old new before → some ≡ is_touched_by found.area.task old new) → is_recut (line_from 1 it.old) (line_from 1 it.new) found ≡ false
 untouched-kept it before cuts sight found some none tells =
@@ -98,7 +114,7 @@ untouched-area it before cuts sight station rank index area unchanged some none 
 
 abbrev recut_by : Outlook → ℕ → Option Placed → Bool
 recut_by it task place =
-    option_map_or (λ (placed : Placed). not (is_kept (task_list task (line_from 1 it.old)) (task_list task (line_from 1 it.new)) placed.datagram)) place false
+    option_map_or (λ (placed : Placed). not (is_kept_up_to (task_list task (line_from 1 it.old)) (task_list task (line_from 1 it.new)) placed.datagram placed.key)) place false
 
 pub kept-area : (it : Outlook) (station rank index : ℕ) (area : Area) (place : Option Placed) → place ≡ place_of (line_from 1 it.new) (area_by station rank index area)
     → changes it rank ≡ false → recut_by it area.task place ≡ false → area_found it station rank index area ≡ []

@@ -1,10 +1,9 @@
--- All candidates stand between the ranks of the slaves that change and of those between the boundaries of datagrams that aren't kept.
+-- All candidates stand between the ranks of the slaves that change and of those between the boundaries of datagrams behind what is kept of them.
 use Rattle.std.proofs.Common.{◌≡◌, ℕ, zero, suc, ◌+◌, ◌<◌, ◌≤◌, Bool, true, false, List, [], ◌∷◌, ◌++◌, Contains, length, refl, sym, ap, subst, ◌∙◌, ⊎_elim, arith}
-use Rattle.std.specs.Prelude.{All, filter, slice_get, slice_index_or, Some, ◌==◌}
-use Rattle.std.specs.List.{zip}
+use Rattle.std.specs.Prelude.{All, slice_index_or}
 use Rattle.std.proofs.Math.Nat.{eq-or-lt_of_le}
-use Rattle.std.proofs.lemmas.Bool.{and_parts, cases_lt, eq-eqb, or_parts}
-use Rattle.std.proofs.lemmas.List.Elements.{All-cons, All-contains, All-nil, filter_passes}
+use Rattle.std.proofs.lemmas.Bool.{cases_lt, or_parts}
+use Rattle.std.proofs.lemmas.List.Elements.{All-cons, All-contains, All-nil}
 use Rattle.hc_records.specs.declared.keys.Key.{Key}
 use Rattle.hc_records.specs.declared.keys.TheConstants.Key.{START, END}
 use Rattle.hc_records.specs.declared.limits.TheConstants.{TASKS}
@@ -12,20 +11,18 @@ use Rattle.hc_records.specs.declared.records.Dir.{Dir}
 use Rattle.hc_records.specs.declared.records.Dir.TheVariants.{Out, In}
 use Rattle.hc_records.specs.declared.records.Area.{Area}
 use Rattle.hc_records.specs.declared.records.Declared.{Declared}
-use Rattle.hc_records.specs.Boundaries.{Interval, later_keys}
-use Rattle.hc_records.specs.Image.{datagram_count, inside, task_places}
+use Rattle.hc_records.specs.Boundaries.{later_keys}
+use Rattle.hc_records.specs.Image.{task_places}
 use Rattle.hc_records.specs.Keys.{is_before, is_within, same_dir}
 use Rattle.hc_records.specs.Line.{State, line_from}
 use Rattle.hc_records.specs.Packing.{Placed, opening, packed}
-use Rattle.hc_records.specs.SpanLaws.{IsTaskList, lies_in}
 use Rattle.hc_records.specs.TaskList.{Keyed, task_list}
-use Rattle.hc_records.proofs.lemmas.Greatest.{greatest-all}
+use Rattle.hc_records.proofs.lemmas.KeyOrder.{before-apart, before-else, within-else, within-trans}
 use Rattle.hc_records.proofs.lemmas.Lists.{All-unmap}
 use Rattle.hc_records.proofs.lemmas.Packed.{area_of, packed-areas}
-use Rattle.hc_records.proofs.lemmas.SpanDatagrams.{span-datagram}
 use Rattle.hc_records.proofs.lemmas.TaskLists.{project-list}
 use Rattle.hc_cuts.specs.Inputs.{has_inputs}
-use Rattle.hc_cuts.specs.Keeping.{is_kept}
+use Rattle.hc_cuts.specs.Keeping.{is_kept_up_to}
 use Rattle.hc_cuts.specs.Starts.{Kept}
 use Rattle.hc_tasks.specs.Areas.{areas_at, areas_by_rank, list_by}
 use Rattle.hc_tasks.specs.Keeping.{Before, StandsBefore}
@@ -37,35 +34,9 @@ use Rattle.hc_changes.specs.inner.Found.{HoldChanged, HoldRanks, HoldRecut, IsSi
 use Rattle.hc_changes.specs.Outlook.{IsOutlook, Outlook, changes}
 use Rattle.hc_changes.proofs.lemmas.Finding.{unrecut-none, untouched-kept}
 use Rattle.hc_changes.proofs.lemmas.FoundRanks.{above-none, task-below}
-use Rattle.hc_changes.proofs.lemmas.Recut.{own-counted, recut-unkept}
-use Rattle.hc_changes.proofs.lemmas.Lists.{contains-behind, contains-filtered, contains-first}
-
--- the boundaries between which a datagram's areas lie
-
-span-keys : (first : Key) (later : List Key) (datagram : ℕ) → datagram < length later + 1
-    → slice_get (zip (first ∷ (later ++ END ∷ [])) (later ++ END ∷ [])) datagram ≡ Some (slice_index_or (first ∷ later) datagram END, slice_index_or (first ∷ later) (suc datagram) END)
-span-keys first [] zero low = refl
-span-keys first (next ∷ later) zero low = refl
-span-keys first [] (suc datagram) low = absurd (omega arith)
-span-keys first (next ∷ later) (suc datagram) low = span-keys next later datagram (omega arith)
-
-placed-between : (list : List Keyed) (placed : Placed) → IsTaskList list → Contains (packed opening list) placed
-    → (placed.datagram < length (START ∷ later_keys list))
-    × (is_within (slice_index_or (START ∷ later_keys list) placed.datagram END) placed.key ≡ true)
-    × (is_before placed.key (slice_index_or (START ∷ later_keys list) (placed.datagram + 1) END) ≡ true)
-placed-between list placed is among =
-    let datagram = placed.datagram in
-    let places = packed opening list in
-    let counted : datagram + 1 ≤ datagram_count places = All-contains (λ (p : Placed). p.datagram + 1 ≤ datagram_count places) places placed (greatest-all (λ (p : Placed). p.datagram + 1) 0 places) among in
-    let low : datagram < length (later_keys list) + 1 = own-counted list datagram is (omega arith) in
-    let span : Interval = (slice_index_or (START ∷ later_keys list) datagram END, slice_index_or (START ∷ later_keys list) (suc datagram) END) in
-    let same : inside datagram places ≡ filter (lies_in span) places = span-datagram list datagram span is (span-keys START (later_keys list) datagram low) in
-    let own : Contains (filter (lies_in span) places) placed =
-    subst (λ (areas : List Placed). Contains areas placed) same (contains-filtered (λ (p : Placed). p.datagram == datagram) places placed among (eq-eqb datagram datagram refl)) in
-    let lies : lies_in span placed ≡ true = All-contains (λ (p : Placed). lies_in span p ≡ true) (filter (lies_in span) places) placed (filter_passes (lies_in span) places) own in
-    let parts = and_parts (is_within span.0 placed.key) (is_before placed.key span.1) lies in
-    let next : suc datagram ≡ datagram + 1 = omega arith in
-    (omega (arith, low), parts.0, subst (λ (n : ℕ). is_before placed.key (slice_index_or (START ∷ later_keys list) n END) ≡ true) next parts.1)
+use Rattle.hc_changes.proofs.lemmas.Recut.{recut-unkept}
+use Rattle.hc_changes.proofs.lemmas.Standing.{placed-below, placed-between}
+use Rattle.hc_changes.proofs.lemmas.Lists.{contains-behind, contains-first}
 
 -- where the task has no inputs, each of its areas is an output
 
@@ -86,17 +57,17 @@ placed-out list placed none among =
     (subst (λ (areas : List Keyed). All (λ (area : Keyed). same_dir area.0.dir In ≡ false) areas) (sym (packed-areas opening list)) (no-input list none)) in
     dir-out placed.key.dir (All-contains (λ (p : Placed). same_dir p.key.dir In ≡ false) places placed outputs among)
 
--- the ranks of areas in datagrams that aren't kept, among the first ones of a task
+-- the ranks of areas up to which their datagrams aren't kept, among the first datagrams of a task
 
 abbrev of_groups : List Declared → State
 of_groups groups = record { groups = groups; epoch = 0 }
 
-abbrev kept_in : Outlook → ℕ → ℕ → Bool
-kept_in it task datagram = is_kept (task_list task (line_from 1 it.old)) (task_list task (line_from 1 it.new)) datagram
+abbrev kept_in : Outlook → ℕ → ℕ → Key → Bool
+kept_in it task datagram key = is_kept_up_to (task_list task (line_from 1 it.old)) (task_list task (line_from 1 it.new)) datagram key
 
 abbrev pub HoldFirst : Outlook → ℕ → ℕ → ℕ → ℕ → Type 0
 HoldFirst it task count low high =
-    (placed : Placed) → Contains (task_places task (line_from 1 it.new)) placed → placed.datagram < count → placed.key.rank < 65536 → kept_in it task placed.datagram ≡ false
+    (placed : Placed) → Contains (task_places task (line_from 1 it.new)) placed → placed.datagram < count → placed.key.rank < 65536 → kept_in it task placed.datagram placed.key ≡ false
     → (low ≤ placed.key.rank) × (placed.key.rank ≤ high)
 
 -- a boundary that is there is read alike, whatever stands for others
@@ -108,30 +79,60 @@ same-read (x ∷ xs) (suc i) none other within = same-read xs i none other (omeg
 pub first-none : (it : Outlook) (task low high : ℕ) → HoldFirst it task 0 low high
 first-none it task low high placed among below = absurd (omega arith)
 
-pub kept-next : (it : Outlook) (task count low high : ℕ) → kept_in it task count ≡ true → HoldFirst it task count low high → HoldFirst it task (count + 1) low high
-kept-next it task count low high kept hold placed among below narrow unkept =
-    ⊎_elim
-    (λ same. let both : true ≡ false = sym kept ∙ sym (ap (kept_in it task) same) ∙ unkept in cc)
-    (λ under. hold placed among under narrow unkept)
-    (eq-or-lt_of_le {n = placed.datagram} {m = count} (omega arith))
+-- what is known of an area of the datagram with a number that isn't kept up to it
+pub record IsUnkeptIn (it : Outlook) (task number : ℕ) (starts : List Key) (inputs : Bool) (key : Key) : Type 0 where
+  pub from : is_within (slice_index_or starts number END) key ≡ true
+  pub next : is_before key (slice_index_or starts (number + 1) END) ≡ true
+  pub below : is_before key END ≡ true
+  pub output : inputs ≡ false → key.dir ≡ Out
+  pub unkept : kept_in it task number key ≡ false
 
-pub recut-next : (it : Outlook) (task count low high wide_low wide_high : ℕ) (starts : List Key) (inputs : Bool) → IsOutlook it → starts ≡ starts_by task (areas_by_rank it.new)
+-- so the next datagram's areas are held by ranks among which those of the ones before stand, and those of its own
+pub held-next : (it : Outlook) (task count low high wide_low wide_high : ℕ) (starts : List Key) (inputs : Bool) → IsOutlook it → starts ≡ starts_by task (areas_by_rank it.new)
     → inputs ≡ has_inputs (list_by task (areas_by_rank it.new))
     → HoldRanks wide_low wide_high low high
-    → ((key : Key) → key.rank < 65536 → (inputs ≡ false → key.dir ≡ Out) → is_within (slice_index_or starts count END) key ≡ true → is_before key (slice_index_or starts (count + 1) END) ≡ true → (wide_low ≤ key.rank) × (key.rank ≤ wide_high))
+    → ((key : Key) → key.rank < 65536 → IsUnkeptIn it task count starts inputs key → (wide_low ≤ key.rank) × (key.rank ≤ wide_high))
     → HoldFirst it task count low high → HoldFirst it task (count + 1) wide_low wide_high
-recut-next it task count low high wide_low wide_high starts inputs is stand told wider between hold placed among below narrow unkept =
+held-next it task count low high wide_low wide_high starts inputs is stand told wider own hold placed among below narrow unkept =
     let list = task_list task (line_from 1 it.new) in
     let keys : START ∷ later_keys list ≡ starts = ap (λ (l : List Keyed). START ∷ later_keys l) (task-listed task it.new) ∙ sym stand in
     let lies = placed-between list placed (project-list (of_groups it.new) task is.is_project) among in
-    let output : inputs ≡ false → placed.key.dir ≡ Out = λ none. placed-out list placed (ap has_inputs (task-listed task it.new) ∙ sym told ∙ none) among in
     ⊎_elim
-    (λ same. between placed.key narrow output
-    (subst (λ (n : ℕ). is_within (slice_index_or starts n END) placed.key ≡ true) same (subst (λ (all : List Key). is_within (slice_index_or all placed.datagram END) placed.key ≡ true) keys lies.1))
-    (subst (λ (n : ℕ). is_before placed.key (slice_index_or starts (n + 1) END) ≡ true) same
-    (subst (λ (all : List Key). is_before placed.key (slice_index_or all (placed.datagram + 1) END) ≡ true) keys lies.2)))
-    (λ under. let own = hold placed among under narrow unkept in (omega (arith, own, wider), omega (arith, own, wider)))
+    (λ same. own placed.key narrow
+    (record {
+      from = subst (λ (n : ℕ). is_within (slice_index_or starts n END) placed.key ≡ true) same (subst (λ (all : List Key). is_within (slice_index_or all placed.datagram END) placed.key ≡ true) keys lies.1);
+      next =
+          subst (λ (n : ℕ). is_before placed.key (slice_index_or starts (n + 1) END) ≡ true) same
+          (subst (λ (all : List Key). is_before placed.key (slice_index_or all (placed.datagram + 1) END) ≡ true) keys lies.2);
+      below = placed-below list placed (project-list (of_groups it.new) task is.is_project) among;
+      output = λ none. placed-out list placed (ap has_inputs (task-listed task it.new) ∙ sym told ∙ none) among;
+      unkept = subst (λ (n : ℕ). kept_in it task n placed.key ≡ false) same unkept;
+    }))
+    (λ under. let before = hold placed among under narrow unkept in (omega (arith, before, wider), omega (arith, before, wider)))
     (eq-or-lt_of_le {n = placed.datagram} {m = count} (omega arith))
+
+-- an area that isn't before the key until which its datagram is kept, nor before the datagram's first key, isn't before the higher of the two
+pub from-higher : (it : Outlook) (task number : ℕ) (starts : List Key) (inputs : Bool) (until from key : Key) → IsUnkeptIn it task number starts inputs key
+    → ((k : Key) → is_before k END ≡ true → is_before k until ≡ kept_in it task number k)
+    → ((k : Key) → is_within (slice_index_or starts number END) k ≡ true → is_within until k ≡ true → is_within from k ≡ true)
+    → is_within from key ≡ true
+from-higher it task number starts inputs until from key is tells above =
+    above key is.from (within-else key until (tells key is.below ∙ is.unkept))
+
+within-before : (a b c : Key) → is_within a b ≡ true → is_before b c ≡ true → is_before a c ≡ true
+within-before a b c low high = before-else a c (by (is_within c a) refl)
+  where
+    by : (within : Bool) → is_within c a ≡ within → is_within c a ≡ false
+    by true within = let none : true ≡ false = sym (within-trans c a b within low) ∙ before-apart b c high in cc
+    by false within = within
+
+-- where that isn't before the next boundary, there is no such area
+pub none-unkept : (it : Outlook) (task number : ℕ) (starts : List Key) (inputs : Bool) (from key : Key) → IsUnkeptIn it task number starts inputs key
+    → is_within from key ≡ true → is_before from (slice_index_or starts (number + 1) END) ≡ false → ⊥
+none-unkept it task number starts inputs from key is low none =
+    let high = within-before from key (slice_index_or starts (number + 1) END) low is.next in
+    let both : true ≡ false = sym high ∙ none in
+    cc
 
 pub recut-held : (it : Outlook) (task count low high : ℕ) (starts : List Key) → IsOutlook it → starts ≡ starts_by task (areas_by_rank it.new) → length starts ≤ count
     → HoldFirst it task count low high → HoldRecut it task low high
@@ -140,7 +141,7 @@ recut-held it task count low high starts is stand all hold found of narrow recut
     let own = recut-unkept (line_from 1 it.old) (line_from 1 it.new) found recut in
     let placed = own.placed in
     let among : Contains (task_places task (line_from 1 it.new)) placed = subst (λ (t : ℕ). Contains (task_places t (line_from 1 it.new)) placed) of own.stands in
-    let unkept : kept_in it task placed.datagram ≡ false = subst (λ (t : ℕ). kept_in it t placed.datagram ≡ false) of own.unkept in
+    let unkept : kept_in it task placed.datagram placed.key ≡ false = subst (λ (t : ℕ). kept_in it t placed.datagram placed.key ≡ false) of own.unkept in
     let keys : START ∷ later_keys list ≡ starts = ap (λ (l : List Keyed). START ∷ later_keys l) (task-listed task it.new) ∙ sym stand in
     let lies = placed-between list placed (project-list (of_groups it.new) task is.is_project) among in
     let many = ap length keys in

@@ -21,7 +21,7 @@ use Rattle.hc_records.proofs.lemmas.Lines.{RanksBelow, line-ascends}
 use Rattle.hc_records.proofs.lemmas.Packed.{area_of, packed-areas}
 use Rattle.hc_records.proofs.lemmas.TaskLists.{project-list}
 use Rattle.hc_registers.specs.Blocks.{LineBlock, RegisterBlock, fmmu_block, line_blocks, mapping_at, moved_blocks, numbered, same_block, same_bytes, sync_manager_block}
-use Rattle.hc_cuts.specs.Keeping.{is_kept}
+use Rattle.hc_cuts.specs.Keeping.{is_kept_up_to}
 use Rattle.hc_changes.specs.Candidates.{DifferAt, LineArea, blocks_of, candidates, is_candidate, is_recut, key_of, line_areas, moved_of, place_of}
 use Rattle.hc_changes.proofs.lemmas.Blocks.{blocks-of-areas}
 use Rattle.hc_changes.proofs.lemmas.Lists.{contains-flat_map, filter-flat_map, flat_map-kept, found-among}
@@ -57,12 +57,12 @@ none-twice found old new ranks of of' none (Some placed) is =
 
 place-by : (found : LineArea) (old new : List Member) → AllPairs RanksBelow old → IsTaskList (task_list found.area.task old) → IsTaskList (task_list found.area.task new)
     → IsAreaOf old found → IsAreaOf new found → (place : Option Placed) → place_of new found ≡ place
-    → option_map_or (λ placed. not (is_kept (task_list found.area.task old) (task_list found.area.task new) placed.datagram)) place false ≡ false
+    → option_map_or (λ placed. not (is_kept_up_to (task_list found.area.task old) (task_list found.area.task new) placed.datagram placed.key)) place false ≡ false
     → place_of old found ≡ place
 place-by found old new ranks list list' of of' None is still = none-twice found old new ranks of of' is (place_of old found) refl
 place-by found old new ranks list list' of of' (Some placed) is still =
     kept-place (task_list found.area.task old) (task_list found.area.task new) (key_of found) placed list list' is
-    (not-false (is_kept (task_list found.area.task old) (task_list found.area.task new) placed.datagram) still)
+    (not-false (is_kept_up_to (task_list found.area.task old) (task_list found.area.task new) placed.datagram placed.key) still)
 
 pub same-place : (found : LineArea) (old new : List Member) → AllPairs RanksBelow old → IsTaskList (task_list found.area.task old) → IsTaskList (task_list found.area.task new)
     → IsAreaOf old found → IsAreaOf new found → is_recut old new found ≡ false → place_of old found ≡ place_of new found

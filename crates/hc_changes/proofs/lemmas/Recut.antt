@@ -1,4 +1,4 @@
--- Which areas are recut: none of a task that no edit touched, and none in a kept datagram.
+-- Which areas are recut: none of a task that no edit touched, and none up to which its datagram is kept.
 use Rattle.std.proofs.Common.{◌≡◌, ℕ, ◌+◌, ◌<◌, ◌≤◌, zero, suc, Bool, true, false, List, [], ◌∷◌, ◌++◌, length, Option, Some, None, refl, sym, ap, ◌∙◌, arith}
 use Rattle.std.specs.Prelude.{not, slice_get, ◌&&◌, ◌||◌}
 use Rattle.std.specs.Option.{option_map_or}
@@ -22,13 +22,13 @@ use Rattle.hc_records.proofs.lemmas.Cuts.{count-later_keys}
 use Rattle.hc_records.proofs.lemmas.Greatest.{greatest-all}
 use Rattle.hc_records.proofs.lemmas.KeyOrder.{same_key-refl, same_key-same}
 use Rattle.hc_records.proofs.lemmas.TaskLists.{project-list}
-use Rattle.hc_cuts.specs.Keeping.{begins_at, is_kept}
+use Rattle.hc_cuts.specs.Keeping.{begins_at, is_kept_up_to}
 use Rattle.hc_changes.specs.Candidates.{LineArea, is_recut, key_of, place_of}
 use Rattle.hc_changes.specs.Laws.{IsUnkeptAt}
 use Rattle.hc_changes.proofs.lemmas.Lists.{found-among}
 use Rattle.hc_changes.proofs.lemmas.Tables.{no-length, untouched-lists}
 
--- a datagram of a list is kept by the same list
+-- a datagram of a list is kept by the same list, up to each key
 
 pub span-at : (first : Key) (later : List Key) (datagram : ℕ) → datagram < length later + 1
     → (span : Interval) × (slice_get (zip (first ∷ (later ++ END ∷ [])) (later ++ END ∷ [])) datagram ≡ Some span) × (slice_get (first ∷ (later ++ END ∷ [])) datagram ≡ Some span.0)
@@ -48,18 +48,19 @@ pub own-counted : (list : List Keyed) (datagram : ℕ) → IsTaskList list → d
 own-counted [] datagram is low = absurd (omega arith)
 own-counted (area ∷ areas) datagram is low = let count = count-later_keys area areas is.packable in omega arith
 
-own-kept : (list : List Keyed) (datagram : ℕ) → IsTaskList list → touched list list ≡ [] → datagram < datagram_count (packed opening list) → is_kept list list datagram ≡ true
-own-kept list datagram is none low =
+own-kept : (list : List Keyed) (datagram : ℕ) (key : Key) → IsTaskList list → touched list list ≡ [] → datagram < datagram_count (packed opening list)
+    → is_kept_up_to list list datagram key ≡ true
+own-kept list datagram key is none low =
     let found = span-at START (later_keys list) datagram (own-counted list datagram is low) in
     let span : Interval = found.0 in
-    ap (λ (s : Option Interval). option_map_or (λ t. is_settled list list t && begins_at list datagram t.0) s false) found.1
-    ∙ and_from (is_settled list list span) (begins_at list datagram span.0) (own-settled list span datagram none found.2)
+    ap (λ (s : Option Interval). option_map_or (λ t. is_settled list list (t.0, key) && begins_at list datagram t.0) s false) found.1
+    ∙ and_from (is_settled list list (span.0, key)) (begins_at list datagram span.0) (own-settled list (span.0, key) datagram none found.2)
     (ap (λ (k : Option Key). option_map_or (same_key span.0) k false) found.2 ∙ same_key-refl span.0)
 
 -- so an area of a task that no edit touched isn't recut
 
-unrecut-by : (old new : List Keyed) (placed : Option Placed) → ((p : Placed) → placed ≡ Some p → is_kept old new p.datagram ≡ true)
-    → option_map_or (λ p. not (is_kept old new p.datagram)) placed false ≡ false
+unrecut-by : (old new : List Keyed) (placed : Option Placed) → ((p : Placed) → placed ≡ Some p → is_kept_up_to old new p.datagram p.key ≡ true)
+    → option_map_or (λ p. not (is_kept_up_to old new p.datagram p.key)) placed false ≡ false
 unrecut-by old new None each = refl
 unrecut-by old new (Some p) each = ap not (each p refl)
 
@@ -76,12 +77,13 @@ untouched-areas old new found was is none =
     let here = found-among (λ (p : Placed). same_key p.key (key_of found)) (packed opening after) placed at in
     let counted : placed.datagram + 1 ≤ datagram_count (packed opening after) =
     All-contains (λ (p : Placed). p.datagram + 1 ≤ datagram_count (packed opening after)) (packed opening after) placed (greatest-all (λ (p : Placed). p.datagram + 1) 0 (packed opening after)) here.among in
-    ap (λ (list : List Keyed). is_kept list after placed.datagram) same ∙ own-kept after placed.datagram (project-list new task is) nothing (omega arith))
+    ap (λ (list : List Keyed). is_kept_up_to list after placed.datagram placed.key) same
+    ∙ own-kept after placed.datagram placed.key (project-list new task is) nothing (omega arith))
 
--- a recut area stands in a datagram that wasn't kept
+-- a recut area stands in a datagram that wasn't kept up to it
 
 unkept-by : (old new : List Member) (found : LineArea) (place : Option Placed) → place_of new found ≡ place
-    → option_map_or (λ placed. not (is_kept (task_list found.area.task old) (task_list found.area.task new) placed.datagram)) place false ≡ true → IsUnkeptAt old new found
+    → option_map_or (λ placed. not (is_kept_up_to (task_list found.area.task old) (task_list found.area.task new) placed.datagram placed.key)) place false ≡ true → IsUnkeptAt old new found
 unkept-by old new found None at is = cc
 unkept-by old new found (Some placed) at is =
     let here = found-among (λ (p : Placed). same_key p.key (key_of found)) (task_places found.area.task new) placed at in
@@ -89,7 +91,7 @@ unkept-by old new found (Some placed) at is =
       placed = placed;
       stands = here.among;
       key = same_key-same placed.key (key_of found) here.passes;
-      unkept = not-true-false (is_kept (task_list found.area.task old) (task_list found.area.task new) placed.datagram) is;
+      unkept = not-true-false (is_kept_up_to (task_list found.area.task old) (task_list found.area.task new) placed.datagram placed.key) is;
     }
   where
     not-true-false : (b : Bool) → not b ≡ true → b ≡ false

@@ -75,7 +75,7 @@ HoldRanks low high own_low own_high = (low ≤ own_low) × (own_high ≤ high)
 abbrev pub HoldChanged : Outlook → ℕ → ℕ → Type 0
 HoldChanged outlook low high = (rank : ℕ) → changes outlook rank ≡ true → (low ≤ rank) × (rank ≤ high)
 
--- with those of the slaves that have areas of a task in datagrams which weren't kept
+-- with those of the slaves that have areas of a task in datagrams which weren't kept up to them
 abbrev pub HoldRecut : Outlook → ℕ → ℕ → ℕ → Type 0
 HoldRecut outlook task low high =
     (found : LineArea) → found.area.task ≡ task → found.member.rank < 65536

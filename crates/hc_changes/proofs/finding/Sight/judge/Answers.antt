@@ -3,7 +3,7 @@ use Rattle.hc_records.specs.Line.{line_from}
 use Rattle.hc_changes.specs.Candidates.{place_of}
 use Rattle.hc_changes.specs.inner.Found.{IsSight, area_by}
 use Rattle.hc_changes.specs.Outlook.{Outlook, changes}
-use Rattle.hc_changes.proofs.lemmas.Finding.{changed-area, kept-area, place-is, recut-area, untouched-area}
+use Rattle.hc_changes.proofs.lemmas.Finding.{changed-area, kept-area, place-below, place-is, recut-area, untouched-area}
 use Rattle.hc_changes.proofs.finding.Sight.judge.Goals as goal
 use Rattle.hc_changes.proofs.finding.Sight.judge.Goals.{else-not-changed-2-via-then-not-changed-2+else-not-is_recut, else-not-changed-2-via-else-not-changed-2}
 
@@ -39,3 +39,11 @@ returns-clause-found c =
       | else-not-changed-2-via-else-not-changed-2 w ↦
           sym (changed-area it c.args.station c.args.rank c.args.index c.args.area.now c.place-place.result stands (tested ∙ w.if-not-changed-2.false))
     ]
+
+pub is_recut-requires-clause-below : goal.is_recut-requires-clause-below
+is_recut-requires-clause-below c =
+    let it = c.args.self.now in
+    let sight : IsSight it c.self.inside.before.now c.self.inside.cuts.now =
+    subst (λ (o : Outlook). IsSight o c.self.inside.before.now c.self.inside.cuts.now) c.self.view_is c.self.invariant in
+    place-below it c.args.station c.args.rank c.args.index c.args.area.now c.place-place.result sight.is.is_project
+    (place-is it c.args.places.now c.requires.places c.args.station c.args.rank c.args.index c.args.area.now c.key_of.result c.place-place.result c.key_of.ensures c.place-place.ensures.place)

@@ -1,4 +1,5 @@
-use Rattle.std.proofs.Common.{◌≡◌, ◌∙◌, ◌+◌, ℕ, true, subst, sym, arith}
+use Rattle.std.proofs.Common.{◌≡◌, ◌∙◌, ◌+◌, ℕ, false, true, ap, subst, sym, arith}
+use Rattle.std.specs.Prelude.{slice_index_or}
 use Rattle.hc_records.specs.declared.keys.Key.{Key}
 use Rattle.hc_records.specs.declared.keys.TheConstants.Key.{START, END}
 use Rattle.hc_records.specs.Keys.{is_before, is_within}
@@ -7,9 +8,9 @@ use Rattle.hc_changes.specs.declared.ranks.Ranks.{Ranks}
 use Rattle.hc_changes.specs.inner.Found.{HoldRanks, IsSight}
 use Rattle.hc_changes.specs.Outlook.{Outlook}
 use Rattle.hc_changes.proofs.lemmas.Finding.{kept-is}
-use Rattle.hc_changes.proofs.lemmas.FoundWithin.{HoldFirst, kept-next, recut-held, recut-next, same-read}
+use Rattle.hc_changes.proofs.lemmas.FoundWithin.{HoldFirst, IsUnkeptIn, from-higher, held-next, none-unkept, recut-held, same-read}
 use Rattle.hc_changes.proofs.finding.Sight.with_recut.Goals as goal
-use Rattle.hc_changes.proofs.finding.Sight.with_recut.Goals.{then-not-is_kept, else-not-is_kept}
+use Rattle.hc_changes.proofs.finding.Sight.with_recut.Goals.{then-is_before, else-is_before}
 
 -- the ranks so far
 abbrev HoldSoFar : Outlook → ℕ → ℕ → Ranks → Ranks → Type 0
@@ -24,30 +25,46 @@ loop-number-preserved c =
     let sight : IsSight it c.self.inside.before.now c.self.inside.cuts.now =
     subst (λ (o : Outlook). IsSight o c.self.inside.before.now c.self.inside.cuts.now) c.self.view_is c.self.invariant in
     let number = c.loop-number.number in
+    let task = c.args.task in
     let starts = c.starts-starts.result.now in
-    let own : HoldRanks c.loop-number.all.low c.loop-number.all.high c.args.ranks.low c.args.ranks.high = c.loop-number.invariant.own in
-    elim c.if-not-is_kept.branch [
-      | then-not-is_kept w ↦
+    let inputs = c.has_inputs-inputs.result in
+    let until = c.kept_until-kept.result in
+    let from = c.higher-from.result in
+    let low = c.loop-number.all.low in
+    let high = c.loop-number.all.high in
+    let own : HoldRanks low high c.args.ranks.low c.args.ranks.high = c.loop-number.invariant.own in
+    let stand = c.starts-starts.ensures.starts (areas_by_rank it.new) sight.turned in
+    let told = c.has_inputs-inputs.ensures (areas_by_rank it.new) sight.turned in
+    let above : (key : Key) → IsUnkeptIn it task number starts inputs key → is_within from key ≡ true =
+    λ key is.
+    from-higher it task number starts inputs until from key is
+    (kept-is it c.self.inside.before.now c.self.inside.cuts.now sight task number until c.kept_until-kept.ensures)
+    (λ k first kept. c.higher-from.ensures k (subst (λ (start : Key). is_within start k ≡ true) (same-read starts number END START c.loop-number-test.true) first) kept) in
+    elim c.if-is_before.branch [
+      | then-is_before w ↦
           let wide = w.joined-all.result in
           let joined = w.joined-all.ensures in
-          subst (λ (all : Ranks). HoldSoFar it c.args.task (number + 1) c.args.ranks all) (sym w.all-is)
+          subst (λ (all : Ranks). HoldSoFar it task (number + 1) c.args.ranks all) (sym w.all-is)
           (record {
             own = (omega (arith, own, joined.own), omega (arith, own, joined.own));
             first =
-                recut-next it c.args.task number c.loop-number.all.low c.loop-number.all.high wide.low wide.high starts c.has_inputs-inputs.result sight.is
-                (c.starts-starts.ensures.starts (areas_by_rank it.new) sight.turned) (c.has_inputs-inputs.ensures (areas_by_rank it.new) sight.turned) joined.own
-                (λ key narrow output low high.
-                let between = w.between.ensures key narrow output
-                (subst (λ (from : Key). is_within from key ≡ true) (same-read starts number END START c.loop-number-test.true) low)
-                (subst (λ (to : Key). is_before key to ≡ true) (sym w.start_at-next.ensures) high) in
+                held-next it task number low high wide.low wide.high starts inputs sight.is stand told joined.own
+                (λ key narrow is.
+                let between = w.between.ensures key narrow is.output (above key is) (subst (λ (to : Key). is_before key to ≡ true) (sym c.start_at-next.ensures) is.next) in
                 let others = joined.others in
                 (omega (arith, between, others), omega (arith, between, others)))
                 c.loop-number.invariant.first;
           })
-      | else-not-is_kept w ↦
-          let kept = sym (kept-is it c.self.inside.before.now c.self.inside.cuts.now sight c.args.task number c.is_kept.result c.is_kept.ensures) ∙ w.if-not-is_kept.false in
-          subst (λ (all : Ranks). HoldSoFar it c.args.task (number + 1) c.args.ranks all) (sym w.all-is)
-          (record { own = own; first = kept-next it c.args.task number c.loop-number.all.low c.loop-number.all.high kept c.loop-number.invariant.first })
+      | else-is_before w ↦
+          let none : is_before from (slice_index_or starts (number + 1) END) ≡ false =
+          ap (is_before from) (sym c.start_at-next.ensures) ∙ sym c.is_before.ensures ∙ w.if-is_before.false in
+          subst (λ (all : Ranks). HoldSoFar it task (number + 1) c.args.ranks all) (sym w.all-is)
+          (record {
+            own = own;
+            first =
+                held-next it task number low high low high starts inputs sight.is stand told (omega arith, omega arith)
+                (λ key narrow is. absurd (none-unkept it task number starts inputs from key is (above key is) none)) c.loop-number.invariant.first;
+          })
     ]
 
 pub returns-clause-recut : goal.returns-clause-recut
