@@ -1,6 +1,6 @@
 //! The areas of a new line that may be configured in another way than in the old one, found slave by slave
 //! where the tasks are turned.
-ghost use Rattle.std.specs.Prelude.{◌≡◌, IfOk, map, slice_index_or, true};
+ghost use Rattle.std.specs.Prelude.{◌≡◌, ◌&&◌, IfOk, map, slice_index_or};
 ghost use Rattle.hc_records.specs.declared.keys.Key.{Key};
 ghost use Rattle.hc_records.specs.declared.keys.TheConstants.Key.{END};
 ghost use Rattle.hc_records.specs.Keys.{is_within};
@@ -47,7 +47,7 @@ fn start_at(starts: &[Key], number: usize) -> Key
 
 /// The higher of two keys.
 fn higher(one: Key, other: Key) -> Key
-    ensures { (key : Key) → is_within one key ≡ true → is_within other key ≡ true → is_within result key ≡ true }
+    ensures { (key : Key) → is_within result key ≡ (is_within one key && is_within other key) }
 {
     if one.is_before(other) { other } else { one }
 }

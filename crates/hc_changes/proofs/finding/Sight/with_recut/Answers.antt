@@ -1,5 +1,6 @@
 use Rattle.std.proofs.Common.{◌≡◌, ◌∙◌, ◌+◌, ℕ, false, true, ap, subst, sym, arith}
 use Rattle.std.specs.Prelude.{slice_index_or}
+use Rattle.std.proofs.lemmas.Bool.{and_from}
 use Rattle.hc_records.specs.declared.keys.Key.{Key}
 use Rattle.hc_records.specs.declared.keys.TheConstants.Key.{START, END}
 use Rattle.hc_records.specs.Keys.{is_before, is_within}
@@ -39,7 +40,10 @@ loop-number-preserved c =
     λ key is.
     from-higher it task number starts inputs until from key is
     (kept-is it c.self.inside.before.now c.self.inside.cuts.now sight task number until c.kept_until-kept.ensures)
-    (λ k first kept. c.higher-from.ensures k (subst (λ (start : Key). is_within start k ≡ true) (same-read starts number END START c.loop-number-test.true) first) kept) in
+    (λ k first kept.
+    let start = slice_index_or starts number START in
+    let own : is_within start k ≡ true = subst (λ (other : Key). is_within other k ≡ true) (same-read starts number END START c.loop-number-test.true) first in
+    c.higher-from.ensures k ∙ and_from (is_within start k) (is_within until k) own kept) in
     elim c.if-is_before.branch [
       | then-is_before w ↦
           let wide = w.joined-all.result in
