@@ -1,5 +1,5 @@
 -- What an arrival is told, by what is awaited with its serial.
-use Rattle.std.proofs.Common.{◌≡◌, ℕ, ◌==◌, true, false, cond, ◌&&◌, ◌||◌, List, [], ◌∷◌, map, refl, sym, ap, ◌∙◌, subst, Option, Some, None}
+use Rattle.std.proofs.Common.{◌≡◌, ℕ, ◌==◌, true, false, cond, ◌||◌, List, [], ◌∷◌, map, refl, sym, ap, ◌∙◌, subst, Option, Some, None}
 use Rattle.std.specs.Prelude.{All, find, option_and_then, option_map}
 use Rattle.std.specs.List.{list_any, zip}
 use Rattle.std.specs.Option.{option_map_or, option_or}
@@ -7,35 +7,17 @@ use Rattle.std.proofs.lemmas.Bool.{and_parts}
 use Rattle.std.proofs.lemmas.List.Elements.{All-head, All-tail}
 use Rattle.hc_records.specs.Line.{Member}
 use Rattle.hc_records.proofs.lemmas.Lists.{All-unmap}
-use Rattle.hc_registers.specs.declared.counters.TheConstants.{WRITE_COUNT}
-use Rattle.hc_events.specs.declared.answer.Answer.{Answer}
 use Rattle.hc_events.specs.declared.answer.Answer.TheVariants as answer
 use Rattle.hc_events.specs.declared.answer.Outcome.{Outcome}
 use Rattle.hc_events.specs.Accepted.{StandsIn}
-use Rattle.hc_events.specs.Answering.{Judged, Good, Wrong, has_head, has_heads, is_news, only_if}
+use Rattle.hc_events.specs.Answering.{Judged, has_head, has_heads, is_news, only_if}
 use Rattle.hc_events.specs.Arrivals.{Arrival, Part}
-use Rattle.hc_events.specs.Steps.{outcome_for, told_of, told_of_block}
+use Rattle.hc_events.specs.Steps.{outcome_for, told_of}
 use Rattle.hc_events.proofs.lemmas.Awaited.{by_bool}
-use Rattle.hc_awaited.specs.Judging.{Due, due_of, found_frame, frame_due, judge_due, judged_due, judged_in, write_due, written_head}
+use Rattle.hc_awaited.specs.Judging.{Due, due_of, found_frame, frame_due, judge_due, judged_due, judged_in, write_due}
 use Rattle.hc_awaited.specs.Kept.{Kept, Newest, carried_by, frame_by}
 use Rattle.hc_awaited.specs.Waiting.{AwaitedFrame, AwaitedWrite, Carried, Waiting, is_alive}
 use Rattle.hc_awaited.specs.Walk.{outcomes_in}
-
--- a register write
-
-pub write-told : (write : AwaitedWrite) (part : Part) (arrival : Arrival) (told : Answer) → arrival.parts ≡ part ∷ []
-    → has_head (written_head write) part ≡ true
-    → told ≡ told_of_block (cond (part.counter == WRITE_COUNT) Good Wrong)
-    → told ≡ told_of (judged_due arrival (write_due write))
-write-told write part arrival told is back e =
-    let all : (has_head (written_head write) part && true) ≡ true = rw back refl in
-    e
-    ∙ sym (ap (λ b. told_of (cond b (map judge_due (zip (write_due write) (part ∷ []))) [])) all)
-    ∙ ap (λ (parts : List Part). told_of (cond (has_heads (written_head write ∷ []) parts) (map judge_due (zip (write_due write) parts)) [])) (sym is)
-
-pub write-other : (write : AwaitedWrite) (arrival : Arrival) → has_heads (written_head write ∷ []) arrival.parts ≡ false
-    → answer.Stale ≡ told_of (judged_due arrival (write_due write))
-write-other write arrival e = rw e refl
 
 -- a frame
 
@@ -97,31 +79,7 @@ frame-told line frame arrival outcomes alive e =
     never : (a : List Outcome) → Some a ≡ None → ⊥
     never a e = cc
 
--- or not
-pub frame-stale : (line : List Member) (frame : AwaitedFrame) (arrival : Arrival) → None ≡ outcomes_in (frame_due line frame) arrival.parts
-    → answer.Stale ≡ told_of (judged_due arrival (frame_due line frame))
-frame-stale line frame arrival e =
-    by_bool (has_heads (map (λ (one : Due). one.head) (frame_due line frame)) arrival.parts)
-    (λ t. absurd (never _ (e ∙ ap (λ b. cond b (Some (map (λ (pair : Due × Part). outcome_for (judge_due pair)) (zip (frame_due line frame) arrival.parts))) None) t)))
-    (λ t. sym (ap (λ b. told_of (cond b (map judge_due (zip (frame_due line frame) arrival.parts)) [])) t))
-  where
-    never : (a : List Outcome) → None ≡ Some a → ⊥
-    never a e = cc
-
 -- what is found
-
-pub judged-write : (line : List Member) (waiting : Waiting) (arrival : Arrival) (write : Option AwaitedWrite) → write ≡ waiting.write
-    → option_map_or (λ (one : AwaitedWrite). one.serial == arrival.serial) write false ≡ true
-    → option_map_or (λ (one : AwaitedWrite). judged_due arrival (write_due one)) write [] ≡ judged_in line waiting arrival
-judged-write line waiting arrival write is has =
-    written write has
-    ∙ ap (λ (found : Option AwaitedWrite). option_map_or (judged_due arrival) (option_or (option_map write_due (option_and_then (only_if (λ (one : AwaitedWrite). one.serial == arrival.serial)) found)) (option_map (frame_due line) (found_frame arrival.serial waiting))) []) is
-  where
-    written : (found : Option AwaitedWrite) → option_map_or (λ (one : AwaitedWrite). one.serial == arrival.serial) found false ≡ true
-        → option_map_or (λ (one : AwaitedWrite). judged_due arrival (write_due one)) found []
-        ≡ option_map_or (judged_due arrival) (option_or (option_map write_due (option_and_then (only_if (λ (one : AwaitedWrite). one.serial == arrival.serial)) found)) (option_map (frame_due line) (found_frame arrival.serial waiting))) []
-    written None has = cc
-    written (Some one) has = rw has refl
 
 pub judged-frame : (line : List Member) (waiting : Waiting) (arrival : Arrival) (write : Option AwaitedWrite) (found : Option AwaitedFrame) → write ≡ waiting.write
     → option_map_or (λ (one : AwaitedWrite). one.serial == arrival.serial) write false ≡ false

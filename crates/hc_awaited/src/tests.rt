@@ -3,7 +3,7 @@
 //! answers what was sent with its serial where each datagram has the command, the address and the length that
 //! it was sent with, in order and none missing, and nothing that fits came since; then each datagram is stale
 //! where it was sent again since, else good by its working counter, or wrong by it.
-ghost use Rattle.std.specs.Prelude.{◌≡◌, ◌+◌, ◌<◌, ◌≤◌, All, IfOk, OnOk};
+ghost use Rattle.std.specs.Prelude.{◌<◌, ◌≤◌, All, IfOk, OnOk};
 ghost use Rattle.hc_records.specs.Line.{line};
 ghost use Rattle.hc_records.specs.declared.limits.TheConstants.{MOST_DATAGRAM_BYTES};
 ghost use Rattle.hc_events.specs.Accepted.{StandsIn};

@@ -1,7 +1,7 @@
 -- Bits of numbers that shifts, masks and an `or` make, and of the bytes of a word.
 use Rattle.std.proofs.Common.{◌≡◌, ℕ, zero, suc, ◌+◌, ◌-◌, ◌*◌, ◌/◌, ◌%◌, ◌^◌, ◌<◌, ◌≤◌, min, max, bit_and, bit_or, get_or, refl, sym, ◌∙◌, ap, subst, arith, add-zero, lit<}
 use Rattle.std.specs.Int.{bit_at, bit_not, byte_at, bytes_low_first, w8}
-use Rattle.std.proofs.lemmas.Nat.{pow_pos, pow-add, shr-shr, shr_split, and_mask, shl_whole, mod_below, or_lt, shl_below}
+use Rattle.std.proofs.lemmas.Nat.{pow_pos, pow-add, shr-shr, shr_split, shl_whole, mod_below, or_lt, shl_below}
 use Rattle.std.proofs.Math.Nat.{pow-suc, pow-le-pow_right, lt_of_lt_of_le}
 use Rattle.std.proofs.lemmas.Nat.Bits.{bit_at_and, bit_at_or, bit_at_not, bit_at_ones, bit_at_ones_above, bit_at_above, bit_at_cat_low, bit_at_cat_high, bit_at-lt, ones_shr}
 
@@ -41,9 +41,6 @@ ones_is n h = ones_shr 8 (8 - n) (omega arith) ∙ ap (λ k. 2 ^ k - 1) (let e :
 
 pub part-bit : (byte at n k : ℕ) → k < n → bit_at (bit_and (byte / 2 ^ at) (2 ^ n - 1)) k ≡ bit_at byte (at + k)
 part-bit byte at n k h = bit_at-and_one (byte / 2 ^ at) (2 ^ n - 1) k (bit_at_ones n k h) ∙ bit_at-shr byte at k
-
-pub part-lt : (x n : ℕ) → bit_and x (2 ^ n - 1) < 2 ^ n
-part-lt x n = subst (λ (y : ℕ). y < 2 ^ n) (sym (and_mask x n)) (mod_below x (2 ^ n) (pow_pos n))
 
 -- n ones from bit `at` on
 mask_whole : (at n : ℕ) → at + n ≤ 8 → (2 ^ n - 1) * 2 ^ at % 2 ^ 8 ≡ (2 ^ n - 1) * 2 ^ at

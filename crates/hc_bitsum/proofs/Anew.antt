@@ -65,15 +65,6 @@ part-set dir rows at bits each h =
     ∙ rw (front, middle, back) (sym (set-split at j bits (part dir rows 0 r) (part dir rows r 1) (part dir rows (r + 1) rest) place (omega arith)))
     ∙ ap (set_at at bits) (sym (split dir rows r rest all))
 
--- the sums of the other rows stay
-pub others-stay : (dir : Dir) (rows : List (List ℕ)) (sums : List Sum) (r : ℕ) (row : List ℕ) → AreRowSums (λ i. Unit {0}) dir rows sums
-    → AreRowSums (λ i. i ≢ r) dir (set rows r row) sums
-others-stay dir rows sums r row leaves i h other =
-    let still : length (set rows r row) ≡ length rows = length-set rows r row in
-    rw still
-    (leaves i (omega arith) tt
-    ∙ ap sum_of (sym (part-same dir (set rows r row) rows i 1 (λ k low high. let apart : k ≢ r = omega arith in get_or-set_other rows r k row [] apart))))
-
 -- a row's sum is put
 pub leaves-put : (dir : Dir) (rows : List (List ℕ)) (sums : List Sum) (r : ℕ) (own : Sum) → length sums ≡ 2 * length rows → r < length rows
     → AreRowSums (λ i. i ≢ r) dir rows sums → own ≡ sum_of (part dir rows r 1) → AreRowSums (λ i. Unit {0}) dir rows (set sums (length rows + r) own)

@@ -9,8 +9,6 @@ use Rattle.hc_records.specs.TaskList.{Keyed}
 use Rattle.hc_bitsum.specs.Places.{IsPlaced, KeepsSlaves, StandFrom}
 use Rattle.hc_bitsum.specs.Rows.{IsRow, blank_slots, part, row_areas}
 use Rattle.hc_bitsum.specs.Slots.{key_at}
-use Rattle.hc_bitsum.specs.Sums.{sum_of}
-use Rattle.hc_bitsum.specs.declared.sum.Sum.TheVariants.{Empty}
 use Rattle.hc_bitsum.specs.Tree.{has_width}
 use Rattle.hc_bitsum.proofs.Nodes.{eight}
 use Rattle.hc_bitsum.proofs.Parts.{length-part, narrow-part, stand-part}
@@ -39,10 +37,6 @@ none-wide (area ∷ areas) all =
     let narrow : has_width area ≡ false = grind (arith, nat_tests) in
     rw narrow (none-wide areas (All-tail IsNone area areas all))
 
-none-sum : (areas : List Keyed) → All IsNone areas → sum_of areas ≡ Empty
-none-sum [] all = refl
-none-sum (area ∷ areas) all = rw (All-head IsNone area areas all) (none-sum areas (All-tail IsNone area areas all))
-
 abbrev pub blank_rows : ℕ → List (List ℕ)
 blank_rows levels = replicate (2 ^ levels) (replicate 8 0)
 
@@ -56,9 +50,6 @@ blank-none : (dir : Dir) (levels first more : ℕ) → first + more ≤ 2 ^ leve
 blank-none dir levels first more within =
     let many = blank-many levels in
     none-part dir (blank_rows levels) first more (All-replicate (All (λ bits. bits ≡ 0)) (2 ^ levels) (replicate 8 0) (All-replicate (λ b. b ≡ 0) 8 0 refl)) (omega arith)
-
-pub blank-sum : (dir : Dir) (levels first more : ℕ) → first + more ≤ 2 ^ levels → sum_of (part dir (blank_rows levels) first more) ≡ Empty
-blank-sum dir levels first more within = none-sum (part dir (blank_rows levels) first more) (blank-none dir levels first more within)
 
 pub blank-empty : (dir : Dir) (levels : ℕ) → filter has_width (blank_slots dir levels).areas ≡ []
 blank-empty dir levels = none-wide (part dir (blank_rows levels) 0 (2 ^ levels)) (blank-none dir levels 0 (2 ^ levels) (omega arith))

@@ -20,7 +20,7 @@ use Rattle.hc_bitsum.proofs.Ends.{sum_of-append}
 use Rattle.hc_bitsum.proofs.Parts.{length-part, narrow-part, part-one, part-split}
 use Rattle.hc_bitsum.proofs.Room.{EndsBelow-sum_of, with_areas-few}
 use Rattle.hc_bitsum.proofs.Scan.{found-both, found-in, kept-end, not-through, scan-all, scan-append-through}
-use Rattle.hc_bitsum.proofs.Sums.{left-node, next-first, next-node, node-inside, node-parts, node-some, node-sum, node-within, right-node, root-first, row-first, up-left, up-right}
+use Rattle.hc_bitsum.proofs.Sums.{left-node, next-first, next-node, node-inside, node-parts, node-some, node-sum, node-within, right-node, root-first, up-left, up-right}
 use Rattle.hc_bitsum.proofs.lemmas.Fillings.{with_areas-append}
 
 pub few-rows : (levels : ℕ) → levels ≤ 11 → 2 ^ levels ≤ 2048
@@ -223,15 +223,3 @@ behind-found branch height node room filled answer is less even at here beyond f
 pub beyond-in : (room : ℕ) (filled : Filled) (areas : List Keyed) (answer : Fit) → filled.bit ≤ room → room < (with_areas filled areas).bit
     → answer ≡ scan room filled areas → IsInRoom room answer
 beyond-in room filled areas answer here beyond is = found-in room answer (not-through room filled areas answer here beyond is)
-
--- nothing stands behind the root
-pub behind-root : (branch : Branch) (node : ℕ) → IsBranch branch → IsNode branch.levels branch.levels node
-    → areas_behind branch (first_of branch.levels branch.levels node + 2 ^ branch.levels) ≡ []
-behind-root branch node is at =
-    let many = is.many in
-    let none : length branch.rows.items - (first_of branch.levels branch.levels node + 2 ^ branch.levels) ≡ 0 = omega arith in
-    ap (part branch.dir branch.rows.items (first_of branch.levels branch.levels node + 2 ^ branch.levels)) none
-
--- a search from a row on begins behind it
-pub behind-row : (branch : Branch) (row : ℕ) → first_of branch.levels 0 (2 ^ branch.levels + row) + 2 ^ 0 ≡ row + 1
-behind-row branch row = ap (λ n. n + 1) (row-first branch.levels row)

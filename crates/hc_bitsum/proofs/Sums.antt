@@ -87,11 +87,6 @@ row-node levels row h =
     let here : levels - 0 ≡ levels = omega arith in
     record { high = omega arith; from = rw here (omega arith); below = rw here (omega arith) }
 
-pub row-first : (levels row : ℕ) → first_of levels 0 (2 ^ levels + row) ≡ row
-row-first levels row =
-    let here : levels - 0 ≡ levels = omega arith in
-    rw here (omega arith)
-
 -- the nodes below a node
 
 down : (levels height : ℕ) → 0 < height → height ≤ levels → 2 ^ (levels - (height - 1)) ≡ 2 ^ (levels - height) + 2 ^ (levels - height)

@@ -1,6 +1,6 @@
 //! A part of a tree: the areas of one direction, a row for each slave, and above the rows a tree of sums in an array.
 //! Node 1 is the root, below node `k` stand `2 * k` and `2 * k + 1`, and the last level has a node for each row.
-ghost use Rattle.std.specs.Prelude.{◌≡◌, ◌+◌, ◌-◌, ◌*◌, ◌^◌, ◌<◌, ◌≤◌, ◌++◌, ◌∷◌, [], ℕ, All, IfOk, IsTrue, OnOk, length, drop, filter, get_or};
+ghost use Rattle.std.specs.Prelude.{◌≡◌, ◌+◌, ◌-◌, ◌*◌, ◌^◌, ◌<◌, ◌≤◌, ◌++◌, ◌∷◌, [], All, IfOk, IsTrue, OnOk, length, drop, filter, get_or};
 ghost use Rattle.hc_records.specs.declared.limits.TheConstants.{MOST_AREA_BITS};
 ghost use Rattle.hc_bitsum.specs.Branch.{AreForks, AreRowSums, AreSums, IsBranch, IsNode, areas_behind, node_areas, slots_of};
 ghost use Rattle.hc_bitsum.specs.Filling.{areas_between, with_areas};

@@ -1,5 +1,5 @@
 //! A row: the widths of the 8 areas of a slave in one direction, which are gone over one by one.
-ghost use Rattle.std.specs.Prelude.{◌≡◌, ◌+◌, ◌*◌, ◌^◌, ◌<◌, ◌≤◌, ℕ, All, drop, nat_lt, slice_index};
+ghost use Rattle.std.specs.Prelude.{◌≡◌, ◌+◌, ◌*◌, ◌^◌, ◌<◌, ◌≤◌, ℕ, drop, nat_lt, slice_index};
 ghost use Rattle.hc_records.specs.declared.limits.TheConstants.{MOST_AREA_BITS};
 ghost use Rattle.hc_records.specs.Keys.{is_before};
 ghost use Rattle.hc_bitsum.specs.Rows.{IsRow, row_areas};

@@ -98,7 +98,6 @@ fn fit_both<L: Ledger>(
 
 impl SumTree {
     ghost use Rattle.std.specs.Prelude.{◌≡◌, [], IfOk, IsTrue};
-    ghost use Rattle.hc_records.specs.declared.keys.TheConstants.Key.{START};
     ghost use Rattle.hc_records.specs.declared.limits.TheConstants.{MOST_AREA_BITS};
     ghost use Rattle.hc_records.specs.Boundaries.{width_in};
     ghost use Rattle.hc_records.specs.SpanLaws.{areas_from};

@@ -83,7 +83,7 @@ impl<'b, 'a> Sight<'b, 'a> {
     ghost use Rattle.hc_records.specs.declared.keys.TheConstants.Key.{END};
     ghost use Rattle.hc_tasks.specs.Areas.{areas_at, areas_by_rank};
     ghost use Rattle.hc_tasks.specs.Kept.{line_kept};
-    ghost use Rattle.hc_changes.specs.inner.Found.{HoldChanged, HoldRanks, HoldRecut, IsGroupAt, LieWithin, area_found, areas_found, found_below, rank_found, station_at};
+    ghost use Rattle.hc_changes.specs.inner.Found.{HoldChanged, HoldRanks, HoldRecut, IsGroupAt, LieWithin, area_found, found_below, rank_found, station_at};
     ghost use Rattle.hc_changes.specs.Outlook.{IsOutlook};
 
     /// Whether an area of a task with a place, if it has one, stands in a datagram that isn't kept up to it.

@@ -1,5 +1,5 @@
 -- Which posts are refused.
-use Rattle.std.proofs.Common.{◌≡◌, ◌≢◌, ℕ, zero, suc, ◌<◌, ◌≤◌, ◌==◌, nat_lt, Bool, true, false, not, List, [], ◌∷◌, length, refl, ap, ◌∙◌, arith, Option, Some, None}
+use Rattle.std.proofs.Common.{◌≡◌, ◌≢◌, ℕ, zero, suc, ◌<◌, ◌==◌, nat_lt, Bool, true, false, not, List, [], ◌∷◌, length, refl, ap, ◌∙◌, arith, Option, Some, None}
 use Rattle.std.proofs.lemmas.Bool.Decides.{nat_tests}
 use Rattle.hc_records.specs.declared.limits.TheConstants.{TASKS}
 use Rattle.hc_records.specs.Image.{output_length, task_places}
@@ -30,9 +30,6 @@ outputs-listed line (suc (suc (suc (suc (suc (suc (suc (suc task)))))))) low = a
 is_task : (task : ℕ) → task < TASKS → not (nat_lt task TASKS) ≡ false
 is_task task low = let there : nat_lt task TASKS ≡ true = grind (arith, nat_tests) in ap not there
 
-no_task : (task : ℕ) → TASKS ≤ task → not (nat_lt task TASKS) ≡ true
-no_task task high = let there : nat_lt task TASKS ≡ false = grind (arith, nat_tests) in ap not there
-
 equal : (a b : ℕ) → a ≡ b → not (a == b) ≡ false
 equal a b same = let there : (a == b) ≡ true = grind (arith, nat_tests) in ap not there
 
@@ -41,10 +38,6 @@ unequal a b other = let there : (a == b) ≡ false = grind (arith, nat_tests) in
 
 abbrev judged : Bool → Bool → Bool → Option CoreFault
 judged task epoch size = lowest ((task, NoSuchTask) ∷ (epoch, StalePost) ∷ (size, PostLength) ∷ [])
-
-pub post-no_task : (past : Record) (task epoch : ℕ) (bytes : List ℕ) → TASKS ≤ task → lowest (post_faults past task epoch bytes) ≡ Some NoSuchTask
-post-no_task past task epoch bytes high =
-    ap (λ b. judged b (not (epoch == epoch_of past)) (not (length bytes == output_length (task_places task (line_of past))))) (no_task task high)
 
 pub post-stale : (past : Record) (task epoch : ℕ) (bytes : List ℕ) → task < TASKS → epoch ≢ epoch_of past → lowest (post_faults past task epoch bytes) ≡ Some StalePost
 post-stale past task epoch bytes low other =

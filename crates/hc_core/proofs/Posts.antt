@@ -4,7 +4,6 @@ use Rattle.std.specs.Prelude.{is_some}
 use Rattle.std.specs.Option.{option_map_or}
 use Rattle.hc_bits.specs.Bits.{bit_of}
 use Rattle.hc_records.specs.declared.edit.Edit.{Edit}
-use Rattle.hc_records.specs.declared.records.Group.{Group}
 use Rattle.hc_records.specs.Image.{VariablePlace}
 use Rattle.hc_records.specs.Line.{groups_of}
 use Rattle.hc_records.specs.Lists.{lowest}
@@ -12,7 +11,7 @@ use Rattle.hc_records.specs.Project.{lowest_fault}
 use Rattle.hc_records.proofs.lemmas.VariablePlaces.{variables-lie}
 use Rattle.hc_registers.specs.Blocks.{LineBlock}
 use Rattle.hc_places.specs.Table.{table_of}
-use Rattle.hc_events.specs.Accepted.{AreAccepted, just_opened}
+use Rattle.hc_events.specs.Accepted.{AreAccepted}
 use Rattle.hc_events.specs.Arrivals.{Arrival}
 use Rattle.hc_events.specs.Entries.{Record, Edited, Posted, Sent, Wrote, Came}
 use Rattle.hc_events.specs.Outputs.{posted_bit, value_bit}
@@ -27,11 +26,6 @@ use Rattle.hc_outputs.proofs.lemmas.LaidOut.{offset-of_line, place-of_line}
 use Rattle.hc_core.proofs.Awaits.{waits-posted}
 use Rattle.hc_core.specs.Agreement.{Agree, Kept}
 use Rattle.hc_core.specs.Values.{HoldsValues}
-
--- at the opening each value is 0
-
-pub values-opened : (groups : List Group) (packed : Packed) → Holds (table_of (line_of (just_opened groups))) (λ variable k. 0) packed → HoldsValues (just_opened groups) packed
-values-opened groups packed holds = holds
 
 -- arrivals, writes and frames say nothing of values
 

@@ -98,10 +98,6 @@ pub if-mapped : {X Y : Type 0} (f : X → Y) (Q : Y → Type 0) (found : Option 
 if-mapped f Q None is = tt
 if-mapped f Q (Some x) is = is
 
-pub early-passed : {X Y E : Type 0} (P : Result Y E → Type 0) (found : Option E) (x : X) → IfSome found (λ fault. Ok x ≡ Err fault) → IfSome found (λ fault. P (Err fault))
-early-passed P None x is = tt
-early-passed P (Some fault) x is = cc
-
 pub post-early : {X : Type 0} (found : Option CoreFault) (result : Result X CoreFault) → OnOk result (found ≡ None) → IfErr result (λ fault. found ≡ Some fault)
     → IfSome found (λ fault. answer_of_post result ≡ answer.Refused fault)
 post-early found (Ok done) accepted names = subst (λ (one : Option CoreFault). IfSome one (λ fault. answer.Posted ≡ answer.Refused fault)) (sym accepted) tt

@@ -126,9 +126,6 @@ news_of past arrival news =
     let for = (awaited-answered past arrival).news.0 stale in
     record { fresh = stale; awaits = for; judged_as = ((awaited-answered past arrival).answers for).judged }
 
-same_sending : (a b : Sending) → Some a ≡ Some b → a ≡ b
-same_sending a b e = cc
-
 -- inputs
 
 pub record TellsInputs (past : Record) (arrival : Arrival) (outcomes : List Outcome) : Type 0 where

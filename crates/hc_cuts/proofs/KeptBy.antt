@@ -1,15 +1,13 @@
 -- Which datagrams of a task an edit keeps, by the keys at which they begin and by hulls.
 use native.Mathlib.Numerals.{unary_clauses}
-use Rattle.std.proofs.Common.{◌≡◌, ℕ, zero, suc, true, false, Bool, List, [], ◌∷◌, ◌++◌, Contains, Option, Some, None, refl, sym, ap, ◌∙◌, arith}
+use Rattle.std.proofs.Common.{◌≡◌, ℕ, zero, suc, true, false, Bool, List, [], ◌∷◌, ◌++◌, Contains, Option, Some, None, refl, sym, ap, ◌∙◌}
 use Rattle.std.specs.Prelude.{◌&&◌, ◌||◌, not, drop, slice_get, option_map}
 use Rattle.std.specs.Option.{option_map_or}
 use Rattle.std.specs.List.{list_any, zip}
 use Rattle.std.proofs.lemmas.Bool.{and_from, and_parts, not-true, or_parts}
-use Rattle.std.proofs.lemmas.Bool.Decides.{nat_tests}
 use Rattle.std.proofs.lemmas.Option.{get_or_from_slice_get, slice_get_within}
 use Rattle.hc_records.specs.declared.keys.Key.{Key}
-use Rattle.hc_records.specs.declared.keys.TheConstants.Key.{START, END}
-use Rattle.hc_records.specs.declared.records.Dir.{Dir}
+use Rattle.hc_records.specs.declared.keys.TheConstants.Key.{END}
 use Rattle.hc_records.specs.declared.records.Dir.TheVariants.{Out, In}
 use Rattle.hc_records.specs.Keys.{is_before, is_within, same_key}
 use Rattle.hc_records.specs.TaskList.{Keyed}
@@ -162,15 +160,6 @@ kept-throughout old new datagram span key stands kept low =
     sym (ap (λ (s : Option Interval). option_map_or (λ t. is_settled old new t && begins_at old datagram t.0) s false) stands) ∙ kept in
     ap (λ (s : Option Interval). option_map_or (λ t. is_settled old new (t.0, key) && begins_at old datagram t.0) s false) stands
     ∙ throughout old new datagram span key own low
-
--- the first key that makes an interval from a key on meet a hull
-
-start-by : (dir : Dir) (rank area : ℕ) → is_before (record { dir = dir; rank = rank; area = area }) START ≡ false
-start-by Out rank area = grind (arith, nat_tests)
-start-by In rank area = refl
-
-pub before-start : (key : Key) → is_before key START ≡ false
-before-start key = start-by key.dir key.rank key.area
 
 -- a key is before another exactly where that one isn't it or before it
 not-within : (a b : Key) → is_before b a ≡ not (is_within a b)

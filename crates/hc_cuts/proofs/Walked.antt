@@ -7,12 +7,12 @@ use Rattle.hc_records.specs.declared.records.Dir.{Dir}
 use Rattle.hc_records.specs.declared.records.Dir.TheVariants.{Out}
 use Rattle.hc_records.specs.declared.keys.Key.{Key}
 use Rattle.hc_records.specs.declared.keys.TheConstants.Key.{END}
-use Rattle.hc_records.specs.Keys.{is_before, is_turn, is_within, same_key}
+use Rattle.hc_records.specs.Keys.{is_before, is_turn, is_within}
 use Rattle.hc_records.specs.TaskList.{Keyed}
 use Rattle.hc_records.specs.Packing.{Front, Placed, next_byte, beginning, fits, placed_at, behind}
 use Rattle.hc_records.specs.Laws.{IsPackable}
 use Rattle.hc_records.specs.SpanLaws.{IsTaskList, areas_from, carried, next_cut}
-use Rattle.hc_records.proofs.lemmas.KeyOrder.{before-apart, before-other, same_key-refl, within-apart, within-from_before, within-refl}
+use Rattle.hc_records.proofs.lemmas.KeyOrder.{before-apart, within-apart, within-from_before, within-refl}
 use Rattle.hc_records.proofs.lemmas.Packed.{place}
 use Rattle.hc_records.proofs.lemmas.SpanCuts.{areas-from}
 use Rattle.hc_records.proofs.lemmas.Spans.{IsListFrom, cut-all, filter-drops, filter-keeps, list-behind, list-tail}
@@ -134,42 +134,14 @@ span-carried datagram from until list areas is ends are =
 
 -- where all areas have room, the first of them fits, and the others have room behind it
 
-fits-by : (fitting : Bool) (next own last : Key) → (if fitting then next else own) ≡ last → (own ≡ last → ⊥) → fitting ≡ true
-fits-by true next own last cut other = refl
-fits-by false next own last cut other = absurd (other cut)
-
-carries : (fitting : Bool) (own : Placed) (rest : List Placed) → fitting ≡ true → (if fitting then own ∷ rest else []) ≡ own ∷ rest
-carries true own rest test = refl
-carries false own rest test = cc
-
 pub cuts-on : (fitting : Bool) (next own : Key) → fitting ≡ true → (if fitting then next else own) ≡ next
 cuts-on true next own test = refl
 cuts-on false next own test = cc
-
-same-number : (fitting : Bool) (front : Front) (area : Keyed) → fitting ≡ true → (behind (place fitting front area)).datagram ≡ front.datagram
-same-number true front area test = refl
-same-number false front area test = cc
 
 pub record GoesOn (front : Front) (area : Keyed) (areas : List Keyed) : Type 0 where
   pub room : next_cut (behind (placed_at front area)) areas ≡ END
   pub carry : carried front (area ∷ areas) ≡ placed_at front area ∷ carried (behind (placed_at front area)) areas
   pub number : (behind (placed_at front area)).datagram ≡ front.datagram
-
-pub goes-on : (front : Front) (area : Keyed) (areas : List Keyed) → is_before area.0 END ≡ true → next_cut front (area ∷ areas) ≡ END → GoesOn front area areas
-goes-on front area areas low room =
-    let front' = behind (placed_at front area) in
-    let other : area.0 ≡ END → ⊥ =
-    λ is.
-    let apart : same_key END area.0 ≡ false = before-other area.0 END low in
-    let same : same_key END area.0 ≡ true = ap (same_key END) is ∙ same_key-refl END in
-    let never : true ≡ false = sym same ∙ apart in
-    cc in
-    let test = fits-by (fits front area) (next_cut front' areas) area.0 END room other in
-    record {
-      room = sym (cuts-on (fits front area) (next_cut front' areas) area.0 test) ∙ room;
-      carry = carries (fits front area) (placed_at front area) (carried front' areas) test;
-      number = same-number (fits front area) front area test;
-    }
 
 pub append-none : {X : Type 0} (xs : List X) → xs ++ [] ≡ xs
 append-none [] = refl

@@ -3,7 +3,7 @@ ghost use Rattle.std.specs.Prelude.{◌≡◌, ◌+◌, ◌<◌, ◌≤◌, ◌+
 ghost use Rattle.hc_records.specs.Image.{datagram_count};
 ghost use Rattle.hc_records.specs.Laws.{IsPackable, cuts_from};
 ghost use Rattle.hc_records.specs.Packing.{opening, packed};
-ghost use Rattle.hc_records.specs.declared.limits.TheConstants.{MOST_AREA_BITS, MOST_DATAGRAMS};
+ghost use Rattle.hc_records.specs.declared.limits.TheConstants.{MOST_DATAGRAMS};
 ghost use Rattle.hc_cuts.specs.Firsts.{IsCrowded, first_keys};
 
 use crate::packing::Front;

@@ -1,6 +1,6 @@
 //! Where one area of a task stands, worked out without the places of the others: by the boundaries and the
 //! tree of sums. Beside it stands the plain program, which packs the list up to the area.
-ghost use Rattle.std.specs.Prelude.{◌≡◌, ◌+◌, ◌*◌, ◌<◌, ◌≤◌, All, length, slice_index_or, true};
+ghost use Rattle.std.specs.Prelude.{◌≡◌, ◌+◌, ◌<◌, All, length, slice_index_or, true};
 ghost use Rattle.hc_records.specs.declared.keys.TheConstants.Key.{END};
 ghost use Rattle.hc_records.specs.Keys.{is_before, is_within};
 ghost use Rattle.hc_records.specs.Laws.{IsPackable};

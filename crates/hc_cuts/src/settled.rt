@@ -1,6 +1,6 @@
 //! Which spans of a task an edit doesn't leave settled, counted by comparing the task's two lists
 //! key by key: the plain program that repair is compared with.
-ghost use Rattle.std.specs.Prelude.{◌≡◌, ◌∷◌, ◌++◌, List, [], true, false, drop, filter, find, fold, length, map, nat_lt};
+ghost use Rattle.std.specs.Prelude.{◌≡◌, ◌∷◌, ◌++◌, [], true, false, drop, filter, find, fold, length, map, nat_lt};
 ghost use Rattle.std.specs.List.{list_any};
 ghost use Rattle.std.specs.List.Sorted.{IsPartitionPoint};
 ghost use Rattle.hc_records.specs.Boundaries.{hull, is_touched, meets_hull, touched, unsettled_spans, widened, width_in};

@@ -28,7 +28,7 @@ impl Model for Sending {
 }
 
 impl Sending {
-    ghost use Rattle.std.specs.Prelude.{◌≡◌, ◌≤◌, ◌+◌, [], ◌∷◌, ◌++◌, nat_le, IsTrue};
+    ghost use Rattle.std.specs.Prelude.{◌≡◌, ◌≤◌, ◌+◌, IsTrue};
     ghost use Rattle.hc_frames.specs.declared.limits.TheConstants.{MAX_DATA};
     ghost use Rattle.hc_events.specs.Sendings.{IsFilled, alone, has_room, joined, size_of};
 

@@ -53,8 +53,6 @@ module _ {X : Type 0} (number : X → ℕ) (query : ℕ) (xs : List X) (place : 
   in-front k d low same = let below = ltb-true (number (get_or xs k d)) query (parts.0 k d (omega arith) low) in omega (arith, same)
 
   -- none has the query's where the list ends there
-  pub none-past : slice_get xs place ≡ None → All (λ x. number x ≢ query) xs
-  none-past past k d within = let end = past-by xs place d (nat_lt place (length xs)) refl past in in-front k d (omega (arith, end))
 
   behind : (x : X) → slice_get xs place ≡ Some x → number x ≢ query → (k : ℕ) (d : X) → place ≤ k → k < length xs → number (get_or xs k d) ≢ query
   behind x at other k d low within same =

@@ -1,6 +1,6 @@
 //! A slave's memory: bytes read and written by register, and the alias that no datagram changes.
 
-ghost use Rattle.std.specs.Prelude.{◌≡◌, ◌+◌, ◌<◌, ◌≤◌, length, set, slice_index, slice_range};
+ghost use Rattle.std.specs.Prelude.{◌≡◌, ◌+◌, ◌≤◌, length, set, slice_index, slice_range};
 ghost use Rattle.hc_machine.specs.Commands.{written};
 ghost use Rattle.hc_machine.specs.Memory.{with_part};
 

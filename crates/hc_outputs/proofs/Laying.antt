@@ -92,9 +92,6 @@ nothing-laid table value bytes blank = record {
   others = λ task d k low few misses. ap (λ own. bit_of own k) (blank.zeros task d low few) ∙ bit_of-zeros (length_in table task d) k;
 }
 
-same_some : (a b : VariablePlace) → Some a ≡ Some b → a ≡ b
-same_some a b e = cc
-
 held_variable : (table : Table) (value : ℕ → ℕ → ℕ) (bytes : Bytes) (variable k : ℕ) (place : VariablePlace) → All (IsHeld value bytes) table.variables → IsOutput table variable place → k < place.bits
     → bit_of (bytes_of bytes place.task place.datagram) (place.bit + k) ≡ value variable k
 held_variable table value bytes variable k place all is low =

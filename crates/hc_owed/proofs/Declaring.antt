@@ -26,10 +26,6 @@ few-areas groups none =
     each-group (λ slave. length slave.areas ≤ MOST_AREAS) groups
     (All-weaker IsSlaveInside (λ slave. length slave.areas ≤ MOST_AREAS) (λ slave inside. inside.few) (declared_slaves groups) (project-inside (groups_of groups) none).slaves)
 
-length-pairs : {X Y : Type 0} (f g : X → Y) (xs : List X) → length (flat_map (λ x. f x ∷ g x ∷ []) xs) ≡ 2 * length xs
-length-pairs f g [] = refl
-length-pairs f g (x ∷ xs) = let rest = length-pairs f g xs in omega (arith, rest)
-
 pub length-areas : (line : List Member) (rank first : ℕ) (areas : List Area) → length (flat_map (area_blocks line rank) (enumerate_from first areas)) ≡ 2 * length areas
 length-areas line rank first [] = refl
 length-areas line rank first (area ∷ areas) = let rest = length-areas line rank (first + 1) areas in omega (arith, rest)

@@ -1,7 +1,6 @@
 -- What is kept is that of the blocks of a line, under their names, behind writes and edits as well.
-use Rattle.std.proofs.Common.{◌≡◌, ℕ, zero, suc, ◌≤◌, Bool, true, false, cond, List, [], ◌∷◌, length, map, refl, sym, ap, subst, ◌∙◌}
+use Rattle.std.proofs.Common.{◌≡◌, ℕ, zero, suc, ◌≤◌, Bool, true, false, cond, List, [], ◌∷◌, map, refl, sym, ap, subst, ◌∙◌}
 use Rattle.std.specs.Prelude.{Ok}
-use Rattle.std.proofs.lemmas.List.{length-map}
 use Rattle.hc_records.specs.declared.edit.Edit.{Edit}
 use Rattle.hc_records.specs.Edits.{edited}
 use Rattle.hc_records.specs.Line.{State}
@@ -13,9 +12,6 @@ use Rattle.hc_owed.specs.Edits.{carried, changed, compared, is_moved, kept_after
 use Rattle.hc_owed.specs.Writes.{confirmed, sent}
 use Rattle.hc_owed.proofs.Steps.{named-carried}
 use Rattle.hc_owed.proofs.lemmas.Laws.{edited-declared}
-
-pub as-many : (kept : List Kept) (blocks : List LineBlock) → map name_kept kept ≡ map name_of blocks → length kept ≡ length blocks
-as-many kept blocks named = sym (length-map kept name_kept) ∙ ap (λ (names : List (ℕ × ℕ)). length names) named ∙ length-map blocks name_of
 
 pub unknown-names : (blocks : List LineBlock) → map name_kept (map unknown blocks) ≡ map name_of blocks
 unknown-names [] = refl

@@ -94,13 +94,6 @@ walk-passed (suc n) next moved [] (k ∷ kept) low is =
 walk-passed (suc n) next moved (b ∷ blocks) (k ∷ kept) low is =
     ap (λ (rest : List Kept). k ∷ rest) (walk-passed n next moved blocks kept (omega (arith, low)) is)
 
-pub walk-done : (n next : ℕ) (moved : List (ℕ × ℕ)) (blocks : List LineBlock) (kept : List Kept) → length kept ≤ n → at-walk n next moved blocks kept ≡ kept
-walk-done zero next moved blocks [] high = refl
-walk-done (suc n) next moved blocks [] high = refl
-walk-done zero next moved blocks (k ∷ kept) high = absurd (omega (arith, high))
-walk-done (suc n) next moved [] (k ∷ kept) high = ap (λ (rest : List Kept). k ∷ rest) (sym (tail-blocks n next moved kept) ∙ walk-done n next moved [] kept (omega (arith, high)))
-walk-done (suc n) next moved (b ∷ blocks) (k ∷ kept) high = ap (λ (rest : List Kept). k ∷ rest) (walk-done n next moved blocks kept (omega (arith, high)))
-
 same-test : (m n : ℕ) → m ≡ n → (m == n) ≡ true
 same-test m n same = grind (arith, nat_tests)
 

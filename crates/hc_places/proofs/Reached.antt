@@ -121,13 +121,6 @@ no-place changed (row ∷ rows) none =
 abbrev pub AreLower : List Row → ℕ → List ChangedRow → ℕ → Type 0
 AreLower rows front changed index = (k j : ℕ) (d : Row) (e : ChangedRow) → k < front → index ≤ j → j < length changed → (get_or rows k d).0 < (get_or changed j e).0
 
-pub lower-here : (rows : List Row) (front : ℕ) (changed : List ChangedRow) (index : ℕ) (change : ChangedRow) → AreLower rows front changed index → index < length changed → change ≡ get_or changed index change
-    → AllWithin (λ (row : Row). row.0 < change.0) rows 0 front
-lower-here rows front changed index change lower within is k d low high =
-    let same = ap (λ (c : ChangedRow). c.0) is in
-    let less = lower k index d change high (omega arith) within in
-    omega (arith, same, less)
-
 pub lower-next : (rows : List Row) (front : ℕ) (changed : List ChangedRow) (index : ℕ) (change : ChangedRow) → ChangesAscend changed → index < length changed → change ≡ get_or changed index change
     → AllWithin (λ (row : Row). row.0 ≤ change.0) rows 0 front → AreLower rows front changed (index + 1)
 lower-next rows front changed index change ascends within is low k j d e high later inside =

@@ -49,17 +49,6 @@ widened {X} old more new high bound is =
       behind = ap (drop at) parts ∙ drop_at (take at all) (drop high old) at (omega (arith, held, size, bound));
     }
 
--- a list of which the end is copied down, and as many cut off
-pub narrowed : {X : Type 0} (old : List X) (low high count : ℕ) → low ≤ high → high ≤ length old → count ≡ length old - (high - low)
-    → take count (paste old low (drop high old) (length old - high)) ≡ take low old ++ drop high old
-narrowed {X} old low high count order bound is =
-    let size = length-drop high old in
-    let end = length old - high in
-    let at : count ≡ low + end = omega (arith, is, order, bound) in
-    ap (λ (n : ℕ). take n (paste old low (drop high old) end)) at
-    ∙ take-paste old low (drop high old) end (omega (arith, order, bound)) (omega (arith, size))
-    ∙ ap (λ (l : List X). take low old ++ l) (take_all end (drop high old) (omega (arith, size)))
-
 pub record Placed {X : Type 0} (old new : List X) (low high count : ℕ) : Type 0 where
   pub size : low + count ≤ length new
   pub front : take low new ≡ take low old

@@ -1,5 +1,5 @@
 //! Variables that are looked up one after another, each near the one before.
-ghost use Rattle.std.specs.Prelude.{◌≡◌, ◌≤◌, find, length, option_map};
+ghost use Rattle.std.specs.Prelude.{◌≡◌, ◌≤◌, length};
 ghost use Rattle.hc_places.specs.Room.{AreBelow};
 ghost use Rattle.hc_places.specs.Table.{RowsAscend};
 

@@ -1,7 +1,7 @@
 //! How many spans of touched tasks aren't settled after an edit, counted from the declared groups before
 //! it and after it; an emptied task counts one. Each task is listed and folded twice: the plain program
 //! that a faster count is compared with.
-ghost use Rattle.std.specs.Prelude.{◌≡◌, ◌≤◌, All, IfOk, None, map};
+ghost use Rattle.std.specs.Prelude.{◌≡◌, ◌≤◌, All, IfOk, None};
 ghost use Rattle.hc_records.specs.Boundaries.{recut};
 ghost use Rattle.hc_records.specs.Edits.{crowded_task};
 ghost use Rattle.hc_records.specs.Image.{datagram_count};

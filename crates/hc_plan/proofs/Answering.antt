@@ -18,9 +18,6 @@ abbrev pub Goes : State → List Edit → ℕ → List Answer → State → Type
 Goes old edits index answers now =
     (rest : List Answer) (new : State) → AreAnswers now (zip (drop index edits) rest) new → AreAnswers old (zip edits (answers ++ rest)) new
 
-pub goes-from : (old : State) (edits : List Edit) → Goes old edits 0 [] old
-goes-from old edits = λ rest new left. left
-
 pub goes-on : (old now next : State) (edits : List Edit) (index : ℕ) (edit : Edit) (answers : List Answer) (answer : Answer)
     → index < length edits → edit ≡ get_or edits index edit → IsAnswer now edit answer next
     → Goes old edits index answers now → Goes old edits (index + 1) (answers ++ answer ∷ []) next

@@ -1,6 +1,6 @@
 //! The arrays of a project's text: whatever can be read of one value can be read of every item of an
 //! array. Each level reads its lists by these.
-ghost use Rattle.std.specs.Prelude.{◌≡◌, ◌≤◌, IfOk, option_and_then, option_map};
+ghost use Rattle.std.specs.Prelude.{◌≡◌, IfOk, option_and_then, option_map};
 ghost use Rattle.toml.specs.Data.{Data, as_array};
 ghost use Rattle.toml.specs.View.{array_view, items_view, view};
 ghost use Rattle.hc_project.specs.declared.reading.Reading.{Reading};

@@ -1,6 +1,6 @@
 //! The faults of declared groups: the condition of each, and the table that judges them from the
 //! lowest number on.
-ghost use Rattle.std.specs.Prelude.{◌≡◌, ◌≢◌, Err, None, Some, IfErr, IsTrue, OnErr, OnOk};
+ghost use Rattle.std.specs.Prelude.{◌≡◌, ◌≢◌, Err, None, Some, IfErr, IsTrue, OnOk};
 ghost use Rattle.hc_records.specs.Project.{has_outside, lowest_fault};
 ghost use Rattle.hc_records.specs.declared.faults.ProjectFault.TheVariants.{Memory, OutOfRange};
 

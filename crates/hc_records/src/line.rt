@@ -1,9 +1,9 @@
 //! The line of a state: the slaves of the groups that are present, in declared order.
-ghost use Rattle.std.specs.Prelude.{◌≡◌, ◌+◌, ◌<◌, ◌≤◌, ◌++◌, IfOk, IfSome, OnOk, find, length, position, slice_get};
+ghost use Rattle.std.specs.Prelude.{◌≡◌, ◌+◌, ◌<◌, ◌≤◌, ◌++◌, IfOk, IfSome, find, length, position, slice_get};
 ghost use Rattle.std.specs.Iterator.{YieldsFirst, item_count};
-ghost use Rattle.std.specs.List.{list_any, position_from};
+ghost use Rattle.std.specs.List.{list_any};
 ghost use Rattle.hc_records.specs.Edits.{has_station};
-ghost use Rattle.hc_records.specs.Line.{IsCounted, has_address, is_at, line_from, members_from, present_slaves};
+ghost use Rattle.hc_records.specs.Line.{IsCounted, is_at, line_from, members_from};
 
 use crate::records::{Declared, Slave};
 use std::alloc::{AllocError, Global};

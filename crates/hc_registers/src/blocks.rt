@@ -45,7 +45,7 @@ fn fmmu_of(index: u8, bytes: [u8; 16]) -> Block
 }
 
 impl Block {
-    ghost use Rattle.std.specs.Prelude.{◌≡◌, ◌<◌, ◌≤◌, Some, length};
+    ghost use Rattle.std.specs.Prelude.{◌≡◌, ◌<◌, ◌≤◌, Some};
     ghost use Rattle.std.specs.Option.{ForSome};
     ghost use Rattle.hc_records.specs.Area.{width};
     ghost use Rattle.hc_records.specs.declared.limits.TheConstants.{LAST_SYNC_MANAGER, MOST_AREA_BITS, MOST_AREAS};

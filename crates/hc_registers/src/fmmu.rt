@@ -4,7 +4,7 @@ ghost use Rattle.std.specs.Prelude.{◌≡◌, ◌<◌, slice_index};
 ghost use Rattle.std.specs.Option.{ForSome};
 ghost use Rattle.hc_records.specs.Area.{width};
 ghost use Rattle.hc_records.specs.Image.{logical_address};
-ghost use Rattle.hc_records.specs.declared.limits.TheConstants.{MOST_AREA_BITS, TASKS};
+ghost use Rattle.hc_records.specs.declared.limits.TheConstants.{TASKS};
 ghost use Rattle.hc_registers.specs.Blocks.{IsMappable, fmmu_bytes, mapped_bytes, type_of};
 ghost use Rattle.hc_registers.specs.Fields.{long_at, word_at};
 

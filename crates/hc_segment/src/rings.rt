@@ -1,5 +1,5 @@
 //! Frames between threads, each waited for.
-ghost use Rattle.std.specs.Prelude.{◌≡◌, ◌+◌, [], ◌∷◌, ◌++◌, length, IfOk, vec_len};
+ghost use Rattle.std.specs.Prelude.{◌≡◌, ◌+◌, [], ◌∷◌, ◌++◌, IfOk, vec_len};
 ghost use Rattle.hc_rings.specs.Frames.{AreFrameEnds, SameFrameReceiver, SameFrameSender, frames_sent, frames_taken};
 
 use hc_rings::{FrameBox, FrameReceiver, FrameSender, frame_ring};

@@ -2,7 +2,7 @@
 //! by side.
 ghost use Rattle.std.specs.Prelude.{◌≡◌, ◌+◌, ◌*◌, ◌≤◌, All, length, sum_by};
 ghost use Rattle.hc_records.specs.Line.{line};
-ghost use Rattle.hc_frames.specs.declared.limits.TheConstants.{MAX_DATA, SETUP_SERIAL};
+ghost use Rattle.hc_frames.specs.declared.limits.TheConstants.{SETUP_SERIAL};
 ghost use Rattle.hc_events.specs.Accepted.{StandsIn};
 ghost use Rattle.hc_sendings.specs.Parts.{frame_part, own_bytes, own_share, part_size, share};
 

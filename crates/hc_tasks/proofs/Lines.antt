@@ -9,7 +9,6 @@ use Rattle.hc_records.specs.declared.records.Area.{Area}
 use Rattle.hc_records.specs.declared.keys.Key.{Key}
 use Rattle.hc_records.specs.Keys.{is_before}
 use Rattle.hc_records.specs.TaskList.{Keyed}
-use Rattle.hc_records.specs.Packing.{opening, packed}
 use Rattle.hc_records.specs.SpanLaws.{IsTaskList}
 use Rattle.hc_records.proofs.lemmas.Lists.{AllPairs-nil}
 use Rattle.hc_cuts.specs.Starts.{Kept, kept_empty}
@@ -33,14 +32,6 @@ kept-at (suc count) task zero slaves other h = let here : task ≡ task + 0 = om
 kept-at (suc count) task (suc at) slaves other h =
     let more : task + 1 + at ≡ task + suc at = omega arith in
     kept-at count (task + 1) at slaves other (omega arith) ∙ ap (λ (n : ℕ). kept_by n slaves) more
-
-pub task-places : (task : ℕ) (line : List (List Area)) (kept : List Kept) (other : Kept) → task < 8 → kept ≡ line_kept line
-    → packed opening (slice_index_or kept task other).tree.list ≡ packed opening (list_by task line)
-task-places task line kept other low is =
-    let number : 0 + task ≡ task = omega arith in
-    ap (λ (all : List Kept). packed opening (slice_index_or all task other).tree.list) is
-    ∙ ap (λ (k : Kept). packed opening k.tree.list) (kept-at 8 0 task line other low)
-    ∙ ap (λ (n : ℕ). packed opening (list_by n line)) number
 
 pub task-starts : (task : ℕ) (line : List (List Area)) (kept : List Kept) (other : Kept) → task < 8 → kept ≡ line_kept line
     → (slice_index_or kept task other).starts ≡ starts_by task line

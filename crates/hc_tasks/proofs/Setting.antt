@@ -4,12 +4,10 @@ use Rattle.std.proofs.Common.{◌≡◌, ℕ, zero, suc, ◌+◌, ◌<◌, ◌�
 use Rattle.std.proofs.lemmas.Bool.{cond-false, cond-true, eqb-true}
 use Rattle.std.proofs.lemmas.Bool.Decides.{nat_tests}
 use Rattle.hc_records.specs.declared.records.Dir.{Dir}
-use Rattle.hc_records.specs.declared.records.Dir.TheVariants.{Out, In}
 use Rattle.hc_records.specs.declared.records.Area.{Area}
 use Rattle.hc_records.specs.declared.keys.Key.{Key}
 use Rattle.hc_records.specs.Keys.{same_key}
 use Rattle.hc_records.specs.Boundaries.{width_in}
-use Rattle.hc_records.proofs.lemmas.KeyOrder.{same_key-same}
 use Rattle.hc_bitsum.specs.Tree.{HoldsTaskList, with_width}
 use Rattle.hc_bitsum.proofs.lemmas.Widths.{width-set}
 use Rattle.hc_cuts.specs.Starts.{Kept}
@@ -20,20 +18,6 @@ abbrev pub key_of : Dir → ℕ → ℕ → Key
 key_of dir rank area = record { dir = dir; rank = rank; area = area }
 
 -- one key
-
-same-or : (same : Bool) (key other : Key) (bits : ℕ) (kept : Kept) → same_key key other ≡ same → width_in kept.tree.list key ≡ bits
-    → width_in kept.tree.list other ≡ (if same then bits else width_in kept.tree.list other)
-same-or true key other bits kept test is = ap (width_in kept.tree.list) (sym (same_key-same key other test)) ∙ is
-same-or false key other bits kept test is = refl
-
-pub key-kept : (kept : Kept) (key : Key) (bits : ℕ) → HoldsTaskList kept.tree → width_in kept.tree.list key ≡ bits
-    → IsSetTo kept kept (λ other. if same_key key other then bits else width_in kept.tree.list other)
-key-kept kept key bits holds is = record {
-  slaves = refl;
-  starts = refl;
-  holds = holds;
-  each = λ other. same-or (same_key key other) key other bits kept refl is;
-}
 
 pub key-set : (old new : Kept) (key : Key) (bits : ℕ) → HoldsTaskList old.tree → new.tree ≡ record old.tree { list = with_width key bits old.tree.list } → new.starts ≡ old.starts
     → HoldsTaskList new.tree → IsSetTo old new (λ other. if same_key key other then bits else width_in old.tree.list other)
@@ -49,51 +33,10 @@ key-set old new key bits was set starts holds = record {
 abbrev pub with_area : ℕ → ℕ → ℕ → List Area → Kept → Key → ℕ
 with_area task rank area new kept key = if (rank == key.rank) && (area == key.area) then slave_width task new key else width_in kept.tree.list key
 
-abbrev with_key : ℕ → Key → List Area → Kept → Key → ℕ
-with_key task key new kept other = if same_key key other then slave_width task new key else width_in kept.tree.list other
-
-here-by : (same_rank same_area : Bool) (task : ℕ) (dir : Dir) (rank area r a : ℕ) (new : List Area) (rest : ℕ) → (rank == r) ≡ same_rank → (area == a) ≡ same_area
-    → (if same_rank && same_area then slave_width task new (key_of dir rank area) else rest) ≡ (if same_rank && same_area then slave_width task new (key_of dir r a) else rest)
-here-by true true task dir rank area r a new rest first second =
-    ap (λ (at : ℕ). own_width task dir (slice_get new at)) (eqb-true area a second)
-here-by true false task dir rank area r a new rest first second = refl
-here-by false same_area task dir rank area r a new rest first second = refl
-
-both-at : (dir : Dir) (task rank area r a : ℕ) (new : List Area) (old mid last : Kept) → IsSetTo old mid (with_key task (key_of Out rank area) new old)
-    → IsSetTo mid last (with_key task (key_of In rank area) new mid) → width_in last.tree.list (key_of dir r a) ≡ with_area task rank area new old (key_of dir r a)
-both-at Out task rank area r a new old mid last first second =
-    second.each (key_of Out r a) ∙ first.each (key_of Out r a)
-    ∙ here-by (rank == r) (area == a) task Out rank area r a new (width_in old.tree.list (key_of Out r a)) refl refl
-both-at In task rank area r a new old mid last first second =
-    second.each (key_of In r a)
-    ∙ ap (λ (bits : ℕ). if (rank == r) && (area == a) then slave_width task new (key_of In rank area) else bits) (first.each (key_of In r a))
-    ∙ here-by (rank == r) (area == a) task In rank area r a new (width_in old.tree.list (key_of In r a)) refl refl
-
-pub both-set : (task rank area : ℕ) (new : List Area) (old mid last : Kept) → IsSetTo old mid (with_key task (key_of Out rank area) new old)
-    → IsSetTo mid last (with_key task (key_of In rank area) new mid) → IsSetTo old last (with_area task rank area new old)
-both-set task rank area new old mid last first second = record {
-  slaves = second.slaves ∙ first.slaves;
-  starts = second.starts ∙ first.starts;
-  holds = second.holds;
-  each = λ key. both-at key.dir task rank area key.rank key.area new old mid last first second;
-}
-
 -- the areas of a slave, up to a place in its record
 
 abbrev pub with_areas : ℕ → ℕ → ℕ → List Area → Kept → Key → ℕ
 with_areas task rank count new kept key = if (rank == key.rank) && nat_lt key.area count then slave_width task new key else width_in kept.tree.list key
-
-none-yet : (same : Bool) (bits rest : ℕ) → rest ≡ (if same && false then bits else rest)
-none-yet true bits rest = refl
-none-yet false bits rest = refl
-
-pub areas-begin : (task rank : ℕ) (new : List Area) (kept : Kept) → HoldsTaskList kept.tree → IsSetTo kept kept (with_areas task rank 0 new kept)
-areas-begin task rank new kept holds = record {
-  slaves = refl;
-  starts = refl;
-  holds = holds;
-  each = λ key. let none : nat_lt key.area 0 ≡ false = grind (arith, nat_tests) in rw none (none-yet (rank == key.rank) (slave_width task new key) (width_in kept.tree.list key));
-}
 
 one-more : (same is below : Bool) (bits rest : ℕ)
     → (if same && is then bits else (if same && below then bits else rest)) ≡ (if same && (below || is) then bits else rest)
@@ -147,20 +90,6 @@ areas-end task rank count old new before last few fewer was set = record {
   holds = set.holds;
   each = λ key. set.each key ∙ slave-by (rank == key.rank) key task rank count old new (width_in before.tree.list key) refl few fewer (was key);
 }
-
--- the width before, of a key that isn't reached
-not-reached : (same below : Bool) (bits rest : ℕ) → below ≡ false → (if same && below then bits else rest) ≡ rest
-not-reached true true bits rest test = cc
-not-reached true false bits rest test = refl
-not-reached false below bits rest test = refl
-
-pub areas-was : (task rank count : ℕ) (old new : List Area) (before mid : Kept)
-    → ((key : Key) → key.rank ≡ rank → width_in before.tree.list key ≡ slave_width task old key)
-    → IsSetTo before mid (with_areas task rank count new before)
-    → (key : Key) → key.rank ≡ rank → key.area ≡ count → width_in mid.tree.list key ≡ slave_width task old key
-areas-was task rank count old new before mid was set key here there =
-    let later : nat_lt key.area count ≡ false = grind (arith, nat_tests) in
-    set.each key ∙ not-reached (rank == key.rank) (nat_lt key.area count) (slave_width task new key) (width_in before.tree.list key) later ∙ was key here
 
 -- the slaves, up to a rank
 

@@ -89,16 +89,6 @@ area-taken task rank area old new before mid after first second =
 abbrev pub below : ℕ → ℕ → ℕ → List Area → List Area → Key → Bool
 below task rank count old new key = (rank == key.rank) && nat_lt key.area count && differs task old new key
 
-off : (same is differ : Bool) → is ≡ false → (same && is && differ) ≡ false
-off true true differ none = cc
-off true false differ none = refl
-off false is differ none = refl
-
-pub areas-untaken : (task rank : ℕ) (old new : List Area) (hulls : Hulls) → TakeIn hulls hulls (below task rank 0 old new)
-areas-untaken task rank old new hulls =
-    takes-none hulls (below task rank 0 old new)
-    (λ key. let none : nat_lt key.area 0 ≡ false = grind (arith, nat_tests) in off (rank == key.rank) (nat_lt key.area 0) (differs task old new key) none)
-
 one-more : (same lower is differ : Bool) → ((same && lower && differ) || (same && is && differ)) ≡ (same && (lower || is) && differ)
 one-more true true is true = refl
 one-more true true true false = refl

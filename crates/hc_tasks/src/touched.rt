@@ -1,5 +1,5 @@
 //! The keys of a task whose widths differ between two lines.
-ghost use Rattle.std.specs.Prelude.{◌≡◌, ◌==◌, ◌&&◌, List};
+ghost use Rattle.std.specs.Prelude.{◌==◌, ◌&&◌, List};
 ghost use Rattle.hc_records.specs.Boundaries.{is_touched};
 ghost use Rattle.hc_records.specs.Keys.{same_key};
 ghost use Rattle.hc_records.specs.declared.records.Area.{Area};

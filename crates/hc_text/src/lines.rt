@@ -1,9 +1,9 @@
 //! The lines of an input: where its project text ends, and its command lines.
-ghost use Rattle.std.specs.Prelude.{◌≡◌, ◌≤◌, ◌+◌, ◌==◌, ◌∷◌, ℕ, length};
+ghost use Rattle.std.specs.Prelude.{◌≡◌, ◌≤◌, ◌+◌, ◌==◌, ◌∷◌, length};
 ghost use Rattle.std.specs.List.{position};
 ghost use Rattle.std.specs.Option.{option_copied};
 ghost use Rattle.std.specs.Str.Lines.{strip_carriage_return};
-ghost use Rattle.hc_text.specs.Lines.{command_lines, lines_from, lines_of, parts_at, project_text, text_of};
+ghost use Rattle.hc_text.specs.Lines.{command_lines, lines_of, parts_at, project_text, text_of};
 ghost use Rattle.hc_text.specs.Cutting.{CutsLine, joined, left_in, lines_after, parts_after};
 ghost use Rattle.hc_text.specs.declared.input.TheConstants.{MOST_INPUT};
 

@@ -1,5 +1,5 @@
 -- Opening the project of a text.
-use Rattle.std.proofs.Common.{◌≡◌, ◌≢◌, ℕ, true, false, List, refl, ap, Ok, Err, Some, None}
+use Rattle.std.proofs.Common.{◌≡◌, ℕ, true, List, refl, ap, Ok, Err, Some, None}
 use Rattle.std.specs.Prelude.{Option, option_map}
 use Rattle.hc_records.specs.declared.records.Group.{Group}
 use Rattle.hc_records.specs.declared.faults.EditFault.TheVariants as edit
@@ -11,9 +11,6 @@ use Rattle.hc_events.specs.Accepted.{just_opened}
 use Rattle.hotline.specs.declared.opening.Unopened.{Unopened}
 use Rattle.hotline.specs.declared.opening.Unopened.TheVariants as unopened
 use Rattle.hotline.specs.Opening.{crowded_at_opening, in_want, is_memory, is_project_memory, opened_unless}
-
-pub not_memory : (fault : ProjectFault) → is_project_memory fault ≡ false → fault ≢ Memory
-not_memory fault other e = let is : is_project_memory fault ≡ true = ap is_project_memory e in cc
 
 only_memory : (fault : ProjectFault) → is_project_memory fault ≡ true → Memory ≡ fault
 only_memory Memory e = refl

@@ -1,6 +1,5 @@
 -- Frames that are proposed: as they are printed by their own serials, and as the answer prints them.
-use Rattle.std.proofs.Common.{◌≡◌, ◌≢◌, ℕ, ◌+◌, List, [], ◌∷◌, ◌++◌, map, length, refl, sym, ap, ◌∙◌, Some, None}
-use Rattle.std.specs.Prelude.{codes}
+use Rattle.std.proofs.Common.{◌≡◌, ℕ, ◌+◌, List, [], ◌∷◌, ◌++◌, map, length, refl, sym, ap, ◌∙◌, Some, None}
 use Rattle.std.specs.List.{flat_map, range_with_len}
 use Rattle.hc_records.specs.Lists.{lowest}
 use Rattle.hc_events.specs.declared.answer.Answer.TheVariants as answer
@@ -8,7 +7,7 @@ use Rattle.hc_events.specs.declared.faults.CoreFault.{CoreFault}
 use Rattle.hc_events.specs.Entries.{Record}
 use Rattle.hc_events.specs.Points.{next_serial}
 use Rattle.hc_events.specs.Sendings.{Frame}
-use Rattle.hc_events.specs.Steps.{SendsTasks, entries_after, kept_if, proposal, sent_text, task_faults, unless, with_sent}
+use Rattle.hc_events.specs.Steps.{SendsTasks, proposal, sent_text, task_faults, unless}
 use Rattle.hc_events.proofs.lemmas.Frames.{proposals-numbered}
 use Rattle.hotline.specs.Answers.{answer_text, frames_text, sent_lines, told}
 use Rattle.hotline.specs.Frames.{proposed_line, proposed_text, sent_line}
@@ -37,24 +36,8 @@ proposed_told past tasks frames whole accepted =
     ∙ text_as past all (next_serial past) (proposals-numbered past tasks)
     ∙ ap (proposed_text past) (sym whole)
 
-pub proposed_left : (past : Record) (tasks : List ℕ) (frames : List Frame) → frames ≡ proposal past tasks → lowest (task_faults past tasks) ≡ None → with_sent past frames ≡ entries_after past (SendsTasks tasks)
-proposed_left past tasks frames whole accepted =
-    ap (with_sent past) whole ∙ sym (ap (λ found. kept_if found past (with_sent past (proposal past tasks))) accepted)
-
 -- a refused sending
 pub refused_told : (past : Record) (tasks : List ℕ) (fault : CoreFault) → lowest (task_faults past tasks) ≡ Some fault → told past (SendsTasks tasks) ≡ refusal_text fault
 unfolding told
 refused_told past tasks fault refused =
     ap (λ found. answer_text (next_serial past) (unless found (answer.Sent (map (sent_text past) (proposal past tasks))))) refused
-
-pub refused_left : (past : Record) (tasks : List ℕ) (fault : CoreFault) → lowest (task_faults past tasks) ≡ Some fault → past ≡ entries_after past (SendsTasks tasks)
-refused_left past tasks fault refused = sym (ap (λ found. kept_if found past (with_sent past (proposal past tasks))) refused)
-
--- whether there is a frame
-pub none_told : (past : Record) (frames : List Frame) → length frames ≡ 0 → proposed_text past frames ≡ codes "no frame\n"
-none_told past [] none = refl
-none_told past (frame ∷ frames) none = cc
-
-pub some_told : (past : Record) (frames : List Frame) → length frames ≢ 0 → proposed_text past frames ≡ flat_map (proposed_line past) frames
-some_told past [] some = absurd (some refl)
-some_told past (frame ∷ frames) some = refl

@@ -41,16 +41,6 @@ other_count words (inl none) = none_together (numbers_in 255 words) (λ numbers 
 other_count words (inr many) =
     none_together (numbers_in 255 words) (λ numbers is. let count = numbers_count words numbers is in few_or_many numbers (inr (omega (arith, count, many))))
 
-repeat_parts : (some few : Bool) (numbers : List ℕ) → has_repeat numbers ≡ true → (some && few && not (has_repeat numbers)) ≡ false
-repeat_parts true true numbers twice = ap not twice
-repeat_parts true false numbers twice = refl
-repeat_parts false few numbers twice = refl
-
--- a task twice
-pub repeated : (words : List (List ℕ)) (numbers : List ℕ) → Some numbers ≡ numbers_in 255 words → has_repeat numbers ≡ true → tasks_in words ≡ None
-repeated words numbers is twice =
-    ap (option_and_then if_together) (sym is) ∙ ap (λ b. cond b (Some numbers) None) (repeat_parts (nat_lt 0 (length numbers)) (nat_le (length numbers) TASKS) numbers twice)
-
 fits : (some few : Bool) (numbers : List ℕ) → some ≡ true → few ≡ true → has_repeat numbers ≡ false → (some && few && not (has_repeat numbers)) ≡ true
 fits true true numbers a b distinct = ap not distinct
 fits true false numbers a b distinct = cc

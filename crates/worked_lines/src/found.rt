@@ -11,7 +11,7 @@ use hc_plan::plan::Plan;
 use hc_records::edit::Edit;
 use hc_records::faults::EditFault;
 use hc_records::items::{Items, Same};
-use hc_records::line::{Member, nth_member, slave_count};
+use hc_records::line::{Member, member_at, member_index, nth_member, slave_count};
 use hc_records::project::Project;
 use hc_records::records::{Area, Declared, Pdo, Slave, VarId};
 use std::alloc::{AllocError, Global};
@@ -326,6 +326,28 @@ fn is_same_slave(found: Option<LineSlave<'_>>, met: Option<Member<'_>>) -> bool 
     }
 }
 
+/// Whether an index finds a slave of the line where walks for its station address meet it.
+fn is_met(groups: &[Declared], indexed: &Indexed<'_>, station: u16) -> bool
+    requires { IsCounted groups.now }
+{
+    is_same_slave(indexed.slave_at(station), member_at(groups, station))
+        && indexed.position(station) == member_index(groups, station)
+}
+
+/// Whether an index finds each declared slave, present or not, where walks for its station address do.
+fn are_met(groups: &[Declared], indexed: &Indexed<'_>) -> bool
+    requires { IsCounted groups.now }
+{
+    for declared in groups {
+        for slave in declared.group.slaves.as_slice() {
+            if !is_met(groups, indexed, slave.station) {
+                return false;
+            }
+        }
+    }
+    is_met(groups, indexed, 0)
+}
+
 /// Whether a walk along the line counts as many slaves as an index, and meets those that it finds.
 fn is_walked(groups: &[Declared], indexed: &Indexed<'_>) -> bool
     requires { IsCounted groups.now }
@@ -335,7 +357,7 @@ fn is_walked(groups: &[Declared], indexed: &Indexed<'_>) -> bool
             return false;
         }
     }
-    slave_count(groups) == indexed.slaves()
+    slave_count(groups) == indexed.slaves() && are_met(groups, indexed)
 }
 
 /// Whether an index finds each declared group by its alias, and none by others.

@@ -1,11 +1,11 @@
 -- What is awaited stays of the line, and below the next serial, behind frames that are, and behind answers.
 use Rattle.std.proofs.Common.{ℕ, ◌<◌, List, [], ◌∷◌, ◌++◌, map, not, ◌==◌}
 use Rattle.std.specs.Prelude.{All}
-use Rattle.std.proofs.lemmas.List.Elements.{All-append, All-cons, All-filter, All-head, All-map, All-nil, All-tail, All-weaker}
+use Rattle.std.proofs.lemmas.List.Elements.{All-append, All-cons, All-filter, All-map, All-nil, All-weaker}
 use Rattle.hc_records.specs.Line.{Member}
 use Rattle.hc_events.specs.Accepted.{StandsIn}
 use Rattle.hc_events.specs.Sendings.{Frame}
-use Rattle.hc_awaited.specs.Waiting.{AllStand, AwaitedFrame, Carried, Waiting, all_sent, as_sent, ended, is_alive, just_sent, nothing, sent, sent_again, with_again}
+use Rattle.hc_awaited.specs.Waiting.{AllStand, AwaitedFrame, Carried, Waiting, as_sent, ended, is_alive, just_sent, nothing, sent, sent_again, with_again}
 
 -- what each frame has, once those that were awaited have it behind a frame, and that frame has it
 pub sent-have : (P : AwaitedFrame → Type 0) (waiting : Waiting) (frame : Frame) → All (λ old. P (with_again frame.datagrams old)) waiting.frames → P (as_sent frame)
@@ -34,13 +34,6 @@ stands-sent line waiting frame own all =
     sent-have (Stands line) waiting frame
     (All-weaker (Stands line) (λ (old : AwaitedFrame). Stands line (with_again frame.datagrams old)) (again-stands line frame) waiting.frames all)
     (All-map (λ (carried : Carried). StandsIn line carried.datagram) just_sent frame.datagrams own)
-
-pub stands-all_sent : (line : List Member) (frames : List Frame) (waiting : Waiting) → All (λ (frame : Frame). All (StandsIn line) frame.datagrams) frames → AllStand line waiting
-    → AllStand line (all_sent waiting frames)
-stands-all_sent line [] waiting own all = all
-stands-all_sent line (frame ∷ frames) waiting own all =
-    stands-all_sent line frames (sent waiting frame) (All-tail (λ (f : Frame). All (StandsIn line) f.datagrams) frame frames own)
-    (stands-sent line waiting frame (All-head (λ (f : Frame). All (StandsIn line) f.datagrams) frame frames own) all)
 
 pub stands-ended : (line : List Member) (waiting : Waiting) (serial : ℕ) → AllStand line waiting → AllStand line (ended serial waiting)
 stands-ended line waiting serial all = ended-have (Stands line) waiting serial all

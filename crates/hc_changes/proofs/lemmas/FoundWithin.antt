@@ -76,9 +76,6 @@ same-read [] i none other within = absurd (omega arith)
 same-read (x ∷ xs) zero none other within = refl
 same-read (x ∷ xs) (suc i) none other within = same-read xs i none other (omega arith)
 
-pub first-none : (it : Outlook) (task low high : ℕ) → HoldFirst it task 0 low high
-first-none it task low high placed among below = absurd (omega arith)
-
 -- what is known of an area of the datagram with a number that isn't kept up to it
 pub record IsUnkeptIn (it : Outlook) (task number : ℕ) (starts : List Key) (inputs : Bool) (key : Key) : Type 0 where
   pub from : is_within (slice_index_or starts number END) key ≡ true

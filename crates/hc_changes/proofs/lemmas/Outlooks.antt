@@ -133,12 +133,6 @@ among-at slaves front own behind first i is begins within =
     let rank : first + i ≡ suc (length front + i) = omega (arith, begins) in
     ap (areas_at slaves) rank ∙ ap (λ (list : List (List Area)). slice_index_or list (length front + i) []) is ∙ index-front [] front own behind i within
 
-pub after-at : (it : Outlook) → IsOutlook it → (rank i : ℕ) → rank ≡ it.first + i → i < length it.before → areas_at (areas_by_rank it.new) rank ≡ slice_index_or it.after i []
-after-at it is rank i at within =
-    let lines = is.lines in
-    let many = lines.many in
-    ap (areas_at (areas_by_rank it.new)) at ∙ among-at (areas_by_rank it.new) lines.front it.after lines.behind it.first i lines.is lines.rank (omega (arith, within, many))
-
 pub before-at : (it : Outlook) → IsOutlook it → (rank i : ℕ) → rank ≡ it.first + i → i < length it.before → areas_at (areas_by_rank it.old) rank ≡ slice_index_or it.before i []
 before-at it is rank i at within =
     let lines = is.lines in

@@ -26,10 +26,6 @@ or_right : (a b : Bool) → b ≡ true → (a || b) ≡ true
 or_right true b e = refl
 or_right false b e = e
 
-or_parts : (a b : Bool) → (a || b) ≡ false → (a ≡ false) × (b ≡ false)
-or_parts true b e = cc
-or_parts false b e = (refl, e)
-
 -- what is awaited behind an entry was awaited before it
 
 record Was (past : Record) (serial : ℕ) (now : Sending) : Type 0 where

@@ -14,7 +14,7 @@ use Rattle.hc_events.specs.Awaited.{awaited}
 use Rattle.hc_events.specs.Images.{fresh, fresh_by, renewed, slot_of}
 use Rattle.hc_events.specs.Outputs.{posted_bit, value_bit}
 use Rattle.hc_events.specs.Owed.{if_confirmed, is_in_line, known_bytes, last_write, was_confirmed}
-use Rattle.hc_events.specs.Stale.{SaysTheSame, without_stale}
+use Rattle.hc_events.specs.Stale.{without_stale}
 use Rattle.hc_events.proofs.lemmas.Awaited.{by_bool, news, news_from, awaited-any, awaited-grows, awaited-news, awaited-stale}
 
 -- definitions that skip arrivals
@@ -209,13 +209,3 @@ known_either past (Some write) = ap (λ b. cond b (Some write.1) None) (without-
 pub without-known : (past : Record) (station number : ℕ) → known_bytes (without_stale past) station number ≡ known_bytes past station number
 without-known past station number =
     ap (option_and_then (if_confirmed (without_stale past))) (without-write past station number) ∙ known_either past (last_write past station number)
-
-pub without-says : (past : Record) → SaysTheSame (without_stale past) past
-without-says past = record {
-  state = without-state past;
-  epoch = without-epoch past;
-  serial = without-serial past;
-  slots = without-slot past;
-  values = without-value past;
-  known = without-known past;
-}

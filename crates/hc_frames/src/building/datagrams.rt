@@ -1,6 +1,6 @@
 //! Datagrams in slices of their exact size.
 ghost use Rattle.std.specs.Prelude.{◌≡◌, ◌+◌, ◌≤◌, length, map};
-ghost use Rattle.hc_frames.specs.FrameText.{Datagram, datagram_text, datagrams_text, blank_lrw, lrw};
+ghost use Rattle.hc_frames.specs.FrameText.{datagram_text, datagrams_text, blank_lrw, lrw};
 ghost use Rattle.hc_frames.specs.Sizes.{datagrams_size};
 
 use super::heads::datagram_head;

@@ -1,7 +1,7 @@
 //! Whole frames of one datagram.
 ghost use Rattle.std.specs.Prelude.{◌≡◌, ◌+◌, ◌-◌, ◌*◌, ◌%◌, ◌^◌, ◌<◌, ◌≤◌, [], ◌∷◌, length, map};
 ghost use Rattle.hc_frames.specs.Builds.{Builds};
-ghost use Rattle.hc_frames.specs.FrameText.{Datagram, frame_text, blank_lrw, block_write, station_write, alias_read};
+ghost use Rattle.hc_frames.specs.FrameText.{frame_text, blank_lrw, block_write, station_write, alias_read};
 ghost use Rattle.hc_frames.specs.Sizes.{ShareFrame, datagrams_size, frame_bytes, frame_size};
 
 use super::Room;

@@ -1,6 +1,6 @@
 //! The bytes before a frame's datagrams and before a datagram's data.
 ghost use Rattle.std.specs.Prelude.{◌≡◌, ◌+◌, ◌%◌, ◌^◌, ◌<◌, ◌≤◌, length};
-ghost use Rattle.hc_frames.specs.FrameText.{length_field, datagram_head, frame_head};
+ghost use Rattle.hc_frames.specs.FrameText.{datagram_head, frame_head};
 
 use crate::commands::Command;
 use crate::limits::{MAX_DATA, MAX_ETHERCAT};

@@ -1,23 +1,14 @@
 -- What is kept is right for what is known, and an accepted edit declares no block.
-use Rattle.std.proofs.Common.{◌≡◌, List, [], ◌∷◌, ap, refl, map, ◌∙◌}
-use Rattle.std.specs.Prelude.{None, Ok}
+use Rattle.std.proofs.Common.{◌≡◌, ap, ◌∙◌}
+use Rattle.std.specs.Prelude.{Ok}
 use Rattle.hc_records.specs.declared.edit.Edit.{Edit}
 use Rattle.hc_records.specs.Edits.{edited}
-use Rattle.hc_records.specs.Line.{State, line}
-use Rattle.hc_registers.specs.Blocks.{LineBlock, line_blocks}
-use Rattle.hc_owed.specs.Kept.{Kept, declared_blocks, unknown}
-use Rattle.hc_owed.specs.Laws.{EditsAreRight, UnknownIsOwed, WritesAreRight, kept_by}
+use Rattle.hc_records.specs.Line.{State}
+use Rattle.hc_owed.specs.Kept.{declared_blocks}
+use Rattle.hc_owed.specs.Laws.{EditsAreRight, WritesAreRight}
 use Rattle.hc_owed.proofs.Editing.{edits-keep}
 use Rattle.hc_owed.proofs.Shapes.{accepted-groups, change-keeps, change_of, declared-counts}
 use Rattle.hc_owed.proofs.Writing.{writes-keep}
-
--- where nothing is known, every block is owed
-pub unknown-is-owed : UnknownIsOwed
-unknown-is-owed state = all (line_blocks (line state))
-  where
-    all : (blocks : List LineBlock) → map unknown blocks ≡ map (kept_by (λ station number. None)) blocks
-    all [] = refl
-    all (block ∷ blocks) = ap (λ (rest : List Kept). unknown block ∷ rest) (all blocks)
 
 -- behind the sending of a write, and behind a good answer to it
 pub writes-are-right : WritesAreRight

@@ -1,5 +1,5 @@
 //! How the record grows.
-ghost use Rattle.std.specs.Prelude.{◌≡◌, [], ◌∷◌};
+ghost use Rattle.std.specs.Prelude.{◌≡◌, ◌∷◌};
 ghost use Rattle.hc_events.specs.Accepted.{just_opened};
 ghost use Rattle.hc_events.specs.Arrivals.{arrival_in};
 ghost use Rattle.hc_events.specs.Entries.{Edited, Posted, Sent, Wrote};

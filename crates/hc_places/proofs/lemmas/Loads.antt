@@ -108,9 +108,6 @@ keeps-inside areas datagram parts k d within = record {
   ends = All-filter (λ area. area.datagram == datagram) (EndsInDatagram areas) areas (ends-in-datagram areas) k d within;
 }
 
-abbrev offset_in : List Placed → ℕ → ℕ
-offset_in areas datagram = datagram_offset areas datagram
-
 fills : (areas : List Placed) (datagram : ℕ) (area : Placed) → Keeps areas datagram area → FillsTo (output_length areas - datagram_offset areas datagram) area
 fills areas datagram area keeps output =
     let offset : datagram_offset areas area.datagram ≡ datagram_offset areas datagram = ap (datagram_offset areas) keeps.number in

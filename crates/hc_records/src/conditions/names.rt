@@ -2,7 +2,7 @@
 //! names go through an ordered set.
 ghost use Rattle.std.specs.Prelude.{◌≡◌, ◌++◌, IfOk, OnOk, map};
 ghost use Rattle.hc_records.specs.Lists.{has_repeat};
-ghost use Rattle.hc_records.specs.Project.{area_names, entry_names, has_repeated_alias, has_repeated_station, has_repeated_variable, pdo_names, slave_names, slaves_of};
+ghost use Rattle.hc_records.specs.Project.{area_names, entry_names, has_repeated_alias, has_repeated_station, has_repeated_variable, pdo_names, slave_names};
 
 use crate::records::{Area, Entry, Group, Pdo, Slave};
 use std::alloc::{AllocError, Global};

@@ -1,7 +1,7 @@
 //! The command `place`.
 ghost use Rattle.std.specs.Prelude.{◌≡◌, ◌++◌, map, OnOk, string_bytes};
 ghost use Rattle.hc_records.specs.Line.{line};
-ghost use Rattle.hotline.specs.Place.{bits_text, dir_name, numbered_place, place_in, place_text, variable_or_none, variable_text};
+ghost use Rattle.hotline.specs.Place.{bits_text, dir_name, numbered_place, place_in, place_text, variable_text};
 
 use super::Command;
 use hc_places::table::Place;

@@ -1,5 +1,5 @@
 //! The command `read`.
-ghost use Rattle.std.specs.Prelude.{◌≡◌, ◌++◌, map, OnErr, OnOk, string_bytes};
+ghost use Rattle.std.specs.Prelude.{◌≡◌, ◌++◌, map, OnOk, string_bytes};
 ghost use Rattle.hc_events.specs.Steps.{Reads};
 ghost use Rattle.hotline.specs.Answers.{data_text, image_text, slot_text, slots_text, told};
 ghost use Rattle.hotline.specs.EventWords.{read_in};
