@@ -27,7 +27,7 @@ first_rank groups group = 1 + sum_by (λ declared. length declared.group.slaves)
 abbrev pub has_alias : ℕ → Declared → Bool
 has_alias alias declared = declared.group.alias == alias
 
--- the group with an alias comes or goes
+-- the group with a number comes or goes
 abbrev pub presence_at : List Declared → Bool → ℕ → PresenceChange
 presence_at groups present group = record {
   group = group;
@@ -36,6 +36,7 @@ presence_at groups present group = record {
   slaves = length (slaves_at groups group);
 }
 
+-- the group with an alias comes or goes
 abbrev pub presence_change : List Declared → ℕ → Bool → Option PresenceChange
 presence_change groups alias present = option_map (presence_at groups present) (position (has_alias alias) groups)
 
@@ -43,10 +44,11 @@ presence_change groups alias present = option_map (presence_at groups present) (
 abbrev pub has_slave : ℕ → Declared → Bool
 has_slave station declared = has_station station declared.group.slaves
 
--- where the slave with a station address stands among the declared ones
+-- where a slave of a group, both by their numbers, stands among the declared ones
 abbrev pub place_at : List Declared → ℕ → ℕ → SlavePlace
 place_at groups group slave = record { group = group; slave = slave; rank = first_rank groups group + slave }
 
+-- where the slave with a station address stands, looked for in one group, and then in all of them
 abbrev pub place_in : List Declared → ℕ → ℕ → Option SlavePlace
 place_in groups station group = option_map (place_at groups group) (position (has_address station) (slaves_at groups group))
 

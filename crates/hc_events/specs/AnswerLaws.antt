@@ -39,7 +39,8 @@ AnswersTheSerial =
     (past : Record) (arrival : Arrival) (sending : Sending)
     → (answered_by past arrival ≡ Some sending) ↔ IsFirstAnswer past arrival sending
 
--- what a sending says of a datagram is what the line says of it: of a task's datagram, or of one of the line's register blocks
+-- what a sending says of a datagram is what the line says of it: of this datagram of a task, or of one of the line's register blocks,
+-- which is the one that the sending's head names, since the head is that of its write
 abbrev pub IsItemOf : List Member → Item → Head → Type 0
 IsItemOf line (DatagramItem task d) head = StandsIn line (task, d) × (head ≡ data_head line (task, d))
 IsItemOf line (Block station number) head = (block : LineBlock) × Contains (line_blocks line) block × (head ≡ write_head block)

@@ -53,7 +53,7 @@ ends serial heads (Edited edit) = true
 ends serial heads (Came arrival) = fits serial heads arrival
 ends serial heads entry = false
 
--- an arrival answers the sending with its serial where it fits it, and since then no edit was accepted and none that fits came
+-- an arrival answers a sending, which has its serial, where it fits it, and since then no edit was accepted and none that fits came
 abbrev pub is_answer : Arrival → Sending → Bool
 is_answer arrival sending =
     fits arrival.serial sending.heads arrival && not (list_any (ends arrival.serial sending.heads) sending.since)

@@ -48,7 +48,7 @@ has_bit k found = nat_le found.1.bit k && nat_lt k (found.1.bit + found.1.bits)
 abbrev pub sent_bit : Record → List (ℕ × VariablePlace) → ℕ → ℕ
 sent_bit past outputs k = option_map_or (λ found. value_bit past found.0 (k - found.1.bit)) (find (has_bit k) outputs) 0
 
--- the bytes of which these are the bits, the least significant first
+-- the byte with a number, and the first bytes, of which these are the bits, the least significant first
 abbrev pub byte_of : (ℕ → ℕ) → ℕ → ℕ
 byte_of bit n = number_of (map (λ k. bit (8 * n + k)) (range_with_len 0 8))
 

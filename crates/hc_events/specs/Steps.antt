@@ -118,7 +118,7 @@ with_write past (block ∷ blocks) = Wrote block ∷ past
 
 -- an arrival: what it is for each datagram of the tasks, or for the register write; stale where it answers no sending or each datagram is stale
 
--- a register block has no inputs: its verdict is told as below
+-- a register block has no inputs: its verdict is told by `told_of_block` below, and never by this
 abbrev pub inputs_of : Item → Outcome
 inputs_of (DatagramItem task d) = outcome.Inputs task d
 inputs_of (Block station number) = outcome.Stale

@@ -30,7 +30,7 @@ pub record IsReturned (serial : ℕ) (ds : List Datagram) (parts : List Carried)
   pub back : AllComeBack ds parts
   pub text : (behind : List ℕ) × (bytes ≡ carried_frame (replicate 6 255) 2 serial parts behind)
 
--- a datagram whose fields fit their places
+-- a datagram whose fields fit their places, and which has data
 pub record FitsLine (part : Carried) : Type 0 where
   pub address : part.address < 2 ^ 32
   pub interrupt : part.interrupt < 2 ^ 16
@@ -38,7 +38,7 @@ pub record FitsLine (part : Carried) : Type 0 where
   pub filled : 1 ≤ length part.bytes
   pub size : length part.bytes ≤ MAX_DATA
 
--- no address is a position's
+-- a command whose address is no position; and so is each datagram's
 abbrev pub IsAddressed : Command → Type 0
 IsAddressed Aprd = ⊥
 IsAddressed Apwr = ⊥

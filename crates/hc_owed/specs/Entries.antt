@@ -24,7 +24,7 @@ learnt bytes block = record block { known = Some bytes }
 abbrev pub judged : Bool → Kept → Kept
 judged owed block = record block { owed = owed }
 
--- how many of the flags are set
+-- what a flag counts, and how many of them are set
 abbrev pub one : Bool → ℕ
 one owed = if owed then 1 else 0
 

@@ -44,7 +44,7 @@ pub record IsBlockAt (state : State) (n : ℕ) (block : LineBlock) : Type 0 wher
   pub project : lowest_fault (groups_of state.groups) ≡ None
   pub stands : slice_get (line_blocks (line state)) n ≡ Some block
 
--- what is kept stays right: behind the sending of an owed block's write nothing is known of the block, behind a good answer to it the configured bytes are,
+-- what is kept stays right: behind the sending of an owed block's write nothing is known of the block, behind a good answer to it the configured bytes are
 pub record WritesKeepRight (known : Knowledge) (state : State) (n : ℕ) (block : LineBlock) : Type 0 where
   pub when_sent : differs block.block.bytes (known block.station block.number) ≡ true
       → sent n (kept_of known state) ≡ kept_of (known_with (name_of block) None known) state
@@ -53,7 +53,7 @@ pub record WritesKeepRight (known : Knowledge) (state : State) (n : ℕ) (block 
 abbrev pub WritesAreRight : Type 0
 WritesAreRight = (known : Knowledge) (state : State) (n : ℕ) (block : LineBlock) → IsBlockAt state n block → WritesKeepRight known state n block
 
--- and an accepted edit leaves what was known of slaves that stay
+-- behind an accepted edit what was known of slaves that stay is known
 abbrev pub EditsAreRight : Type 0
 EditsAreRight =
     (known : Knowledge) (old new : State) (edit : Edit) (report : Report) → lowest_fault (groups_of old.groups) ≡ None → edited old edit ≡ Ok new → Tells old edit new report

@@ -77,11 +77,12 @@ replaced (changed ∷ others) tasks = replaced others (set tasks changed.0 chang
 abbrev pub swapped : Change → Table → Table
 swapped change table = record { tasks = replaced change.tasks table.tasks; variables = merged change.rows table.variables }
 
--- two places, or the lack of one, are the same
+-- two places are the same
 abbrev pub same_place : VariablePlace → VariablePlace → Bool
 same_place a b =
     (a.task == b.task) && (a.datagram == b.datagram) && (a.bit == b.bit) && (a.bits == b.bits) && same_dir a.dir b.dir
 
+-- and so are two that may be lacking
 abbrev pub same_found : Option VariablePlace → Option VariablePlace → Bool
 same_found None None = true
 same_found None (Some b) = false

@@ -24,7 +24,7 @@ is_declared state alias = list_any (λ declared. declared.group.alias == alias) 
 abbrev pub is_present : State → ℕ → Bool
 is_present state alias = list_any (λ declared. (declared.group.alias == alias) && declared.present) state.groups
 
--- a declared slave has the station address
+-- one of these slaves has the station address, and a declared one has
 abbrev pub has_station : ℕ → List Slave → Bool
 has_station station slaves = list_any (has_address station) slaves
 
@@ -105,7 +105,7 @@ own_faults state (Remap station area pdos) =
 own_faults state (Move station area task) =
     area_faults state station area ++ (not (nat_lt task TASKS), NoSuchTask) ∷ []
 
--- the faults of every edit: a crowded task of the new line, and the last epoch
+-- the faults of an edit: its own, then those that every edit may have, a crowded task of the new line and the last epoch
 abbrev pub edit_faults : State → Edit → List (Bool × EditFault)
 edit_faults state edit =
     own_faults state edit

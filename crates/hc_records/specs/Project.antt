@@ -23,10 +23,11 @@ some_slave test groups = list_any (λ group. list_any test group.slaves) groups
 abbrev pub some_area : (Area → Bool) → List Group → Bool
 some_area test groups = some_slave (λ slave. list_any test slave.areas) groups
 
--- the bytes of its slave's memory that an area may take: those of all its offered PDOs, or of the widest area
+-- the bits of all entries of some PDOs
 abbrev pub offered_bits : List Pdo → ℕ
 offered_bits offered = sum_by (λ pdo. bits_of pdo.entries) offered
 
+-- the bytes of its slave's memory that an area may take: those of all its offered PDOs, or of the widest area
 abbrev pub reach : Area → ℕ
 reach area = (min MOST_AREA_BITS (offered_bits area.offered) + 7) / 8
 
@@ -55,7 +56,7 @@ abbrev pub slave_outside : Slave → Bool
 slave_outside slave =
     (slave.station == 0) || nat_lt MOST_AREAS (length slave.areas) || list_any area_outside slave.areas
 
--- a group that comes and goes has an alias and a slave
+-- a group that can't come and go: it has no alias, or no slave
 abbrev pub is_bare : Group → Bool
 is_bare group = (group.alias == 0) || (length group.slaves == 0)
 
@@ -109,10 +110,11 @@ slave_names slaves = flat_map (λ slave. area_names slave.areas) slaves
 abbrev pub has_repeated_variable : List Group → Bool
 has_repeated_variable groups = has_repeat (slave_names (slaves_of groups))
 
--- the assigned PDOs of an area aren't offered PDOs, each once
+-- two PDOs have one index
 abbrev pub same_index : Pdo → Pdo → Bool
 same_index a b = b.index == a.index
 
+-- the assigned PDOs of an area aren't offered PDOs, each once, or two of the offered ones have one index
 abbrev pub has_unknown_pdo : Area → Bool
 has_unknown_pdo area =
     has_unknown area.assigned area || has_repeat area.assigned || some_pair same_index area.offered

@@ -69,10 +69,11 @@ mapped_bytes area mapping =
 abbrev pub fmmu_bytes : Area → Option Mapping → List ℕ
 fmmu_bytes area mapping = option_map_or (mapped_bytes area) mapping (replicate 16 0)
 
--- where an area of the line is mapped: none where it has 0 bits
+-- where an area is mapped, by its place
 abbrev pub mapping_at : ℕ → Placed → Mapping
 mapping_at task placed = record { address = logical_address task placed.datagram; bit = placed.bit }
 
+-- where an area of the line is mapped: none where it has 0 bits
 abbrev pub mapping_of : List Member → ℕ → Key → Option Mapping
 mapping_of line task key =
     option_map (mapping_at task) (find (λ placed. same_key placed.key key) (task_places task line))

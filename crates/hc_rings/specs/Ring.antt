@@ -40,7 +40,7 @@ left r = r.rest.items ++ known_ahead r.posts
 abbrev pub EndCameAfter : PostReceiver → List Post → Type 0
 EndCameAfter r posts = received r.posts.ring ≡ items_of posts true
 
--- the two ends of one ring
+-- the two ends of one ring of posts, with that of the spare buffers which go back
 abbrev pub ArePostEnds : PostSender → PostReceiver → Type 0
 ArePostEnds s r = IsPair s.posts.ring r.posts.ring × IsPair r.spares s.spares.ring
 
@@ -52,7 +52,7 @@ given_back r = sent r.spares
 abbrev pub spare_places : PostReceiver → ℕ
 spare_places r = known_free r.spares
 
--- the same end of the same ring
+-- the same end of the same two rings
 abbrev pub SameSender : PostSender → PostSender → Type 0
 SameSender old new = SameProducer old.posts.ring new.posts.ring × SameConsumer old.spares.ring new.spares.ring
 

@@ -14,7 +14,7 @@ use Rattle.hotline.specs.Place.{place_in, place_text}
 use Rattle.hotline.specs.Regs.{regs_in, regs_text}
 use Rattle.hotline.specs.Show.{show_in, show_text}
 
--- the command that a name and its arguments spell: those that send, take what arrives, and read
+-- the command that a name and its arguments spell: those that edit, send, take what arrives, and read
 abbrev pub event_in : List ℕ → List (List ℕ) → Option Command
 event_in name arguments =
     if bytes_eq name (codes "send") then send_in arguments

@@ -30,7 +30,7 @@ datagram_text number datagram =
     ++ decimal datagram.expected
     ++ codes "\n"
 
--- the lines of a task's datagrams, in the order of their numbers
+-- the line of a task's datagram with a number; those of all of them, in the order of their numbers
 abbrev pub numbered_text : Table → ℕ → ℕ → List ℕ
 numbered_text table task number = option_map_or (datagram_text number) (datagram_in table task number) []
 

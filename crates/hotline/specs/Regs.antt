@@ -39,7 +39,7 @@ block_text block =
     ++ spaced_bytes block.bytes
     ++ codes "\n"
 
--- the lines of a slave's blocks, in the order of their numbers: two for each area
+-- the line of a slave's block with a number; those of all of them, in the order of their numbers: two for each area
 abbrev pub numbered_block_text : List Member → ℕ → ℕ → List ℕ
 numbered_block_text line station number = option_map_or block_text (block_at line station number) []
 

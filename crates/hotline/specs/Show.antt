@@ -20,7 +20,7 @@ show_in (task ∷ datagram ∷ []) =
     option_and_then (λ t. option_map (λ d. Show t d) (number_in 255 datagram)) (number_in 255 task)
 show_in (task ∷ datagram ∷ other ∷ words) = None
 
--- the frame has the next serial, and the values that its datagram's output variables have now
+-- a frame with its own serial, and the values that its datagram's output variables have now
 unfoldable pub frame_or_none : Record → Option Frame → List ℕ
 frame_or_none past None = codes "none\n"
 frame_or_none past (Some frame) = shown_line frame.serial (sent_text past frame)

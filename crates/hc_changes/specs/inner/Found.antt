@@ -40,7 +40,7 @@ areas_found outlook station rank index [] = []
 areas_found outlook station rank index (area ∷ areas) =
     area_found outlook station rank index area ++ areas_found outlook station rank (index + 1) areas
 
--- the station address of the declared slave with a rank; no slave has rank 0
+-- the station addresses of the declared slaves, and that of the one with a rank; no slave has rank 0
 abbrev pub stations : List Declared → List ℕ
 stations groups = flat_map (λ declared. map (λ slave. slave.station) declared.group.slaves) groups
 
@@ -71,11 +71,11 @@ LieWithin outlook low high = (rank : ℕ) → (low ≤ rank → rank ≤ high �
 abbrev pub HoldRanks : ℕ → ℕ → ℕ → ℕ → Type 0
 HoldRanks low high own_low own_high = (low ≤ own_low) × (own_high ≤ high)
 
--- with those of the slaves that the edit concerns
+-- ranks from one up to another, with those of the slaves that the edit concerns
 abbrev pub HoldChanged : Outlook → ℕ → ℕ → Type 0
 HoldChanged outlook low high = (rank : ℕ) → changes outlook rank ≡ true → (low ≤ rank) × (rank ≤ high)
 
--- with those of the slaves that have areas of a task in datagrams which weren't kept up to them
+-- ranks from one up to another, with those of the slaves that have areas of a task in datagrams which weren't kept up to them
 abbrev pub HoldRecut : Outlook → ℕ → ℕ → ℕ → Type 0
 HoldRecut outlook task low high =
     (found : LineArea) → found.area.task ≡ task → found.member.rank < 65536

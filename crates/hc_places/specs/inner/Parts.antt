@@ -19,7 +19,7 @@ abbrev pub row_at : ℕ → ℕ → Dir → ℕ × (ℕ × ℕ) → Row
 row_at task datagram dir found =
     (found.0, record { task = task; datagram = datagram; bit = found.1.0; bits = found.1.1; dir = dir })
 
--- places whose datagrams can be sent: at most 16, none of which is empty, too long or counts too many slaves
+-- places whose datagrams can be sent: at most 16, none of which is empty or too long, or expects a working counter over its 16 bits
 pub record AreSendable (areas : List Placed) : Type 0 where
   pub few : datagram_count areas ≤ MOST_DATAGRAMS
   pub inside : All LiesInside areas
