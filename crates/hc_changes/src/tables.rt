@@ -39,7 +39,7 @@ fn load_in(
     Ok(Load::of(areas.as_slice(), number))
 }
 
-/// The table of a task of the new line.
+/// The table of a task of the new line: that of the old one, where no width differs in the task.
 fn new_table(
     alloc: Global,
     cuts: &LineCuts,
@@ -51,6 +51,9 @@ fn new_table(
     requires line { AreOfLine cuts.now }
     ensures { IfOk result (λ table. (was is : List Declared) → IsEdited was is old.now before.now cuts.now → table ≡ task_table (line_from 1 is) task) }
 {
+    if !before.is_touched(task) {
+        return Ok(old.task(task));
+    }
     let mut table = TaskTable::empty();
     for number in 0..cuts.starts(task).len() {
         let load = load_in(alloc, cuts, old, before, task, number as u16)?;
@@ -80,8 +83,9 @@ fn new_tables(
 }
 
 /// The tasks whose tables an edit changes, with their new ones, in the order of their numbers: from the trees
-/// of the new line, the old line's table, and what was known of its tasks before they were turned. What a kept
-/// datagram holds stands in the old table; the areas of each other one are gone over.
+/// of the new line, the old line's table, and what was known of its tasks before they were turned. A task in which
+/// no width differs keeps its table, and what a kept datagram holds stands in the old table; the areas of each
+/// other one are gone over.
 /// `AllocError` where a growth was refused.
 pub fn changed_tasks(
     alloc: Global,

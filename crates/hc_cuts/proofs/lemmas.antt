@@ -2,6 +2,7 @@
 pub mod Datagrams
 pub mod Found
 pub mod HullKeys
+pub mod Inside
 pub mod KeptPlaces
 pub mod Order
 pub mod Repairs

@@ -126,8 +126,8 @@ fn replace_rows(rows: &mut Vec<Row>, low: usize, high: usize, new: &[Row])
 }
 
 /// Makes rows those with changes, with the help of memory that has room for all: those from the first
-/// change to the last are merged there and put back, or where the rows' own memory has no room for them,
-/// all are merged there and stay.
+/// change to the last are merged there and put back, or where the rows' own memory may have no room for as
+/// many more as there are changes, all are merged there and stay.
 fn merge_rows(rows: &mut Vec<Row>, changed: &[ChangedRow], into: Vec<Row>)
     requires ascends { RowsAscend rows.old.items }
     requires changes { ChangesAscend changed.now }
@@ -135,13 +135,12 @@ fn merge_rows(rows: &mut Vec<Row>, changed: &[ChangedRow], into: Vec<Row>)
     requires room { length (merged changed.now rows.old.items) ≤ vec_capacity into }
     ensures { rows.new.items ≡ merged changed.now rows.old.items }
 {
-    let (low, high) = find_rows(rows.as_slice(), changed);
-    let mut new = merge(into, changed, &rows[low..high]);
-    if new.len() <= rows.capacity() - rows.len() + (high - low) {
+    if changed.len() <= rows.capacity() - rows.len() {
+        let (low, high) = find_rows(rows.as_slice(), changed);
+        let new = merge(into, changed, &rows[low..high]);
         replace_rows(rows, low, high, new.as_slice());
     } else {
-        new.clear();
-        *rows = merge(new, changed, rows.as_slice());
+        *rows = merge(into, changed, rows.as_slice());
     }
 }
 

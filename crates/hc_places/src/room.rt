@@ -91,8 +91,8 @@ impl Places {
     /// Becomes the table that a swap leads to, in memory that was taken before: nothing can be refused.
     /// The rows of changed variables are looked up. In front of the first variable that appears or goes,
     /// and behind the last, they are overwritten where they stand; those between are merged in the room and
-    /// put back, and the rows behind are shifted once. Where the table's memory has no room for them, all
-    /// rows are merged in the room, which is the table's from then on.
+    /// put back, and the rows behind are shifted once. Where the table's memory may have no room for them, all
+    /// rows are merged in the room, which is the table's from then on. Either way no row is gone over twice.
     pub fn carry_out(&mut self, swap: &Swap, room: Room)
         requires { IsRoomFor swap.now.change self.old room }
         ensures { self.new ≡ swapped swap.now.change self.old }

@@ -6,6 +6,7 @@ ghost use Rattle.hc_places.specs.Table.{by_number};
 use crate::datagram_variables::DatagramVariables;
 use arrayvec::ArrayVec;
 use hc_records::items::{Copied, Items};
+use hc_records::limits::TASKS;
 use hc_records::records::{Dir, VarId};
 use std::alloc::{AllocError, Global};
 use std::marker::Model;
@@ -199,7 +200,7 @@ fn find_place(rows: &[Row], variable: VarId) -> Option<Place>
 }
 
 impl Places {
-    ghost use Rattle.std.specs.Prelude.{◌≡◌, ◌≤◌, All, IfOk, IfSome, length};
+    ghost use Rattle.std.specs.Prelude.{◌≡◌, ◌<◌, ◌≤◌, All, IfOk, IfSome, Some, length, slice_get};
     ghost use Rattle.hc_records.specs.declared.limits.TheConstants.{MOST_DATAGRAMS, TASKS};
     ghost use Rattle.hc_places.specs.Ranges.{IsDatagram};
     ghost use Rattle.hc_places.specs.Table.{RowsAscend, by_number, datagram_in, datagrams_in, part_in, place_in, variables_in};
@@ -277,6 +278,14 @@ impl Places {
             Some(task) => (task.outputs, task.inputs),
             None => (0, 0),
         }
+    }
+
+    /// A copy of the table of a task, 0 to 7. It takes no memory.
+    pub fn task(&self, task: u8) -> TaskTable
+        requires { task < TASKS }
+        ensures { slice_get self.now.tasks task ≡ Some result }
+    {
+        self.tasks.as_slice()[usize::from(task)].duplicate()
     }
 
     /// A copy that equals this table, or `AllocError` where a growth was refused.

@@ -1,6 +1,6 @@
 -- An area of the new line is a candidate, or none, by what the turned tasks and the tasks before tell.
 use Rattle.std.proofs.Common.{◌≡◌, ℕ, Bool, true, false, cond, List, [], ◌∷◌, Option, refl, sym, ap, ◌∙◌}
-use Rattle.std.specs.Prelude.{IfSome, None, Some, length, map, nat_lt, not, ◌||◌}
+use Rattle.std.specs.Prelude.{IfSome, None, Some, map, not, ◌||◌}
 use Rattle.std.specs.Option.{option_map_or}
 use Rattle.hc_records.specs.declared.keys.Key.{Key}
 use Rattle.hc_records.specs.declared.keys.TheConstants.Key.{END}
@@ -8,7 +8,7 @@ use Rattle.hc_records.specs.Keys.{is_before, same_key}
 use Rattle.hc_records.proofs.lemmas.TaskLists.{project-list}
 use Rattle.hc_records.specs.declared.records.Area.{Area}
 use Rattle.hc_records.specs.declared.records.Declared.{Declared}
-use Rattle.hc_records.specs.Boundaries.{is_touched_task, touched}
+use Rattle.hc_records.specs.Boundaries.{is_touched_task}
 use Rattle.hc_records.specs.Line.{State, groups_of, line_from}
 use Rattle.hc_records.specs.Image.{task_places}
 use Rattle.hc_records.specs.Project.{lowest_fault}
@@ -28,6 +28,7 @@ use Rattle.hc_changes.specs.Outlook.{Outlook, changes}
 use Rattle.hc_changes.proofs.lemmas.Lists.{found-among}
 use Rattle.hc_changes.proofs.lemmas.Recut.{untouched-areas}
 use Rattle.hc_changes.proofs.lemmas.Standing.{placed-below}
+use Rattle.hc_changes.proofs.lemmas.Tables.{touched-told}
 
 -- one area that is a candidate, and one that is none
 
@@ -81,18 +82,10 @@ kept-is it before cuts sight task number until tells key low =
 
 -- whether its task is touched
 
-abbrev some_touched : List Keyed → List Keyed → Bool
-some_touched old new = nat_lt 0 (length (touched old new))
-
 pub touched-is : (it : Outlook) (before : Before) (cuts : List Kept) → IsSight it before cuts → (task : ℕ) (some : Bool)
     → ((old new : List (List Area)) → StandsBefore old new before → some ≡ is_touched_by task old new)
     → some ≡ is_touched_task (line_from 1 it.old) (line_from 1 it.new) task
-touched-is it before cuts sight task some tells =
-    tells (areas_by_rank it.old) (areas_by_rank it.new) sight.stands
-    ∙ ap (λ (list : List Keyed). some_touched list (list_by task (areas_by_rank it.new))) (sym (task-listed task it.old))
-    ∙ ap (λ (list : List Keyed). some_touched (task_list task (line_from 1 it.old)) list) (sym (task-listed task it.new))
-
--- so it is told
+touched-is it before cuts sight task some tells = touched-told it.old it.new before sight.stands task some tells
 
 -- no area of a task that isn't touched stands in a datagram that isn't kept up to it
 pub untouched-kept : (it : Outlook) (before : Before) (cuts : List Kept) → IsSight it before cuts → (found : LineArea) (some : Bool) → some ≡ false

@@ -1,12 +1,13 @@
 -- The tables of tasks, from what was known of them before an edit.
 use Rattle.std.proofs.Common.{◌≡◌, ◌∙◌, ap, ℕ, ◌==◌, ◌<◌, Bool, true, false, List, [], ◌∷◌, ◌++◌, length, Option, Some, None, refl, sym, subst, arith, cond}
-use Rattle.std.specs.Prelude.{All, filter, find, map, nat_lt, not}
+use Rattle.std.specs.Prelude.{All, filter, find, map, nat_lt, not, slice_get}
 use Rattle.std.specs.Option.{option_map_or}
 use Rattle.std.proofs.lemmas.Bool.{eqb-true}
 use Rattle.std.proofs.lemmas.Bool.Decides.{nat_tests}
 use Rattle.std.proofs.lemmas.List.Elements.{All-contains, All-cons, All-nil}
 use Rattle.hc_records.specs.declared.keys.Key.{Key}
 use Rattle.hc_records.specs.declared.limits.TheConstants.{TASKS}
+use Rattle.hc_records.specs.declared.records.Area.{Area}
 use Rattle.hc_records.specs.declared.records.Declared.{Declared}
 use Rattle.hc_records.specs.Boundaries.{is_touched, is_touched_task, touched, width_in}
 use Rattle.hc_records.specs.Image.{task_places}
@@ -20,12 +21,16 @@ use Rattle.hc_records.proofs.lemmas.Lists.{All-append_left, All-append_right, Al
 use Rattle.hc_records.proofs.lemmas.TaskLists.{project-list}
 use Rattle.hc_bitsum.proofs.lemmas.Widths.{told-by_widths}
 use Rattle.hc_cuts.specs.Keeping.{is_kept}
+use Rattle.hc_cuts.specs.Starts.{Kept}
 use Rattle.hc_tasks.specs.Areas.{areas_by_rank, list_by}
+use Rattle.hc_tasks.specs.Keeping.{Before, StandsBefore}
+use Rattle.hc_tasks.specs.Recut.{is_touched_by}
 use Rattle.hc_tasks.proofs.lemmas.Told.{task-listed}
 use Rattle.hc_places.specs.Loads.{load_in, load_of, load_told}
-use Rattle.hc_places.specs.Table.{table_of, task_table}
+use Rattle.hc_places.specs.Table.{Table, TaskTable, table_of, task_table}
 use Rattle.hc_places.proofs.lemmas.Lines.{same-table}
-use Rattle.hc_places.proofs.lemmas.Loads.{load-told}
+use Rattle.hc_places.proofs.lemmas.Loads.{load-told, table-at}
+use Rattle.hc_changes.specs.Tables.{IsEdited}
 use Rattle.hc_changes.proofs.lemmas.KeptSpans.{kept-inside}
 use Rattle.hc_changes.proofs.lemmas.Lists.{found-among}
 
@@ -103,3 +108,31 @@ untouched-lists old new task was is none =
 pub untouched-table : (old new : State) (task : ℕ) → lowest_fault (groups_of old.groups) ≡ None → lowest_fault (groups_of new.groups) ≡ None
     → is_touched_task (line old) (line new) task ≡ false → task_table (line new) task ≡ task_table (line old) task
 untouched-table old new task was is none = same-table new.groups old.groups task is was (sym (untouched-lists old new task was is none))
+
+-- whether a task is touched is told by the areas of both lines
+
+abbrev some_touched : List Keyed → List Keyed → Bool
+some_touched old new = nat_lt 0 (length (touched old new))
+
+pub touched-told : (old new : List Declared) (known : Before) → StandsBefore (areas_by_rank old) (areas_by_rank new) known → (task : ℕ) (some : Bool)
+    → ((was is : List (List Area)) → StandsBefore was is known → some ≡ is_touched_by task was is)
+    → some ≡ is_touched_task (line_from 1 old) (line_from 1 new) task
+touched-told old new known stands task some tells =
+    tells (areas_by_rank old) (areas_by_rank new) stands
+    ∙ ap (λ (list : List Keyed). some_touched list (list_by task (areas_by_rank new))) (sym (task-listed task old))
+    ∙ ap (λ (list : List Keyed). some_touched (task_list task (line_from 1 old)) list) (sym (task-listed task new))
+
+-- a task that isn't touched has the table that the old line's table has of it
+
+got : {X : Type 0} (found : Option X) (x y : X) → found ≡ Some x → found ≡ Some y → x ≡ y
+got found x y one other = cc
+
+pub old-table : (before after : List Declared) (old : Table) (known : Before) (trees : List Kept) → IsEdited before after old known trees → (task : ℕ) → task < TASKS
+    → (some : Bool) → some ≡ false → ((was is : List (List Area)) → StandsBefore was is known → some ≡ is_touched_by task was is)
+    → (table : TaskTable) → slice_get old.tasks task ≡ Some table → table ≡ task_table (line_from 1 after) task
+old-table before after old known trees edited task low some none tells table is =
+    let told = touched-told before after known edited.tasks task some tells in
+    let had : slice_get old.tasks task ≡ Some (task_table (line_from 1 before) task) =
+    ap (λ (t : Table). slice_get t.tasks task) edited.table ∙ table-at (line_from 1 before) task low in
+    got (slice_get old.tasks task) table (task_table (line_from 1 before) task) is had
+    ∙ sym (untouched-table (state_of before) (state_of after) task edited.project edited.line.project (sym told ∙ none))

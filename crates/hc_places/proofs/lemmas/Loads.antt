@@ -260,11 +260,13 @@ told-by false task datagram line test configurable =
     ap (λ (found : Option Datagram). option_map_or (told_of (task_table line task)) found no_load) none
     ∙ ap load_of (sym (inside-none datagram areas (omega arith)))
 
+-- a task's table stands at its number
+pub table-at : (line : List Member) (task : ℕ) → task < TASKS → slice_get (table_of line).tasks task ≡ Some (task_table line task)
+table-at line task low = slice_get-map (task_table line) tasks task ∙ ap (option_map (task_table line)) (task-at task low)
+
 pub load-told : (groups : List Declared) (task datagram : ℕ) → lowest_fault (groups_of groups) ≡ None → task < TASKS
     → load_told (table_of (line_from 1 groups)) task datagram ≡ load_in (task_places task (line_from 1 groups)) datagram
 load-told groups task datagram none low =
     let line = line_from 1 groups in
-    let here : slice_get (map (task_table line) tasks) task ≡ Some (task_table line task) =
-    slice_get-map (task_table line) tasks task ∙ ap (option_map (task_table line)) (task-at task low) in
-    ap (λ (found : Option TaskTable). option_map_or (λ table. load_in_table table datagram) found no_load) here
+    ap (λ (found : Option TaskTable). option_map_or (λ table. load_in_table table datagram) found no_load) (table-at line task low)
     ∙ told-by (nat_lt datagram (datagram_count (task_places task line))) task datagram line refl (project-configurable groups none)

@@ -1,6 +1,7 @@
 use Rattle.std.proofs.Common.{arith}
 use Rattle.hc_tasks.specs.Areas.{areas_by_rank}
 use Rattle.hc_changes.proofs.Loading.{adds-none, adds-some, all-loaded}
+use Rattle.hc_changes.proofs.lemmas.Tables.{old-table}
 use Rattle.hc_changes.proofs.tables.new_table.Goals as goal
 use Rattle.hc_changes.proofs.tables.new_table.Goals.{then-load-gt0, else-load-gt0}
 
@@ -25,3 +26,9 @@ pub returns : goal.returns
 returns c before after edited =
     all-loaded after c.args.task c.loop-number.number c.starts-number-end.result.now c.loop-number.table edited.line.project (c.starts-number-end.ensures.starts (areas_by_rank after) edited.line.stand)
     (omega (arith, c.loop-number-test.false)) (c.loop-number.invariant.stand before after edited)
+
+-- no width differs in the task
+pub returns-then-not-is_touched : goal.returns-then-not-is_touched
+returns-then-not-is_touched c before after edited =
+    old-table before after c.args.old.now c.args.before.now c.args.cuts.now edited c.args.task c.requires.task c.is_touched.result c.if-not-is_touched.true c.is_touched.ensures
+    c.task.result c.task.ensures

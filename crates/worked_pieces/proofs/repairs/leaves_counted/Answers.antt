@@ -1,4 +1,4 @@
-use Rattle.worked_pieces.proofs.Inside.{were}
+use Rattle.hc_cuts.proofs.lemmas.Inside.{were}
 use Rattle.worked_pieces.proofs.repairs.leaves_counted.Goals as goal
 
 pub repair-requires : goal.repair-requires

@@ -1,5 +1,5 @@
 use Rattle.std.proofs.Common.{refl}
-use Rattle.worked_pieces.proofs.Inside.{inside-begins, inside-differs, set-more, set-same}
+use Rattle.hc_cuts.proofs.lemmas.Inside.{inside-begins, inside-differs, set-more, set-same}
 use Rattle.worked_pieces.proofs.repairs.set_all.Goals as goal
 use Rattle.worked_pieces.proofs.repairs.set_all.Goals.{else-key-ge1, then-key-ge1+then-key-le20+then-key-lt8+then-bits-le11888}
 
@@ -8,7 +8,7 @@ loop-area-init c = record {
   slaves = c.requires.slaves;
   holds = c.requires.holds;
   starts = refl;
-  inside = inside-begins c.args.cuts.now.tree.list c.none-hulls.result c.none-hulls.ensures;
+  inside = inside-begins 20 c.args.cuts.now.tree.list c.none-hulls.result c.none-hulls.ensures;
 }
 
 pub returns-clause-inside : goal.returns-clause-inside
@@ -20,7 +20,7 @@ loop-area-preserved c =
     let so_far = c.loop-area.invariant in
     elim c.if-key-ge1.branch [
       | then-key-ge1+then-key-le20+then-key-lt8+then-bits-le11888 w ↦
-          set-same first _ _ _ _ w.cuts-is w.hulls-is
-          (set-more first c.loop-area.cuts _ c.loop-area.hulls _ _ _ so_far w.set.ensures.areas w.set.ensures.starts w.set.ensures.holds w.add.ensures)
-      | else-key-ge1 w ↦ set-same first _ _ _ _ w.cuts-is w.hulls-is so_far
+          set-same 20 first _ _ _ _ w.cuts-is w.hulls-is
+          (set-more 20 first c.loop-area.cuts _ c.loop-area.hulls _ _ _ so_far w.set.ensures.areas w.set.ensures.starts w.set.ensures.holds w.add.ensures)
+      | else-key-ge1 w ↦ set-same 20 first _ _ _ _ w.cuts-is w.hulls-is so_far
     ]

@@ -1,5 +1,5 @@
-use Rattle.worked_pieces.proofs.Inside.{IsSet}
+use Rattle.hc_cuts.proofs.lemmas.Inside.{IsSet}
 use Rattle.worked_pieces.proofs.repairs.set_all.Given as goal
 
 abbrev pub invariant-loop-area : goal.invariant-loop-area
-invariant-loop-area l = IsSet l.fn.cuts l.cuts l.hulls
+invariant-loop-area l = IsSet 20 l.fn.cuts l.cuts l.hulls

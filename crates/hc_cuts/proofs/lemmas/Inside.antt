@@ -58,16 +58,16 @@ empty-list = record {
   };
 }
 
--- a task of 20 slaves whose boundaries are those of its areas
-pub record IsCutTask (kept : Kept) : Type 0 where
-  pub slaves : kept.tree.slaves ≡ 20
+-- a task of so many slaves whose boundaries are those of its areas
+pub record IsCutTask (slaves : ℕ) (kept : Kept) : Type 0 where
+  pub many : kept.tree.slaves ≡ slaves
   pub holds : HoldsTaskList kept.tree
   pub cut : kept.starts ++ END ∷ [] ≡ boundaries kept.tree.list
 
-pub begins : (kept : Kept) → kept ≡ kept_empty 20 → IsCutTask kept
-begins kept is =
-    subst (λ (k : Kept). IsCutTask k) (sym is)
-    (record { slaves = refl; holds = record { list = empty-list; places = All-nil (λ (area : Keyed). HasPlace 20 area.0) }; cut = refl })
+pub begins : (slaves : ℕ) (kept : Kept) → kept ≡ kept_empty slaves → IsCutTask slaves kept
+begins slaves kept is =
+    subst (λ (k : Kept). IsCutTask slaves k) (sym is)
+    (record { many = refl; holds = record { list = empty-list; places = All-nil (λ (area : Keyed). HasPlace slaves area.0) }; cut = refl })
 
 -- its boundaries are those of before once widths are set
 pub were : (old new : Kept) (hulls : Hulls) → IsTaskList old.tree.list → old.starts ++ END ∷ [] ≡ boundaries old.tree.list → new.starts ≡ old.starts
@@ -80,21 +80,21 @@ were old new hulls list cut starts inside = record {
 }
 
 -- widths of a task set so far, with the hulls of their keys
-abbrev pub IsSet : Kept → Kept → Hulls → Type 0
-IsSet first kept hulls = record {
-  slaves : kept.tree.slaves ≡ 20;
+abbrev pub IsSet : ℕ → Kept → Kept → Hulls → Type 0
+IsSet slaves first kept hulls = record {
+  slaves : kept.tree.slaves ≡ slaves;
   holds : HoldsTaskList kept.tree;
   starts : kept.starts ≡ first.starts;
   inside : Inside first.tree.list kept.tree.list hulls;
 }
 
-pub set-same : (first now kept : Kept) (held hulls : Hulls) → kept ≡ now → hulls ≡ held → IsSet first now held → IsSet first kept hulls
-set-same first now kept held hulls is are so_far =
-    subst (λ (k : Kept). IsSet first k hulls) (sym is) (subst (λ (h : Hulls). IsSet first now h) (sym are) so_far)
+pub set-same : (slaves : ℕ) (first now kept : Kept) (held hulls : Hulls) → kept ≡ now → hulls ≡ held → IsSet slaves first now held → IsSet slaves first kept hulls
+set-same slaves first now kept held hulls is are so_far =
+    subst (λ (k : Kept). IsSet slaves first k hulls) (sym is) (subst (λ (h : Hulls). IsSet slaves first now h) (sym are) so_far)
 
-pub set-more : (first now kept : Kept) (hulls held : Hulls) (key : Key) (bits : ℕ) → IsSet first now hulls → kept.tree ≡ record now.tree { list = with_width key bits now.tree.list }
-    → kept.starts ≡ now.starts → HoldsTaskList kept.tree → TakeIn hulls held (same_key key) → IsSet first kept held
-set-more first now kept hulls held key bits so_far tree starts holds taken = record {
+pub set-more : (slaves : ℕ) (first now kept : Kept) (hulls held : Hulls) (key : Key) (bits : ℕ) → IsSet slaves first now hulls → kept.tree ≡ record now.tree { list = with_width key bits now.tree.list }
+    → kept.starts ≡ now.starts → HoldsTaskList kept.tree → TakeIn hulls held (same_key key) → IsSet slaves first kept held
+set-more slaves first now kept hulls held key bits so_far tree starts holds taken = record {
   slaves = ap (λ (t : Tree). t.slaves) tree ∙ so_far.slaves;
   holds = holds;
   starts = starts ∙ so_far.starts;
