@@ -7,7 +7,8 @@ use Rattle.std.proofs.lemmas.List.Elements.{All-head, All-tail, All-weaker}
 use Rattle.hc_records.proofs.lemmas.Lists.{AllPairs-map, AllPairs-weaker}
 use Rattle.hc_cuts.proofs.lemmas.Found.{find-none}
 use Rattle.hc_records.specs.Image.{VariablePlace}
-use Rattle.hc_places.specs.Swap.{ChangedRow, ChangesAscend, KeepRows, keeps_row, merged, overwritten, row_with, with_changed}
+use Rattle.hc_places.specs.Swap.{ChangedRow, ChangesAscend, KeepRows, keeps_row, merged, with_changed}
+use Rattle.hc_places.specs.inner.Overwritten.{overwritten, row_with}
 use Rattle.hc_places.specs.Table.{Row, RowsAscend}
 use Rattle.hc_places.proofs.Changed.{place_of}
 use Rattle.hc_places.proofs.Merged.{in-place}

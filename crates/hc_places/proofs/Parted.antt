@@ -8,8 +8,8 @@ use Rattle.std.proofs.lemmas.List.Elements.{All-head, All-tail}
 use Rattle.std.proofs.lemmas.List.Folds.{drop_split}
 use Rattle.std.proofs.lemmas.Option.{get_or_from_slice_get}
 use Rattle.hc_records.proofs.lemmas.Lists.{All-append_right, AllPairs-append_right}
-use Rattle.hc_places.specs.Room.{AreBelow}
-use Rattle.hc_places.specs.Swap.{ChangedRow, ChangesAscend, KeepRows, keeps_row, merged, new_row, overwritten, row_with, with_changed}
+use Rattle.hc_places.specs.inner.Overwritten.{AreBelow, overwritten, row_with}
+use Rattle.hc_places.specs.Swap.{ChangedRow, ChangesAscend, KeepRows, keeps_row, merged, new_row, with_changed}
 use Rattle.hc_places.specs.Table.{Row, RowsAscend}
 use Rattle.hc_places.proofs.Merged.{front, skip}
 use Rattle.hc_places.proofs.Overwritten.{first-made, keeps-still, overwritten-ascends, overwritten-merged}

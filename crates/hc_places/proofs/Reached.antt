@@ -7,8 +7,8 @@ use Rattle.std.proofs.lemmas.Bool.{cond-true, eq-eqb, ltb-false, lt-ltb}
 use Rattle.std.proofs.lemmas.Bool.Decides.{nat_tests}
 use Rattle.std.proofs.lemmas.List.{get_or_default, get_or-drop, get_or-map, get_or-take, length-drop, length-take}
 use Rattle.hc_records.specs.Image.{VariablePlace}
-use Rattle.hc_places.specs.Room.{AreBelow}
-use Rattle.hc_places.specs.Swap.{ChangedRow, ChangesAscend, row_with}
+use Rattle.hc_places.specs.inner.Overwritten.{AreBelow, row_with}
+use Rattle.hc_places.specs.Swap.{ChangedRow, ChangesAscend}
 use Rattle.hc_places.specs.Table.{Row, RowsAscend}
 use Rattle.hc_places.proofs.Overwritten.{above-stay, other-row, same-number}
 use Rattle.hc_places.proofs.Walked.{AreAbove, above-cons, ascends-above, ascends-rest, by-order}

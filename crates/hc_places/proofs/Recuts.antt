@@ -14,7 +14,7 @@ use Rattle.hc_records.specs.Line.{Member}
 use Rattle.hc_records.specs.Packing.{opening, packed}
 use Rattle.hc_records.specs.TaskList.{Keyed, task_list}
 use Rattle.hc_records.proofs.lemmas.Cuts.{count-later_keys}
-use Rattle.hc_places.specs.Recut.{list_recut}
+use Rattle.hc_places.specs.inner.Recut.{list_recut}
 use Rattle.hc_places.proofs.Crowded.{tasks_from, tasks-next, tasks-none}
 
 -- a task has at most as many spans as datagrams, or one

@@ -2,7 +2,6 @@ pub mod Found
 pub mod Layout
 pub mod Loads
 pub mod Ranges
-pub mod Recut
 pub mod Room
 pub mod WorkedLines
 pub mod Swap

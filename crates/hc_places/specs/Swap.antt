@@ -59,15 +59,6 @@ keeps_row rows changed = is_some (find (λ row. row.0 == changed.0) rows) && is_
 abbrev pub KeepRows : List Row → List ChangedRow → Type 0
 KeepRows rows changed = All (λ change. IsTrue (keeps_row rows change)) changed
 
--- a row with one variable changed: the variable's own has its new place, if any
-abbrev pub row_with : ChangedRow → Row → Row
-row_with changed row = if row.0 == changed.0 then (row.0, unwrap_or changed.1 row.1) else row
-
--- rows that are overwritten where they stand; none comes or goes
-abbrev pub overwritten : List ChangedRow → List Row → List Row
-overwritten [] rows = rows
-overwritten (changed ∷ others) rows = overwritten others (map (row_with changed) rows)
-
 -- tasks with some of them changed; none comes or goes
 abbrev pub replaced : List ChangedTask → List TaskTable → List TaskTable
 replaced [] tasks = tasks

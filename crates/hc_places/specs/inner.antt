@@ -1,3 +1,5 @@
 -- Words that contracts of private functions alone use.
 pub mod Walk
 pub mod Parts
+pub mod Recut
+pub mod Overwritten

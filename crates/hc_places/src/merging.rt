@@ -2,8 +2,8 @@
 //! counted and overwritten where they stand.
 ghost use Rattle.std.specs.Prelude.{◌≡◌, ◌+◌, ◌≤◌, ◌<◌, ◌++◌, ◌↔◌, [], IsTrue, length, map, option_to_list, vec_capacity};
 ghost use Rattle.std.specs.List.{AllWithin};
-ghost use Rattle.hc_places.specs.Room.{AreBelow};
-ghost use Rattle.hc_places.specs.Swap.{ChangesAscend, KeepRows, keeps_row, new_row, overwritten, row_with};
+ghost use Rattle.hc_places.specs.inner.Overwritten.{AreBelow, overwritten, row_with};
+ghost use Rattle.hc_places.specs.Swap.{ChangesAscend, KeepRows, keeps_row, new_row};
 ghost use Rattle.hc_places.specs.Table.{RowsAscend};
 ghost use Rattle.hc_places.specs.inner.Walk.{merges, walked};
 

@@ -1,6 +1,6 @@
 //! Variables that are looked up one after another, each near the one before.
 ghost use Rattle.std.specs.Prelude.{◌≡◌, ◌≤◌, length};
-ghost use Rattle.hc_places.specs.Room.{AreBelow};
+ghost use Rattle.hc_places.specs.inner.Overwritten.{AreBelow};
 ghost use Rattle.hc_places.specs.Table.{RowsAscend};
 
 use crate::merging::count_from;

@@ -46,7 +46,7 @@ struct Folded {
 impl Model for Folded {
     ghost use Rattle.std.specs.Prelude.{List};
     ghost use Rattle.hc_records.specs.TaskList.{Keyed};
-    ghost use Rattle.hc_places.specs.Recut.{IsFolded};
+    ghost use Rattle.hc_places.specs.inner.Recut.{IsFolded};
 
     ghost Value = { List Keyed };
 
@@ -61,7 +61,7 @@ impl Folded {
     ghost use Rattle.hc_records.specs.TaskList.{task_list};
     ghost use Rattle.hc_records.specs.declared.limits.TheConstants.{MOST_DATAGRAMS, TASKS};
     ghost use Rattle.hc_places.specs.inner.Parts.{IsConfigurable};
-    ghost use Rattle.hc_places.specs.Recut.{list_recut};
+    ghost use Rattle.hc_places.specs.inner.Recut.{list_recut};
 
     /// The list of a task of a line. `AllocError` where a growth was refused.
     fn of(alloc: Global, task: u8, line: &[Member]) -> Result<Folded, AllocError>

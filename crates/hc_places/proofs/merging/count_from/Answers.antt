@@ -1,7 +1,7 @@
 use Rattle.std.proofs.Common.{◌-◌, arith, drop, length, subst}
 use Rattle.std.specs.Prelude.{List}
 use Rattle.std.proofs.lemmas.List.{length-drop, take_all}
-use Rattle.hc_places.specs.Room.{AreBelow}
+use Rattle.hc_places.specs.inner.Overwritten.{AreBelow}
 use Rattle.hc_places.specs.Table.{Row}
 use Rattle.hc_places.proofs.Reached.{below-behind}
 use Rattle.hc_places.proofs.merging.count_from.Goals as goal

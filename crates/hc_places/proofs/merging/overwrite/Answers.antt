@@ -1,7 +1,8 @@
 use Rattle.std.proofs.Common.{◌≡◌, ◌∙◌, ◌+◌, ◌<◌, ◌≤◌, List, ap, arith, length, map, subst, sym}
 use Rattle.std.proofs.lemmas.List.{length-map}
 use Rattle.std.specs.List.{AllWithin}
-use Rattle.hc_places.specs.Swap.{ChangedRow, row_with}
+use Rattle.hc_places.specs.Swap.{ChangedRow}
+use Rattle.hc_places.specs.inner.Overwritten.{row_with}
 use Rattle.hc_places.specs.Table.{Row, RowsAscend}
 use Rattle.hc_places.proofs.Overwritten.{overwritten-ascends, overwritten-more}
 use Rattle.hc_places.proofs.Reached.{lower-next, lower-still}

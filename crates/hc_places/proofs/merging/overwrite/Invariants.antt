@@ -1,5 +1,5 @@
 use Rattle.std.proofs.Common.{◌≡◌, ◌≤◌, drop, length}
-use Rattle.hc_places.specs.Swap.{overwritten}
+use Rattle.hc_places.specs.inner.Overwritten.{overwritten}
 use Rattle.hc_places.specs.Table.{RowsAscend}
 use Rattle.hc_places.proofs.Reached.{AreLower}
 use Rattle.hc_places.proofs.merging.overwrite.Given as goal

@@ -2,7 +2,8 @@ use Rattle.std.proofs.Common.{◌≡◌, ◌∙◌, ◌-◌, ◌≤◌, ℕ, Lis
 use Rattle.std.specs.Prelude.{IsTrue, slice_range}
 use Rattle.std.specs.List.{AllWithin}
 use Rattle.std.proofs.lemmas.List.{length-drop, take_all}
-use Rattle.hc_places.specs.Swap.{ChangedRow, ChangesAscend, keeps_row, merged, overwritten}
+use Rattle.hc_places.specs.Swap.{ChangedRow, ChangesAscend, keeps_row, merged}
+use Rattle.hc_places.specs.inner.Overwritten.{overwritten}
 use Rattle.hc_places.specs.Table.{Row, RowsAscend}
 use Rattle.hc_places.proofs.Parted.{all-overwritten-ascend, middle-left, part-ascends}
 use Rattle.hc_places.proofs.middle.change_middle.Goals as goal

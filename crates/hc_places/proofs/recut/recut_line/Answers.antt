@@ -1,7 +1,7 @@
 use Rattle.std.proofs.Common.{◌≡◌, ◌∙◌, List, ap, arith}
 use Rattle.hc_records.specs.TaskList.{Keyed, task_list}
 use Rattle.hc_places.proofs.Recuts.{recut-last, recut-next}
-use Rattle.hc_places.specs.Recut.{list_recut}
+use Rattle.hc_places.specs.inner.Recut.{list_recut}
 use Rattle.hc_places.proofs.recut.recut_line.Goals as goal
 
 pub loop-task-preserved : goal.loop-task-preserved
