@@ -8,7 +8,7 @@ loop-area-init c = record {
   slaves = c.requires.slaves;
   holds = c.requires.holds;
   starts = refl;
-  inside = inside-begins 20 c.args.cuts.now.tree.list c.none-hulls.result c.none-hulls.ensures;
+  inside = inside-begins c.args.cuts.now.tree.list c.none-hulls.result c.none-hulls.ensures;
 }
 
 pub returns-clause-inside : goal.returns-clause-inside
