@@ -92,7 +92,7 @@ impl Places {
     /// The rows of changed variables are looked up. In front of the first variable that appears or goes,
     /// and behind the last, they are overwritten where they stand; those between are merged in the room and
     /// put back, and the rows behind are shifted once. Where the table's memory may have no room for them, all
-    /// rows are merged in the room, which is the table's from then on. Either way no row is gone over twice.
+    /// rows are merged in the room, which is the table's from then on. Either way no row is merged twice.
     pub fn carry_out(&mut self, swap: &Swap, room: Room)
         requires { IsRoomFor swap.now.change self.old room }
         ensures { self.new ≡ swapped swap.now.change self.old }
