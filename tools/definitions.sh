@@ -1,53 +1,32 @@
 #!/bin/sh
-# Refuses a word of a crate's specs/ that docs/DEFINITIONS.md doesn't tell in that crate's chapters, those that name it in
-# their heading, or none: these are hc_records'. A word is told where something in backticks begins with it. Worked
-# examples are no words. The last line is 'N passed, M failed', a crate each.
+# Refuses a public word of a crate's specs/ that has no comment above it. A comment stands on the line above the word, or
+# above the words directly before it, with no blank line between, so that one comment may tell words that belong together.
+# Worked examples are no words. The last line is 'N passed, M failed', a crate each.
 set -u
 cd "$(dirname "$0")/.."
 passed=0
 failed=0
-scratch=$(mktemp -d)
-trap 'rm -rf "$scratch"' EXIT
 
-# told CRATE: the words that the page tells in the crate's chapters.
-told() {
-    awk -v crate="$1" '
-        /^##/ {
-            named = match($0, /`(hc_[a-z]+|hotline)`/)
-            if (named || /^## /) chapter = named ? substr($0, RSTART + 1, RLENGTH - 2) : "hc_records"
-        }
-        chapter == crate {
-            count = split($0, quoted, "`")
-            for (i = 2; i <= count; i += 2) {
-                listed = split(quoted[i], words, /, */)
-                for (j = 1; j <= listed; j++) {
-                    split(words[j], word, " ")
-                    print word[1]
-                }
-            }
-        }' docs/DEFINITIONS.md | sort -u
-}
-
-# defined CRATE: the words of the crate's specs.
-defined() {
-    find "crates/$1/specs" -name declared -prune -o -name '*.antt' ! -name 'Worked*' -print | sort | xargs awk '
-        /^(abbrev |opaque |unfoldable )*pub (abbrev |opaque |unfoldable |data |record )*[^ ]+ *(:|\(|$)/ || /^pub (data|record) / {
-            sub(/^(abbrev |opaque |unfoldable |pub |data |record )+/, "")
-            print $1
-        }' | sort -u
+# untold CRATE: the places and words of its specs without a comment.
+untold() {
+    find "crates/$1/specs" -name declared -prune -o -name '*.antt' ! -name 'Worked*' -print | sort | xargs -r awk '
+        FNR == 1 { told = 0 }
+        /^[ \t]*$/ { told = 0 }
+        /^--/ { told = 1 }
+        /^((abbrev|opaque|unfoldable|pub|data|record) )+[^ ]+ *(:|\(|$)/ && !/^pub (mod|use) / && / ?pub / {
+            if (!told) print FILENAME ":" FNR ": " $0
+        }'
 }
 
 for folder in crates/*/; do
     crate=$(basename "$folder")
     [ -d "$folder/specs" ] || continue
-    told "$crate" >"$scratch/told"
-    defined "$crate" >"$scratch/defined"
-    untold=$(comm -13 "$scratch/told" "$scratch/defined")
-    if [ -z "$untold" ]; then
+    found=$(untold "$crate")
+    if [ -z "$found" ]; then
         passed=$((passed + 1))
     else
-        echo "definitions: $crate has words that docs/DEFINITIONS.md doesn't tell:"
-        echo "$untold"
+        echo "definitions: $crate has words without a comment:"
+        echo "$found"
         failed=$((failed + 1))
     fi
 done

@@ -9,6 +9,7 @@ use Rattle.hc_bitsum.specs.Rows.{IsRow, part}
 use Rattle.hc_bitsum.specs.Slots.{Slots}
 use Rattle.hc_bitsum.specs.Sums.{joined, sum_of}
 
+-- the areas of all rows of a branch in their order, those of 0 bits too, under its direction's keys from place 0 on; the height is three more than its levels
 abbrev pub slots_of : Branch → Slots
 slots_of branch = record { height = branch.levels + 3; areas = part branch.dir branch.rows.items 0 (length branch.rows.items) }
 
@@ -20,10 +21,12 @@ AreRowSums Some dir rows sums = (i : ℕ) → i < length rows → Some i → get
 abbrev pub AreForks : (ℕ → Type 0) → ℕ → List Sum → Type 0
 AreForks Some last sums = (k : ℕ) → 1 ≤ k → k < last → Some k → get_or sums k Empty ≡ joined (get_or sums (2 * k) Empty) (get_or sums (2 * k + 1) Empty)
 
+-- of n rows, node n + i is the sum of row i, from 0, and each node k from 1 to n - 1 the join of nodes 2k and 2k + 1
 pub record AreSums (dir : Dir) (rows : List (List ℕ)) (sums : List Sum) : Type 0 where
   pub leaves : AreRowSums (λ i. Unit {0}) dir rows sums
   pub forks : AreForks (λ k. Unit {0}) (length rows) sums
 
+-- it has at most 11 levels, 2 to the power of the levels rows, each of 8 narrow widths (`IsRow`), and twice as many nodes, which hold the sums (`AreSums`)
 pub record IsBranch (branch : Branch) : Type 0 where
   pub low : branch.levels ≤ 11
   pub many : length branch.rows.items ≡ 2 ^ branch.levels

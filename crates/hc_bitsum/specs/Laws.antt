@@ -15,6 +15,7 @@ use Rattle.hc_bitsum.specs.Tree.{with_width}
 abbrev pub JoiningIsAssociative : Type 0
 JoiningIsAssociative = (a b c : Sum) → joined (joined a b) c ≡ joined a (joined b c)
 
+-- this sum, joined before any sum or behind it, leaves that sum as it was
 pub record IsNeutral (empty : Sum) : Type 0 where
   pub before : (sum : Sum) → joined empty sum ≡ sum
   pub behind : (sum : Sum) → joined sum empty ≡ sum

@@ -21,6 +21,7 @@ scan room filled [] = Through filled
 scan room filled (area ∷ areas) =
     if nat_le (with_area filled area).bit room then scan room (with_area filled area) areas else Found area.0
 
+-- the key that a search found, or END where it went through all areas
 abbrev pub key_or_end : Fit → Key
 key_or_end (Found key) = key
 key_or_end (Through filled) = END

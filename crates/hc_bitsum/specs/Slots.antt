@@ -11,6 +11,7 @@ pub record Slots : Type 0 where
   pub height : ℕ
   pub areas : List Keyed
 
+-- its width is at most 11,888 bits; it may be 0
 abbrev pub IsNarrow : Keyed → Type 0
 IsNarrow area = area.1 ≤ MOST_AREA_BITS
 
@@ -24,6 +25,7 @@ pub record IsShaped (slots : Slots) : Type 0 where
 abbrev pub set_at : ℕ → ℕ → List Keyed → List Keyed
 set_at at bits areas = changed_at at (λ area. (area.0, bits)) areas
 
+-- the slots with that width set among their areas (`set_at`), of the same height
 abbrev pub with_bits : Slots → ℕ → ℕ → Slots
 with_bits slots at bits = record { height = slots.height; areas = set_at at bits slots.areas }
 

@@ -20,6 +20,7 @@ ends_by end = end 0 ∷ end 1 ∷ end 2 ∷ end 3 ∷ end 4 ∷ end 5 ∷ end 6 
 abbrev pub area_end : ℕ → ℕ → ℕ
 area_end bits bit = (if nat_le 8 bits then next_byte bit else bit) + bits
 
+-- the sum of one area: Empty for 0 bits, else a run whose first and last direction is its own, with its ends (`area_end`)
 abbrev pub sum_of_area : Dir → ℕ → Sum
 sum_of_area dir bits = if bits == 0 then Empty else Run dir dir (ends_by (area_end bits))
 

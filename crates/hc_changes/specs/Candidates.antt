@@ -27,6 +27,7 @@ pub record LineArea : Type 0 where
   pub index : ℕ
   pub area : Area
 
+-- the areas of a slave of a line, each as a `LineArea` with the slave and its index from 0, in record order
 abbrev pub areas_of : Member → List LineArea
 areas_of member = map (λ e. record { member = member; index = e.0; area = e.1 }) (enumerate_from 0 member.slave.areas)
 
@@ -46,6 +47,7 @@ abbrev pub is_recut : List Member → List Member → LineArea → Bool
 is_recut old new found =
     option_map_or (λ placed. not (is_kept_up_to (task_list found.area.task old) (task_list found.area.task new) placed.datagram placed.key)) (place_of new found) false
 
+-- its slave's rank is among the changed ones, or it stands in a datagram of the new line that wasn't kept up to it (`is_recut`)
 abbrev pub is_candidate : (ℕ → Bool) → List Member → List Member → LineArea → Bool
 is_candidate changed old new found = changed found.member.rank || is_recut old new found
 

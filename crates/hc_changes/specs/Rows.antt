@@ -34,6 +34,7 @@ area_variables_of area = entry_names (assigned_entries area)
 abbrev pub assigned_variables : List Area → List ℕ
 assigned_variables areas = flat_map area_variables_of areas
 
+-- an assigned PDO of one of the areas carries the variable
 abbrev pub is_assigned : ℕ → List Area → Bool
 is_assigned variable areas = list_any (λ other. other == variable) (assigned_variables areas)
 

@@ -9,6 +9,7 @@ use Rattle.hc_events.specs.Entries.{Record}
 use Rattle.hc_events.specs.Points.{state_of}
 use Rattle.hc_events.specs.Steps.{Step, Edits}
 
+-- the answer is a refusal for want of memory
 abbrev pub wants_memory : Answer → Bool
 wants_memory (answer.Refused Memory) = true
 wants_memory _ = false

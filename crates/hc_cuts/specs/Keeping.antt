@@ -31,9 +31,11 @@ KeptDatagramsAreKeptThroughout =
 
 -- the same by the keys at which datagrams begin and by hulls
 
+-- the interval from a key to the one at which, by these keys, the datagram behind a number, from 0, begins; to END where there is none
 abbrev pub span_from : List Key → ℕ → Key → Interval
 span_from starts datagram start = (start, slice_index_or (starts ++ END ∷ []) (datagram + 1) END)
 
+-- by both lists of keys the datagram with this number, from 0, begins at the same key, and the span from there to the next new key, or END, meets neither hull; false where a list ends before
 abbrev pub is_kept_by : Hulls → List Key → List Key → ℕ → Bool
 is_kept_by hulls old_starts new_starts datagram =
     option_map_or
@@ -41,6 +43,7 @@ is_kept_by hulls old_starts new_starts datagram =
     (slice_get new_starts datagram)
     false
 
+-- by both lists of keys the datagram with this number, from 0, begins at the same key, and the interval from there up to this key, both included, meets neither hull; false where a list ends before
 abbrev pub is_kept_up_to_by : Hulls → List Key → List Key → ℕ → Key → Bool
 is_kept_up_to_by hulls old_starts new_starts datagram key =
     option_map_or

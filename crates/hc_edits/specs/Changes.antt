@@ -77,9 +77,11 @@ change_by groups (Move station area task) = option_map Areas (areas_change group
 abbrev pub with_present : Bool → Declared → Declared
 with_present present declared = record declared { present = present }
 
+-- the slave with these areas in place of its own
 abbrev pub with_areas : List Area → Slave → Slave
 with_areas areas slave = record slave { areas = areas }
 
+-- the declared group, in which the slave at a place, from 0, has these areas in place of its own; as it was where it has no such slave
 abbrev pub with_slave : ℕ → List Area → Declared → Declared
 with_slave slave areas declared =
     record declared { group = record declared.group { slaves = changed_at slave (with_areas areas) declared.group.slaves } }

@@ -45,6 +45,7 @@ abbrev pub IsItemOf : List Member → Item → Head → Type 0
 IsItemOf line (DatagramItem task d) head = StandsIn line (task, d) × (head ≡ data_head line (task, d))
 IsItemOf line (Block station number) head = (block : LineBlock) × Contains (line_blocks line) block × (head ≡ write_head block)
 
+-- the line has the task's datagram or the register block that the head carries, and says of it the same command, address, length and expected working counter
 abbrev pub IsHeadOf : List Member → Head → Type 0
 IsHeadOf line head = IsItemOf line head.item head
 
@@ -95,6 +96,7 @@ good_part since line pair =
     then record { task = pair.0.0; datagram = pair.0.1; bytes = pair.1.bytes } ∷ []
     else []
 
+-- the `good_part` of each datagram of a frame with the part in its place, in order, as far as both go; none of an entry that isn't a frame of tasks
 abbrev pub good_parts : List Entry → List Member → Entry → List Part → List Fresh
 good_parts since line (Sent frame) parts = flat_map (good_part since line) (zip frame parts)
 good_parts since line entry parts = []

@@ -13,9 +13,11 @@ pub record Sending : Type 0 where
   pub heads : List Head
   pub since : List Entry
 
+-- the sending with these heads since which nothing was recorded
 abbrev pub just_sent : List Head → Sending
 just_sent heads = record { heads = heads; since = [] }
 
+-- the sending with one more entry since, put before the others as the newest
 abbrev pub followed_by : Entry → Sending → Sending
 followed_by entry sending = record { heads = sending.heads; since = entry ∷ sending.since }
 
@@ -58,6 +60,7 @@ abbrev pub is_answer : Arrival → Sending → Bool
 is_answer arrival sending =
     fits arrival.serial sending.heads arrival && not (list_any (ends arrival.serial sending.heads) sending.since)
 
+-- `x` where it passes the test, else none
 abbrev pub only_if : {X : Type 0} → (X → Bool) → X → Option X
 only_if test x = if test x then Some x else None
 
@@ -76,11 +79,13 @@ pub data Verdict : Type 0 where
   Wrong : Verdict
   Stale : Verdict
 
+-- the verdict is `Good`: the expected working counter came back, and the same wasn't sent again since
 abbrev pub is_good : Verdict → Bool
 is_good Good = true
 is_good Wrong = false
 is_good Stale = false
 
+-- the verdict is `Stale`: the same datagram or block was sent again since
 abbrev pub is_stale : Verdict → Bool
 is_stale Good = false
 is_stale Wrong = false
@@ -96,9 +101,11 @@ pub record Judged : Type 0 where
   pub part : Part
   pub verdict : Verdict
 
+-- a head and what came back of it, with the verdict that follows from the entries since the sending
 abbrev pub judge : List Entry → Head × Part → Judged
 judge since pair = record { head = pair.0; part = pair.1; verdict = verdict since pair.0 pair.1 }
 
+-- the sending's heads in order, each with the arrival's datagram in its place and the verdict, as far as both go; whether the arrival fits isn't looked at
 abbrev pub judged : Arrival → Sending → List Judged
 judged arrival sending = map (judge sending.since) (zip sending.heads arrival.parts)
 
@@ -106,9 +113,11 @@ judged arrival sending = map (judge sending.since) (zip sending.heads arrival.pa
 abbrev pub judged_by : Record → Arrival → List Judged
 judged_by past arrival = option_map_or (judged arrival) (answered_by past arrival) []
 
+-- the judged datagram is good or wrong, not stale
 abbrev pub is_news : Judged → Bool
 is_news datagram = not (is_stale datagram.verdict)
 
+-- the judged datagram's verdict is `Good`
 abbrev pub has_good : Judged → Bool
 has_good datagram = is_good datagram.verdict
 

@@ -12,9 +12,11 @@ Part = Carried
 abbrev pub Arrival : Type 0
 Arrival = Reading
 
+-- the arrival where there is no fault, else the fault
 abbrev pub read_unless : Option FrameFault → Arrival → Result Arrival FrameFault
 read_unless None arrival = Ok arrival
 read_unless (Some fault) arrival = Err fault
 
+-- what bytes that arrived are read as: the first fault for which they can't be read (`fault_in`), or else their serial and datagrams
 abbrev pub arrival_in : List ℕ → Result Arrival FrameFault
 arrival_in bytes = read_unless (fault_in bytes) (reading_of bytes)

@@ -13,6 +13,7 @@ is_ended serial sending = list_any (ends serial sending.heads) sending.since
 abbrev pub all_sent_again : List Entry → List Head → Bool
 all_sent_again since heads = list_all (λ head. list_any (sends head.item) since) heads
 
+-- the entry is of another kind than a frame that arrived (`Came`)
 abbrev pub is_no_arrival : Entry → Bool
 is_no_arrival (Came arrival) = false
 is_no_arrival entry = true

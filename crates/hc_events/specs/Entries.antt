@@ -15,5 +15,6 @@ pub data Entry : Type 0 where
   Wrote : LineBlock → Entry
   Came : Arrival → Entry
 
+-- a list of entries, the newest first: what the core accepted since a project was opened
 abbrev pub Record : Type 0
 Record = List Entry

@@ -14,12 +14,14 @@ pub data Item : Type 0 where
   Datagram : ℕ → ℕ → Item
   Block : ℕ → ℕ → Item
 
+-- both are the same datagram of a task, by task and number, or both the same register block, by station address and number
 abbrev pub same_item : Item → Item → Bool
 same_item (Datagram task d) (Datagram other e) = (task == other) && (d == e)
 same_item (Block station number) (Block other n) = (station == other) && (number == n)
 same_item (Datagram task d) (Block other n) = false
 same_item (Block station number) (Datagram other e) = false
 
+-- the item is a register block, not a task's datagram
 abbrev pub is_block : Item → Bool
 is_block (Datagram task d) = false
 is_block (Block station number) = true
@@ -32,6 +34,7 @@ pub record Head : Type 0 where
   pub length : ℕ
   pub expected : ℕ
 
+-- a task's datagram as what a sent datagram carries: its task and its number
 abbrev pub item_of : Named → Item
 item_of named = Datagram named.0 named.1
 
@@ -41,6 +44,7 @@ data_head line named =
     let found = datagram_of line named.0 named.1 in
     record { item = item_of named; command = Lrw; address = found.address; length = found.length; expected = found.expected }
 
+-- the heads of a frame's datagrams by the line, in order
 abbrev pub data_heads : List Member → List Named → List Head
 data_heads line frame = map (data_head line) frame
 
@@ -48,6 +52,7 @@ data_heads line frame = map (data_head line) frame
 abbrev pub block_item : LineBlock → Item
 block_item block = Block block.station block.number
 
+-- the head of a block's write: FPWR to its register at the slave's station address, as many data bytes as the block has, and 1 as the expected working counter
 abbrev pub write_head : LineBlock → Head
 write_head block = record {
   item = block_item block;

@@ -14,10 +14,12 @@ pub record Fresh : Type 0 where
   pub datagram : ℕ
   pub bytes : List ℕ
 
+-- a list of one, the good answer of a task's datagram with these data; empty for a register block
 abbrev pub fresh_item : Item → List ℕ → List Fresh
 fresh_item (Datagram task d) bytes = record { task = task; datagram = d; bytes = bytes } ∷ []
 fresh_item (Block station number) bytes = []
 
+-- the good answer that a judged datagram gives its task, in a list of one; empty where it isn't good or is a register block
 abbrev pub fresh : Judged → List Fresh
 fresh datagram = if has_good datagram then fresh_item datagram.head.item datagram.part.bytes else []
 
@@ -29,6 +31,7 @@ fresh_by past arrival = flat_map fresh (judged_by past arrival)
 abbrev pub is_for : ℕ → ℕ → Fresh → Bool
 is_for task d good = (good.task == task) && (good.datagram == d)
 
+-- the data of a datagram once a good answer came: that answer's where it is of this datagram, else those of `slot`, if any
 abbrev pub renewed : ℕ → ℕ → Option (List ℕ) → Fresh → Option (List ℕ)
 renewed task d slot good = if is_for task d good then Some good.bytes else slot
 

@@ -18,6 +18,7 @@ image_bit line place k = 8 * datagram_offset (task_places place.task line) place
 abbrev pub is_posted : ℕ → VariablePlace → Bool
 is_posted task place = place.task == task
 
+-- bit `k` of a variable behind a post: its bit in the posted bytes where it has a place and this is in the posted task, else `before`
 abbrev pub posted_bit : List Member → ℕ → List ℕ → ℕ → Option VariablePlace → ℕ → ℕ
 posted_bit line task bytes k place before =
     option_map_or (λ found. if is_posted task found then bit_of bytes (image_bit line found k) else before) place before
@@ -37,6 +38,7 @@ value_bit (entry ∷ past) variable k = value_bit past variable k
 abbrev pub is_output_in : ℕ → ℕ × VariablePlace → Bool
 is_output_in d found = same_dir found.1.dir Out && (found.1.datagram == d)
 
+-- the output variables that stand in a datagram of a task, each with its place, in the order of the task's list and of their areas' entries
 abbrev pub outputs_in : List Member → ℕ → ℕ → List (ℕ × VariablePlace)
 outputs_in line task d = filter (is_output_in d) (task_variables line task)
 
@@ -52,6 +54,7 @@ sent_bit past outputs k = option_map_or (λ found. value_bit past found.0 (k - f
 abbrev pub byte_of : (ℕ → ℕ) → ℕ → ℕ
 byte_of bit n = number_of (map (λ k. bit (8 * n + k)) (range_with_len 0 8))
 
+-- `length` bytes, from byte 0 on, whose bits `bit` tells by their numbers: those of byte n from 8 * n on, the least significant first (`byte_of`)
 abbrev pub bytes_of : (ℕ → ℕ) → ℕ → List ℕ
 bytes_of bit length = map (byte_of bit) (range_with_len 0 length)
 

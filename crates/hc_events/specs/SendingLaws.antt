@@ -22,6 +22,7 @@ is_sending (Sent frame) = true
 is_sending (Wrote block) = true
 is_sending entry = false
 
+-- the entry is the project's opening
 abbrev pub is_opening : Entry → Bool
 is_opening (Opened groups) = true
 is_opening entry = false
@@ -62,6 +63,7 @@ SerialsStayBelow =
     (groups : List Group) (steps : List Step) (serial : ℕ) (sending : Sending) → sending_of (record_of groups steps) serial ≡ Some sending
     → serial < SETUP_SERIAL
 
+-- the entry is a frame of tasks
 abbrev pub is_frame : Entry → Bool
 is_frame (Sent frame) = true
 is_frame entry = false

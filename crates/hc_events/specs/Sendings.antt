@@ -43,6 +43,7 @@ pub record IsFilled (bytes : ℕ) (datagrams : List Named) : Type 0 where
 abbrev pub task_datagrams : List Member → ℕ → List Named
 task_datagrams line task = map (λ d. (task, d)) (range_with_len 0 (datagram_count (task_places task line)))
 
+-- the number of data bytes that a task's datagram has in the line; 0 where the line has no such datagram
 abbrev pub length_of : List Member → Named → ℕ
 length_of line named = datagram_length (task_places named.0 line) named.1
 
@@ -54,6 +55,7 @@ framed_behind line sending (datagram ∷ datagrams) =
     then framed_behind line (joined sending datagram (length_of line datagram)) datagrams
     else sending ∷ framed_behind line (alone (sending.serial + 1) datagram (length_of line datagram)) datagrams
 
+-- the datagrams in frames, in order, the first frame with this serial; no frame where there is no datagram
 abbrev pub framed : List Member → ℕ → List Named → List Frame
 framed line serial [] = []
 framed line serial (datagram ∷ datagrams) = framed_behind line (alone serial datagram (length_of line datagram)) datagrams

@@ -45,23 +45,28 @@ abbrev pub unless : Option CoreFault → Answer → Answer
 unless None told = told
 unless (Some fault) told = answer.Refused fault
 
+-- the record `past` where there is a fault, else `next`
 abbrev pub kept_if : Option CoreFault → Record → Record → Record
 kept_if None past next = next
 kept_if (Some fault) past next = past
 
 -- an edit
 
+-- the lowest fault of the edit in the record's state, as the core's fault; none where the state accepts it
 abbrev pub edit_refused : Record → Edit → Option CoreFault
 edit_refused past edit = option_map edit_refusal (lowest (edit_faults (state_of past) edit))
 
+-- the answer to an accepted edit that led from one state to another: the new epoch, how many spans are recut, and how many blocks moved
 abbrev pub told_of_edit : State → State → Answer
 told_of_edit old new = answer.Edited new.epoch (recut (line old) (line new)) (moved (line old) (line new))
 
 -- a post
 
+-- the number is over 7, so it is no task's
 abbrev pub is_no_task : ℕ → Bool
 is_no_task task = not (nat_lt task TASKS)
 
+-- what refuses a post, in order: 8 no such task, 15 another epoch than the present one, 16 not the task's number of output bytes
 abbrev pub post_faults : Record → ℕ → ℕ → List ℕ → List (Bool × CoreFault)
 post_faults past task epoch bytes =
     (is_no_task task, NoSuchTask)
@@ -75,12 +80,15 @@ post_faults past task epoch bytes =
 abbrev pub serials_left : ℕ → ℕ → Bool
 serials_left serial sendings = not (nat_lt SETUP_SERIAL (serial + sendings))
 
+-- from the next serial on, so many are left below that of alias reads and station writes
 abbrev pub has_serials : Record → ℕ → Bool
 has_serials past sendings = serials_left (next_serial past) sendings
 
+-- the frames in which the tasks would be sent next, in the given order, from the next serial on, whether or not that is refused; none where they have no datagram
 abbrev pub proposal : Record → List ℕ → List Frame
 proposal past tasks = sendings_of (line_of past) (next_serial past) tasks
 
+-- what refuses sending the tasks, in order: 8 one is no task, 17 blocks are owed, with their number, 19 fewer serials are left than frames
 abbrev pub task_faults : Record → List ℕ → List (Bool × CoreFault)
 task_faults past tasks =
     (list_any is_no_task tasks, NoSuchTask)
@@ -92,6 +100,7 @@ task_faults past tasks =
 abbrev pub sent_datagram : Record → Named → Datagram
 sent_datagram past named = lrw (logical_address named.0 named.1) (sent_data past named.0 named.1)
 
+-- the bytes of a frame of tasks as it is sent behind the record: with its own serial, and its datagrams as `sent_datagram` says
 abbrev pub sent_text : Record → Frame → List ℕ
 sent_text past sending = frame_text sending.serial (map (sent_datagram past) sending.datagrams)
 
@@ -102,16 +111,20 @@ with_sent past (sending ∷ sendings) = with_sent (Sent sending.datagrams ∷ pa
 
 -- a register write: that of the first owed block
 
+-- what refuses a register write where these blocks are owed, in order: 18 there are none, 19 no serial is left
 abbrev pub write_faults : Record → List LineBlock → List (Bool × CoreFault)
 write_faults past blocks = (length blocks == 0, NothingOwed) ∷ (not (has_serials past 1), SerialsSpent) ∷ []
 
+-- the bytes of the frame with this serial that writes the block's bytes to its register in its slave
 abbrev pub write_text : ℕ → LineBlock → List ℕ
 write_text serial block = frame_text serial (block_write block.station block.block.register block.block.bytes ∷ [])
 
+-- the answer to a register write where these blocks are owed: the frame of the first one, with this serial; refusal 18 where there are none
 abbrev pub told_of_write : ℕ → List LineBlock → Answer
 told_of_write serial [] = answer.Refused NothingOwed
 told_of_write serial (block ∷ blocks) = answer.WriteSent (write_text serial block)
 
+-- the record with the write of the first of these blocks as its newest entry; as it was where there are none
 abbrev pub with_write : Record → List LineBlock → Record
 with_write past [] = past
 with_write past (block ∷ blocks) = Wrote block ∷ past
@@ -123,35 +136,42 @@ abbrev pub inputs_of : Item → Outcome
 inputs_of (DatagramItem task d) = outcome.Inputs task d
 inputs_of (Block station number) = outcome.Stale
 
+-- what is told of a datagram by its verdict: `inputs_of` its item where good, `WrongCount` with the head's expected counter and the one that came where wrong, `Stale` where stale
 abbrev pub outcome_of : Head → Part → Verdict → Outcome
 outcome_of head part Good = inputs_of head.item
 outcome_of head part Wrong = outcome.WrongCount head.expected part.counter
 outcome_of head part Stale = outcome.Stale
 
+-- what is told of a judged datagram of a task: `Inputs` where it is good, `WrongCount` with the expected counter and the one that came where it is wrong, `Stale` where it is stale
 abbrev pub outcome_for : Judged → Outcome
 outcome_for datagram = outcome_of datagram.head datagram.part datagram.verdict
 
+-- the answer to an arrival that answers a register write: `WriteDone` where it is good, `WriteMissed` where it is wrong, `Stale` where it is stale
 abbrev pub told_of_block : Verdict → Answer
 told_of_block Good = answer.WriteDone
 told_of_block Wrong = answer.WriteMissed
 told_of_block Stale = answer.Stale
 
+-- the answer to an arrival by its judged datagrams: by the first one's verdict (`told_of_block`) where that is a register block, else `Answered` with what each is; `Stale` where all are stale or there is none
 abbrev pub told_of : List Judged → Answer
 told_of [] = answer.Stale
 told_of (datagram ∷ datagrams) =
     if is_block datagram.head.item then told_of_block datagram.verdict
     else (if list_any is_news (datagram ∷ datagrams) then answer.Answered (map outcome_for (datagram ∷ datagrams)) else answer.Stale)
 
+-- the answer to an arrival as it was read: the refusal with the fault for which it can't be read, else what is told of the datagrams that it answers (`judged_by`)
 abbrev pub told_of_arrival : Record → Result Arrival FrameFault → Answer
 told_of_arrival past (Err fault) = answer.Refused (frame_refusal fault)
 told_of_arrival past (Ok arrival) = told_of (judged_by past arrival)
 
+-- the record with the arrival as its newest entry; as it was where the arrival couldn't be read
 abbrev pub with_arrival : Record → Result Arrival FrameFault → Record
 with_arrival past (Err fault) = past
 with_arrival past (Ok arrival) = Came arrival ∷ past
 
 -- what a task reads
 
+-- what refuses a read: 8 no such task
 abbrev pub read_faults : ℕ → List (Bool × CoreFault)
 read_faults task = (is_no_task task, NoSuchTask) ∷ []
 
@@ -190,6 +210,7 @@ abbrev pub answers_to : Record → List Step → List Answer
 answers_to past [] = []
 answers_to past (step ∷ steps) = answer_to past step ∷ answers_to (entries_after past step) steps
 
+-- the record that the events leave, one after another, from this record on
 abbrev pub entries_after_all : Record → List Step → Record
 entries_after_all past [] = past
 entries_after_all past (step ∷ steps) = entries_after_all (entries_after past step) steps

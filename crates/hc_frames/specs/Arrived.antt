@@ -15,6 +15,7 @@ use Rattle.hc_frames.specs.FrameText.{Carried}
 abbrev pub word_at : List ℕ → ℕ → ℕ
 word_at bytes at = slice_index bytes at + 256 * slice_index bytes (at + 1)
 
+-- the number in the four bytes from byte `at` on, counted from 0, low byte first; a byte that is missing counts as 0
 abbrev pub long_at : List ℕ → ℕ → ℕ
 long_at bytes at = word_at bytes at + 65536 * word_at bytes (at + 2)
 
@@ -56,6 +57,7 @@ says_more bytes = nat_le 32768 (word_at bytes 6)
 abbrev pub is_unknown : List ℕ → Bool
 is_unknown bytes = is_none (command_of (slice_index bytes 0))
 
+-- the second byte of the datagram at the front isn't this index
 abbrev pub has_other_index : ℕ → List ℕ → Bool
 has_other_index index bytes = not (slice_index bytes 1 == index)
 
@@ -77,6 +79,7 @@ starts_within zero bytes = []
 starts_within (suc n) [] = []
 starts_within (suc n) (b ∷ bytes) = (b ∷ bytes) ∷ starts_within n (drop (12 + data_size (b ∷ bytes)) (b ∷ bytes))
 
+-- datagrams in a row, each as all bytes from its first one to the end: the first at the front, each next one 12 bytes and the data bytes further, as long as bytes are left
 abbrev pub datagrams_in : List ℕ → List (List ℕ)
 datagrams_in bytes = starts_within (length bytes) bytes
 
@@ -142,6 +145,7 @@ fault_in bytes =
 
 -- ---- what a readable frame tells
 
+-- what a readable frame tells: its serial and its datagrams in order
 pub record Reading : Type 0 where
   pub serial : ℕ
   pub parts : List Carried

@@ -58,6 +58,7 @@ pub record Datagram : Type 0 where
 abbrev pub sent : Datagram → Carried
 sent d = record { command = d.command; address = d.address; interrupt = 0; bytes = d.bytes; counter = 0 }
 
+-- the ten bytes before a datagram's data as it is sent, with the interrupt field 0
 abbrev pub datagram_head : ℕ → Command → ℕ → ℕ → Bool → List ℕ
 datagram_head index command address size more = carried_head index command address size more 0
 

@@ -17,6 +17,7 @@ abbrev pub first_address : List (ℕ × ℕ) → ℕ
 first_address [] = 0
 first_address (d ∷ ds) = d.0
 
+-- there are two datagrams or more: the first is followed by another
 abbrev pub more_follow : List (ℕ × ℕ) → Bool
 more_follow [] = false
 more_follow (d ∷ []) = false

@@ -13,6 +13,7 @@ LendsData out serial address more part = Lends (Array u8 0) (Array u8 0) out par
 abbrev pub with_frame : List ℕ → ℕ → ℕ → ℕ → List ℕ → List ℕ
 with_frame out serial address size bytes = frame_text serial (lrw address bytes ∷ []) ++ drop (frame_size size) out
 
+-- once the loan of the data part is over, the slice has the frame with the data that were left in the part, and behind it what stood there (`with_frame`)
 abbrev pub LendsFrameData : MutBor (List ℕ) → ℕ → ℕ → ℕ → MutBor (List ℕ) → Fml
 LendsFrameData out serial address size part = Lends (Array u8 0) (Array u8 0) out part (with_frame out.now serial address size)
 

@@ -45,6 +45,7 @@ IsAddressed Apwr = ⊥
 IsAddressed Fpwr = Unit {0}
 IsAddressed Lrw = Unit {0}
 
+-- each of the datagrams to be sent is an FPWR or LRW; so of none
 abbrev pub AllAddressed : List Datagram → Type 0
 AllAddressed [] = Unit {0}
 AllAddressed (d ∷ ds) = IsAddressed d.command × AllAddressed ds

@@ -12,6 +12,7 @@ use Rattle.hc_index.specs.declared.seats.Seat.{Seat}
 
 -- the aliases of all declared groups, present or not, each with the group's number from 0, in declared order
 
+-- of a number and a declared group the `Alias`: the group's configured station alias with that number
 abbrev pub alias_of : ℕ × Declared → Alias
 alias_of numbered = record { alias = numbered.1.group.alias; group = numbered.0 }
 
@@ -22,6 +23,7 @@ aliases groups = map alias_of (enumerate_from 0 groups)
 abbrev pub all_present : List Declared → List Declared
 all_present groups = map (λ (declared : Declared). record declared { present = true }) groups
 
+-- the station address of a slave with its rank (`Address`)
 abbrev pub address_of : Member → Address
 address_of member = record { station = member.slave.station; rank = member.rank }
 

@@ -17,6 +17,7 @@ Bytes = List (List ℕ)
 abbrev pub slot_number : ℕ → ℕ → ℕ
 slot_number task d = MOST_DATAGRAMS * task + d
 
+-- of lists of bytes (`Bytes`) the one at the datagram's `slot_number`; empty where the lists end before it
 abbrev pub bytes_of : Bytes → ℕ → ℕ → List ℕ
 bytes_of bytes task d = slice_index_or bytes (slot_number task d) []
 
@@ -24,6 +25,7 @@ bytes_of bytes task d = slice_index_or bytes (slot_number task d) []
 abbrev pub length_in : Table → ℕ → ℕ → ℕ
 length_in table task d = option_map_or (λ datagram. datagram.length) (datagram_in table task d) 0
 
+-- the byte of its task's image, counted from 0, at which a datagram's data begin; 0 where the table has no such datagram
 abbrev pub offset_in : Table → ℕ → ℕ → ℕ
 offset_in table task d = option_map_or (λ datagram. datagram.offset) (datagram_in table task d) 0
 

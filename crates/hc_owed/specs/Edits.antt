@@ -9,6 +9,7 @@ use Rattle.hc_plan.specs.declared.report.Report.{Report}
 use Rattle.hc_plan.specs.Reports.{Tells, name_of}
 use Rattle.hc_owed.specs.Kept.{Kept, differs, name_kept, unknown}
 
+-- two names of blocks have the same station address and the same number
 abbrev pub same_name : ℕ × ℕ → ℕ × ℕ → Bool
 same_name a b = (a.0 == b.0) && (a.1 == b.1)
 

@@ -4,6 +4,7 @@ use Rattle.hc_owed.specs.declared.entries.Entry.{Entry}
 use Rattle.hc_owed.specs.Kept.{Kept}
 use Rattle.hc_owed.specs.Flags.{Flags}
 
+-- what is kept of a block, by its entry, which has its name and known bytes, and the flag that says whether it is owed
 abbrev pub kept : Entry → Bool → Kept
 kept entry owed = record {
   station = entry.station;
@@ -12,6 +13,7 @@ kept entry owed = record {
   owed = owed;
 }
 
+-- what is kept of blocks: each entry with the flag in its place that says whether it is owed, up to the end of the shorter list
 abbrev pub kept_list : List Entry → List Bool → List Kept
 kept_list [] flags = []
 kept_list (entry ∷ entries) [] = []
@@ -21,6 +23,7 @@ kept_list (entry ∷ entries) (owed ∷ flags) = kept entry owed ∷ kept_list e
 abbrev pub learnt : List ℕ → Kept → Kept
 learnt bytes block = record block { known = Some bytes }
 
+-- a kept block that is owed or not as told; its known bytes are those of before
 abbrev pub judged : Bool → Kept → Kept
 judged owed block = record block { owed = owed }
 
@@ -28,6 +31,7 @@ judged owed block = record block { owed = owed }
 abbrev pub one : Bool → ℕ
 one owed = if owed then 1 else 0
 
+-- how many of the flags are set
 abbrev pub set_count : List Bool → ℕ
 set_count [] = 0
 set_count (flag ∷ flags) = one flag + set_count flags

@@ -12,6 +12,7 @@ abbrev pub begins_with : ℕ → List Kept → Bool
 begins_with station [] = false
 begins_with station (kept ∷ rest) = kept.station == station
 
+-- the first of the old kept blocks is of this slave, and they are at least as many as the slave's blocks
 abbrev pub goes_on : Slave → List Kept → Bool
 goes_on slave old = begins_with slave.station old && nat_le (block_count slave) (length old)
 
@@ -19,6 +20,7 @@ goes_on slave old = begins_with slave.station old && nat_le (block_count slave) 
 abbrev pub unknown_at : ℕ → ℕ → Kept
 unknown_at station number = record { station = station; number = number; known = None; owed = true }
 
+-- what is kept of a slave's blocks, numbered from 0, where nothing is known of any: all are owed
 abbrev pub all_unknown : Slave → List Kept
 all_unknown slave = map (unknown_at slave.station) (range_with_len 0 (block_count slave))
 
@@ -27,6 +29,7 @@ abbrev pub slave_kept : Bool → Slave → List Kept → List Kept
 slave_kept false slave old = []
 slave_kept true slave old = if goes_on slave old then take (block_count slave) old else all_unknown slave
 
+-- the old list without as many blocks from its front as the slave has, where it `goes_on` with the slave; else all of it
 abbrev pub slave_left : Slave → List Kept → List Kept
 slave_left slave old = if goes_on slave old then drop (block_count slave) old else old
 
@@ -35,10 +38,12 @@ abbrev pub slaves_left : List Slave → List Kept → List Kept
 slaves_left [] old = old
 slaves_left (slave ∷ slaves) old = slaves_left slaves (slave_left slave old)
 
+-- what is kept of the blocks of slaves, which are all present or all absent, each taken from what those before it left of the old list
 abbrev pub slaves_kept : Bool → List Slave → List Kept → List Kept
 slaves_kept present [] old = []
 slaves_kept present (slave ∷ slaves) old = slave_kept present slave old ++ slaves_kept present slaves (slave_left slave old)
 
+-- what is kept of the blocks of declared groups in turn; those of absent groups' slaves are dropped from the old list
 abbrev pub groups_kept : List Declared → List Kept → List Kept
 groups_kept [] old = []
 groups_kept (declared ∷ rest) old =

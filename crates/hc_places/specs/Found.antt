@@ -22,5 +22,6 @@ pub record SuitsPlace (placed : Placed) (area : Area) : Type 0 where
   pub bits : placed.bits ≡ width area
   pub offers : OffersBits area
 
+-- the area that a place's key names among the slaves' areas, if there is one, suits the place (`SuitsPlace`)
 abbrev pub IsFoundSuiting : List (List Area) → Placed → Type 0
 IsFoundSuiting slaves placed = (area : Area) → area_in slaves placed.key ≡ Some area → SuitsPlace placed area

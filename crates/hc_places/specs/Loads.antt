@@ -89,6 +89,7 @@ told_of table datagram = record {
 abbrev pub no_load : Load
 no_load = record { length = 0; expected = 0; outputs = 0 }
 
+-- what a task's table tells of the datagram with a number (`told_of`); `no_load` where it has no such datagram
 abbrev pub load_in_table : TaskTable → ℕ → Load
 load_in_table table datagram = option_map_or (told_of table) (slice_get table.datagrams datagram) no_load
 

@@ -32,6 +32,7 @@ line_block_at line n = option_map (λ found. at_station found.station found.bloc
 abbrev pub station_at : List Member → ℕ → Option ℕ
 station_at line n = option_map (λ member. member.slave.station) (slice_get line n)
 
+-- the number that was found; the fault where none was
 abbrev pub found_or : Option ℕ → EditFault → Result ℕ EditFault
 found_or None fault = Err fault
 found_or (Some n) fault = Ok n

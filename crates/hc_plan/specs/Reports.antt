@@ -24,6 +24,7 @@ pub record Tells (old : State) (edit : Edit) (new : State) (report : Report) : T
   pub says : SaysWhatDiffers (table_of (line old)) (table_of (line new)) report.swap.change
   pub places : changed_places report.swap ≡ length (changed_variables (table_of (line old)) (table_of (line new)))
 
+-- what an edit answers: a report, or a fault
 abbrev pub Answer : Type 0
 Answer = Result Report EditFault
 

@@ -25,6 +25,7 @@ abbrev pub array_of : {X : Type 0} → ℕ → ℕ → (Data → Reading X) → 
 array_of least most one None = missing []
 array_of least most one (Some ds) = sized least most (each one ds)
 
+-- `array_of` what is found at a key; an absent value and one that is no array are missing
 abbrev pub needed_array : {X : Type 0} → ℕ → ℕ → (Data → Reading X) → Option Data → Reading (List X)
 needed_array least most one found = array_of least most one (option_and_then as_array found)
 

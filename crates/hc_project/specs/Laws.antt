@@ -38,12 +38,15 @@ abbrev pub DocumentsReadTheirKeys : Type 0
 DocumentsReadTheirKeys =
     (a b : Data) → AgreeAt (codes "slave") a b → AgreeAt (codes "group") a b → declared_groups a ≡ declared_groups b
 
+-- values that agree at `alias` and `slave` are read as the same group, with the same flaws
 abbrev pub GroupsReadTheirKeys : Type 0
 GroupsReadTheirKeys = (a b : Data) → AgreeAt (codes "alias") a b → AgreeAt (codes "slave") a b → group a ≡ group b
 
+-- values that agree at `station` and `area` are read as the same slave, with the same flaws
 abbrev pub SlavesReadTheirKeys : Type 0
 SlavesReadTheirKeys = (a b : Data) → AgreeAt (codes "station") a b → AgreeAt (codes "area") a b → slave a ≡ slave b
 
+-- values that agree at `sm`, `dir`, `phys`, `task`, `assigned` and `pdo` are read as the same area, with the same flaws
 abbrev pub AreasReadTheirKeys : Type 0
 AreasReadTheirKeys =
     (a b : Data)
@@ -62,21 +65,26 @@ PdosReadTheirKeys = (a b : Data) → AgreeAt (codes "index") a b → AgreeAt (co
 abbrev pub array_by : {X : Type 0} → (X → Data) → List X → Data
 array_by one xs = array (items_of (map one xs))
 
+-- a number as a TOML integer
 abbrev pub number_tree : ℕ → Data
 number_tree n = integer (pos n)
 
+-- a direction as a TOML string, `out` or `in`
 abbrev pub dir_tree : Dir → Data
 dir_tree Out = string (codes "out")
 dir_tree In = string (codes "in")
 
+-- a TOML array of two integers: the entry's variable, 0 for a gap, and its bits
 abbrev pub entry_tree : Entry → Data
 entry_tree entry = array (item (number_tree (unwrap_or entry.0 0)) (item (number_tree entry.1) no_items))
 
+-- a TOML table of the PDO's `entries` and `index`
 abbrev pub pdo_tree : Pdo → Data
 pdo_tree pdo =
     table (member (codes "entries") (array_by entry_tree pdo.entries)
     (member (codes "index") (number_tree pdo.index) no_members))
 
+-- a TOML table of the area's `assigned`, `dir`, `pdo` (the PDOs that it offers), `phys`, `sm` and `task`
 abbrev pub area_tree : Area → Data
 area_tree area =
     table (member (codes "assigned") (array_by number_tree area.assigned)
@@ -86,16 +94,19 @@ area_tree area =
     (member (codes "sm") (number_tree area.sm)
     (member (codes "task") (number_tree area.task) no_members))))))
 
+-- a TOML table of the slave's `area` (an array of its areas) and `station`
 abbrev pub slave_tree : Slave → Data
 slave_tree slave =
     table (member (codes "area") (array_by area_tree slave.areas)
     (member (codes "station") (number_tree slave.station) no_members))
 
+-- a TOML table of the group's `alias` and `slave` (an array of its slaves)
 abbrev pub group_tree : Group → Data
 group_tree group =
     table (member (codes "alias") (number_tree group.alias)
     (member (codes "slave") (array_by slave_tree group.slaves) no_members))
 
+-- the keys of a project's document: `group`, the groups behind the first, and `slave`, the slaves of the first, whose alias isn't written; of no groups there are no keys
 abbrev pub project_tree : List Group → Members
 project_tree [] = no_members
 project_tree (mandatory ∷ others) =
@@ -106,21 +117,27 @@ project_tree (mandatory ∷ others) =
 abbrev pub variable_unheld : ℕ → Bool
 variable_unheld variable = is_outside 1 4294967295 variable
 
+-- the entry's variable is unheld (`variable_unheld`); a gap's isn't, and the bits aren't judged
 abbrev pub entry_unheld : Entry → Bool
 entry_unheld entry = option_map_or variable_unheld entry.0 false
 
+-- a number is over 65,535
 abbrev pub word_unheld : ℕ → Bool
 word_unheld n = nat_lt 65535 n
 
+-- the PDO's index is over 65,535, or one of its entries is unheld (`entry_unheld`)
 abbrev pub pdo_unheld : Pdo → Bool
 pdo_unheld pdo = word_unheld pdo.index || list_any entry_unheld pdo.entries
 
+-- an assigned index is over 65,535, or one of the offered PDOs is unheld (`pdo_unheld`); its other numbers aren't judged
 abbrev pub area_unheld : Area → Bool
 area_unheld area = list_any word_unheld area.assigned || list_any pdo_unheld area.offered
 
+-- the station address is over 65,535, or one of the slave's areas is unheld (`area_unheld`)
 abbrev pub slave_unheld : Slave → Bool
 slave_unheld slave = word_unheld slave.station || list_any area_unheld slave.areas
 
+-- the alias is over 65,535, or one of the group's slaves is unheld (`slave_unheld`)
 abbrev pub group_unheld : Group → Bool
 group_unheld group = word_unheld group.alias || list_any slave_unheld group.slaves
 

@@ -4,6 +4,7 @@ use Rattle.std.specs.List.{list_any}
 use Rattle.hc_project.specs.declared.reading.Flaws.{Flaws}
 use Rattle.hc_project.specs.declared.reading.Reading.{Reading}
 
+-- neither of the two flaws: nothing is missing, nothing outside
 abbrev pub no_flaws : Flaws
 no_flaws = record { missing = false; outside = false }
 
@@ -11,6 +12,7 @@ no_flaws = record { missing = false; outside = false }
 abbrev pub both : Flaws → Flaws → Flaws
 both a b = record { missing = a.missing || b.missing; outside = a.outside || b.outside }
 
+-- the flaws of several values together: each one that any of them has; no flaws of an empty list
 abbrev pub joined : List Flaws → Flaws
 joined list = record { missing = list_any (λ flaws. flaws.missing) list; outside = list_any (λ flaws. flaws.outside) list }
 
@@ -22,5 +24,6 @@ right x = record { value = x; flaws = no_flaws }
 abbrev pub missing : {X : Type 0} → X → Reading X
 missing x = record { value = x; flaws = record { missing = true; outside = false } }
 
+-- a value in place of one outside its range, with the outside flaw alone
 abbrev pub outside : {X : Type 0} → X → Reading X
 outside x = record { value = x; flaws = record { missing = false; outside = true } }

@@ -17,10 +17,12 @@ abbrev pub reading_faults : Reading (List Group) → List (Bool × ProjectFault)
 reading_faults groups =
     (groups.flaws.missing, MissingField) ∷ (groups.flaws.outside, OutOfRange) ∷ project_faults groups.value
 
+-- the groups where there is no fault, else the fault
 abbrev pub unless_refused : Option ProjectFault → List Group → Result (List Group) ProjectFault
 unless_refused None groups = Ok groups
 unless_refused (Some fault) groups = Err fault
 
+-- the groups that were read, or the first of their `reading_faults` whose condition holds
 abbrev pub settled : Reading (List Group) → Result (List Group) ProjectFault
 settled groups = unless_refused (lowest (reading_faults groups)) groups.value
 

@@ -13,6 +13,7 @@ number_of most None = missing 0
 number_of most (Some (pos n)) = if nat_le n most then right n else outside 0
 number_of most (Some (negsuc n)) = outside 0
 
+-- what is found at a key or in an array, read as an integer from 0 to `most` (`number_of`); an absent value and one that is no integer are missing
 abbrev pub number : ℕ → Option Data → Reading ℕ
 number most found = number_of most (option_and_then as_integer found)
 
@@ -20,9 +21,11 @@ number most found = number_of most (option_and_then as_integer found)
 abbrev pub byte : Option Data → Reading ℕ
 byte found = number 255 found
 
+-- what is found at a key or in an array, read as an integer from 0 to 65,535 (`number_of`)
 abbrev pub word : Option Data → Reading ℕ
 word found = number 65535 found
 
+-- what is found at a key or in an array, read as an integer from 0 to 4,294,967,295 (`number_of`)
 abbrev pub double_word : Option Data → Reading ℕ
 double_word found = number 4294967295 found
 
@@ -33,5 +36,6 @@ direction_of (Some text) =
     if bytes_eq text (codes "out") then right Out
     else (if bytes_eq text (codes "in") then right In else outside Out)
 
+-- `direction_of` the string found at a key; an absent value and one that is no string are missing
 abbrev pub direction : Option Data → Reading Dir
 direction found = direction_of (option_and_then as_str found)

@@ -17,6 +17,7 @@ entries_at offered index = option_map_or (λ pdo. pdo.entries) (find (λ pdo. pd
 abbrev pub assigned_entries : Area → List Entry
 assigned_entries area = flat_map (entries_at area.offered) area.assigned
 
+-- the sum of the bits of entries, gaps included; 0 where there is none
 abbrev pub bits_of : List Entry → ℕ
 bits_of entries = sum_by (λ entry. entry.1) entries
 

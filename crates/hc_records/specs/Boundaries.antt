@@ -16,6 +16,7 @@ use Rattle.hc_records.specs.Image.{tasks}
 abbrev pub begins_later : Placed → Bool
 begins_later area = (area.bit == 0) && nat_lt 0 area.datagram
 
+-- the keys of those areas of a list that packing puts at bit 0 of a second or later datagram, in the list's order
 abbrev pub later_keys : List Keyed → List Key
 later_keys list = map (λ area. area.key) (filter begins_later (packed opening list))
 
@@ -52,6 +53,7 @@ hull dir keys = fold widened None (filter (λ key. same_dir key.dir dir) keys)
 abbrev pub meets : Interval → Interval → Bool
 meets span other = is_within other.0 span.1 && is_within span.0 other.1
 
+-- the span and the hull have a key in common, ends included; false where there is no hull
 abbrev pub meets_hull : Option Interval → Interval → Bool
 meets_hull None span = false
 meets_hull (Some hull) span = meets span hull

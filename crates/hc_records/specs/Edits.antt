@@ -28,6 +28,7 @@ is_present state alias = list_any (λ declared. (declared.group.alias == alias) 
 abbrev pub has_station : ℕ → List Slave → Bool
 has_station station slaves = list_any (has_address station) slaves
 
+-- a slave of a declared group, present or not, has the station address
 abbrev pub is_declared_station : State → ℕ → Bool
 is_declared_station state station = list_any (λ declared. has_station station declared.group.slaves) state.groups
 
@@ -64,6 +65,7 @@ abbrev pub with_area : ℕ → ℕ → (Area → Area) → Slave → Slave
 with_area station area change slave =
     if slave.station == station then record slave { areas = changed_at area change slave.areas } else slave
 
+-- the declared group with a change made to the record of each of its slaves
 abbrev pub with_slaves : (Slave → Slave) → Declared → Declared
 with_slaves change declared =
     record declared { group = record declared.group { slaves = map change declared.group.slaves } }
@@ -113,6 +115,7 @@ edit_faults state edit =
     ∷ (state.epoch == LAST_EPOCH, EpochsSpent)
     ∷ []
 
+-- the fault, if there is one; else the state
 abbrev pub refused_by : Option EditFault → State → Result State EditFault
 refused_by None state = Ok state
 refused_by (Some fault) state = Err fault

@@ -4,6 +4,7 @@ use Rattle.hc_records.specs.declared.records.Dir.{Dir}
 use Rattle.hc_records.specs.declared.records.Dir.TheVariants.{Out, In}
 use Rattle.hc_records.specs.declared.keys.Key.{Key}
 
+-- two directions are the same
 abbrev pub same_dir : Dir → Dir → Bool
 same_dir Out Out = true
 same_dir Out In = false
@@ -17,6 +18,7 @@ is_turn Out Out = false
 is_turn In Out = false
 is_turn In In = false
 
+-- two keys have the same direction, the same rank and the same place in the slave's record
 abbrev pub same_key : Key → Key → Bool
 same_key a b = same_dir a.dir b.dir && (a.rank == b.rank) && (a.area == b.area)
 

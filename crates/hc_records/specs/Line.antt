@@ -26,6 +26,7 @@ pub record Member : Type 0 where
   pub rank : ℕ
   pub slave : Slave
 
+-- slaves in a row as members of a line: the first one has the rank, and each next one the next rank
 abbrev pub members_from : ℕ → List Slave → List Member
 members_from rank slaves = map (λ e. record { rank = e.0; slave = e.1 }) (enumerate_from rank slaves)
 
@@ -47,6 +48,7 @@ line state = line_from 1 state.groups
 abbrev pub has_address : ℕ → Slave → Bool
 has_address station slave = slave.station == station
 
+-- the station address of the member's slave is this one
 abbrev pub is_at : ℕ → Member → Bool
 is_at station member = has_address station member.slave
 

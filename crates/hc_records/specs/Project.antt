@@ -20,6 +20,7 @@ slaves_of groups = flat_map (λ group. group.slaves) groups
 abbrev pub some_slave : (Slave → Bool) → List Group → Bool
 some_slave test groups = list_any (λ group. list_any test group.slaves) groups
 
+-- an area of a slave of one of the groups meets the test
 abbrev pub some_area : (Area → Bool) → List Group → Bool
 some_area test groups = some_slave (λ slave. list_any test slave.areas) groups
 
@@ -33,15 +34,19 @@ reach area = (min MOST_AREA_BITS (offered_bits area.offered) + 7) / 8
 
 -- a value is outside its range
 
+-- a number is below the low end of a range or above its high end; both ends are inside
 abbrev pub is_outside : ℕ → ℕ → ℕ → Bool
 is_outside low high n = nat_lt n low || nat_lt high n
 
+-- an entry has 0 bits or more than 64
 abbrev pub entry_outside : Entry → Bool
 entry_outside entry = is_outside 1 MOST_ENTRY_BITS entry.1
 
+-- a PDO has more than 64 entries, or an entry of 0 bits or more than 64
 abbrev pub pdo_outside : Pdo → Bool
 pdo_outside pdo = nat_lt MOST_ENTRIES (length pdo.entries) || list_any entry_outside pdo.entries
 
+-- an area has a sync manager over 15, a task over 7, a first byte outside 0x1000 to 0x2FFF, a reach past 0x2FFF, over 32 offered or over 32 assigned PDOs, or an offered PDO outside its limits
 abbrev pub area_outside : Area → Bool
 area_outside area =
     nat_lt LAST_SYNC_MANAGER area.sm
@@ -52,6 +57,7 @@ area_outside area =
     || list_any pdo_outside area.offered
     || nat_lt MEMORY_END (area.phys + reach area)
 
+-- a slave's station address is 0, or it has more than 8 areas or an area that is outside its limits
 abbrev pub slave_outside : Slave → Bool
 slave_outside slave =
     (slave.station == 0) || nat_lt MOST_AREAS (length slave.areas) || list_any area_outside slave.areas
@@ -80,6 +86,7 @@ has_repeated_alias groups = has_repeat (map (λ group. group.alias) groups)
 abbrev pub has_repeated_station : List Group → Bool
 has_repeated_station groups = has_repeat (map (λ slave. slave.station) (slaves_of groups))
 
+-- two areas have the same sync manager number
 abbrev pub same_sync_manager : Area → Area → Bool
 same_sync_manager a b = b.sm == a.sm
 
@@ -98,12 +105,15 @@ has_overlap slave = some_pair overlap slave.areas
 abbrev pub entry_names : List Entry → List ℕ
 entry_names entries = filter_map (λ entry. entry.0) entries
 
+-- the variables of the entries of PDOs, in order
 abbrev pub pdo_names : List Pdo → List ℕ
 pdo_names pdos = flat_map (λ pdo. entry_names pdo.entries) pdos
 
+-- the variables that areas offer, assigned or not, in order
 abbrev pub area_names : List Area → List ℕ
 area_names areas = flat_map (λ area. pdo_names area.offered) areas
 
+-- the variables that the areas of slaves offer, assigned or not, in order
 abbrev pub slave_names : List Slave → List ℕ
 slave_names slaves = flat_map (λ slave. area_names slave.areas) slaves
 

@@ -32,6 +32,7 @@ slave_areas task dir member =
 abbrev pub task_areas : ℕ → List Member → List Listed
 task_areas task line = flat_map (slave_areas task Out) line ++ flat_map (slave_areas task In) line
 
+-- the key of an area of the line, with the area's width in bits
 abbrev pub keyed : Listed → Keyed
 keyed listed = (listed.key, width listed.area)
 

@@ -88,6 +88,7 @@ abbrev pub sync_manager_block : Area → RegisterBlock
 sync_manager_block area =
     record { register = SYNC_MANAGER_BLOCKS + SYNC_MANAGER_BLOCK_BYTES * area.sm; bytes = sync_manager_bytes area }
 
+-- the FMMU block of the area at an index of its slave's record, with its register: 0x0600 + 16 × the index, counted from 0; zeros where it isn't mapped
 abbrev pub fmmu_block : ℕ → Area → Option Mapping → RegisterBlock
 fmmu_block index area mapping =
     record { register = FMMU_BLOCKS + FMMU_BLOCK_BYTES * index; bytes = fmmu_bytes area mapping }
@@ -113,6 +114,7 @@ pub record LineBlock : Type 0 where
 abbrev pub numbered : ℕ → ℕ → List RegisterBlock → List LineBlock
 numbered station first blocks = map (λ e. record { station = station; number = e.0; block = e.1 }) (enumerate_from first blocks)
 
+-- the register blocks of a slave of the line, in its order, each with its station address and its number
 abbrev pub member_blocks : List Member → Member → List LineBlock
 member_blocks line member = numbered member.slave.station 0 (slave_blocks line member)
 

@@ -28,5 +28,6 @@ AreFrameEnds s r = IsPair s.ring r.ring
 abbrev pub SameFrameSender : FrameSender → FrameSender → Type 0
 SameFrameSender old new = SameProducer old.ring new.ring
 
+-- both are the receiving end of one ring of frames, with room for as many; what was taken may differ
 abbrev pub SameFrameReceiver : FrameReceiver → FrameReceiver → Type 0
 SameFrameReceiver old new = SameConsumer old.ring new.ring

@@ -56,6 +56,7 @@ spare_places r = known_free r.spares
 abbrev pub SameSender : PostSender → PostSender → Type 0
 SameSender old new = SameProducer old.posts.ring new.posts.ring × SameConsumer old.spares.ring new.spares.ring
 
+-- both are the receiving end of one ring, of its posts and of its spare buffers, with as many places; what went through may differ
 abbrev pub SameReceiver : PostReceiver → PostReceiver → Type 0
 SameReceiver old new = SameConsumer old.posts.ring new.posts.ring × SameProducer old.spares new.spares
 

@@ -19,6 +19,7 @@ abbrev pub text_of : List ℕ → List (List ℕ) → List ℕ
 text_of part [] = part
 text_of part (next ∷ parts) = strip_carriage_return part
 
+-- the bytes of a part as a line: the part, and behind it a line feed where another part follows
 abbrev pub bytes_of : List ℕ → List (List ℕ) → List ℕ
 bytes_of part [] = part
 bytes_of part (next ∷ parts) = part ++ 10 ∷ []

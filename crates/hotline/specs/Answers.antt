@@ -29,6 +29,7 @@ abbrev pub sent_lines : ℕ → List (List ℕ) → List ℕ
 sent_lines serial [] = []
 sent_lines serial (frame ∷ frames) = sent_line serial frame ++ sent_lines (serial + 1) frames
 
+-- these lines, or the line `no frame` where there is no frame
 abbrev pub frames_text : ℕ → List (List ℕ) → List ℕ
 frames_text serial [] = codes "no frame\n"
 frames_text serial (frame ∷ frames) = sent_lines serial (frame ∷ frames)
@@ -48,6 +49,7 @@ abbrev pub data_text : Option (List ℕ) → List ℕ
 data_text None = codes "none"
 data_text (Some bytes) = hex_bytes bytes
 
+-- the line `slot D HEX` of a datagram's number and its data, or `slot D none` where there are no data
 unfoldable pub slot_text : ℕ → Option (List ℕ) → List ℕ
 slot_text number slot = codes "slot " ++ decimal number ++ codes " " ++ data_text slot ++ codes "\n"
 

@@ -10,12 +10,14 @@ use Rattle.hotline.specs.declared.commands.Command.TheVariants as command
 abbrev pub are_together : List ℕ → Bool
 are_together tasks = nat_lt 0 (length tasks) && nat_le (length tasks) TASKS && not (has_repeat tasks)
 
+-- the tasks, where they are 1 to 8 and none stands twice; else none
 abbrev pub if_together : List ℕ → Option (List ℕ)
 if_together tasks = if are_together tasks then Some tasks else None
 
 abbrev pub tasks_in : List (List ℕ) → Option (List ℕ)
 tasks_in arguments = option_and_then if_together (numbers_in 255 arguments)
 
+-- the command `send` of the tasks that the arguments spell (`tasks_in`): numbers of at most 255, 1 to 8 of them and none twice; else none
 abbrev pub send_in : List (List ℕ) → Option Command
 send_in arguments = option_map command.Send (tasks_in arguments)
 

@@ -22,6 +22,7 @@ sent_line serial frame = frame_line (codes "sent ") serial frame
 abbrev pub proposed_line : Record → Frame → List ℕ
 proposed_line past frame = sent_line frame.serial (sent_text past frame)
 
+-- these lines one after another, or the line `no frame` where there is no frame
 abbrev pub proposed_text : Record → List Frame → List ℕ
 proposed_text past [] = codes "no frame\n"
 proposed_text past (frame ∷ frames) = flat_map (proposed_line past) (frame ∷ frames)

@@ -34,6 +34,7 @@ datagram_text number datagram =
 abbrev pub numbered_text : Table → ℕ → ℕ → List ℕ
 numbered_text table task number = option_map_or (datagram_text number) (datagram_in table task number) []
 
+-- the lines (`datagram_text`) of those of the task's datagrams 0 to 15 that the table has, in order
 unfoldable pub datagrams_text : Table → ℕ → List ℕ
 datagrams_text table task = flat_map (numbered_text table task) (range_with_len 0 MOST_DATAGRAMS)
 
@@ -47,6 +48,7 @@ unfoldable pub task_text : Table → ℕ → List ℕ
 task_text table task =
     if is_some (datagram_in table task 0) then part_text task (part_in table task) ++ datagrams_text table task else []
 
+-- the lines of the tasks 0 to 7, in order (`task_text`)
 unfoldable pub table_text : Table → List ℕ
 table_text table = flat_map (task_text table) tasks
 

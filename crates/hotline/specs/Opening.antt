@@ -17,10 +17,12 @@ use Rattle.hotline.specs.Refusals.{project_fault_text}
 unfoldable pub crowded_at_opening : List Group → Option ℕ
 crowded_at_opening groups = crowded_task (line (opened groups))
 
+-- the record of a core that just opened the groups, where no task is given; else TooManyDatagrams with that task
 abbrev pub opened_unless : Option ℕ → List Group → Result Record Unopened
 opened_unless None groups = Ok (just_opened groups)
 opened_unless (Some task) groups = Err (TooManyDatagrams task)
 
+-- the record of a core that opens the groups, or why there is none: TooManyDatagrams with the lowest crowded task of the opening line, or the project's fault
 abbrev pub opened_project : Result (List Group) ProjectFault → Result Record Unopened
 opened_project (Ok groups) = opened_unless (crowded_at_opening groups) groups
 opened_project (Err refused) = Err (Project refused)
@@ -29,6 +31,7 @@ opened_project (Err refused) = Err (Project refused)
 unfoldable pub opening_of : List ℕ → Result Record Unopened
 opening_of text = opened_project (project_in text)
 
+-- the line that says why nothing was opened: `project fault N Name`, `open fault 1 TooManyDatagrams T`, or `open fault 2 Memory`
 unfoldable pub unopened_text : Unopened → List ℕ
 unopened_text (Project refused) = project_fault_text refused
 unopened_text (TooManyDatagrams task) = codes "open fault 1 TooManyDatagrams " ++ decimal task ++ codes "\n"
@@ -39,6 +42,7 @@ abbrev pub is_project_memory : ProjectFault → Bool
 is_project_memory fault.Memory = true
 is_project_memory _ = false
 
+-- the reason why nothing was opened is want of memory, as a project's fault or while the core was made
 abbrev pub is_memory : Unopened → Bool
 is_memory (Project refused) = is_project_memory refused
 is_memory (TooManyDatagrams task) = false

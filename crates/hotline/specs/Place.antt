@@ -43,6 +43,7 @@ variable_text number place =
     ++ decimal place.datagram
     ++ bits_text place
 
+-- the line of the variable with its place (`variable_text`), or the line `none` where it has no place
 abbrev pub variable_or_none : ℕ → Option VariablePlace → List ℕ
 variable_or_none number None = codes "none\n"
 variable_or_none number (Some place) = variable_text number place

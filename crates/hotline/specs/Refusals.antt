@@ -8,6 +8,7 @@ use Rattle.hc_records.specs.declared.faults.ProjectFault.{ProjectFault}
 use Rattle.hc_records.specs.declared.faults.ProjectFault.TheVariants as project
 use Rattle.hc_records.specs.ProjectFault.{project_fault_number}
 
+-- the name of a project's fault as it is printed, without its number
 abbrev pub project_fault_name : ProjectFault → List ℕ
 project_fault_name project.NotToml = codes "NotToml"
 project_fault_name project.MissingField = codes "MissingField"
@@ -21,6 +22,7 @@ project_fault_name project.UnknownPdo = codes "UnknownPdo"
 project_fault_name project.AreaTooBig = codes "AreaTooBig"
 project_fault_name project.Memory = codes "Memory"
 
+-- the number and the name of a project's fault, with a space between them, and a line feed
 unfoldable pub project_fault_words : ProjectFault → List ℕ
 project_fault_words fault = decimal (project_fault_number fault) ++ codes " " ++ project_fault_name fault ++ codes "\n"
 

@@ -43,9 +43,11 @@ block_text block =
 abbrev pub numbered_block_text : List Member → ℕ → ℕ → List ℕ
 numbered_block_text line station number = option_map_or block_text (block_at line station number) []
 
+-- the lines of the blocks 0 to 15, as far as there are, of the slave with the station address, in its order; nothing where the line has no such slave
 unfoldable pub blocks_text : List Member → ℕ → List ℕ
 blocks_text line station = flat_map (numbered_block_text line station) (range_with_len 0 (2 * MOST_AREAS))
 
+-- the lines of the blocks of the slave with the station address, where it has a position in the line; else the refusal of the fault given instead
 abbrev pub blocks_or_refusal : List Member → ℕ → Result ℕ EditFault → List ℕ
 blocks_or_refusal line station (Ok position) = blocks_text line station
 blocks_or_refusal line station (Err fault) = refusal_text (edit_refusal fault)

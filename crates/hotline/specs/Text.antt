@@ -8,9 +8,11 @@ use Rattle.hc_text.specs.Lines.{Line, command_lines, lines_of, project_text}
 use Rattle.hotline.specs.Opening.{opening_of, unopened_text}
 use Rattle.hotline.specs.Runs.{Outcome, run}
 
+-- the outcome of a project that isn't opened: the line that says why, and status 3
 abbrev pub unopened : Unopened → Outcome
 unopened fault = record { text = unopened_text fault; status = 3 }
 
+-- the run of the command lines from the record of the opened core; where none was opened, the outcome that says why
 abbrev pub run_opened : Result Record Unopened → List Line → Outcome
 run_opened (Ok past) lines = run past lines
 run_opened (Err fault) lines = unopened fault

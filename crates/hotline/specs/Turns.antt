@@ -17,6 +17,7 @@ pub record Ends (old new : Option (List ℕ)) (status : ℕ) (reply : Reply) : T
   pub whole : status ≢ 4 → Appends old new reply.text × (status ≡ 2) × (reply.goes_on ≡ false)
   pub front : (n : ℕ) × Appends old new (take n reply.text)
 
+-- a line was answered: where no exit status is given the run goes on (`GoesOn`), else it ends there with that status (`Ends`)
 abbrev pub Takes : Option (List ℕ) → Option (List ℕ) → Record → Option ℕ → Reply → Type 0
 Takes old new past None reply = GoesOn old new past reply
 Takes old new past (Some status) reply = Ends old new status reply

@@ -31,6 +31,7 @@ area_by station rank index area = record {
   area = area;
 }
 
+-- the candidate that such an area (`area_by`) is in the new line, with its place, as a list of one; an empty list where it is none
 abbrev pub area_found : Outlook → ℕ → ℕ → ℕ → Area → List Candidate
 area_found outlook station rank index area = found_among outlook (area_by station rank index area ∷ [])
 
@@ -44,6 +45,7 @@ areas_found outlook station rank index (area ∷ areas) =
 abbrev pub stations : List Declared → List ℕ
 stations groups = flat_map (λ declared. map (λ slave. slave.station) declared.group.slaves) groups
 
+-- the station address of the declared slave, present or not, with the rank, counted from 1; 0 where there is no such slave
 abbrev pub station_at : List Declared → ℕ → ℕ
 station_at groups rank = slice_index_or (0 ∷ stations groups) rank 0
 

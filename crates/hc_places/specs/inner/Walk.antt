@@ -19,6 +19,7 @@ walked_past gives second rest (first ∷ firsts) =
     else if nat_lt second.0 first.0 then gives.second second ++ rest (first ∷ firsts)
     else gives.both first second ++ rest firsts
 
+-- what two lists in the order of their numbers give, walked at once: each element where its number stands in one list alone, else two of one number together
 abbrev pub walked : {X Y Z : Type 0} → Gives X Y Z → List (ℕ × Y) → List (ℕ × X) → List Z
 walked gives [] firsts = flat_map gives.first firsts
 walked gives (second ∷ seconds) firsts = walked_past gives second (λ left. walked gives seconds left) firsts

@@ -24,9 +24,11 @@ mapping_in layout rank index area =
 abbrev pub bits_in : List (List Placed) → ℕ → Key → ℕ
 bits_in layout task key = option_map_or (λ placed. placed.bits) (placed_in layout task key) 0
 
+-- the FMMU block of an area, which comes with its index, of a slave with a rank, by its place in a layout; with 16 bytes of 0 where it has none
 abbrev pub fmmu_block_in : List (List Placed) → ℕ → ℕ × Area → RegisterBlock
 fmmu_block_in layout rank e = fmmu_block e.0 e.1 (mapping_in layout rank e.0 e.1)
 
+-- the two blocks of such an area: its sync manager block, then its FMMU block
 abbrev pub area_blocks_in : List (List Placed) → ℕ → ℕ × Area → List RegisterBlock
 area_blocks_in layout rank e = sync_manager_block e.1 ∷ fmmu_block_in layout rank e ∷ []
 
@@ -34,6 +36,7 @@ area_blocks_in layout rank e = sync_manager_block e.1 ∷ fmmu_block_in layout r
 abbrev pub area_block_in : List (List Placed) → ℕ → ℕ → ℕ × Area → RegisterBlock
 area_block_in layout rank number e = if number % 2 == 0 then sync_manager_block e.1 else fmmu_block_in layout rank e
 
+-- the blocks of a slave by the places of a layout: for each area in record order its sync manager block, then its FMMU block
 abbrev pub slave_blocks_in : List (List Placed) → Member → List RegisterBlock
 slave_blocks_in layout member = flat_map (area_blocks_in layout member.rank) (enumerate_from 0 member.slave.areas)
 
