@@ -19,6 +19,7 @@ pub record Due : Type 0 where
 abbrev pub due_of : List Member → Carried → Due
 due_of line carried = record { head = data_head line carried.datagram; newest = carried.newest }
 
+-- what is due of an awaited frame, datagram by datagram: the head that each has in the line, and whether this is the newest frame that it was sent in
 abbrev pub frame_due : List Member → AwaitedFrame → List Due
 frame_due line frame = map (due_of line) frame.datagrams
 
@@ -32,6 +33,7 @@ written_head write = record {
   expected = WRITE_COUNT;
 }
 
+-- what is due of an awaited register write: its one datagram, which is the newest of its kind, since a later write takes its place
 abbrev pub write_due : AwaitedWrite → List Due
 write_due write = record { head = written_head write; newest = true } ∷ []
 
@@ -39,9 +41,11 @@ write_due write = record { head = written_head write; newest = true } ∷ []
 abbrev pub found_write : ℕ → Waiting → Option AwaitedWrite
 found_write serial waiting = option_and_then (only_if (λ write. write.serial == serial)) waiting.write
 
+-- the awaited frame with a serial, if there is one
 abbrev pub found_frame : ℕ → Waiting → Option AwaitedFrame
 found_frame serial waiting = find (λ frame. frame.serial == serial) waiting.frames
 
+-- what is due to come back with a serial: that of the write with this serial, else that of the frame; none where neither is awaited
 abbrev pub due_with : List Member → Waiting → ℕ → Option (List Due)
 due_with line waiting serial =
     option_or (option_map write_due (found_write serial waiting)) (option_map (frame_due line) (found_frame serial waiting))
@@ -50,6 +54,7 @@ due_with line waiting serial =
 abbrev pub verdict_of : Due → Part → Verdict
 verdict_of due part = if due.newest then (if part.counter == due.head.expected then Good else Wrong) else Stale
 
+-- a datagram that is due, with what came back of it and the verdict on that
 abbrev pub judge_due : Due × Part → Judged
 judge_due pair = record { head = pair.0.head; part = pair.1; verdict = verdict_of pair.0 pair.1 }
 

@@ -14,12 +14,15 @@ place_of named = MOST_DATAGRAMS * named.0 + named.1
 abbrev pub Newest : Type 0
 Newest = List (Option ℕ)
 
+-- the serial of the newest frame that a datagram was sent in; none where it wasn't sent
 abbrev pub newest_of : Newest → Named → Option ℕ
 newest_of newest named = slice_index_or newest (place_of named) None
 
+-- a serial was found, and it is this one
 abbrev pub is_serial : ℕ → Option ℕ → Bool
 is_serial serial found = option_map_or (λ other. other == serial) found false
 
+-- the frame with this serial is the newest one that the datagram was sent in
 abbrev pub is_newest : Newest → ℕ → Named → Bool
 is_newest newest serial named = is_serial serial (newest_of newest named)
 
@@ -33,6 +36,7 @@ pub record Kept : Type 0 where
   pub serial : ℕ
   pub datagrams : List Named
 
+-- a sent frame as it is kept: without the number of its bytes
 abbrev pub kept_of : Frame → Kept
 kept_of frame = record { serial = frame.serial; datagrams = frame.datagrams }
 
@@ -44,6 +48,7 @@ emptied serial frame = if frame.serial == serial then record { serial = frame.se
 abbrev pub carried_by : Newest → ℕ → Named → Carried
 carried_by newest serial named = record { datagram = named; newest = is_newest newest serial named }
 
+-- a kept frame as an awaited one: of each of its datagrams the table says whether this frame is the newest
 abbrev pub frame_by : Newest → Kept → AwaitedFrame
 frame_by newest frame = record { serial = frame.serial; datagrams = map (carried_by newest frame.serial) frame.datagrams }
 

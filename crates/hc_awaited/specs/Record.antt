@@ -28,9 +28,11 @@ waiting_of (Came arrival ∷ past) = if is_stale_to past arrival then waiting_of
 abbrev pub due_in : List Entry → Head → Due
 due_in since head = record { head = head; newest = not (list_any (sends head.item) since) }
 
+-- what is due of a sending: each of its datagrams, newest where no entry since then sent the same again
 abbrev pub dues_of : Sending → List Due
 dues_of sending = map (due_in sending.since) sending.heads
 
+-- what is due to come back with a serial, by the record: that of the awaited sending with this serial, if there is one
 abbrev pub due_by : Record → ℕ → Option (List Due)
 due_by past serial = option_map dues_of (awaited past serial)
 

@@ -38,21 +38,26 @@ nothing = record { frames = []; write = None }
 
 -- a frame is sent: it is the newest one of its datagrams
 
+-- a datagram as the frame that sends it carries it: this frame is its newest
 abbrev pub just_sent : Named → Carried
 just_sent named = record { datagram = named; newest = true }
 
+-- a frame as it is awaited once it was sent
 abbrev pub as_sent : Frame → AwaitedFrame
 as_sent frame = record { serial = frame.serial; datagrams = map just_sent frame.datagrams }
 
 -- the others aren't that of these datagrams any more
 
+-- two names are of one datagram: the same task, and the same number in it
 abbrev pub is_named : Named → Named → Bool
 is_named named other = (named.0 == other.0) && (named.1 == other.1)
 
+-- a datagram of an older frame behind a sending of these datagrams: that frame isn't its newest if it is one of them
 abbrev pub sent_again : List Named → Carried → Carried
 sent_again again carried =
     record { datagram = carried.datagram; newest = carried.newest && not (list_any (is_named carried.datagram) again) }
 
+-- an older frame behind a sending of these datagrams
 abbrev pub with_again : List Named → AwaitedFrame → AwaitedFrame
 with_again again frame = record { serial = frame.serial; datagrams = map (sent_again again) frame.datagrams }
 
@@ -60,6 +65,7 @@ with_again again frame = record { serial = frame.serial; datagrams = map (sent_a
 abbrev pub is_alive : AwaitedFrame → Bool
 is_alive frame = list_any (λ carried. carried.newest) frame.datagrams
 
+-- what is awaited once a frame was sent: it stands behind the others, of which those stay that are the newest of one datagram at least
 abbrev pub sent : Waiting → Frame → Waiting
 sent waiting frame =
     record waiting { frames = filter is_alive (map (with_again frame.datagrams) waiting.frames ++ as_sent frame ∷ []) }
@@ -78,6 +84,7 @@ written serial block = record {
   length = length block.block.bytes;
 }
 
+-- what is awaited once the write of a block was sent with this serial: that write in place of any other
 abbrev pub wrote : ℕ → LineBlock → Waiting → Waiting
 wrote serial block waiting = record waiting { write = Some (written serial block) }
 

@@ -12,6 +12,7 @@ use Rattle.hc_bitsum.specs.Filling.{with_area, with_areas}
 use Rattle.hc_bitsum.specs.Sums.{ended, joined, sum_of}
 use Rattle.hc_bitsum.specs.Tree.{with_width}
 
+-- three sums in a row join to the same, whichever two are joined first
 abbrev pub JoiningIsAssociative : Type 0
 JoiningIsAssociative = (a b c : Sum) → joined (joined a b) c ≡ joined a (joined b c)
 
@@ -20,6 +21,7 @@ pub record IsNeutral (empty : Sum) : Type 0 where
   pub before : (sum : Sum) → joined empty sum ≡ sum
   pub behind : (sum : Sum) → joined sum empty ≡ sum
 
+-- the empty sum is such a one
 abbrev pub EmptyIsNeutral : Type 0
 EmptyIsNeutral = IsNeutral Empty
 

@@ -35,6 +35,7 @@ areas_of member = map (λ e. record { member = member; index = e.0; area = e.1 }
 abbrev pub line_areas : List Member → List LineArea
 line_areas line = flat_map areas_of line
 
+-- the key by which an area of a line is sorted in its task: its direction, its slave's rank, its index in the slave's record
 abbrev pub key_of : LineArea → Key
 key_of found = record { dir = found.area.dir; rank = found.member.rank; area = found.index }
 
@@ -63,6 +64,7 @@ pub record Candidate : Type 0 where
   pub area : Area
   pub place : Option Placed
 
+-- the candidate that an area of a line is, with the place where it stands in that line
 abbrev pub candidate_of : List Member → LineArea → Candidate
 candidate_of line found = record {
   station = found.member.slave.station;

@@ -101,6 +101,7 @@ pub record IsUnkeptAt (old new : List Member) (found : LineArea) : Type 0 where
   pub key : placed.key ≡ key_of found
   pub unkept : is_kept_up_to (task_list found.area.task old) (task_list found.area.task new) placed.datagram placed.key ≡ false
 
+-- so does each area that is recut
 abbrev pub RecutAreasAreUnkept : Type 0
 RecutAreasAreUnkept = (old new : List Member) (found : LineArea) → is_recut old new found ≡ true → IsUnkeptAt old new found
 

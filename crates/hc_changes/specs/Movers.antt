@@ -10,17 +10,21 @@ use Rattle.hc_changes.specs.Outlook.{Outlook, candidates_of, changes}
 
 -- the area that a candidate's slave had at its index before the edit, and where that stood
 
+-- the area that a candidate's slave had at its index before the edit; none where it had no such area
 abbrev pub area_before : Outlook → Candidate → Option Area
 area_before outlook found = slice_get (areas_at (areas_by_rank outlook.old) found.rank) found.index
 
+-- where an area of before at a candidate's rank and index stood in its task; none where it stood nowhere
 abbrev pub place_before : Outlook → Candidate → Area → Option Placed
 place_before outlook found area =
     place_of (record { dir = area.dir; rank = found.rank; area = found.index }) (list_by area.task (areas_by_rank outlook.old))
 
+-- an area of before, and where it stood
 pub record Stood : Type 0 where
   pub area : Area
   pub place : Option Placed
 
+-- both for a candidate; none where its slave had no area at its index
 abbrev pub stood_of : Outlook → Candidate → Option Stood
 stood_of outlook found = option_map (λ area. record { area = area; place = place_before outlook found area }) (area_before outlook found)
 
@@ -29,6 +33,7 @@ pub record Mover : Type 0 where
   pub found : Candidate
   pub stood : Option Stood
 
+-- a candidate with what stood at its index before the edit
 abbrev pub mover_of : Outlook → Candidate → Mover
 mover_of outlook found = record { found = found; stood = stood_of outlook found }
 

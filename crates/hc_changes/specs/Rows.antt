@@ -31,6 +31,7 @@ moved_rows old rows = map (λ row. (row.0, Some row.1)) (filter (is_new_row old)
 abbrev pub area_variables_of : Area → List ℕ
 area_variables_of area = entry_names (assigned_entries area)
 
+-- the variables that the assigned PDOs of a slave's areas carry, in order
 abbrev pub assigned_variables : List Area → List ℕ
 assigned_variables areas = flat_map area_variables_of areas
 
@@ -42,6 +43,7 @@ is_assigned variable areas = list_any (λ other. other == variable) (assigned_va
 abbrev pub gone_variables : List Area × List Area → List ℕ
 gone_variables slave = filter (λ variable. not (is_assigned variable slave.1)) (assigned_variables slave.0)
 
+-- the variables that go with the changed slaves' areas, slave by slave, each without a new place
 abbrev pub gone_rows : List (List Area) → List (List Area) → List ChangedRow
 gone_rows before after = map (λ variable. (variable, None)) (flat_map gone_variables (zip before after))
 
@@ -60,6 +62,7 @@ pub record HoldsArea (area : Area) (placed : Placed) : Type 0 where
   pub inside : placed.bit + width area ≤ MOST_AREA_BITS
   pub offers : OffersBits area
 
+-- where a candidate stands, its place lies in one of 16 datagrams of one of the eight tasks and holds its area
 abbrev pub StandsInside : Candidate → Type 0
 StandsInside candidate = (placed : Placed) → candidate.place ≡ Some placed → HoldsArea candidate.area placed
 

@@ -14,6 +14,7 @@ pub record AreTreesOf (groups : List Declared) (trees : List Kept) : Type 0 wher
   pub project : lowest_fault (groups_of groups) ≡ None
   pub stand : trees ≡ line_kept (areas_by_rank groups)
 
+-- the trees of some project's line
 pub record AreOfLine (trees : List Kept) : Type 0 where
   pub groups : List Declared
   pub line : AreTreesOf groups trees

@@ -67,6 +67,7 @@ pub record Agree (kept : Kept) (past taken : Record) : Type 0 where
 abbrev pub state_in : Inside → CoreState
 state_in core = record { past = record_of core.past; taken = record_of core.taken.value }
 
+-- what a core keeps beside the two records: its parts, and the changes that weren't taken yet
 abbrev pub kept_in : Inside → Kept
 kept_in core = record {
   plan = core.plan;
@@ -78,5 +79,6 @@ kept_in core = record {
   changes = core.changes.items;
 }
 
+-- what holds of every core: its parts agree with its record, and with that record as it was when the changes were last taken
 abbrev pub Agrees : Inside → Type 0
 Agrees core = Agree (kept_in core) (record_of core.past) (record_of core.taken.value)

@@ -19,6 +19,7 @@ pub record IsSending (past : Record) (frames : List Frame) (is : IsProposal past
   pub answer : answer_to past (SendsTasks is.tasks) ≡ answer.Sent (map (sent_text past) frames)
   pub entries : entries_after past (SendsTasks is.tasks) ≡ with_sent past frames
 
+-- so are any frames that are a present proposal of the record
 abbrev pub PiecesAreTheEvent : Type 0
 PiecesAreTheEvent = (past : Record) (frames : List Frame) (is : IsProposal past frames) → IsSending past frames is
 

@@ -19,6 +19,7 @@ abbrev pub carried_edit : Step → Answer → List Edit
 carried_edit (Edits edit) told = if wants_memory told then [] else edit ∷ []
 carried_edit step told = []
 
+-- the edits among events, in order, that weren't refused for want of memory, by the answers to the events
 abbrev pub carried_edits : List Step → List Answer → List Edit
 carried_edits [] answers = []
 carried_edits (step ∷ steps) [] = []

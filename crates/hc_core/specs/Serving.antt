@@ -21,14 +21,17 @@ abbrev pub answer_of : Result Answer CoreFault → Answer
 answer_of (Ok told) = told
 answer_of (Err fault) = answer.Refused fault
 
+-- that of a post, by what its call gave: posted, or a refusal
 abbrev pub answer_of_post : {X : Type 0} → Result X CoreFault → Answer
 answer_of_post (Ok done) = answer.Posted
 answer_of_post (Err fault) = answer.Refused fault
 
+-- that of an edit, by what its call gave: its answer, or a refusal by the edit's fault
 abbrev pub answer_of_edit : Result Answer EditFault → Answer
 answer_of_edit (Ok told) = told
 answer_of_edit (Err fault) = answer.Refused (edit_refusal fault)
 
+-- that of a call that can fail for want of memory alone: its answer, or the refusal for it
 abbrev pub answer_or_memory : {E : Type 0} → Result Answer E → Answer
 answer_or_memory (Ok told) = told
 answer_or_memory (Err error) = answer.Refused Memory

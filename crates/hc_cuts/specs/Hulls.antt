@@ -24,6 +24,7 @@ abbrev pub IsHull : (Key → Bool) → Dir → Option Interval → Type 0
 IsHull test dir None = (key : Key) → key.dir ≡ dir → test key ≡ false
 IsHull test dir (Some interval) = Reaches test dir interval
 
+-- the hulls of all keys that pass a test: of the outputs, and of the inputs
 pub record AreHulls (test : Key → Bool) (hulls : Hulls) : Type 0 where
   pub outputs : IsHull test Out hulls.outputs
   pub inputs : IsHull test In hulls.inputs
@@ -32,6 +33,7 @@ pub record AreHulls (test : Key → Bool) (hulls : Hulls) : Type 0 where
 abbrev pub no_hulls : Hulls
 no_hulls = record { outputs = None; inputs = None }
 
+-- there is a hull of neither direction
 abbrev pub are_none : Hulls → Bool
 are_none hulls = is_none hulls.outputs && is_none hulls.inputs
 

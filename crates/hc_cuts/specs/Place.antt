@@ -5,6 +5,7 @@ use Rattle.hc_records.specs.Keys.{same_key}
 use Rattle.hc_records.specs.TaskList.{Keyed}
 use Rattle.hc_records.specs.Packing.{Placed, opening, packed}
 
+-- a placed area is the one with this key
 abbrev pub has_key : Key → Placed → Bool
 has_key key placed = same_key placed.key key
 

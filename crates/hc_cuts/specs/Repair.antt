@@ -41,6 +41,7 @@ pub record HoldTheTouched (hulls : Hulls) (old new : List Keyed) : Type 0 where
       (old_starts new_starts : List Key) → old_starts ++ END ∷ [] ≡ boundaries old → new_starts ++ END ∷ [] ≡ boundaries new
       → unsettled_between hulls old_starts new_starts ≡ unsettled_spans old new
 
+-- so do any hulls of the touched keys of two lists
 abbrev pub HullsHoldTheTouched : Type 0
 HullsHoldTheTouched =
     (hulls : Hulls) (old new : List Keyed) → AreHulls (is_touched old new) hulls → HoldTheTouched hulls old new

@@ -52,6 +52,7 @@ place_at groups group slave = record { group = group; slave = slave; rank = firs
 abbrev pub place_in : List Declared → ℕ → ℕ → Option SlavePlace
 place_in groups station group = option_map (place_at groups group) (position (has_address station) (slaves_at groups group))
 
+-- where the slave with a station address stands among the declared groups; none where no group declares it
 abbrev pub slave_place : List Declared → ℕ → Option SlavePlace
 slave_place groups station = option_and_then (place_in groups station) (position (has_slave station) groups)
 
@@ -63,6 +64,7 @@ areas_at groups place = option_map_or (λ slave. slave.areas) (slice_get (slaves
 abbrev pub areas_changed : List Declared → ℕ → (Area → Area) → SlavePlace → AreasChange
 areas_changed groups area change place = record { place = place; areas = changed_at area change (areas_at groups place) }
 
+-- what a change of one area of the slave with a station address makes of its areas; none where no group declares the slave
 abbrev pub areas_change : List Declared → ℕ → ℕ → (Area → Area) → Option AreasChange
 areas_change groups station area change = option_map (areas_changed groups area change) (slave_place groups station)
 

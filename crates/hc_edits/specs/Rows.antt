@@ -15,6 +15,7 @@ pub record Ranked : Type 0 where
   pub present : Bool
   pub slave : Slave
 
+-- the slaves of a group, each with whether the group is present
 abbrev pub ranked : Bool → List Slave → List Ranked
 ranked present slaves = map (λ slave. record { present = present; slave = slave }) slaves
 

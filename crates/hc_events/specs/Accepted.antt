@@ -52,6 +52,7 @@ IsAccepted past (Came arrival) = Unit {0}
 abbrev pub just_opened : List Group → Record
 just_opened groups = Opened groups ∷ []
 
+-- the record to which events lead from a project's opening
 abbrev pub record_of : List Group → List Step → Record
 record_of groups steps = entries_after_all (just_opened groups) steps
 
@@ -61,5 +62,6 @@ AreAccepted [] = ⊥
 AreAccepted (Opened groups ∷ past) = past ≡ []
 AreAccepted (entry ∷ past) = IsAccepted past entry × AreAccepted past
 
+-- so was each entry of the record to which events lead, when it came
 abbrev pub RecordsAreAccepted : Type 0
 RecordsAreAccepted = (groups : List Group) (steps : List Step) → AreAccepted (record_of groups steps)

@@ -73,6 +73,7 @@ pub record AnswersTheAwaited (past : Record) (arrival : Arrival) : Type 0 where
   pub news : (is_stale_to past arrival ≡ false) ↔ IsAwaited past arrival
   pub answers : (a : IsAwaited past arrival) → IsAnsweredAs past arrival a.sending
 
+-- so it is of any record and any arrival
 abbrev pub AwaitedAreAnswered : Type 0
 AwaitedAreAnswered = (past : Record) (arrival : Arrival) → AnswersTheAwaited past arrival
 

@@ -64,6 +64,7 @@ is_answer arrival sending =
 abbrev pub only_if : {X : Type 0} → (X → Bool) → X → Option X
 only_if test x = if test x then Some x else None
 
+-- the sending that an arrival answers: the one with its serial, where the arrival is an answer to it; none otherwise
 abbrev pub answered_by : Record → Arrival → Option Sending
 answered_by past arrival = option_and_then (only_if (is_answer arrival)) (sending_of past arrival.serial)
 
@@ -91,6 +92,7 @@ is_stale Good = false
 is_stale Wrong = false
 is_stale Stale = true
 
+-- what came back of a datagram is stale where the same was sent again since, else good where its working counter is the expected one, else wrong
 abbrev pub verdict : List Entry → Head → Part → Verdict
 verdict since head part =
     if list_any (sends head.item) since then Stale else (if part.counter == head.expected then Good else Wrong)

@@ -25,5 +25,6 @@ pub record IsPreview (past : Record) (task d : ℕ) (frame : Frame) : Type 0 whe
   pub datagrams : frame.datagrams ≡ (task, d) ∷ []
   pub size : length (sent_text past frame) ≡ size_of frame
 
+-- so is any preview that a record has
 abbrev pub PreviewsAreFrames : Type 0
 PreviewsAreFrames = (past : Record) (task d : ℕ) (frame : Frame) → preview past task d ≡ Some frame → IsPreview past task d frame

@@ -58,11 +58,13 @@ table_behind table [] = table
 table_behind table (change.Swapped swap ∷ changes) = table_behind (swapped swap.change table) changes
 table_behind table (change.Good task d bytes ∷ changes) = table_behind table changes
 
+-- the epoch behind the changes: each swap is the next one
 abbrev pub epoch_behind : ℕ → List Change → ℕ
 epoch_behind epoch [] = epoch
 epoch_behind epoch (change.Swapped swap ∷ changes) = epoch_behind (epoch + 1) changes
 epoch_behind epoch (change.Good task d bytes ∷ changes) = epoch_behind epoch changes
 
+-- a datagram's data behind the changes: those of its last good answer behind the last swap; without either, those of before
 abbrev pub slot_behind : ℕ → ℕ → Option (List ℕ) → List Change → Option (List ℕ)
 slot_behind task d slot [] = slot
 slot_behind task d slot (change.Swapped swap ∷ changes) = slot_behind task d None changes

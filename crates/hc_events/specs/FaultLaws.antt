@@ -20,5 +20,6 @@ pub record AreNumbered (owed needed : ℕ) : Type 0 where
   pub wants : map core_fault_number (Memory ∷ Room needed ∷ []) ≡ 28 ∷ 29 ∷ []
   pub unused : (fault : CoreFault) → core_fault_number fault ≢ 14
 
+-- the core's faults have just these numbers
 abbrev pub FaultsAreNumbered : Type 0
 FaultsAreNumbered = (owed needed : ℕ) → AreNumbered owed needed

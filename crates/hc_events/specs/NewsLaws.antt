@@ -22,6 +22,7 @@ pub record Grows (old new : List News) : Type 0 where
   pub more : List News
   pub joined : new ≡ old ++ more
 
+-- so do any events behind any record
 abbrev pub NewsOnlyGrow : Type 0
 NewsOnlyGrow = (past : Record) (steps : List Step) → Grows (news_of past) (news_of (entries_after_all past steps))
 
@@ -46,6 +47,7 @@ abbrev pub IsNewsOf : Record → News → Type 0
 IsNewsOf past (Swapped edit) = Contains past (Edited edit)
 IsNewsOf past (Answered good) = IsGoodAnswer past good
 
+-- so it is of all the news of a record
 abbrev pub NewsAreOfTheRecord : Type 0
 NewsAreOfTheRecord = (past : Record) → All (IsNewsOf past) (news_of past)
 

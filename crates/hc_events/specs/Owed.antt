@@ -37,6 +37,7 @@ was_confirmed (entry ∷ past) serial = was_confirmed past serial
 abbrev pub if_confirmed : Record → ℕ × List ℕ → Option (List ℕ)
 if_confirmed past write = if was_confirmed past write.0 then Some write.1 else None
 
+-- the bytes that the slave with a station address is known to have in its block with a number: those of its last write since it came into the line, where that had a good answer
 abbrev pub known_bytes : Record → ℕ → ℕ → Option (List ℕ)
 known_bytes past station number = option_and_then (if_confirmed past) (last_write past station number)
 

@@ -11,6 +11,7 @@ state_of (Opened groups ∷ past) = opened groups
 state_of (Edited edit ∷ past) = state_after (state_of past) edit
 state_of (entry ∷ past) = state_of past
 
+-- the line of a record's state: its present slaves, in order
 abbrev pub line_of : Record → List Member
 line_of past = line (state_of past)
 

@@ -48,6 +48,7 @@ pub record HasItsSending (past : Record) (serial : ℕ) : Type 0 where
   pub below : (serial < next_serial past) ↔ IsSome (sending_of past serial)
   pub which : (sending : Sending) → (sending_of past serial ≡ Some sending) ↔ StandsAt past serial sending
 
+-- so it is with every serial, in any record
 abbrev pub SendingsHaveSerials : Type 0
 SendingsHaveSerials = (past : Record) (serial : ℕ) → HasItsSending past serial
 
@@ -79,6 +80,7 @@ pub record AreSent (past : Record) (tasks : List ℕ) : Type 0 where
   pub told : answer_to past (SendsTasks tasks) ≡ answer.Sent (map (sent_text past) (proposal past tasks))
   pub found : All (IsFound past (entries_after past (SendsTasks tasks))) (proposal past tasks)
 
+-- so it is with every sending of tasks that has no fault
 abbrev pub SentFramesAreFound : Type 0
 SentFramesAreFound = (past : Record) (tasks : List ℕ) → IsNone (lowest (task_faults past tasks)) → AreSent past tasks
 
@@ -90,6 +92,7 @@ pub record IsWritten (past : Record) : Type 0 where
   pub told : answer_to past SendsWrite ≡ answer.WriteSent (write_text (next_serial past) block)
   pub found : sending_of (entries_after past SendsWrite) (next_serial past) ≡ Some (just_sent (write_head block ∷ []))
 
+-- so it is with every write that has no fault
 abbrev pub SentWritesAreFound : Type 0
 SentWritesAreFound = (past : Record) → IsNone (lowest (write_faults past (owed_blocks past))) → IsWritten past
 
@@ -116,5 +119,6 @@ pub record ComesAgain (serial : ℕ) (d : Datagram) (ds : List Datagram) : Type 
       (later : ℕ) (e : Datagram) (es : List Datagram) → serial < later → later < serial + 256
       → index_in (frame_text later (e ∷ es)) ≢ index_in (frame_text serial (d ∷ ds))
 
+-- so it is with the text of any frame, whatever its datagrams are
 abbrev pub IndexesComeAgain : Type 0
 IndexesComeAgain = (serial : ℕ) (d : Datagram) (ds : List Datagram) → ComesAgain serial d ds

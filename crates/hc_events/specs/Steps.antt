@@ -175,6 +175,7 @@ with_arrival past (Ok arrival) = Came arrival ∷ past
 abbrev pub read_faults : ℕ → List (Bool × CoreFault)
 read_faults task = (is_no_task task, NoSuchTask) ∷ []
 
+-- what a read of a task is answered: the epoch, and the data of each of the task's datagrams
 abbrev pub image_of : Record → ℕ → Answer
 image_of past task = answer.Image (epoch_of past) (slots_of past task)
 

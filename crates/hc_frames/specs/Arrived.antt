@@ -101,6 +101,7 @@ fill_region ds = nat_lt 0 (length ds) && (list_all is_whole ds && more_between d
 
 -- ---- the eight conditions
 
+-- the frame has fewer bytes than the shortest that can be read
 abbrev pub is_short : List ℕ → Bool
 is_short bytes = nat_lt (length bytes) LEAST_READ
 
@@ -117,12 +118,15 @@ abbrev pub has_bad_length : List ℕ → Bool
 has_bad_length bytes =
     nat_lt MAX_DATAGRAMS (datagram_bytes bytes) || (nat_lt (length bytes) (16 + datagram_bytes bytes) || not (fill_region (datagrams_in (region bytes))))
 
+-- one of the datagrams has the circulating bit
 abbrev pub is_circulating : List ℕ → Bool
 is_circulating bytes = list_any circulates (datagrams_in (region bytes))
 
+-- the last datagram says that more follow
 abbrev pub promises_more : List ℕ → Bool
 promises_more bytes = more_at_end (datagrams_in (region bytes))
 
+-- one of the datagrams has a command that isn't known here
 abbrev pub has_unknown_command : List ℕ → Bool
 has_unknown_command bytes = list_any is_unknown (datagrams_in (region bytes))
 
@@ -150,6 +154,7 @@ pub record Reading : Type 0 where
   pub serial : ℕ
   pub parts : List Carried
 
+-- what bytes tell when they are read as a frame
 abbrev pub reading_of : List ℕ → Reading
 reading_of bytes = record { serial = serial_in bytes; parts = map carried (datagrams_in (region bytes)) }
 

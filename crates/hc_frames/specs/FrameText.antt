@@ -62,9 +62,11 @@ sent d = record { command = d.command; address = d.address; interrupt = 0; bytes
 abbrev pub datagram_head : ℕ → Command → ℕ → ℕ → Bool → List ℕ
 datagram_head index command address size more = carried_head index command address size more 0
 
+-- a datagram as it is sent in the frame with a serial, where more follow it or none
 abbrev pub datagram_text : ℕ → Bool → Datagram → List ℕ
 datagram_text serial more d = carried_text serial more (sent d)
 
+-- the datagrams of the frame with a serial as they are sent, one after another
 abbrev pub datagrams_text : ℕ → List Datagram → List ℕ
 datagrams_text serial ds = carried_texts serial (map sent ds)
 

@@ -16,6 +16,7 @@ use Rattle.hc_index.specs.declared.seats.Seat.{Seat}
 abbrev pub alias_of : ℕ × Declared → Alias
 alias_of numbered = record { alias = numbered.1.group.alias; group = numbered.0 }
 
+-- the aliases of declared groups, each with its group's number from 0
 abbrev pub aliases : List Declared → List Alias
 aliases groups = map alias_of (enumerate_from 0 groups)
 
@@ -33,12 +34,15 @@ addresses groups = map address_of (line_from 1 (all_present groups))
 
 -- how many register blocks slaves have: two for each area
 
+-- the blocks of one slave
 abbrev pub blocks_of : Slave → ℕ
 blocks_of slave = 2 * length slave.areas
 
+-- those of slaves, all together
 abbrev pub block_sum : List Slave → ℕ
 block_sum slaves = sum_by blocks_of slaves
 
+-- those of a slave of the line
 abbrev pub own_blocks : Member → ℕ
 own_blocks member = blocks_of member.slave
 

@@ -20,6 +20,7 @@ RemapsKeepIndexes =
     (groups : List Declared) (index : Index) (station area : ℕ) (pdos : List ℕ) → IsIndexOf groups index → lowest_fault (groups_of (groups_after groups (Remap station area pdos))) ≡ None
     → IsIndexOf (groups_after groups (Remap station area pdos)) index
 
+-- so it is with another task for an area: the index stays that of the groups
 abbrev pub MovesKeepIndexes : Type 0
 MovesKeepIndexes =
     (groups : List Declared) (index : Index) (station area task : ℕ) → IsIndexOf groups index → lowest_fault (groups_of (groups_after groups (Move station area task))) ≡ None

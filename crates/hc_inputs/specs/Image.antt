@@ -11,6 +11,7 @@ Image = List (Option (List ℕ))
 abbrev pub slot_number : ℕ → ℕ → ℕ
 slot_number task d = MOST_DATAGRAMS * task + d
 
+-- an image has a slot for each datagram that each of the eight tasks can have
 abbrev pub IsWhole : Image → Type 0
 IsWhole image = length image ≡ MOST_DATAGRAMS * TASKS
 

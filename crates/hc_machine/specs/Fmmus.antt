@@ -18,6 +18,7 @@ is_active block = slice_index block ACTIVATE_BYTE % 2 == 1
 abbrev pub is_read : List ℕ → Bool
 is_read block = slice_index block 11 % 2 == 1
 
+-- bit 1 of the type is set: the master writes through this FMMU
 abbrev pub is_write : List ℕ → Bool
 is_write block = slice_index block 11 / 2 % 2 == 1
 
@@ -25,6 +26,7 @@ is_write block = slice_index block 11 / 2 % 2 == 1
 abbrev pub first_logical : List ℕ → ℕ
 first_logical block = 8 * long_at block 0 + slice_index block 6 % 8
 
+-- the logical bit behind the last one of a block
 abbrev pub end_logical : List ℕ → ℕ
 end_logical block = 8 * (long_at block 0 + word_at block 4) + slice_index block 7 % 8 + 1 - 8
 

@@ -34,6 +34,7 @@ FmmusAreTheirPairs = (block : List ℕ) (x m : ℕ) → IsPair block x m ↔ Pai
 abbrev pub Reads : List ℕ → ℕ → ℕ → ℕ → Type 0
 Reads memory i x m = (is_read (block_at memory i) ≡ true) × IsPair (block_at memory i) x m
 
+-- FMMU i is a writing one, and pairs logical bit x with memory bit m
 abbrev pub Writes : List ℕ → ℕ → ℕ → ℕ → Type 0
 Writes memory i x m = (is_write (block_at memory i) ≡ true) × IsPair (block_at memory i) x m
 
@@ -72,6 +73,7 @@ UnmappedDatagramsPass =
 abbrev pub IsRead : List ℕ → ℕ → ℕ → Type 0
 IsRead memory from n = (i : ℕ) × (k : ℕ) × (m : ℕ) × (i < FMMUS) × (k < 8 * n) × Reads memory i (from + k) m
 
+-- a write FMMU pairs one of the bits of n bytes of data from this logical bit on
 abbrev pub IsWritten : List ℕ → ℕ → ℕ → Type 0
 IsWritten memory from n = (i : ℕ) × (k : ℕ) × (m : ℕ) × (i < FMMUS) × (k < 8 * n) × Writes memory i (from + k) m
 

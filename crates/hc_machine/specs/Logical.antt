@@ -35,6 +35,7 @@ meets from n f = nat_lt (max f.logical from) (min (f.logical + f.width) (from + 
 abbrev pub reads_any : ℕ → ℕ → List Fmmu → Bool
 reads_any from n fs = list_any (λ f. f.reads && meets from n f) fs
 
+-- an FMMU that writes pairs one of the n logical bits from `from` on
 abbrev pub writes_any : ℕ → ℕ → List Fmmu → Bool
 writes_any from n fs = list_any (λ f. f.writes && meets from n f) fs
 

@@ -25,6 +25,7 @@ pub record KeepsItsEntry (place another : VariablePlace) : Type 0 where
   pub bits : another.bits ≡ place.bits
   pub dir : another.dir ≡ place.dir
 
+-- a variable that has a place in both tables has the same entry in both
 abbrev pub KeepEntries : Table → Table → Type 0
 KeepEntries old new =
     (variable : ℕ) (place another : VariablePlace)

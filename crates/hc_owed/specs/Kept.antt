@@ -34,9 +34,11 @@ unknown block = record { station = block.station; number = block.number; known =
 abbrev pub owed_count : List Kept → ℕ
 owed_count blocks = length (filter (λ kept. kept.owed) blocks)
 
+-- the position of the first owed block, from 0; none where no block is owed
 abbrev pub first_owed : List Kept → Option ℕ
 first_owed blocks = position (λ kept. kept.owed) blocks
 
+-- the name of the block at a position, from 0; none behind the last one
 abbrev pub name_at : List Kept → ℕ → Option (ℕ × ℕ)
 name_at blocks n = option_map name_kept (slice_get blocks n)
 
@@ -44,5 +46,6 @@ name_at blocks n = option_map name_kept (slice_get blocks n)
 abbrev pub block_count : Slave → ℕ
 block_count slave = 2 * length slave.areas
 
+-- the blocks of all slaves that groups declare, present or not
 abbrev pub declared_blocks : List Declared → ℕ
 declared_blocks groups = sum_by (λ declared. sum_by block_count declared.group.slaves) groups

@@ -24,6 +24,7 @@ kept_by known block = record {
   owed = differs block.block.bytes (known block.station block.number);
 }
 
+-- the blocks of a state's line as they are kept by what is known, in line and block order
 abbrev pub kept_of : Knowledge → State → List Kept
 kept_of known state = map (kept_by known) (line_blocks (line state))
 
@@ -50,6 +51,7 @@ pub record WritesKeepRight (known : Knowledge) (state : State) (n : ℕ) (block 
       → sent n (kept_of known state) ≡ kept_of (known_with (name_of block) None known) state
   pub when_confirmed : confirmed n block.block.bytes (kept_of known state) ≡ kept_of (known_with (name_of block) (Some block.block.bytes) known) state
 
+-- so it is with every block of the line of any project's state
 abbrev pub WritesAreRight : Type 0
 WritesAreRight = (known : Knowledge) (state : State) (n : ℕ) (block : LineBlock) → IsBlockAt state n block → WritesKeepRight known state n block
 

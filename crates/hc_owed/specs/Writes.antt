@@ -7,6 +7,7 @@ use Rattle.hc_owed.specs.Kept.{Kept}
 abbrev pub forgotten : Kept → Kept
 forgotten kept = record kept { known = None }
 
+-- what is kept once the write of the block at a position, from 0, was sent
 abbrev pub sent : ℕ → List Kept → List Kept
 sent n blocks = changed_at n forgotten blocks
 
@@ -14,5 +15,6 @@ sent n blocks = changed_at n forgotten blocks
 abbrev pub written : List ℕ → Kept → Kept
 written bytes kept = record kept { known = Some bytes; owed = false }
 
+-- what is kept once the write of these bytes to the block at a position, from 0, was answered well
 abbrev pub confirmed : ℕ → List ℕ → List Kept → List Kept
 confirmed n bytes blocks = changed_at n (written bytes) blocks

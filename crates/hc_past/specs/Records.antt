@@ -9,6 +9,7 @@ use Rattle.hc_events.specs.Entries as entry
 use Rattle.hc_events.specs.Steps.{with_arrival}
 use Rattle.hc_past.specs.Texts.{bytes_of}
 
+-- the record of a past, entry by entry: the project's opening, and bytes that arrived by what was read of them, if anything was
 abbrev pub record_of : Past → Record
 record_of (Opened project) = just_opened project.value
 record_of (Edited' m past edit) = entry.Edited edit.value ∷ record_of past

@@ -46,9 +46,11 @@ pub record IsLoad (load : Load) : Type 0 where
 
 -- a task without datagrams, and one with one more datagram behind the others
 
+-- the table of a task that has no datagram: no outputs and no inputs
 abbrev pub no_datagrams : TaskTable
 no_datagrams = record { datagrams = []; outputs = 0; inputs = 0 }
 
+-- a task's table with one more datagram: it has the next logical address, and begins in the image where the others end
 abbrev pub with_load : ℕ → TaskTable → Load → TaskTable
 with_load task table load = record {
   datagrams =
@@ -68,6 +70,7 @@ abbrev pub loaded : ℕ → List Placed → ℕ → TaskTable
 loaded task areas zero = no_datagrams
 loaded task areas (suc datagram) = with_load task (loaded task areas datagram) (load_in areas datagram)
 
+-- the table of all datagrams of a task, by its placed areas
 abbrev pub table_at : ℕ → List Placed → TaskTable
 table_at task areas = loaded task areas (datagram_count areas)
 
@@ -79,6 +82,7 @@ TablesAreLoaded =
 
 -- what a table tells of it: a datagram's outputs are its bytes before the end of the task's outputs
 
+-- length, expected counter and output bytes of a datagram, by its task's table
 abbrev pub told_of : TaskTable → Datagram → Load
 told_of table datagram = record {
   length = datagram.length;
@@ -86,6 +90,7 @@ told_of table datagram = record {
   outputs = min (table.outputs - datagram.offset) datagram.length;
 }
 
+-- what a datagram holds that isn't there: no bytes, no expected counter
 abbrev pub no_load : Load
 no_load = record { length = 0; expected = 0; outputs = 0 }
 
@@ -93,6 +98,7 @@ no_load = record { length = 0; expected = 0; outputs = 0 }
 abbrev pub load_in_table : TaskTable → ℕ → Load
 load_in_table table datagram = option_map_or (told_of table) (slice_get table.datagrams datagram) no_load
 
+-- what a table tells of a task's datagram with a number; `no_load` where there is no such task or datagram
 abbrev pub load_told : Table → ℕ → ℕ → Load
 load_told table task datagram = option_map_or (λ found. load_in_table found datagram) (slice_get table.tasks task) no_load
 

@@ -47,6 +47,7 @@ with_changed changed (row ∷ rows) =
     if nat_lt row.0 changed.0 then row ∷ with_changed changed rows
     else new_row changed ++ (if row.0 == changed.0 then rows else row ∷ rows)
 
+-- rows with each of these variables changed
 abbrev pub merged : List ChangedRow → List Row → List Row
 merged [] rows = rows
 merged (changed ∷ others) rows = with_changed changed (merged others rows)

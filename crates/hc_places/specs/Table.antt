@@ -22,6 +22,7 @@ pub record TaskTable : Type 0 where
   pub outputs : ℕ
   pub inputs : ℕ
 
+-- the table of a task of a line: its datagrams in order, and the bytes of its outputs and of its inputs
 abbrev pub task_table : List Member → ℕ → TaskTable
 task_table line task = record {
   datagrams = map (datagram_of line task) (range_with_len 0 (datagram_count (task_places task line)));
@@ -38,6 +39,7 @@ abbrev pub put : Row → List Row → List Row
 put row [] = row ∷ []
 put row (other ∷ others) = if nat_lt other.0 row.0 then other ∷ put row others else row ∷ other ∷ others
 
+-- all of some rows in the order of their numbers
 abbrev pub by_number : List Row → List Row
 by_number [] = []
 by_number (row ∷ rows) = put row (by_number rows)
@@ -56,6 +58,7 @@ pub record IsTable (table : Table) : Type 0 where
   pub eight : length table.tasks ≡ TASKS
   pub ascends : RowsAscend table.variables
 
+-- the table of a line: its eight tasks, and where each variable of it stands
 abbrev pub table_of : List Member → Table
 table_of line = record {
   tasks = map (task_table line) tasks;
@@ -64,9 +67,11 @@ table_of line = record {
 
 -- what a table answers
 
+-- where a variable stands; none where it has no row
 abbrev pub place_in : Table → ℕ → Option VariablePlace
 place_in table variable = option_map (λ row. row.1) (find (λ row. row.0 == variable) table.variables)
 
+-- the datagram of a task with a number, from 0; none behind the last one
 abbrev pub datagram_in : Table → ℕ → ℕ → Option Datagram
 datagram_in table task d = option_and_then (λ found. slice_get found.datagrams d) (slice_get table.tasks task)
 
@@ -82,6 +87,7 @@ stands_in_datagram task d place = (place.task == task) && (place.datagram == d)
 abbrev pub of_datagram : ℕ → ℕ → List Row → List Row
 of_datagram task d rows = filter (λ row. stands_in_datagram task d row.1) rows
 
+-- the rows of the variables in a task's datagram, in the order of their numbers
 abbrev pub variables_in : Table → ℕ → ℕ → List Row
 variables_in table task d = of_datagram task d table.variables
 

@@ -12,6 +12,7 @@ pub record Configuration : Type 0 where
   pub table : Table
   pub blocks : List LineBlock
 
+-- the configuration of a line: its table, and its register blocks in line and block order
 abbrev pub config : List Member → Configuration
 config line = record { table = table_of line; blocks = line_blocks line }
 

@@ -58,6 +58,7 @@ AreasReadTheirKeys =
     → AgreeAt (codes "pdo") a b
     → area a ≡ area b
 
+-- values that agree at `index` and `entries` are read as the same PDO, with the same flaws
 abbrev pub PdosReadTheirKeys : Type 0
 PdosReadTheirKeys = (a b : Data) → AgreeAt (codes "index") a b → AgreeAt (codes "entries") a b → pdo a ≡ pdo b
 

@@ -26,6 +26,7 @@ entry d =
       flaws = joined (variable.flaws ∷ bits.flaws ∷ third ∷ []);
     }
 
+-- a PDO: its index, and its entries, which it needs to have
 abbrev pub pdo : Data → Reading Pdo
 pdo d =
     let index = word (get (codes "index") d) in
@@ -39,6 +40,7 @@ pdo d =
 abbrev pub assigned_index : Data → Reading ℕ
 assigned_index d = word (Some d)
 
+-- an area: its sync manager, direction, first byte of memory, task and assigned indexes, which it needs to have, and the PDOs that it offers, if any
 abbrev pub area : Data → Reading Area
 area d =
     let sm = byte (get (codes "sm") d) in
@@ -59,6 +61,7 @@ area d =
       flaws = joined (sm.flaws ∷ dir.flaws ∷ phys.flaws ∷ task.flaws ∷ assigned.flaws ∷ offered.flaws ∷ []);
     }
 
+-- a slave: its station address, and its areas, if any
 abbrev pub slave : Data → Reading Slave
 slave d =
     let station = word (get (codes "station") d) in

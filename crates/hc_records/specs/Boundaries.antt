@@ -32,6 +32,7 @@ width_in list key = option_map_or (λ area. area.1) (find (λ area. same_key are
 abbrev pub is_touched : List Keyed → List Keyed → Key → Bool
 is_touched old new key = not (width_in old key == width_in new key)
 
+-- the touched keys of two lists: those of the old list in its order, then those of the new one
 abbrev pub touched : List Keyed → List Keyed → List Key
 touched old new = filter (is_touched old new) (map (λ area. area.0) (old ++ new))
 

@@ -3,6 +3,7 @@ use Rattle.std.specs.Prelude.{ℕ}
 use Rattle.hc_records.specs.declared.faults.EditFault.{EditFault}
 use Rattle.hc_records.specs.declared.faults.EditFault.TheVariants.{UnknownAlias, AlreadyPresent, NotPresent, Mandatory, UnknownStation, Absent, NoSuchArea, NoSuchTask, UnknownPdo, RepeatedPdo, AreaTooBig, TooManyDatagrams, EpochsSpent, Memory}
 
+-- the number of an edit's fault, from 1 to 14
 abbrev pub edit_fault_number : EditFault → ℕ
 edit_fault_number UnknownAlias = 1
 edit_fault_number AlreadyPresent = 2

@@ -40,6 +40,7 @@ slave_at state station = find (is_at station) (line state)
 abbrev pub area_at : State → ℕ → ℕ → Option Area
 area_at state station area = option_and_then (λ member. slice_get member.slave.areas area) (slave_at state station)
 
+-- an area offers a PDO with this index
 abbrev pub offers : Area → ℕ → Bool
 offers area index = list_any (λ pdo. pdo.index == index) area.offered
 

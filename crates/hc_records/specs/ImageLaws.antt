@@ -15,6 +15,7 @@ pub record TilesImage (areas : List Placed) : Type 0 where
   pub next : (datagram : ℕ) → datagram_offset areas (datagram + 1) ≡ datagram_offset areas datagram + datagram_length areas datagram
   pub last : datagram_offset areas (datagram_count areas) ≡ output_length areas + input_length areas
 
+-- so do the datagrams of any list of areas that is packed
 abbrev pub DatagramsTileTheImage : Type 0
 DatagramsTileTheImage = (list : List Keyed) → TilesImage (packed opening list)
 
@@ -59,6 +60,7 @@ pub record StandsInItsPart (line : List Member) (place : VariablePlace) : Type 0
   pub output : place.dir ≡ Out → place_bit line place + place.bits ≤ 8 * output_length (task_places place.task line)
   pub input : place.dir ≡ In → 8 * output_length (task_places place.task line) ≤ place_bit line place
 
+-- so does every variable of a line
 abbrev pub VariablesStandInTheirParts : Type 0
 VariablesStandInTheirParts =
     (state : State) (variable : ℕ) (place : VariablePlace) → variable_place variable (line state) ≡ Some place

@@ -22,6 +22,7 @@ is_turn In In = false
 abbrev pub same_key : Key → Key → Bool
 same_key a b = same_dir a.dir b.dir && (a.rank == b.rank) && (a.area == b.area)
 
+-- the order of keys: outputs before inputs, then by rank, then by area
 abbrev pub is_before : Key → Key → Bool
 is_before a b =
     is_turn a.dir b.dir || (same_dir a.dir b.dir && (nat_lt a.rank b.rank || ((a.rank == b.rank) && nat_lt a.area b.area)))

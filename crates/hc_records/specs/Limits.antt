@@ -14,13 +14,16 @@ pub record IsEntryWidth (bits : ℕ) : Type 0 where
   pub some : 1 ≤ bits
   pub most : bits ≤ MOST_ENTRY_BITS
 
+-- an entry is within its limits: it has 1 to 64 bits
 abbrev pub IsEntryInside : Entry → Type 0
 IsEntryInside entry = IsEntryWidth entry.1
 
+-- a PDO is within its limits: at most 64 entries, each within its own
 pub record IsPdoInside (pdo : Pdo) : Type 0 where
   pub few : length pdo.entries ≤ MOST_ENTRIES
   pub entries : All IsEntryInside pdo.entries
 
+-- an area is within its limits: each number in its range, PDOs that it offers once each, assigned ones among these and once each, at most 11,888 bits, and a reach that ends in process memory
 pub record IsAreaInside (area : Area) : Type 0 where
   pub manager : area.sm ≤ LAST_SYNC_MANAGER
   pub start : MEMORY_START ≤ area.phys
@@ -44,6 +47,7 @@ pub record Reaches (area : Area) (byte : ℕ) : Type 0 where
 abbrev pub KeepApart : Area → Area → Type 0
 KeepApart a b = (byte : ℕ) → Reaches a byte → ¬ (Reaches b byte)
 
+-- a slave is within its limits: a station address that isn't 0, at most 8 areas, each within its own limits, with sync managers and memory of their own
 pub record IsSlaveInside (slave : Slave) : Type 0 where
   pub station : 1 ≤ slave.station
   pub few : length slave.areas ≤ MOST_AREAS
@@ -61,6 +65,7 @@ abbrev pub BeginsMandatory : List Group → Type 0
 BeginsMandatory [] = ⊥
 BeginsMandatory (mandatory ∷ groups) = (mandatory.alias ≡ 0) × All ComesAndGoes groups
 
+-- a project's groups are within their limits: the mandatory one first, at most 512 groups and 2,048 slaves, and each alias, station address and variable once
 pub record IsProjectInside (groups : List Group) : Type 0 where
   pub mandatory : BeginsMandatory groups
   pub few_groups : length groups ≤ MOST_GROUPS

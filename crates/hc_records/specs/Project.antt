@@ -71,6 +71,7 @@ abbrev pub is_misplaced : List Group → Bool
 is_misplaced [] = true
 is_misplaced (group ∷ groups) = not (group.alias == 0) || list_any is_bare groups
 
+-- a project has groups that are misplaced or too many, too many slaves, or a slave that is outside its limits
 abbrev pub has_outside : List Group → Bool
 has_outside groups =
     is_misplaced groups
@@ -80,9 +81,11 @@ has_outside groups =
 
 -- a name stands twice
 
+-- two groups have one alias
 abbrev pub has_repeated_alias : List Group → Bool
 has_repeated_alias groups = has_repeat (map (λ group. group.alias) groups)
 
+-- two slaves, of whatever groups, have one station address
 abbrev pub has_repeated_station : List Group → Bool
 has_repeated_station groups = has_repeat (map (λ slave. slave.station) (slaves_of groups))
 
@@ -90,6 +93,7 @@ has_repeated_station groups = has_repeat (map (λ slave. slave.station) (slaves_
 abbrev pub same_sync_manager : Area → Area → Bool
 same_sync_manager a b = b.sm == a.sm
 
+-- two areas of a slave have one sync manager
 abbrev pub repeats_sync_manager : Slave → Bool
 repeats_sync_manager slave = some_pair same_sync_manager slave.areas
 
@@ -98,6 +102,7 @@ abbrev pub overlap : Area → Area → Bool
 overlap a b =
     nat_lt 0 (reach a) && nat_lt 0 (reach b) && nat_lt a.phys (b.phys + reach b) && nat_lt b.phys (a.phys + reach a)
 
+-- the reaches of two areas of a slave have a byte in common
 abbrev pub has_overlap : Slave → Bool
 has_overlap slave = some_pair overlap slave.areas
 
@@ -117,6 +122,7 @@ area_names areas = flat_map (λ area. pdo_names area.offered) areas
 abbrev pub slave_names : List Slave → List ℕ
 slave_names slaves = flat_map (λ slave. area_names slave.areas) slaves
 
+-- two entries that areas of a project offer have one variable number
 abbrev pub has_repeated_variable : List Group → Bool
 has_repeated_variable groups = has_repeat (slave_names (slaves_of groups))
 

@@ -3,6 +3,7 @@ use Rattle.std.specs.Prelude.{ℕ}
 use Rattle.hc_records.specs.declared.faults.ProjectFault.{ProjectFault}
 use Rattle.hc_records.specs.declared.faults.ProjectFault.TheVariants.{NotToml, MissingField, OutOfRange, RepeatedAlias, RepeatedStation, RepeatedSyncManager, OverlappingAreas, RepeatedVariable, UnknownPdo, AreaTooBig, Memory}
 
+-- the number of a project's fault, from 1 to 11
 abbrev pub project_fault_number : ProjectFault → ℕ
 project_fault_number NotToml = 1
 project_fault_number MissingField = 2

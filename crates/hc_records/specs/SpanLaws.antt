@@ -47,6 +47,7 @@ pub record CarriesTheSame (old new : List Keyed) (span : Interval) : Type 0 wher
   pub was_span : Contains (spans (boundaries old)) span
   pub areas : span_areas new span ≡ span_areas old span
 
+-- so it is with every settled span of two lists of a task
 abbrev pub SettledSpansStay : Type 0
 SettledSpansStay =
     (old new : List Keyed) (span : Interval) → IsTaskList old → IsTaskList new
@@ -72,6 +73,7 @@ pub record IsCutAlone (list : List Keyed) (span : Interval) : Type 0 where
   pub next : span.1 ≡ next_cut opening (areas_from span.0 list)
   pub areas : span_areas list span ≡ map seen_area (carried opening (areas_from span.0 list))
 
+-- so it is with every span of a task's list
 abbrev pub SpansAreCutAlone : Type 0
 SpansAreCutAlone =
     (list : List Keyed) (span : Interval) → IsTaskList list → Contains (spans (boundaries list)) span → IsCutAlone list span

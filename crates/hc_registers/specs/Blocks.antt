@@ -134,5 +134,6 @@ same_block a b = (a.station == b.station) && same_bytes a.block b.block
 abbrev pub moved_blocks : List Member → List Member → List LineBlock
 moved_blocks old new = filter (λ block. not (list_any (same_block block) (line_blocks old))) (line_blocks new)
 
+-- how many blocks an edit moves: the blocks of the new line that weren't blocks of the old one
 abbrev pub moved : List Member → List Member → ℕ
 moved old new = length (moved_blocks old new)

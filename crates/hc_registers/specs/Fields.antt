@@ -6,5 +6,6 @@ use Rattle.std.specs.Int.{from_le_bytes, w16, w32}
 abbrev pub word_at : List ℕ → ℕ → ℕ
 word_at bytes at = from_le_bytes w16 (slice_range bytes at (at + 2))
 
+-- the number in the four bytes of a block from a byte on, low byte first
 abbrev pub long_at : List ℕ → ℕ → ℕ
 long_at bytes at = from_le_bytes w32 (slice_range bytes at (at + 4))

@@ -22,6 +22,7 @@ pub record SyncManagerFields (area : Area) : Type 0 where
   pub activate : slice_index (sync_manager_bytes area) 6 ≡ activation (width area)
   pub pdi_control : slice_index (sync_manager_bytes area) 7 ≡ 0
 
+-- so is the block of any area whose bytes can be written into it
 abbrev pub SyncManagersAreRead : Type 0
 SyncManagersAreRead = (area : Area) → area.phys < 2 ^ 16 → width area ≤ MOST_AREA_BITS → SyncManagerFields area
 
@@ -36,6 +37,7 @@ pub record FmmuFields (area : Area) (mapping : Mapping) : Type 0 where
   pub kind : slice_index (mapped_bytes area mapping) 11 ≡ type_of area.dir
   pub activate : slice_index (mapped_bytes area mapping) 12 ≡ 1
 
+-- so is the block of any area and mapping whose numbers fit it
 abbrev pub FmmusAreRead : Type 0
 FmmusAreRead = (area : Area) (mapping : Mapping) → area.phys < 2 ^ 16 → IsMappable area mapping → FmmuFields area mapping
 

@@ -12,6 +12,7 @@ use Rattle.hc_sendings.specs.Texts.{Data, carried_by, carried_bytes}
 abbrev pub text_if : ℕ → ℕ → List ℕ → List ℕ
 text_if task own text = if own == task then text else []
 
+-- a text where it belongs to the task of this datagram; nothing where it doesn't, or there is no datagram
 abbrev pub share_text : ℕ → List ℕ → Option Named → List ℕ
 share_text task text datagram = option_map_or (λ named. text_if task named.0 text) datagram []
 

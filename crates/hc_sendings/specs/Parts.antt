@@ -9,6 +9,7 @@ use Rattle.hc_events.specs.Sendings.{Frame, Named, length_of}
 abbrev pub if_of : ℕ → ℕ → Named → ℕ
 if_of task bytes named = if named.0 == task then bytes else 0
 
+-- of so many bytes all where this datagram is one of the task's, else none; none where there is no datagram
 abbrev pub share : ℕ → ℕ → Option Named → ℕ
 share task bytes datagram = option_map_or (if_of task bytes) datagram 0
 
@@ -16,6 +17,7 @@ share task bytes datagram = option_map_or (if_of task bytes) datagram 0
 abbrev pub own_bytes : List Member → Named → ℕ
 own_bytes line named = 12 + length_of line named
 
+-- the bytes of a datagram with its header and its counter where it is one of the task's, else none
 abbrev pub own_share : List Member → ℕ → Named → ℕ
 own_share line task named = if_of task (own_bytes line named) named
 

@@ -21,12 +21,15 @@ pub record IsLine (slaves : List (List Area)) : Type 0 where
 
 -- a task's areas, and their boundaries without END
 
+-- a task's areas as a tree has them, by the areas of the slaves
 abbrev pub tree_by : ℕ → List (List Area) → Tree
 tree_by task slaves = record { slaves = length slaves; list = list_by task slaves }
 
+-- the keys at which a task's datagrams begin, the first of which is START
 abbrev pub starts_by : ℕ → List (List Area) → List Key
 starts_by task slaves = START ∷ later_keys (list_by task slaves)
 
+-- both of a task
 abbrev pub kept_by : ℕ → List (List Area) → Kept
 kept_by task slaves = record { tree = tree_by task slaves; starts = starts_by task slaves }
 

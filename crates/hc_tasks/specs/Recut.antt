@@ -19,9 +19,11 @@ recut_from (suc count) task old new = recut_by task old new + recut_from count (
 
 -- and how many of these are touched
 
+-- 1 for a touched task, else 0
 abbrev pub touched_by : ℕ → List (List Area) → List (List Area) → ℕ
 touched_by task old new = if is_touched_by task old new then 1 else 0
 
+-- how many of so many tasks, from one on, are touched
 abbrev pub touched_from : ℕ → ℕ → List (List Area) → List (List Area) → ℕ
 touched_from zero task old new = 0
 touched_from (suc count) task old new = touched_by task old new + touched_from count (task + 1) old new

@@ -38,11 +38,13 @@ pub record HasTurn (count task : ℕ) (kept : List Kept) (first : ℕ) (before a
 
 -- the same of one task
 
+-- a task is kept of the old one of two such lines, and needs at most 16 datagrams in it
 pub record IsTaskTurn (task : ℕ) (kept : Kept) (first : ℕ) (before after old new : List (List Area)) : Type 0 where
   pub lines : AreLines first before after old new
   pub stands : kept ≡ kept_by task old
   pub fits : is_crowded task old ≡ false
 
+-- there are two such lines of which a task is kept so
 pub record HasTaskTurn (task : ℕ) (kept : Kept) (first : ℕ) (before after : List (List Area)) : Type 0 where
   pub old : List (List Area)
   pub new : List (List Area)

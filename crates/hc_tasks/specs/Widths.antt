@@ -27,8 +27,10 @@ with_slave task rank areas kept key = if rank == key.rank then slave_width task 
 
 -- the width of a key differs between a slave's old areas and its new ones, or between those of all slaves
 
+-- the width that a key has in a task differs between a slave's old areas and its new ones
 abbrev pub differs : ℕ → List Area → List Area → Key → Bool
 differs task old new key = not (slave_width task old key == slave_width task new key)
 
+-- the width that a key has in a task differs between the areas of all slaves of the old line and of the new one
 abbrev pub differs_at : ℕ → List (List Area) → List (List Area) → Key → Bool
 differs_at task old new key = not (width_at task old key == width_at task new key)

@@ -28,5 +28,6 @@ hex_bytes bytes = flat_map hex_byte bytes
 abbrev pub spaced_byte : ℕ → List ℕ
 spaced_byte b = codes " " ++ hex_byte b
 
+-- bytes as they are printed, a space before each
 abbrev pub spaced_bytes : List ℕ → List ℕ
 spaced_bytes bytes = flat_map spaced_byte bytes

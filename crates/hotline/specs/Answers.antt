@@ -58,6 +58,7 @@ abbrev pub slots_text : ℕ → List (Option (List ℕ)) → List ℕ
 slots_text number [] = []
 slots_text number (slot ∷ slots) = slot_text number slot ++ slots_text (number + 1) slots
 
+-- what a read prints: the line `epoch E`, then the slots of the task's datagrams in order
 unfoldable pub image_text : ℕ → List (Option (List ℕ)) → List ℕ
 image_text epoch slots = codes "epoch " ++ decimal epoch ++ codes "\n" ++ slots_text 0 slots
 

@@ -14,6 +14,7 @@ are_together tasks = nat_lt 0 (length tasks) && nat_le (length tasks) TASKS && n
 abbrev pub if_together : List ℕ → Option (List ℕ)
 if_together tasks = if are_together tasks then Some tasks else None
 
+-- the tasks that the words of a `send` spell: 1 to 8, none twice; none where they spell something else
 abbrev pub tasks_in : List (List ℕ) → Option (List ℕ)
 tasks_in arguments = option_and_then if_together (numbers_in 255 arguments)
 

@@ -15,6 +15,7 @@ frame_line word serial frame = word ++ decimal serial ++ codes ": " ++ hex_bytes
 abbrev pub shown_line : ℕ → List ℕ → List ℕ
 shown_line serial frame = frame_line (codes "frame ") serial frame
 
+-- the line of a frame that is sent, with its serial
 abbrev pub sent_line : ℕ → List ℕ → List ℕ
 sent_line serial frame = frame_line (codes "sent ") serial frame
 

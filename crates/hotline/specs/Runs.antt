@@ -23,6 +23,7 @@ abbrev pub reply_to_words : Record → ℕ → List (List ℕ) → Reply
 reply_to_words past number [] = record { text = []; past = past; goes_on = true }
 reply_to_words past number (name ∷ arguments) = reply_to_command past number (command_in name arguments)
 
+-- the reply to a line with this number, by its words
 unfoldable pub reply_to : Record → ℕ → List ℕ → Reply
 reply_to past number text = reply_to_words past number (words_of text)
 

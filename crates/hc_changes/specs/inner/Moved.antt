@@ -57,5 +57,6 @@ abbrev pub names_if : Candidate → Bool × Bool → List (ℕ × ℕ)
 names_if found moved =
     (if moved.0 then (found.station, 2 * found.index) ∷ [] else []) ++ (if moved.1 then (found.station, 2 * found.index + 1) ∷ [] else [])
 
+-- the names of those blocks of a mover that the edit moved
 abbrev pub names_moved : Mover → List (ℕ × ℕ)
 names_moved mover = names_if mover.found (moved_by mover)
