@@ -129,10 +129,7 @@ sweep_program() {
     done
 }
 
-sweep_test worked_pieces projects::the_project_or_memory
 sweep_test worked_pieces project_texts::projects::project_or_memory
-sweep_test worked_pieces cuts::areas_are_packed_in_their_order
-sweep_test worked_pieces swaps::the_next_table_or_the_old_one
 sweep_test worked_lines layouts::an_input_begins_the_next_byte
 sweep_test worked_lines edits::a_swapped_table_is_the_new_one
 sweep_test worked_lines edits::a_list_of_edits_is_answered_in_its_order
