@@ -5,26 +5,12 @@
 #[cfg(test)]
 mod boundaries;
 #[cfg(test)]
-mod drawn;
-#[cfg(test)]
-mod draws;
-#[cfg(test)]
-mod edits;
-#[cfg(test)]
-mod equal;
-#[cfg(test)]
 mod found;
-#[cfg(test)]
-mod layouts;
 #[cfg(test)]
 mod lines;
 #[cfg(test)]
-mod records;
+mod opened;
 #[cfg(test)]
-mod refused;
+mod steps;
 #[cfg(test)]
-mod spans;
-#[cfg(test)]
-mod texts;
-#[cfg(test)]
-mod told;
+mod widths;
