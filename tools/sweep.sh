@@ -130,11 +130,9 @@ sweep_program() {
 }
 
 sweep_test worked_pieces project_texts::projects::project_or_memory
-sweep_test worked_lines layouts::an_input_begins_the_next_byte
-sweep_test worked_lines edits::a_swapped_table_is_the_new_one
-sweep_test worked_lines edits::a_list_of_edits_is_answered_in_its_order
-sweep_test worked_lines found::an_index_finds_what_walks_find
-sweep_test worked_lines refused::twenty_edits_or_memory
+sweep_test worked_lines lines::edits_tell_what_they_change
+sweep_test worked_lines lines::a_list_of_edits_is_answered_in_its_order
+sweep_test worked_lines found::a_group_is_found_by_its_alias
 sweep_test worked_events drawn::sixty_events_or_memory
 sweep_test worked_events values::a_value_or_memory
 sweep_test hc_rings tests::a_buffer_begins_anew
