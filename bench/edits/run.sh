@@ -30,7 +30,7 @@ cat > "$bench/src/lib.rt" <<'END_OF_CODE'
 //! What the benchmark calls: each function opens a project's plan and plays what is asked of it.
 #![tactic(auto)]
 
-use hc_places::configure::configure;
+use hc_places::configure::open_line;
 use hc_places::swap::Swap;
 use hc_places::table::{Datagram, Place, Places};
 use hc_plan::blocks::LineBlock;
@@ -42,6 +42,8 @@ use hc_records::faults::EditFault;
 use hc_records::items::Items;
 use hc_records::records::Dir;
 use std::alloc::{AllocError, Global};
+use std::marker::Brand;
+use std::sync::ledger::Blank;
 
 /// What is asked: an edit, with its alias or station address and with up to two PDOs; that the line is configured; or
 /// all that the plan tells.
@@ -249,7 +251,7 @@ pub extern "C" fn edits_told(
 /// The nanoseconds in which the line is configured from nothing; the most where memory was refused.
 fn configured_in(alloc: Global, plan: &Plan) -> u64 {
     let begun = nanoseconds();
-    let configured = configure(alloc, plan.groups());
+    let configured = open_line::<Brand>(alloc, plan.groups(), Blank::new(1));
     let time = nanoseconds().wrapping_sub(begun);
     if configured.is_ok() { time } else { u64::MAX }
 }

@@ -25,7 +25,6 @@ pub mod Places
 pub mod Ranks
 pub mod Recut
 pub mod Rows
-pub mod Slots
 pub mod Standing
 pub mod SwapSays
 pub mod Tables

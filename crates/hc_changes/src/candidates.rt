@@ -5,7 +5,7 @@ use std::marker::Model;
 
 /// An area that may be configured in another way: one of a slave that changes, or one in a datagram that
 /// isn't kept up to it.
-#[derive(Debug, Drop)]
+#[derive(Drop)]
 pub struct Candidate<'a> {
     /// The station address of its slave.
     pub station: u16,

@@ -19,7 +19,7 @@ use std::alloc::{AllocError, Global};
 use std::marker::Model;
 
 /// An area that a slave had in the line before an edit.
-#[derive(Debug, Drop)]
+#[derive(Drop)]
 pub struct Stood<'a> {
     /// The area as it was.
     pub area: &'a Area,
@@ -36,7 +36,7 @@ impl<'a> Model for Stood<'a> {
 }
 
 /// A candidate beside what its slave had at its index before the edit. `movers` gives those that move.
-#[derive(Debug, Drop)]
+#[derive(Drop)]
 pub struct Mover<'b, 'a> {
     /// The candidate.
     pub found: &'b Candidate<'a>,
@@ -103,7 +103,7 @@ fn is_mover(outlook: &Outlook, mover: &Mover) -> bool
 /// The candidates that move, in line and record order, by what an edit makes of a line, by the tasks of the
 /// line before it, and by its candidates: those of the slaves that the edit concerns, and those that stand
 /// elsewhere than before. Each other candidate has the record that it had and stands where it stood, and with it
-/// its register blocks and its variables stay (`laws::other_candidates_stay`). `AllocError` where a growth was refused.
+/// its register blocks and its variables stay. `AllocError` where a growth was refused.
 pub fn movers<'b, 'a>(
     alloc: Global,
     outlook: &'b Outlook<'a>,

@@ -57,7 +57,7 @@ fn areas_of<'a>(slaves: &[SlaveAreas<'a>], index: usize) -> &'a [Area]
 /// A line, and what an edit makes of it. Contracts see the declared groups before and after, the rank of
 /// the first slave that the edit concerns, and the areas that these slaves have before and after; the ranks
 /// of the others follow.
-#[derive(Debug, Drop)]
+#[derive(Drop)]
 pub struct Outlook<'a> {
     groups: &'a [Declared],
     change: &'a Prepared,

@@ -7,7 +7,7 @@ use hc_records::keys::Key;
 use hc_records::records::Dir;
 
 /// Ranks from one up to another, both among them; none where the second is lower.
-#[derive(Clone, Copy, Debug)]
+#[derive(Clone, Copy)]
 pub(crate) struct Ranks {
     low: u16,
     high: u16,

@@ -140,9 +140,9 @@ fn add_slaves(
 /// What an edit changes of the places of a line's variables, by the candidates that move, the areas of the
 /// slaves that change before and after it, and the table of the line before it: the movers' variables that
 /// stood elsewhere or nowhere, each with its new place, and then the variables that those slaves carried
-/// and don't carry any more, without one. They are the variables that stand elsewhere, appear or go with the
-/// edit, each once (`laws::changed_rows_are_told`). As many slaves are given before as after. Each mover's place lies in one of 16 datagrams
-/// (`laws::candidates_stand_inside`). `AllocError` where a growth was refused.
+/// and don't carry any more, without one. For an edit's own movers they are the variables that stand
+/// elsewhere, appear or go with the edit, each once. As many slaves are given before as after. Each mover's
+/// place lies in one of 16 datagrams. `AllocError` where a growth was refused.
 pub fn changed_rows(
     alloc: Global,
     old: &Places,

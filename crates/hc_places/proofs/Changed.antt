@@ -1,6 +1,6 @@
 -- The variables of two tables whose place differs: which they are, each once.
 use Rattle.std.proofs.Common.{◌≡◌, ◌∙◌, ap, ℕ, ◌<◌, Bool, true, false, cond, List, [], ◌∷◌, ◌++◌, refl, sym, arith}
-use Rattle.std.specs.Prelude.{All, Option, Some, None, filter, find, map, not, option_map, ◌==◌, ◌≢◌, ◌||◌, ◌&&◌, AllPairs}
+use Rattle.std.specs.Prelude.{All, Option, Some, None, filter, find, map, not, option_map, ◌==◌, ◌≢◌, ◌||◌, ◌&&◌, ◌↔◌, AllPairs}
 use Rattle.std.specs.Option.{option_map_or}
 use Rattle.std.specs.List.{list_any}
 use Rattle.std.proofs.lemmas.List.Kept.{AllPairs-filter}
@@ -12,6 +12,7 @@ use Rattle.hc_records.specs.Image.{VariablePlace}
 use Rattle.hc_places.specs.Table.{Row, RowsAscend}
 use Rattle.hc_places.specs.Swap.{ChangesAscend, same_found}
 use Rattle.hc_places.proofs.Members.{among, among-filter}
+use Rattle.hc_places.proofs.lemmas.Same.{found-equal, found-same}
 use Rattle.hc_places.proofs.Walked.{AreAbove}
 
 -- the definitions, of rows in place of tables
@@ -86,6 +87,24 @@ different-among old new variable =
     among-filter (differs old new) variable (of_both old new)
     ∙ ap (λ (b : Bool). b && differs old new variable) all
     ∙ stand-or-appear (place_of old variable) (place_of new variable)
+
+differ-by : (same : Bool) (a b : Option VariablePlace) → same_found a b ≡ same → a ≢ b → not same ≡ true
+differ-by true a b is apart = absurd (apart (found-equal a b is))
+differ-by false a b is apart = refl
+
+same-by : (same : Bool) → same ≡ true → not same ≡ true → ⊥
+same-by true is apart = cc
+same-by false is apart = cc
+
+pub different-apart : (old new : List Row) (variable : ℕ)
+    → (list_any (λ changed. changed == variable) (different old new) ≡ true) ↔ (place_of old variable ≢ place_of new variable)
+different-apart old new variable =
+    let was = place_of old variable in
+    let is = place_of new variable in
+    let among = different-among old new variable in (
+      λ found equal. same-by (same_found was is) (found-same was is equal) (sym among ∙ found),
+      λ apart. among ∙ differ-by (same_found was is) was is refl apart,
+    )
 
 -- and each stands once
 

@@ -3,17 +3,16 @@ use Rattle.std.proofs.Common.{◌≡◌, ℕ, ◌+◌, ◌≤◌, Bool, true, fa
 use Rattle.std.specs.Prelude.{None, map, if◌then◌else◌}
 use Rattle.hc_records.specs.declared.records.Declared.{Declared}
 use Rattle.hc_records.specs.declared.records.Slave.{Slave}
-use Rattle.hc_records.specs.Line.{Member, State, line_from, members_from, present_slaves}
+use Rattle.hc_records.specs.Line.{State, line_from, members_from, present_slaves}
 use Rattle.hc_records.specs.Project.{lowest_fault}
 use Rattle.hc_records.proofs.lemmas.Ascending.{keys-ascend}
 use Rattle.hc_records.proofs.lemmas.Lines.{declared_slaves, line-ascends}
 use Rattle.hc_records.proofs.lemmas.Packable.{project-packable}
 use Rattle.hc_records.proofs.lemmas.Projects.{project-few}
-use Rattle.hc_records.proofs.lemmas.Slaves.{IsSlaveInside, line-inside}
 use Rattle.hc_records.proofs.lemmas.Walks.{length-members_from}
-use Rattle.hc_places.specs.inner.Parts.{IsConfigurable, IsListable}
+use Rattle.hc_places.proofs.Project.{IsConfigurable}
 use Rattle.hc_places.proofs.lemmas.Ranks.{counted-expected}
-use Rattle.hc_places.proofs.Widths.{HasOffers, line-offers}
+use Rattle.hc_places.proofs.Widths.{line-offers}
 
 present-few : (present : Bool) (rank : ℕ) (slaves : List Slave) → length (members_from rank (if present then slaves else [])) ≤ length slaves
 present-few true rank slaves = let all = length-members_from rank slaves in omega (arith, all)
@@ -30,13 +29,6 @@ line-few rank (declared ∷ groups) =
     let line = length-append (members_from rank (present_slaves declared)) (line_from (rank + length slaves) groups) in
     omega (arith, own, rest, all, line)
 
-slave-listable : (member : Member) → IsSlaveInside member.slave → HasOffers member.slave → IsListable member
-slave-listable member inside offers = record {
-  few = inside.few;
-  narrow = λ k d within. (inside.areas k d within).narrow;
-  offers = offers;
-}
-
 abbrev state_of : List Declared → State
 state_of groups = record { groups = groups; epoch = 0 }
 
@@ -46,7 +38,7 @@ project-configurable groups none = record {
       let line = line-few 1 groups in
       let declared = project-few (map (λ declared. declared.group) groups) none in
       omega (arith, line, declared);
-  listable = λ k d within. slave-listable _ (line-inside groups none k d within) (line-offers groups none k d within);
+  offers = line-offers groups none;
   packable = λ task. project-packable (state_of groups) task none;
   ascends = λ task. keys-ascend (state_of groups) task;
   counted = λ task d. counted-expected task d (line_from 1 groups) (keys-ascend (state_of groups) task) (line-ascends 1 groups);

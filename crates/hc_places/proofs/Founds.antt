@@ -1,22 +1,21 @@
 -- The variables of a task, where its areas are found under their keys.
-use Rattle.std.proofs.Common.{◌≡◌, ℕ, ◌+◌, ◌<◌, ◌≤◌, false, List, [], ◌∷◌, ◌++◌, length, get_or, refl, sym, ap, subst, ◌∙◌, arith}
-use Rattle.std.specs.Prelude.{All, Option, Some, None, map, nat_lt}
+use Rattle.std.proofs.Common.{◌≡◌, ℕ, ◌+◌, ◌<◌, ◌≤◌, List, [], ◌∷◌, ◌++◌, length, get_or, refl, sym, ap, subst, ◌∙◌, arith}
+use Rattle.std.specs.Prelude.{All, Option, Some, None, map}
 use Rattle.std.specs.Option.{option_map_or}
 use Rattle.std.specs.List.{flat_map, zip}
-use Rattle.std.proofs.lemmas.Bool.Decides.{nat_tests}
 use Rattle.std.proofs.lemmas.List.Elements.{All-cons, All-head, All-nil, All-tail}
 use Rattle.hc_records.specs.declared.records.Area.{Area}
 use Rattle.hc_records.specs.declared.records.Declared.{Declared}
 use Rattle.hc_records.specs.Area.{width}
-use Rattle.hc_records.specs.declared.limits.TheConstants.{MOST_DATAGRAMS}
+use Rattle.hc_records.specs.declared.limits.TheConstants.{MOST_AREA_BITS, MOST_DATAGRAMS}
 use Rattle.hc_records.specs.Edits.{crowded_task}
 use Rattle.hc_records.specs.Line.{groups_of, line_from}
 use Rattle.hc_records.specs.Project.{lowest_fault}
 use Rattle.hc_records.specs.TaskList.{Keyed, Listed, keyed, task_areas, task_list}
 use Rattle.hc_records.specs.Packing.{Placed, opening, packed}
-use Rattle.hc_records.specs.Image.{area_variables, datagram_count, task_places, task_variables, tasks}
+use Rattle.hc_records.specs.Image.{area_variables, datagram_count, task_places, task_variables}
 use Rattle.hc_records.proofs.lemmas.Greatest.{greatest-all}
-use Rattle.hc_records.proofs.lemmas.Finds.{each-task, found-none}
+use Rattle.hc_records.proofs.lemmas.Addresses.{uncrowded-few}
 use Rattle.hc_records.proofs.lemmas.Packed.{area_of, packed-areas}
 use Rattle.hc_places.specs.Found.{IsFoundSuiting, found_variables}
 use Rattle.hc_places.specs.Loads.{table_at}
@@ -24,12 +23,17 @@ use Rattle.hc_places.specs.inner.Parts.{AreSendable}
 use Rattle.hc_places.specs.Ranges.{OffersBits}
 use Rattle.hc_places.specs.Table.{Row, task_table}
 use Rattle.hc_places.proofs.Configurable.{project-configurable}
-use Rattle.hc_places.proofs.Pairs.{MeetsPlace, head-same, tail-same}
 use Rattle.hc_places.proofs.Tables.{places-sendable, table-same}
 use Rattle.hc_places.proofs.Widths.{areas-offer}
 use Rattle.hc_tasks.specs.Areas.{area_in, areas_by_rank, list_by}
 use Rattle.hc_tasks.proofs.lemmas.Named.{keys-name}
 use Rattle.hc_tasks.proofs.lemmas.Told.{task-listed}
+
+head-same : {X : Type 0} (x y : X) (xs ys : List X) → x ∷ xs ≡ y ∷ ys → x ≡ y
+head-same x y xs ys same = cc
+
+tail-same : {X : Type 0} (x y : X) (xs ys : List X) → x ∷ xs ≡ y ∷ ys → xs ≡ ys
+tail-same x y xs ys same = cc
 
 abbrev NamesIn : List (List Area) → Listed → Type 0
 NamesIn slaves listed = area_in slaves listed.key ≡ Some listed.area
@@ -77,6 +81,12 @@ suit-all slaves (listed ∷ areas) (placed ∷ places) same names offers =
     (own-suits slaves listed placed first (All-head (NamesIn slaves) listed areas names) (All-head (λ (l : Listed). OffersBits l.area) listed areas offers))
     (suit-all slaves areas places rest (All-tail (NamesIn slaves) listed areas names) (All-tail (λ (l : Listed). OffersBits l.area) listed areas offers))
 
+-- an area lies in one of the datagrams, at its place
+pub record MeetsPlace (listed : Listed) (placed : Placed) : Type 0 where
+  pub few : placed.datagram < MOST_DATAGRAMS
+  pub inside : placed.bit + width listed.area ≤ MOST_AREA_BITS
+  pub offers : OffersBits listed.area
+
 -- an area that is found under the key of a place lies in one of the datagrams
 pub found-meets : (slaves : List (List Area)) (places : List Placed) (i : ℕ) (placed : Placed) (area : Area) → AreSendable places → All (IsFoundSuiting slaves) places
     → i < length places → placed ≡ get_or places i placed → area_in slaves placed.key ≡ Some area → MeetsPlace (record { key = placed.key; area = area }) placed
@@ -98,9 +108,6 @@ pub record IsTask (groups : List Declared) (task : ℕ) (places : List Placed) :
   pub rows : flat_map (found_variables task (areas_by_rank groups)) places ≡ task_variables (line_from 1 groups) task
   pub table : table_at task places ≡ task_table (line_from 1 groups) task
 
-few-by : (count : ℕ) → nat_lt MOST_DATAGRAMS count ≡ false → count ≤ MOST_DATAGRAMS
-few-by count test = grind (arith, nat_tests)
-
 pub kept-task : (groups : List Declared) (task : ℕ) (places : List Placed) → task < 8 → lowest_fault (groups_of groups) ≡ None → crowded_task (line_from 1 groups) ≡ None
     → places ≡ packed opening (list_by task (areas_by_rank groups)) → IsTask groups task places
 kept-task groups task places low none fits is =
@@ -108,14 +115,13 @@ kept-task groups task places low none fits is =
     let slaves = areas_by_rank groups in
     let configurable = project-configurable groups none in
     let stands : places ≡ task_places task line = is ∙ ap (packed opening) (sym (task-listed task groups)) in
-    let test = λ (t : ℕ). nat_lt MOST_DATAGRAMS (datagram_count (task_places t line)) in
-    let few = few-by (datagram_count (task_places task line)) (each-task (λ t. test t ≡ false) (found-none test tasks fits) task low) in
+    let few = uncrowded-few line task fits low in
     let keys = packed-areas opening (task_list task line) in
     let names = keys-name groups task in
     record {
       stands = stands;
       sendable = rw stands (places-sendable task line configurable few);
-      suit = rw stands (suit-all slaves (task_areas task line) (task_places task line) keys names (areas-offer task line configurable.listable));
+      suit = rw stands (suit-all slaves (task_areas task line) (task_places task line) keys names (areas-offer task line configurable.offers));
       rows = rw stands (found-all task slaves (task_areas task line) (task_places task line) keys names);
       table = rw stands (table-same task line configurable);
     }

@@ -12,11 +12,13 @@ use Rattle.hc_places.specs.Table.{IsTable, Table, TaskTable}
 use Rattle.hc_places.specs.Swap.{Change, ChangedRow, ChangedTask, ChangesAscend, IsNewTask, LeadsAsSaid, SaysWhatDiffers, changed_variables, merged, replaced, same_found, swapped}
 use Rattle.hc_places.proofs.Changed.{different-among, different-once, numbers, numbers-once, place_of}
 use Rattle.hc_places.proofs.Members.{among, as-long}
-use Rattle.hc_places.specs.inner.Walk.{changes, walked}
-use Rattle.hc_places.proofs.Said.{changes-say, said}
 use Rattle.hc_places.proofs.Swapped.{merged-rows-ascend, place-merged, tables-told}
 use Rattle.hc_places.proofs.Walked.{AreAbove, ascends-above, ascends-rest}
 use Rattle.hc_places.proofs.lemmas.Same.{found-equal}
+
+-- what changed rows say of a variable
+abbrev pub said : List ChangedRow → ℕ → Option (Option VariablePlace)
+said rows variable = option_map (λ (changed : ChangedRow). changed.1) (find (λ (changed : ChangedRow). changed.0 == variable) rows)
 
 -- tasks of which some are replaced
 
@@ -157,17 +159,6 @@ TasksSay old new tasks = (task : ℕ) → IsNewTask (slice_get old.tasks task) (
 
 abbrev SamePlaces : List ChangedRow → List ChangedRow → Type 0
 SamePlaces rows given = (variable : ℕ) → find (λ (c : ChangedRow). c.0 == variable) rows ≡ find (λ (c : ChangedRow). c.0 == variable) given
-
--- of the changes that are found between two tables
-pub says-between : (old new : Table) (olds news : List TaskTable) (tasks kept : List ChangedTask) (rows : List ChangedRow) → olds ≡ old.tasks → news ≡ new.tasks → kept ≡ tasks
-    → ((task : ℕ) → IsNewTask (slice_get olds task) (slice_get news task) (table_said tasks task))
-    → rows ≡ walked changes new.variables old.variables → IsTable old → IsTable new → SaysWhatDiffers old new (change_of kept rows)
-says-between old new olds news tasks kept rows first second same say is before after = record {
-  tasks = subst (TasksSay old new) (sym same)
-      (subst (λ l. (task : ℕ) → IsNewTask (slice_get old.tasks task) (slice_get l task) (table_said tasks task)) second
-      (subst (λ l. (task : ℕ) → IsNewTask (slice_get l task) (slice_get news task) (table_said tasks task)) first say));
-  places = λ variable. ap (λ (rows : List ChangedRow). said rows variable) is ∙ changes-say old.variables new.variables variable before.ascends after.ascends;
-}
 
 -- so a swap leads where its rows say the same as those that were given
 pub leads-said : (edit : Edit) (tasks kept : List ChangedTask) (given rows : List ChangedRow) → kept ≡ tasks → SamePlaces rows given → ChangesAscend tasks → ChangesAscend rows

@@ -1,14 +1,14 @@
 -- Changes and rows that are walked at once are merged.
-use Rattle.std.proofs.Common.{◌≡◌, ◌∙◌, ap, ℕ, ◌<◌, Bool, true, false, cond, List, [], ◌∷◌, ◌++◌, refl, sym, arith, append-nil}
+use Rattle.std.proofs.Common.{◌≡◌, ◌∙◌, ap, ℕ, ◌<◌, false, List, [], ◌∷◌, ◌++◌, refl, sym, arith, append-nil}
 use Rattle.std.specs.Prelude.{Option, Some, None, nat_lt, ◌==◌}
 use Rattle.std.proofs.lemmas.Bool.{cond-true, cond-false, eq-eqb, lt-ltb}
 use Rattle.std.proofs.lemmas.Bool.Decides.{nat_tests}
 use Rattle.std.proofs.lemmas.List.Elements.{All-head, All-nil, All-tail}
 use Rattle.hc_records.specs.Image.{VariablePlace}
 use Rattle.hc_places.specs.Table.{Row, RowsAscend}
-use Rattle.hc_places.specs.Swap.{ChangedRow, ChangesAscend, merged, new_row, same_place, with_changed}
-use Rattle.hc_places.specs.inner.Walk.{changes, merges, walked}
-use Rattle.hc_places.proofs.Walked.{AreAbove, AreOf, Keeps, above-cons, ascends-above, ascends-rest, by-order, none-of, of-heads, one-of, walked-above, walked-both, walked-first, walked-second, walked-up}
+use Rattle.hc_places.specs.Swap.{ChangedRow, ChangesAscend, merged, new_row, with_changed}
+use Rattle.hc_places.specs.inner.Walk.{merges, walked}
+use Rattle.hc_places.proofs.Walked.{AreAbove, AreOf, Keeps, above-cons, ascends-above, ascends-rest, by-order, none-of, of-heads, one-of, walked-above, walked-both, walked-first, walked-second}
 
 -- what a walk of rows, or of changes and rows, adds
 
@@ -16,26 +16,12 @@ pub of-option : (number : ℕ) (place : Option VariablePlace) → AreOf number (
 of-option number None = none-of number
 of-option number (Some place) = one-of number place
 
-of-moved : (same : Bool) (number : ℕ) (place : VariablePlace) → AreOf number (cond same [] ((number, Some place) ∷ []))
-of-moved true number place = none-of number
-of-moved false number place = one-of number (Some place)
-
-pub changes-keep : Keeps changes
-changes-keep = record {
-  first = λ row. one-of row.0 None;
-  second = λ row. one-of row.0 (Some row.1);
-  both = λ before row same. of-moved (same_place before.1 row.1) row.0 row.1;
-}
-
 pub merges-keep : Keeps merges
 merges-keep = record {
   first = λ changed. of-option changed.0 changed.1;
   second = λ row. one-of row.0 row.1;
   both = λ changed row same. rw (← same) (of-option changed.0 changed.1);
 }
-
-pub changes-ascend : (old new : List Row) → RowsAscend old → RowsAscend new → ChangesAscend (walked changes new old)
-changes-ascend old new before after = walked-up changes changes-keep new old before after
 
 -- changes above a row leave it in front
 pub skip : (row : Row) (rows : List Row) (others : List ChangedRow) → AreAbove row.0 others → merged others (row ∷ rows) ≡ row ∷ merged others rows

@@ -1,28 +1,11 @@
--- Areas and rows in their order: what a search by halves asks of them.
+-- Rows in the order of their numbers: what a search by halves asks of them.
 use Rattle.std.proofs.Common.{◌≡◌, ◌∙◌, ap, ℕ, ◌≤◌, true, false, List, arith}
 use Rattle.std.specs.Prelude.{Option, find, nat_lt, option_and_then, slice_get, ◌==◌}
-use Rattle.std.specs.List.Sorted.{IsNonDecreasingBy, IsPartitionedBy, IsPartitionPoint}
+use Rattle.std.specs.List.Sorted.{IsNonDecreasingBy, IsPartitionPoint}
 use Rattle.std.proofs.lemmas.Bool.Decides.{nat_tests}
-use Rattle.hc_records.specs.declared.keys.Key.{Key}
-use Rattle.hc_records.specs.Keys.{same_key, is_before}
-use Rattle.hc_records.specs.Packing.{Placed}
 use Rattle.hc_cuts.proofs.lemmas.Found.{kept, find-reached}
-use Rattle.hc_cuts.proofs.lemmas.Order.{keys-parted, find-key}
-use Rattle.hc_places.specs.Layout.{AreInOrder}
 use Rattle.hc_places.specs.Table.{Row}
 
--- the areas before a key stand in front
-pub areas-parted : (areas : List Placed) (query : Key) → AreInOrder areas → IsPartitionedBy (λ area. is_before area.key query) areas
-areas-parted areas query order = keys-parted (λ area. area.key) areas query order
-
--- the first area that isn't before a key is what is found, if the key is its own
-pub find-area : (areas : List Placed) (query : Key) (first : ℕ) (found : Option Placed) → AreInOrder areas
-    → IsPartitionPoint (λ area. is_before area.key query ≡ true) (λ area. is_before area.key query ≡ false) areas first
-    → slice_get areas first ≡ found
-    → find (λ area. same_key area.key query) areas ≡ option_and_then (kept (λ area. same_key area.key query)) found
-find-area areas query first found order parts is = find-key (λ area. area.key) areas query first found order parts is
-
--- so of rows in the order of their numbers
 number-apart : (a b : ℕ) → nat_lt a b ≡ true → (a == b) ≡ false
 number-apart a b below = grind (arith, nat_tests)
 

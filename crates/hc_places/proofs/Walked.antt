@@ -130,33 +130,3 @@ walked-above {X} {Y} {Z} gives keeps low =
     (λ y ys rest firsts seconds.
     piece-above low y.0 (gives.second y) _ (keeps.second y) (All-head (λ (y : ℕ × Y). low < y.0) y ys seconds) (rest firsts (All-tail (λ (y : ℕ × Y). low < y.0) y ys seconds)))
     (above-both gives keeps low)
-
--- a walk of two lists in order is in order
-
-abbrev WalksUp : {X Y Z : Type 0} → Gives X Y (ℕ × Z) → List (ℕ × X) → List (ℕ × Y) → Type 0
-WalksUp gives xs ys = Ascends xs → Ascends ys → Ascends (walked gives ys xs)
-
-up-both : {X Y Z : Type 0} (gives : Gives X Y (ℕ × Z)) → Keeps gives → (x : ℕ × X) (xs : List (ℕ × X)) (y : ℕ × Y) (ys : List (ℕ × Y))
-    → WalksUp gives xs (y ∷ ys) → WalksUp gives (x ∷ xs) ys → WalksUp gives xs ys → WalksUp gives (x ∷ xs) (y ∷ ys)
-up-both gives keeps x xs y ys first second both firsts seconds =
-    let xs-above = ascends-above x xs firsts in
-    let ys-above = ascends-above y ys seconds in
-    by-order x.0 y.0
-    (λ below less. rw (walked-first gives x xs y ys below) (piece-ascends x.0 (gives.first x) _ (keeps.first x)
-    (walked-above gives keeps x.0 (y ∷ ys) xs xs-above (above-cons x.0 y ys less ys-above)) (first (ascends-rest x xs firsts) seconds)))
-    (λ not_less above less. rw (walked-second gives x xs y ys not_less above) (piece-ascends y.0 (gives.second y) _ (keeps.second y)
-    (walked-above gives keeps y.0 ys (x ∷ xs) (above-cons y.0 x xs less xs-above) ys-above) (second firsts (ascends-rest y ys seconds))))
-    (λ not_less neither same. rw (walked-both gives x xs y ys not_less neither) (piece-ascends y.0 (gives.both x y) _ (keeps.both x y same)
-    (walked-above gives keeps y.0 ys xs (rw (← same) xs-above) ys-above) (both (ascends-rest x xs firsts) (ascends-rest y ys seconds))))
-
-pub walked-up : {X Y Z : Type 0} (gives : Gives X Y (ℕ × Z)) → Keeps gives → (ys : List (ℕ × Y)) (xs : List (ℕ × X)) → WalksUp gives xs ys
-walked-up {X} {Y} {Z} gives keeps =
-    of-heads (WalksUp gives)
-    (λ firsts seconds. AllPairs-nil (λ (a b : ℕ × Z). a.0 < b.0))
-    (λ x xs rest firsts seconds.
-    piece-ascends x.0 (gives.first x) _ (keeps.first x)
-    (walked-above gives keeps x.0 [] xs (ascends-above x xs firsts) (All-nil (λ (y : ℕ × Y). x.0 < y.0))) (rest (ascends-rest x xs firsts) seconds))
-    (λ y ys rest firsts seconds.
-    piece-ascends y.0 (gives.second y) _ (keeps.second y)
-    (walked-above gives keeps y.0 ys [] (All-nil (λ (x : ℕ × X). y.0 < x.0)) (ascends-above y ys seconds)) (rest firsts (ascends-rest y ys seconds)))
-    (up-both gives keeps)

@@ -16,13 +16,9 @@ use Rattle.hc_records.specs.TaskList.{Listed, belongs, slave_areas, task_areas}
 use Rattle.hc_records.proofs.lemmas.Lists.{All-enumerate_from, All-flat_map}
 use Rattle.hc_records.proofs.lemmas.Slaves.{line-inside}
 use Rattle.hc_records.proofs.lemmas.Tasks.{listed, slave-areas-all}
-use Rattle.hc_places.specs.inner.Parts.{IsListable}
+use Rattle.hc_places.proofs.Project.{HasOffers}
 use Rattle.hc_records.specs.Limits.{IsAreaInside, IsEntryInside, IsPdoInside, IsSlaveInside}
 use Rattle.hc_places.specs.Ranges.{OffersBits}
-
--- every area of a slave offers entries of 1 to 64 bits
-abbrev pub HasOffers : Slave → Type 0
-HasOffers slave = All OffersBits slave.areas
 
 pdo-offers : (pdo : Pdo) → IsPdoInside pdo → All IsEntryInside pdo.entries
 pdo-offers pdo inside = inside.entries
@@ -38,18 +34,18 @@ line-offers groups none =
 
 -- and those of a task's areas
 
-offers-listed : (task : ℕ) (dir : Dir) (member : Member) → IsListable member → All (λ (l : Listed). OffersBits l.area) (slave_areas task dir member)
-offers-listed task dir member listable =
+offers-listed : (task : ℕ) (dir : Dir) (member : Member) → HasOffers member.slave → All (λ (l : Listed). OffersBits l.area) (slave_areas task dir member)
+offers-listed task dir member offers =
     slave-areas-all (λ (l : Listed). OffersBits l.area) task dir member
     (All-weaker (λ e. OffersBits e.1) (λ e. belongs task dir e.1 ≡ true → OffersBits (listed dir member.rank e).area) (λ e offers belonging. offers)
-    (enumerate_from 0 member.slave.areas) (All-enumerate_from OffersBits 0 member.slave.areas listable.offers))
+    (enumerate_from 0 member.slave.areas) (All-enumerate_from OffersBits 0 member.slave.areas offers))
 
-direction-offers : (task : ℕ) (dir : Dir) (line : List Member) → All IsListable line → All (λ (l : Listed). OffersBits l.area) (flat_map (slave_areas task dir) line)
+direction-offers : (task : ℕ) (dir : Dir) (line : List Member) → All (λ member. HasOffers member.slave) line → All (λ (l : Listed). OffersBits l.area) (flat_map (slave_areas task dir) line)
 direction-offers task dir line all =
     All-flat_map (λ (l : Listed). OffersBits l.area) (slave_areas task dir) line
-    (All-weaker IsListable (λ member. All (λ (l : Listed). OffersBits l.area) (slave_areas task dir member)) (offers-listed task dir) line all)
+    (All-weaker (λ member. HasOffers member.slave) (λ member. All (λ (l : Listed). OffersBits l.area) (slave_areas task dir member)) (offers-listed task dir) line all)
 
-pub areas-offer : (task : ℕ) (line : List Member) → All IsListable line → All (λ (l : Listed). OffersBits l.area) (task_areas task line)
+pub areas-offer : (task : ℕ) (line : List Member) → All (λ member. HasOffers member.slave) line → All (λ (l : Listed). OffersBits l.area) (task_areas task line)
 areas-offer task line all =
     All-append (λ (l : Listed). OffersBits l.area) (flat_map (slave_areas task Out) line) (flat_map (slave_areas task In) line)
     (direction-offers task Out line all) (direction-offers task In line all)

@@ -1,19 +1,16 @@
 -- What the datagrams of a task hold, and the table of a task put together from that.
-use Rattle.std.specs.Prelude.{◌≡◌, ℕ, zero, suc, ◌+◌, ◌-◌, ◌/◌, ◌<◌, ◌≤◌, min, List, [], ◌∷◌, ◌++◌, None, find, length, map, slice_get}
+use Rattle.std.specs.Prelude.{ℕ, zero, suc, ◌+◌, ◌-◌, ◌/◌, ◌≤◌, min, List, [], ◌∷◌, ◌++◌, None, find, length, map, slice_get}
 use Rattle.std.specs.Option.{option_map_or}
 use Rattle.hc_records.specs.declared.keys.Key.{Key}
-use Rattle.hc_records.specs.declared.limits.TheConstants.{MOST_DATAGRAM_BYTES, TASKS}
-use Rattle.hc_records.specs.declared.records.Declared.{Declared}
+use Rattle.hc_records.specs.declared.limits.TheConstants.{MOST_DATAGRAM_BYTES}
 use Rattle.hc_records.specs.declared.records.Dir.TheVariants.{In}
 use Rattle.hc_records.specs.Keys.{same_dir}
-use Rattle.hc_records.specs.Line.{groups_of, line_from}
-use Rattle.hc_records.specs.Project.{lowest_fault}
 use Rattle.hc_records.specs.Packing.{Placed}
-use Rattle.hc_records.specs.Image.{datagram_count, end_of, inside, logical_address, task_places}
+use Rattle.hc_records.specs.Image.{datagram_count, end_of, inside, logical_address}
 use Rattle.hc_registers.specs.Counting.{counted_from}
 use Rattle.hc_places.specs.declared.loads.Load.{Load}
 use Rattle.hc_places.specs.declared.table.Datagram.{Datagram}
-use Rattle.hc_places.specs.Table.{Table, TaskTable, table_of, task_table}
+use Rattle.hc_places.specs.Table.{Table, TaskTable}
 
 -- the keys of the areas that lie in a datagram
 abbrev pub keys_inside : ℕ → List Placed → List Key
@@ -74,12 +71,6 @@ loaded task areas (suc datagram) = with_load task (loaded task areas datagram) (
 abbrev pub table_at : ℕ → List Placed → TaskTable
 table_at task areas = loaded task areas (datagram_count areas)
 
--- the table of a task of a project's line is put together from what its datagrams hold, in their order
-abbrev pub TablesAreLoaded : Type 0
-TablesAreLoaded =
-    (groups : List Declared) (task : ℕ) → lowest_fault (groups_of groups) ≡ None
-    → task_table (line_from 1 groups) task ≡ table_at task (task_places task (line_from 1 groups))
-
 -- what a table tells of it: a datagram's outputs are its bytes before the end of the task's outputs
 
 -- length, expected counter and output bytes of a datagram, by its task's table
@@ -101,9 +92,3 @@ load_in_table table datagram = option_map_or (told_of table) (slice_get table.da
 -- what a table tells of a task's datagram with a number; `no_load` where there is no such task or datagram
 abbrev pub load_told : Table → ℕ → ℕ → Load
 load_told table task datagram = option_map_or (λ found. load_in_table found datagram) (slice_get table.tasks task) no_load
-
--- it is what the datagram holds
-abbrev pub TablesTellLoads : Type 0
-TablesTellLoads =
-    (groups : List Declared) (task datagram : ℕ) → lowest_fault (groups_of groups) ≡ None → task < TASKS
-    → load_told (table_of (line_from 1 groups)) task datagram ≡ load_in (task_places task (line_from 1 groups)) datagram

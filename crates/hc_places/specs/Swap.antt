@@ -138,15 +138,11 @@ pub record Leads (old new : Table) (swap : Swap) : Type 0 where
 abbrev pub LeadsAsSaid : Change → Swap → Type 0
 LeadsAsSaid said swap = (old new : Table) → IsTable old → IsTable new → SaysWhatDiffers old new said → Leads old new swap
 
--- answers that are the same are equal, and equal ones are the same
-abbrev pub SameIsEqual : Type 0
-SameIsEqual = (a b : Option VariablePlace) → IsTrue (same_found a b) ↔ (a ≡ b)
-
 -- a variable is among the changed ones of two tables exactly where its place differs
 abbrev pub ChangedVariablesDiffer : Type 0
 ChangedVariablesDiffer =
     (old new : Table) (variable : ℕ)
-    → list_any (λ changed. changed == variable) (changed_variables old new) ≡ not (same_found (place_in old variable) (place_in new variable))
+    → (list_any (λ changed. changed == variable) (changed_variables old new) ≡ true) ↔ (place_in old variable ≢ place_in new variable)
 
 -- and each stands there once
 abbrev pub ChangedVariablesStandOnce : Type 0

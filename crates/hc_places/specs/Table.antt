@@ -1,5 +1,5 @@
 -- The table of a line: the datagrams and the parts of its tasks, and the places of its variables.
-use Rattle.std.specs.Prelude.{◌≡◌, ℕ, ◌<◌, ◌==◌, ◌&&◌, Bool, nat_lt, if◌then◌else◌, List, [], ◌∷◌, AllPairs, length, map, filter, find, slice_get, option_and_then, option_map, Option}
+use Rattle.std.specs.Prelude.{◌≡◌, ℕ, ◌<◌, ◌==◌, ◌&&◌, Bool, nat_lt, if◌then◌else◌, List, [], ◌∷◌, AllPairs, length, map, find, slice_get, option_and_then, option_map, Option}
 use Rattle.std.specs.Option.{option_map_or}
 use Rattle.std.specs.List.{flat_map, range_with_len}
 use Rattle.hc_records.specs.declared.limits.TheConstants.{TASKS}
@@ -82,14 +82,6 @@ datagrams_in table task = option_map_or (λ found. found.datagrams) (slice_get t
 -- a place lies in a datagram of a task
 abbrev pub stands_in_datagram : ℕ → ℕ → VariablePlace → Bool
 stands_in_datagram task d place = (place.task == task) && (place.datagram == d)
-
--- the rows of a datagram's variables, in their order
-abbrev pub of_datagram : ℕ → ℕ → List Row → List Row
-of_datagram task d rows = filter (λ row. stands_in_datagram task d row.1) rows
-
--- the rows of the variables in a task's datagram, in the order of their numbers
-abbrev pub variables_in : Table → ℕ → ℕ → List Row
-variables_in table task d = of_datagram task d table.variables
 
 -- the bytes of the outputs, and of the inputs, of a task's image
 abbrev pub part_in : Table → ℕ → ℕ × ℕ

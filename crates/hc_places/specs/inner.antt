@@ -1,5 +1,4 @@
 -- Words that contracts of private functions alone use.
 pub mod Walk
 pub mod Parts
-pub mod Recut
 pub mod Overwritten

@@ -1,33 +1,12 @@
-//! What follows from the definitions of the table and of the layout: each function does nothing, and its
+//! What follows from the definitions of the table and of a swap: each function does nothing, and its
 //! contract is a law. Nobody calls it.
-ghost use Rattle.hc_places.specs.Layout.{AreasTellTheLayout};
-ghost use Rattle.hc_places.specs.Loads.{TablesAreLoaded, TablesTellLoads};
-ghost use Rattle.hc_places.specs.Swap.{ChangedVariablesDiffer, ChangedVariablesStandOnce, PlacesTellTables, SameIsEqual, SwapsKeepTheOrder, SwapsMoveTheirVariables, SwapsReplaceTheirTasks};
+ghost use Rattle.hc_places.specs.Swap.{ChangedVariablesDiffer, ChangedVariablesStandOnce, PlacesTellTables, SwapsKeepTheOrder, SwapsMoveTheirVariables, SwapsReplaceTheirTasks};
 ghost use Rattle.hc_places.specs.Table.{TablesHavePlaces};
 
 /// In the table of a line each variable has its place in the line, and one without a place there has
 /// none.
 pub fn tables_have_places()
     ensures { TablesHavePlaces }
-{}
-
-/// The table of a task of a project's line is put together from what its datagrams hold, in their order: each
-/// begins where the one before it ends, the outputs are the sum of theirs, and the inputs are the rest.
-pub fn tables_are_loaded()
-    ensures { TablesAreLoaded }
-{}
-
-/// The table of a project's line tells what each datagram of its tasks holds: the length and the expected
-/// working counter stand there, and the bytes before its first input are those before the end of the task's
-/// outputs.
-pub fn tables_tell_loads()
-    ensures { TablesTellLoads }
-{}
-
-/// Two answers for a variable, a place or none, are told to be the same exactly where they are equal:
-/// by this the changed variables of two tables are those whose place differs.
-pub fn same_is_equal()
-    ensures { SameIsEqual }
 {}
 
 /// A variable is among the changed ones of two tables exactly where its place differs, one that appears
@@ -65,11 +44,4 @@ pub fn swaps_replace_their_tasks()
 /// leave one table that a swap can lead to.
 pub fn places_tell_tables()
     ensures { PlacesTellTables }
-{}
-
-/// In a task of a project's line, 0 to 7, the place of an area by the areas of the slaves by their ranks,
-/// which is the place that the kept tasks of the line tell, is that by the layout of the line; the key may
-/// be any.
-pub fn areas_tell_the_layout()
-    ensures { AreasTellTheLayout }
 {}

@@ -3,18 +3,14 @@
 //! places up.
 #![tactic(auto)]
 
-mod areas;
 mod comparing;
 pub mod configure;
-pub mod datagram_variables;
 mod datagrams;
 pub mod laws;
-pub mod layout;
 pub mod loads;
 mod merging;
 mod middle;
 mod near;
-pub mod recut;
 pub mod room;
 pub mod swap;
 pub mod table;

@@ -18,7 +18,7 @@ use hc_registers::fmmu::logical_address;
 /// What a datagram holds: its bytes, 0 where there is no such datagram and else 1 to 1,486; the working
 /// counter that it comes back with when every slave of the line has processed it; and how many of its bytes
 /// come before its first input, all of them where it has none.
-#[derive(Clone, Copy, Debug, Default)]
+#[derive(Clone, Copy, Default)]
 pub struct Load {
     pub length: u16,
     pub expected: u16,

@@ -15,7 +15,7 @@ use std::marker::Model;
 
 /// The memory that carrying a swap out on a table needs: none where no variable appears or goes, else
 /// that of as many rows as the table will have, or more.
-#[derive(Debug, Drop)]
+#[derive(Drop)]
 pub struct Room {
     rows: Option<Vec<Row>>,
 }

@@ -2,8 +2,7 @@
 ghost use Rattle.std.specs.Prelude.{◌≡◌, ◌==◌, ℕ, OnOk, find};
 ghost use Rattle.hc_places.specs.Swap.{AreOnce, ChangesAscend};
 
-use crate::comparing::{changes_between, tasks_between};
-use crate::table::{Place, Places, TaskTable};
+use crate::table::{Place, TaskTable};
 use hc_records::edit::Edit;
 use hc_records::items::{Copied, Items};
 use hc_records::records::VarId;
@@ -46,9 +45,9 @@ fn sort_changes(rows: &mut Vec<ChangedRow>) -> Result<(), AllocError>
 }
 
 impl Swap {
-    ghost use Rattle.std.specs.Prelude.{◌≡◌, ◌<◌, All, IfOk, length};
+    ghost use Rattle.std.specs.Prelude.{◌≡◌, ◌<◌, All, IfOk};
     ghost use Rattle.hc_records.specs.declared.limits.TheConstants.{TASKS};
-    ghost use Rattle.hc_places.specs.Swap.{AreOnce, ChangesAscend, LeadsAsSaid, SaysWhatDiffers, changed_places, changed_variables, swapped};
+    ghost use Rattle.hc_places.specs.Swap.{AreOnce, ChangesAscend, LeadsAsSaid, changed_places};
 
     /// What changed tasks, in the order of their numbers, and changed variables, each once and in any
     /// order, make of a table, for the edit that asks for it; the variables are sorted here. Where the
@@ -68,31 +67,6 @@ impl Swap {
     {
         let mut rows = rows;
         sort_changes(&mut rows)?;
-        Ok(Swap {
-            edit: edit.copied(alloc)?,
-            tasks: Items::of(tasks),
-            rows,
-        })
-    }
-
-    /// What leads from one table to another, for the edit that asks for it: for each task whose table
-    /// differs its new one, and for each variable whose place differs, one that appears or goes
-    /// included, its new place or none, and for no other. Both tables are compared whole. That the edit
-    /// leads from the one table to the other isn't checked: the swap names whatever edit is given.
-    /// `AllocError` where a growth was refused.
-    pub fn between(
-        alloc: Global,
-        edit: &Edit,
-        old: &Places,
-        new: &Places,
-    ) -> Result<Swap, AllocError>
-        ensures edit { IfOk result (λ swap. swap.edit ≡ edit.now) }
-        ensures leads { IfOk result (λ swap. swapped swap.change old.now ≡ new.now) }
-        ensures says { IfOk result (λ swap. SaysWhatDiffers old.now new.now swap.change) }
-        ensures count { IfOk result (λ swap. changed_places swap ≡ length (changed_variables old.now new.now)) }
-    {
-        let tasks = tasks_between(alloc, old.tasks.as_slice(), new.tasks.as_slice())?;
-        let rows = changes_between(alloc, old.variables.as_slice(), new.variables.as_slice())?;
         Ok(Swap {
             edit: edit.copied(alloc)?,
             tasks: Items::of(tasks),

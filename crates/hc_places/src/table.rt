@@ -3,7 +3,6 @@ ghost use Rattle.std.specs.Prelude.{◌≡◌, ◌≤◌, ◌==◌, ◌↔◌, I
 ghost use Rattle.std.specs.List.Sorted.{IsNonDecreasingBy, IsPartitionPoint};
 ghost use Rattle.hc_places.specs.Table.{by_number};
 
-use crate::datagram_variables::DatagramVariables;
 use arrayvec::ArrayVec;
 use hc_records::items::{Copied, Items};
 use hc_records::limits::TASKS;
@@ -117,23 +116,10 @@ fn same_datagrams(these: &[Datagram], those: &[Datagram]) -> bool
 }
 
 impl TaskTable {
-    ghost use Rattle.std.specs.Prelude.{◌≡◌, ◌↔◌, All, IsTrue};
-    ghost use Rattle.hc_places.specs.Ranges.{IsDatagram};
-
-    /// The table of a task with these datagrams, and with so many bytes of outputs and of inputs.
-    pub fn of(datagrams: ArrayVec<Datagram, 16>, outputs: u16, inputs: u16) -> TaskTable
-        requires { All IsDatagram datagrams.items }
-        ensures { result ≡ record { datagrams = datagrams.items; outputs = outputs; inputs = inputs } }
-    {
-        TaskTable {
-            datagrams,
-            outputs,
-            inputs,
-        }
-    }
+    ghost use Rattle.std.specs.Prelude.{◌≡◌, ◌↔◌, IsTrue};
 
     /// Whether two tables are the same.
-    pub fn is_same(&self, other: &TaskTable) -> bool
+    pub(crate) fn is_same(&self, other: &TaskTable) -> bool
         ensures { IsTrue result ↔ (self.now ≡ other.now) }
     {
         self.outputs == other.outputs
@@ -203,7 +189,7 @@ impl Places {
     ghost use Rattle.std.specs.Prelude.{◌≡◌, ◌<◌, ◌≤◌, All, IfOk, IfSome, Some, length, slice_get};
     ghost use Rattle.hc_records.specs.declared.limits.TheConstants.{MOST_DATAGRAMS, TASKS};
     ghost use Rattle.hc_places.specs.Ranges.{IsDatagram};
-    ghost use Rattle.hc_places.specs.Table.{RowsAscend, by_number, datagram_in, datagrams_in, part_in, place_in, variables_in};
+    ghost use Rattle.hc_places.specs.Table.{RowsAscend, by_number, datagram_in, datagrams_in, part_in, place_in};
 
     /// The table of tasks and of rows in any order, which are sorted; no variable has two. `AllocError` where the sort's
     /// memory was refused.
@@ -233,18 +219,6 @@ impl Places {
         ensures ascends { RowsAscend self.now.variables }
     {
         self.variables.as_slice()
-    }
-
-    /// The variables of one datagram of a task with their places, in the order of their numbers; none
-    /// where there is no such datagram. The walk passes every row of the table once.
-    pub fn datagram_variables(&self, task: u8, number: u8) -> DatagramVariables<'_>
-        ensures { result ≡ variables_in self.now task number }
-    {
-        DatagramVariables {
-            rows: self.variables(),
-            task,
-            number,
-        }
     }
 
     /// The datagrams of a task in the order of their numbers, at most 16; none where there is no such

@@ -1,16 +1,14 @@
 //! The places of a task's variables.
 ghost use Rattle.std.specs.Prelude.{◌≡◌, ◌+◌, ◌<◌, ◌≤◌, ◌++◌, All, IfOk, OnOk, map};
-ghost use Rattle.std.specs.List.{flat_map, zip};
+ghost use Rattle.std.specs.List.{flat_map};
 ghost use Rattle.hc_records.specs.Area.{bits_of, width};
-ghost use Rattle.hc_records.specs.Image.{area_variables, variables_from};
-ghost use Rattle.hc_records.specs.TaskList.{keyed};
+ghost use Rattle.hc_records.specs.Image.{variables_from};
 ghost use Rattle.hc_records.specs.declared.limits.TheConstants.{MOST_AREA_BITS, MOST_DATAGRAMS, TASKS};
 ghost use Rattle.hc_places.specs.Found.{IsFoundSuiting, area_rows, found_variables};
 ghost use Rattle.hc_places.specs.inner.Parts.{AreSendable, row_at};
 ghost use Rattle.hc_records.specs.Limits.{IsEntryInside};
 ghost use Rattle.hc_places.specs.Ranges.{OffersBits};
 
-use crate::areas::Listed;
 use crate::table::Place;
 use hc_cuts::packing::Placed;
 use hc_records::assignment::offered_entries;
@@ -82,26 +80,6 @@ pub fn add_area(
     for index in area.assigned.as_slice() {
         let entries = offered_entries(area.offered.as_slice(), *index);
         bit = add_entries(rows, carrier, bit, entries)?;
-    }
-    Ok(())
-}
-
-/// Adds the variables of a task whose areas have these places. `AllocError` where a growth was
-/// refused.
-pub(crate) fn add_variables(
-    rows: &mut Vec<(VarId, Place)>,
-    task: u8,
-    areas: &[Listed],
-    places: &[Placed],
-) -> Result<(), AllocError>
-    requires task { task < TASKS }
-    requires sendable { AreSendable places.now }
-    requires offers { All (λ listed. OffersBits listed.area) areas.now }
-    requires same { map (λ area. (area.key, area.bits)) places.now ≡ map keyed areas.now }
-    ensures { OnOk result (rows.new.items ≡ rows.old.items ++ flat_map (area_variables task) (zip areas.now places.now)) }
-{
-    for i in 0..areas.len() {
-        add_area(rows, task, areas[i].area(), places[i])?;
     }
     Ok(())
 }

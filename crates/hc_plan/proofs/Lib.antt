@@ -1,6 +1,5 @@
 pub mod Answering
 pub mod Editing
-pub mod Compared
 pub mod LineBlocks
 pub mod Mapped
 pub mod Numbered

@@ -1,9 +1,8 @@
 -- The blocks of a line, slave by slave.
 use Rattle.std.proofs.Common.{◌≡◌, ℕ, zero, suc, ◌+◌, ◌-◌, ◌*◌, ◌<◌, ◌≤◌, List, [], ◌∷◌, ◌++◌, length, drop, refl, sym, ap, subst, ◌∙◌, arith, length-append, drop-cons, true, false, if◌then◌else◌}
 use Rattle.std.proofs.lemmas.List.{length-map}
-use Rattle.std.specs.Prelude.{All, Bool, Option, Some, None, filter, find, not, option_and_then, option_map, slice_get, slice_index_or, nat_lt, sum_by}
+use Rattle.std.specs.Prelude.{All, Bool, Option, Some, None, find, not, option_and_then, option_map, slice_get, slice_index_or, nat_lt, sum_by}
 use Rattle.std.specs.List.{enumerate_from, flat_map, list_any}
-use Rattle.std.proofs.lemmas.List.Filters.{length-filter_both}
 use Rattle.std.proofs.lemmas.List.FromFn.{length-enumerate_from}
 use Rattle.std.proofs.lemmas.Option.{get_or_from_slice_get, slice_get-get_or, slice_get-map, slice_get_within}
 use Rattle.std.proofs.lemmas.Bool.{ltb-false, ltb-true}
@@ -25,14 +24,10 @@ use Rattle.hc_places.proofs.lemmas.Found.{find-holds}
 use Rattle.hc_places.proofs.lemmas.Layouts.{placed-in-line}
 use Rattle.hc_plan.specs.inner.Blocks.{IsLaidOut, IsMappedSlave, area_blocks_in, blocks_left, fmmu_block_in, mapping_in, own_left, slave_blocks_in}
 use Rattle.hc_plan.specs.Configuration.{at_station, block_at, line_block_at}
+use Rattle.hc_changes.proofs.lemmas.Compared.{flat_map-among}
+use Rattle.hc_records.proofs.lemmas.Lists.{filter-few}
 use Rattle.hc_plan.proofs.Mapped.{slave-mapped}
 use Rattle.hc_plan.proofs.Numbered.{get-numbered-from-0, numbered-get}
-
-flat_map-same : {X Y : Type 0} (f g : X → List Y) (xs : List X) → All (λ x. f x ≡ g x) xs → flat_map f xs ≡ flat_map g xs
-flat_map-same f g [] all = refl
-flat_map-same f g (x ∷ xs) all =
-    ap (λ (front : List _). front ++ flat_map f xs) (All-head (λ x. f x ≡ g x) x xs all)
-    ∙ ap (λ (rest : List _). g x ++ rest) (flat_map-same f g xs (All-tail (λ x. f x ≡ g x) x xs all))
 
 -- every slave of the line that a layout is of has its areas mapped
 pub laid-out-all : (groups : List Declared) (layout : List (List Placed)) → IsLaidOut groups layout → All (IsMappedSlave layout) (line_from 1 groups)
@@ -50,7 +45,7 @@ pub slave_blocks-line : (groups : List Declared) (layout : List (List Placed)) (
     → slave_blocks_in layout member ≡ slave_blocks (line_from 1 groups) member
 slave_blocks-line groups layout member laid mapped =
     let members = line_from 1 groups in
-    flat_map-same (area_blocks_in layout member.rank) (area_blocks members member.rank) (enumerate_from 0 member.slave.areas)
+    flat_map-among (area_blocks_in layout member.rank) (area_blocks members member.rank) (enumerate_from 0 member.slave.areas)
     (λ k d inside.
     let e = slice_index_or (enumerate_from 0 member.slave.areas) k d in
     let key : Key = record { dir = e.1.dir; rank = member.rank; area = e.0 } in
@@ -182,7 +177,7 @@ owner-tells groups layout n number member laid is =
 pub walk-begins : (groups : List Declared) (layout : List (List Placed)) (members : List Member) → IsLaidOut groups layout → All (IsMappedSlave layout) members
     → blocks_left layout None 0 members ≡ flat_map (member_blocks (line_from 1 groups)) members
 walk-begins groups layout members laid mapped =
-    flat_map-same (λ member. own_left layout (Some member) 0) (member_blocks (line_from 1 groups)) members
+    flat_map-among (λ member. own_left layout (Some member) 0) (member_blocks (line_from 1 groups)) members
     (All-weaker (IsMappedSlave layout) (λ member. own_left layout (Some member) 0 ≡ member_blocks (line_from 1 groups) member)
     (λ member own. ap (numbered member.slave.station 0) (slave_blocks-line groups layout member laid own)) members mapped)
 
@@ -223,9 +218,6 @@ length-blocks layout all (member ∷ members) mapped =
     let rest = length-blocks layout all members (All-tail (IsMappedSlave layout) member members mapped) in
     omega (arith, few, own, front, rest)
 
-length-some : {X : Type 0} (p : X → Bool) (xs : List X) → length (filter p xs) ≤ length xs
-length-some p xs = let both = length-filter_both p (λ x. not (p x)) (λ x. refl) xs in omega (arith, both)
-
 -- so no line has more blocks than a number of 32 bits
 pub few-blocks : (groups : List Declared) (layout : List (List Placed)) → IsLaidOut groups layout → length (line_blocks (line_from 1 groups)) < 4294967296
 few-blocks groups layout laid =
@@ -239,5 +231,13 @@ pub few-moved : (groups : List Declared) (layout : List (List Placed)) (old : Li
     → length (moved_blocks old (line_from 1 groups)) < 4294967296
 few-moved groups layout old laid =
     let all = few-blocks groups layout laid in
-    let some = length-some (λ block. not (list_any (same_block block) (line_blocks old))) (line_blocks (line_from 1 groups)) in
+    let some = filter-few (λ block. not (list_any (same_block block) (line_blocks old))) (line_blocks (line_from 1 groups)) in
     omega (arith, all, some)
+
+-- a block that a slave has is one of few
+pub block-early : (layout : List (List Placed)) (member : Member) (number : ℕ) (block : RegisterBlock) → IsMappedSlave layout member → slice_get (slave_blocks_in layout member) number ≡ Some block
+    → (number < length (slave_blocks_in layout member)) × (length (slave_blocks_in layout member) ≤ 16)
+block-early layout member number block mapped at =
+    let count = length-slave_blocks layout member in
+    let few = mapped.few in
+    (slice_get_within (slave_blocks_in layout member) number block at, omega (arith, count, few))

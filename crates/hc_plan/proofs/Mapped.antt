@@ -1,8 +1,6 @@
 -- In the line of a project every area's blocks can be written, by the places that packing gives.
-use Rattle.std.proofs.Common.{◌≡◌, ℕ, ◌+◌, ◌<◌, ◌≤◌, Bool, true, false, List, [], ◌∷◌, refl, sym, ap, subst, ◌∙◌, arith, cond}
-use Rattle.std.specs.Prelude.{All, Option, Some, None, find, map, nat_lt, option_map, slice_get, slice_index_or}
-use Rattle.std.proofs.lemmas.Bool.{ltb-false}
-use Rattle.std.proofs.lemmas.List.Elements.{All-cons, All-nil}
+use Rattle.std.proofs.Common.{◌≡◌, ℕ, ◌+◌, ◌<◌, ◌≤◌, List, refl, sym, ap, subst, ◌∙◌, arith}
+use Rattle.std.specs.Prelude.{All, Option, Some, None, map, option_map, slice_get, slice_index_or}
 use Rattle.std.proofs.lemmas.Option.{get_or_from_slice_get, slice_get_within}
 use Rattle.hc_records.specs.declared.limits.TheConstants.{MOST_AREA_BITS, MOST_DATAGRAMS, TASKS}
 use Rattle.hc_records.specs.declared.records.Area.{Area}
@@ -13,7 +11,7 @@ use Rattle.hc_records.specs.Area.{width}
 use Rattle.hc_records.specs.Line.{Member, State, line_from}
 use Rattle.hc_records.specs.TaskList.{task_list}
 use Rattle.hc_records.specs.Packing.{Placed, opening, packed}
-use Rattle.hc_records.specs.Image.{datagram_count, task_places, tasks}
+use Rattle.hc_records.specs.Image.{datagram_count, task_places}
 use Rattle.hc_records.specs.Edits.{crowded_task}
 use Rattle.hc_records.specs.Project.{lowest_fault}
 use Rattle.hc_records.specs.Laws.{IsPackable, LiesInside}
@@ -27,29 +25,12 @@ use Rattle.hc_records.proofs.lemmas.Slaves.{line-inside}
 use Rattle.hc_registers.specs.declared.fmmu.Mapping.{Mapping}
 use Rattle.hc_registers.specs.Blocks.{IsMappable, mapping_at}
 use Rattle.hc_places.specs.Layout.{layout_of, placed_in}
+use Rattle.hc_records.proofs.lemmas.Addresses.{uncrowded-few}
 use Rattle.hc_places.proofs.lemmas.Found.{find-holds}
-use Rattle.hc_places.proofs.lemmas.Layouts.{placed-in-line, task-at}
+use Rattle.hc_places.proofs.lemmas.Layouts.{placed-in-line}
 use Rattle.hc_plan.specs.inner.Blocks.{IsMappedArea, IsMappedSlave, bits_in}
 use Rattle.hc_changes.specs.Moved.{bits_of}
 use Rattle.hc_plan.proofs.Widths.{area-bits}
-
--- where no task is crowded, each has at most 16 datagrams
-
-neither-first : {X : Type 0} (b : Bool) (x : X) (rest : Option X) → cond b (Some x) rest ≡ None → (b ≡ false) × (rest ≡ None)
-neither-first true x rest none = cc
-neither-first false x rest none = (refl, none)
-
-none-passes : {X : Type 0} (test : X → Bool) (xs : List X) → find test xs ≡ None → All (λ x. test x ≡ false) xs
-none-passes test [] none = All-nil (λ x. test x ≡ false)
-none-passes test (x ∷ xs) none =
-    let parts = neither-first (test x) x (find test xs) none in
-    All-cons (λ y. test y ≡ false) x xs parts.0 (none-passes test xs parts.1)
-
-few-datagrams : (members : List Member) (task : ℕ) → crowded_task members ≡ None → task < TASKS → datagram_count (task_places task members) ≤ MOST_DATAGRAMS
-few-datagrams members task none below =
-    let test : ℕ → Bool = λ t. nat_lt MOST_DATAGRAMS (datagram_count (task_places t members)) in
-    let passes : test (slice_index_or tasks task task) ≡ false = none-passes test tasks none task task below in
-    ltb-false MOST_DATAGRAMS (datagram_count (task_places task members)) (ap test (sym (get_or_from_slice_get tasks task task task (task-at task below))) ∙ passes)
 
 -- the areas of a task's list with their places, in the line of a project that isn't crowded
 pub record StandsWell (placed : Placed) : Type 0 where
@@ -65,7 +46,7 @@ places-stand groups task project uncrowded below i d under =
     let places = packed opening list in
     let state : State = record { groups = groups; epoch = 0 } in
     let packable : All IsPackable list = project-packable state task project in
-    let count = few-datagrams members task uncrowded below in
+    let count = uncrowded-few members task uncrowded below in
     let behind : (slice_index_or places i d).datagram + 1 ≤ datagram_count places = greatest-all (λ (placed : Placed). placed.datagram + 1) 0 places i d under in
     record {
       packable = All-unmap IsPackable area_of places (subst (All IsPackable) (sym (packed-areas opening list)) packable) i d under;

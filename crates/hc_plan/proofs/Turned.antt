@@ -1,29 +1,18 @@
 -- The line of an edit before it and after it, by the areas of their slaves.
-use Rattle.std.proofs.Common.{◌≡◌, ◌∙◌, ℕ, List, None, sym, ap, subst}
+use Rattle.std.proofs.Common.{◌≡◌, ◌∙◌, ℕ, List, None, sym, subst}
 use Rattle.std.specs.Prelude.{Option}
 use Rattle.hc_records.specs.declared.keys.Key.{Key}
 use Rattle.hc_records.specs.declared.records.Area.{Area}
 use Rattle.hc_records.specs.declared.records.Declared.{Declared}
 use Rattle.hc_records.specs.Edits.{crowded_task}
-use Rattle.hc_records.specs.Line.{groups_of, line_from}
-use Rattle.hc_records.specs.Project.{lowest_fault}
+use Rattle.hc_records.specs.Line.{line_from}
 use Rattle.hc_cuts.specs.Starts.{Kept}
 use Rattle.hc_tasks.specs.Areas.{areas_by_rank}
-use Rattle.hc_tasks.specs.Kept.{IsLine, crowded_from, line_kept}
+use Rattle.hc_tasks.specs.Kept.{crowded_from, line_kept}
 use Rattle.hc_tasks.specs.Turn.{AreLines, AreStartsOf, IsPut, IsTurn}
-use Rattle.hc_tasks.proofs.lemmas.Projects.{line-crowded, project-line}
+use Rattle.hc_tasks.proofs.lemmas.Projects.{line-crowded}
 use Rattle.hc_tasks.proofs.lemmas.Turning.{back-lines}
 use Rattle.hc_changes.specs.Outlook.{IsOutlook, Outlook}
-
-pub is-line : (groups : List Declared) (slaves : List (List Area)) → slaves ≡ areas_by_rank groups → lowest_fault (groups_of groups) ≡ None → IsLine slaves
-is-line groups slaves is none = subst (λ (s : List (List Area)). IsLine s) (sym is) (project-line groups none)
-
-pub same-crowded : (groups : List Declared) (slaves : List (List Area)) → slaves ≡ areas_by_rank groups → crowded_task (line_from 1 groups) ≡ crowded_from 8 0 slaves
-same-crowded groups slaves is = line-crowded groups ∙ ap (λ (s : List (List Area)). crowded_from 8 0 s) (sym is)
-
--- none is crowded, by the slaves or by the line
-pub fits-line : (groups : List Declared) (slaves : List (List Area)) → slaves ≡ areas_by_rank groups → crowded_from 8 0 slaves ≡ None → crowded_task (line_from 1 groups) ≡ None
-fits-line groups slaves is fits = same-crowded groups slaves is ∙ fits
 
 -- what is crowded, by the line and by the areas of its slaves
 pub crowded-line : (groups : List Declared) (crowded : Option ℕ) → crowded_from 8 0 (areas_by_rank groups) ≡ crowded → crowded_task (line_from 1 groups) ≡ crowded

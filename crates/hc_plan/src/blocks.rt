@@ -38,7 +38,7 @@ impl Model for LineBlock {
 
 /// The blocks of the line that a walk hasn't reached yet, in line and block order. Contracts see it as
 /// the list of them.
-#[derive(Debug, Drop)]
+#[derive(Drop)]
 pub struct LineBlocks<'a> {
     layout: Laid<'a>,
     // the slave that the walk has reached, none before the first

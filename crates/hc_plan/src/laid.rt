@@ -7,7 +7,7 @@ use std::marker::Model;
 
 /// The areas of the line of declared groups with their places, lent. Contracts see it as the layout of that
 /// line: the areas of each task with their places.
-#[derive(Debug, Drop)]
+#[derive(Drop)]
 pub(crate) struct Laid<'a> {
     groups: &'a [Declared],
     cuts: &'a LineCuts,

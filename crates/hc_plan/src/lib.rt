@@ -6,7 +6,6 @@ mod applying;
 pub mod blocks;
 mod laid;
 pub mod laws;
-mod moved;
 pub mod plan;
 pub mod report;
 mod turning;

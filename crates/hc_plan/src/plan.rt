@@ -8,10 +8,10 @@ use crate::applying::{Applied, work_out};
 use crate::blocks::{LineBlocks, block_at, line_blocks, nth_block};
 use crate::laid::Laid;
 use crate::report::Report;
-use crate::turning::{OpenedLine, open_line};
 use hc_changes::outlook::Outlook;
 use hc_edits::prepared::Prepared;
 use hc_index::index::{Index, Indexed};
+use hc_places::configure::{OpenedLine, open_line};
 use hc_places::table::Places;
 use hc_records::edit::Edit;
 use hc_records::faults::EditFault;
@@ -114,11 +114,8 @@ impl Plan {
     {
         let groups = opened_groups(alloc, project.into_groups().into_vec())?;
         let index = Index::new(alloc, groups.as_slice())?;
-        let OpenedLine { cuts, places } = open_line::<Brand>(
-            alloc,
-            groups.as_slice(),
-            Blank::new(1),
-        )?;
+        let line = open_line::<Brand>(alloc, groups.as_slice(), Blank::new(1))?;
+        let OpenedLine { cuts, places } = line;
         Ok(Plan {
             groups,
             index,
@@ -153,13 +150,6 @@ impl Plan {
         ensures uncrowded { crowded_task (line self.now) ≡ None }
     {
         &self.places
-    }
-
-    /// How many slaves the present line has. It takes no memory.
-    pub fn slaves(&self) -> u32
-        ensures { result ≡ length (line self.now) }
-    {
-        self.indexed().slaves() as u32
     }
 
     /// The block with a number, from 0, in the order of the slave with a station address: for each area
@@ -224,7 +214,7 @@ impl Plan {
     }
 
     /// Where the areas of the line stand.
-    pub(crate) fn laid(&self) -> Laid<'_>
+    fn laid(&self) -> Laid<'_>
         ensures { IsLaidOut self.now.groups result }
     {
         Laid::of(self.groups.as_slice(), &self.cuts)

@@ -1,5 +1,4 @@
 //! The line that a list of edits leads to.
-use hc_places::recut::recut;
 use hc_places::table::Places;
 use hc_plan::plan::Plan;
 use hc_records::edit::Edit;
@@ -59,10 +58,10 @@ fn groups_copied(alloc: Global, declared: &[Declared]) -> Result<Items<Group>, A
     Ok(groups)
 }
 
-/// A plan behind an edit, of which nothing more is known here.
-fn apply(alloc: Global, plan: &mut Plan, edit: &Edit) -> Result<(), EditFault> {
-    plan.apply(alloc, edit)?;
-    Ok(())
+/// A plan behind an edit, of which nothing more is known here; the spans that it recut.
+fn apply(alloc: Global, plan: &mut Plan, edit: &Edit) -> Result<u32, EditFault> {
+    let report = plan.apply(alloc, edit)?;
+    Ok(report.recut)
 }
 
 /// Connects each present group that a plan didn't open with.
@@ -97,11 +96,11 @@ impl Line {
         Line::of(alloc, Plan::new(alloc, project)?)
     }
 
-    /// The line behind an edit, or the edit's fault.
-    pub fn edited(&self, alloc: Global, edit: &Edit) -> Result<Line, EditFault> {
+    /// The line behind an edit, with the spans that it recut, or the edit's fault.
+    pub fn edited(&self, alloc: Global, edit: &Edit) -> Result<(Line, u32), EditFault> {
         let mut declared = plan_again(alloc, self.declared.groups())?;
-        apply(alloc, &mut declared, edit)?;
-        Line::of(alloc, declared)
+        let recut = apply(alloc, &mut declared, edit)?;
+        Ok((Line::of(alloc, declared)?, recut))
     }
 
     /// The plan of the present slaves.
@@ -157,10 +156,5 @@ impl Line {
             }
         }
         moved
-    }
-
-    /// How many spans of this line's tasks aren't settled, where an older line became this one.
-    pub fn recut_from(&self, alloc: Global, older: &Line) -> Result<u32, AllocError> {
-        recut(alloc, older.declared.groups(), self.declared.groups())
     }
 }

@@ -99,12 +99,11 @@ impl LookBack {
 
     /// An edit: refused by its fault, else a new epoch with its line.
     fn edit(&mut self, alloc: Global, edit: &Edit) -> Result<Answer, AllocError> {
-        let line = match self.line.edited(alloc, edit) {
-            Ok(line) => line,
+        let (line, recut) = match self.line.edited(alloc, edit) {
+            Ok(edited) => edited,
             Err(EditFault::Memory) => return Err(AllocError),
             Err(fault) => return Ok(Answer::Refused(CoreFault::from(fault))),
         };
-        let recut = line.recut_from(alloc, &self.line)?;
         let moved = line.moved_from(&self.line);
         self.older.push(mem::replace(&mut self.line, line))?;
         self.accept(alloc, Entry::Edited(edit.copied(alloc)?))?;

@@ -94,9 +94,10 @@ impl LookBack {
     fn data(&self, alloc: Global, named: Named, length: u16) -> Result<Vec<u8>, AllocError> {
         let mut data = zeros(alloc, usize::from(length))?;
         let places = self.line.places();
-        for (variable, place) in places.datagram_variables(named.0, named.1) {
-            if place.dir == Dir::Out {
-                self.put_value(data.as_mut_slice(), variable, place);
+        for (variable, place) in places.variables() {
+            let inside = place.task == named.0 && place.datagram == named.1;
+            if inside && place.dir == Dir::Out {
+                self.put_value(data.as_mut_slice(), *variable, *place);
             }
         }
         Ok(data)

@@ -61,9 +61,7 @@ fn finds_slaves(plan: &Plan, stations: &[u16]) -> bool {
         }
         position = position.saturating_add(1);
     }
-    plan.slaves() == position
-        && plan.station(position).is_none()
-        && plan.position(8) == Err(EditFault::UnknownStation)
+    plan.station(position).is_none() && plan.position(8) == Err(EditFault::UnknownStation)
 }
 
 /// Whether behind a row's edit a plan finds the row's slaves and blocks.

@@ -18,8 +18,7 @@ use Rattle.hc_changes.specs.Rows.{area_variables_of, variables_by_rank}
 use Rattle.hc_changes.proofs.lemmas.Lists.{contains-behind, contains-flat_map, found-among}
 use Rattle.hc_changes.proofs.lemmas.Names.{carried-offered}
 use Rattle.hc_changes.proofs.lemmas.Others.{IsAreaOf, member-found}
-use Rattle.hc_changes.proofs.lemmas.Ranks.{line-slots, none-below}
-use Rattle.hc_changes.proofs.lemmas.Slots.{slot, slots}
+use Rattle.hc_changes.proofs.lemmas.Ranks.{line-slots, none-below, slot, slots}
 
 -- the areas of a slave that is present, if it is
 abbrev carried : Option Slave → List Area

@@ -18,8 +18,7 @@ use Rattle.hc_changes.specs.Candidates.{DifferAt, slave_of}
 use Rattle.hc_changes.specs.Edited.{HasEdit}
 use Rattle.hc_changes.specs.Outlook.{IsOutlook, Outlook, changes, outlook_of}
 use Rattle.hc_changes.proofs.lemmas.InARow.{index-front}
-use Rattle.hc_changes.proofs.lemmas.Ranks.{line-slots, none-below}
-use Rattle.hc_changes.proofs.lemmas.Slots.{slot, slots}
+use Rattle.hc_changes.proofs.lemmas.Ranks.{line-slots, none-below, slot, slots}
 
 -- what is told of each declared slave by rank, and of those of one group
 

@@ -32,6 +32,7 @@ use Rattle.hc_places.specs.Table.{Row, by_number, place_in, table_of}
 use Rattle.hc_places.proofs.lemmas.Ascends.{table-ascends}
 use Rattle.hc_places.proofs.lemmas.Rows.{task-rows}
 use Rattle.hc_places.proofs.lemmas.Sorted.{filter-by_number, find-by_number}
+use Rattle.hc_places.proofs.lemmas.Same.{same-dirs}
 use Rattle.hc_changes.specs.Candidates.{LineArea, candidate_of, key_of, place_of}
 use Rattle.hc_changes.specs.Rows.{area_variables_of, rows_of}
 use Rattle.hc_changes.proofs.lemmas.ByRank.{area-named}
@@ -80,12 +81,6 @@ pub record IsListedArea (state : State) (number : ℕ) (listing : Listed) : Type
   pub area : listing.area ≡ found.area
   pub task : found.area.task ≡ number
 
-same-dirs : (a b : Dir) → same_dir a b ≡ true → b ≡ a
-same-dirs Out Out same = refl
-same-dirs Out In same = cc
-same-dirs In Out same = cc
-same-dirs In In same = refl
-
 listed-in : (state : State) (task : ℕ) (dir : Dir) (listing : Listed) → Contains (flat_map (slave_areas task dir) (line state)) listing → IsListedArea state task listing
 listed-in state task dir listing at =
     let piece = flat_map-piece (slave_areas task dir) (line state) listing at in
@@ -98,7 +93,7 @@ listed-in state task dir listing at =
     let passes : belongs task dir e.1 ≡ true = (found-passing test own e made.1) in
     let two = (and_parts ((e.1.task == task) && same_dir e.1.dir dir) (nat_lt 0 (width e.1)) passes).0 in
     let parts = and_parts (e.1.task == task) (same_dir e.1.dir dir) two in
-    let direction : dir ≡ e.1.dir = same-dirs e.1.dir dir parts.1 in
+    let direction : dir ≡ e.1.dir = sym (same-dirs e.1.dir dir parts.1) in
     record {
       found = record { member = member; index = e.0; area = e.1 };
       of = record { member = piece.among; own = number };

@@ -1,19 +1,22 @@
 -- The slave of a line with a rank is the declared one with that rank, where it is present.
-use Rattle.std.proofs.Common.{◌≡◌, ℕ, ◌+◌, ◌<◌, ◌==◌, zero, suc, Bool, true, false, List, [], ◌∷◌, ◌++◌, Option, Some, None, length, refl, sym, ap, ◌∙◌, arith, cond, if◌then◌else◌}
+use Rattle.std.proofs.Common.{◌≡◌, ℕ, ◌+◌, ◌<◌, ◌==◌, zero, suc, Bool, true, false, List, [], ◌∷◌, ◌++◌, Option, Some, None, length, refl, ap, ◌∙◌, arith, cond, if◌then◌else◌}
 use Rattle.std.specs.Prelude.{All, find, map, option_map, slice_index_or}
+use Rattle.std.specs.List.{flat_map}
 use Rattle.std.proofs.lemmas.Bool.{eq-eqb, ne_eqb}
 use Rattle.std.proofs.lemmas.List.Elements.{All-weaker, All-head, All-tail}
-use Rattle.hc_records.specs.declared.edit.Edit.{Edit}
 use Rattle.hc_records.specs.declared.records.Declared.{Declared}
 use Rattle.hc_records.specs.declared.records.Slave.{Slave}
-use Rattle.hc_records.specs.Edits.{groups_after}
 use Rattle.hc_records.specs.Line.{Member, line_from, members_from}
 use Rattle.hc_records.proofs.lemmas.Lines.{RankWithin, declared_slaves, line-within}
-use Rattle.hc_changes.specs.Candidates.{DifferAt, slave_of}
-use Rattle.hc_changes.specs.Edited.{is_named}
-use Rattle.hc_changes.proofs.lemmas.Slots.{edit-agrees, slot, slots}
+use Rattle.hc_changes.specs.Candidates.{slave_of}
 
--- TEMPORARY
+-- the slave of each declared one that is present
+abbrev pub slot : Bool → Slave → Option Slave
+slot present slave = if present then Some slave else None
+
+abbrev pub slots : List Declared → List (Option Slave)
+slots groups = flat_map (λ declared. map (slot declared.present) declared.group.slaves) groups
+
 find-none : {X : Type 0} (test : X → Bool) (xs : List X) → All (λ x. test x ≡ false) xs → find test xs ≡ None
 find-none test [] all = refl
 find-none test (x ∷ xs) all = rw (All-head (λ x. test x ≡ false) x xs all) (find-none test xs (All-tail (λ x. test x ≡ false) x xs all))
@@ -82,14 +85,3 @@ line-slots first (declared ∷ groups) i =
     let next = first + length declared.group.slaves in
     group-slots declared.present first declared.group.slaves (line_from next groups) (slots groups)
     (λ rank low. none-below next groups rank low) (λ j. line-slots next groups j) i
-
--- so each slave that an edit doesn't name stands in both lines with the same record, or in neither
-pub edits-differ : (groups : List Declared) (edit : Edit) → DifferAt (is_named groups edit) (line_from 1 groups) (line_from 1 (groups_after groups edit))
-edits-differ groups edit zero unnamed = none-below 1 groups 0 (omega arith) ∙ sym (none-below 1 (groups_after groups edit) 0 (omega arith))
-edits-differ groups edit (suc i) unnamed =
-    let rank : suc i ≡ 1 + i = omega arith in
-    ap (slave_of (line_from 1 groups)) rank
-    ∙ line-slots 1 groups i
-    ∙ edit-agrees groups edit i unnamed
-    ∙ sym (line-slots 1 (groups_after groups edit) i)
-    ∙ sym (ap (slave_of (line_from 1 (groups_after groups edit))) rank)

@@ -1,6 +1,6 @@
 -- Which areas are recut: none of a task that no edit touched, and none up to which its datagram is kept.
 use Rattle.std.proofs.Common.{◌≡◌, ℕ, ◌+◌, ◌<◌, ◌≤◌, zero, suc, Bool, true, false, List, [], ◌∷◌, ◌++◌, length, Option, Some, None, refl, sym, ap, ◌∙◌, arith}
-use Rattle.std.specs.Prelude.{not, slice_get, ◌&&◌, ◌||◌}
+use Rattle.std.specs.Prelude.{Contains, not, slice_get, ◌&&◌, ◌||◌}
 use Rattle.std.specs.Option.{option_map_or}
 use Rattle.std.specs.List.{list_any, zip}
 use Rattle.std.proofs.lemmas.Bool.{and_from}
@@ -24,7 +24,6 @@ use Rattle.hc_records.proofs.lemmas.KeyOrder.{same_key-refl, same_key-same}
 use Rattle.hc_records.proofs.lemmas.TaskLists.{project-list}
 use Rattle.hc_cuts.specs.Keeping.{begins_at, is_kept_up_to}
 use Rattle.hc_changes.specs.Candidates.{LineArea, is_recut, key_of, place_of}
-use Rattle.hc_changes.specs.Laws.{IsUnkeptAt}
 use Rattle.hc_changes.proofs.lemmas.Lists.{found-among}
 use Rattle.hc_changes.proofs.lemmas.Tables.{no-length, untouched-lists}
 
@@ -80,7 +79,12 @@ untouched-areas old new found was is none =
     ap (λ (list : List Keyed). is_kept_up_to list after placed.datagram placed.key) same
     ∙ own-kept after placed.datagram placed.key (project-list new task is) nothing (omega arith))
 
--- a recut area stands in a datagram that wasn't kept up to it
+-- a recut area of a line stands in a datagram that wasn't kept up to it
+pub record IsUnkeptAt (old new : List Member) (found : LineArea) : Type 0 where
+  pub placed : Placed
+  pub stands : Contains (task_places found.area.task new) placed
+  pub key : placed.key ≡ key_of found
+  pub unkept : is_kept_up_to (task_list found.area.task old) (task_list found.area.task new) placed.datagram placed.key ≡ false
 
 unkept-by : (old new : List Member) (found : LineArea) (place : Option Placed) → place_of new found ≡ place
     → option_map_or (λ placed. not (is_kept_up_to (task_list found.area.task old) (task_list found.area.task new) placed.datagram placed.key)) place false ≡ true → IsUnkeptAt old new found

@@ -29,8 +29,9 @@ use Rattle.hc_places.specs.declared.loads.Load.{Load}
 use Rattle.hc_places.specs.declared.table.Datagram.{Datagram}
 use Rattle.hc_places.specs.Loads.{load_in, load_in_table, load_of, load_told, loaded, no_load, told_of}
 use Rattle.hc_places.specs.Loads.{counted_inside}
-use Rattle.hc_places.specs.inner.Parts.{IsConfigurable}
+use Rattle.hc_places.proofs.Project.{IsConfigurable}
 use Rattle.hc_places.specs.Table.{TaskTable, datagram_of, table_of, task_table}
+use Rattle.hc_places.proofs.lemmas.Layouts.{task-at}
 use Rattle.hc_places.proofs.Configurable.{project-configurable}
 use Rattle.hc_places.proofs.lemmas.Found.{find-holds}
 
@@ -218,17 +219,6 @@ datagram-same task line configurable datagram =
     ap made (configurable.counted task datagram)
 
 -- what a table tells of a datagram is what it holds
-
-task-at : (task : ℕ) → task < TASKS → slice_get tasks task ≡ Some task
-task-at zero below = refl
-task-at (suc zero) below = refl
-task-at (suc (suc zero)) below = refl
-task-at (suc (suc (suc zero))) below = refl
-task-at (suc (suc (suc (suc zero)))) below = refl
-task-at (suc (suc (suc (suc (suc zero))))) below = refl
-task-at (suc (suc (suc (suc (suc (suc zero)))))) below = refl
-task-at (suc (suc (suc (suc (suc (suc (suc zero))))))) below = refl
-task-at (suc (suc (suc (suc (suc (suc (suc (suc n)))))))) below = absurd (omega arith)
 
 abbrev made : ℕ → ℕ → ℕ → Load
 made long count outs = record { length = long; expected = count; outputs = outs }

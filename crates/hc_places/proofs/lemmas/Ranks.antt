@@ -17,10 +17,13 @@ use Rattle.hc_records.proofs.lemmas.Lines.{RanksBelow}
 use Rattle.hc_records.proofs.lemmas.Packed.{area_of, packed-areas}
 use Rattle.hc_records.proofs.lemmas.Tasks.{listed, task-list-all}
 use Rattle.hc_registers.proofs.lemmas.Counting.{ascending-counted}
-use Rattle.hc_places.specs.Layout.{AreInOrder}
 use Rattle.hc_places.specs.Loads.{counted_inside, keys_inside}
 
--- the places of a list whose keys ascend stand in order
+-- the keys of areas ascend
+abbrev AreInOrder : List Placed → Type 0
+AreInOrder areas = AllPairs (λ a b. IsTrue (is_before a.key b.key)) areas
+
+-- so do those of the places of a list whose keys ascend
 pub places-in-order : (list : List Keyed) → Ascends list → AreInOrder (packed opening list)
 places-in-order list ascends =
     let same = packed-areas opening list in

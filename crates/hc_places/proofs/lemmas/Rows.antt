@@ -29,4 +29,4 @@ task-suits groups none task =
     let line = line_from 1 groups in
     let configurable = project-configurable groups none in
     suit-all (areas_by_rank groups) (task_areas task line) (task_places task line) (packed-areas opening (task_list task line)) (keys-name groups task)
-    (areas-offer task line configurable.listable)
+    (areas-offer task line configurable.offers)

@@ -1,9 +1,9 @@
 -- Two lists in the order of their numbers, walked at once.
-use Rattle.std.specs.Prelude.{ℕ, nat_lt, if◌then◌else◌, List, [], ◌∷◌, ◌++◌, Option, Some, None}
+use Rattle.std.specs.Prelude.{ℕ, nat_lt, if◌then◌else◌, List, [], ◌∷◌, ◌++◌, Option}
 use Rattle.std.specs.List.{flat_map}
 use Rattle.hc_places.specs.Table.{Row}
 use Rattle.hc_records.specs.Image.{VariablePlace}
-use Rattle.hc_places.specs.Swap.{ChangedRow, new_row, same_place}
+use Rattle.hc_places.specs.Swap.{new_row}
 
 -- what an element of one list alone gives, or two of one number
 pub record Gives (X Y Z : Type 0) : Type 0 where
@@ -23,14 +23,6 @@ walked_past gives second rest (first ∷ firsts) =
 abbrev pub walked : {X Y Z : Type 0} → Gives X Y Z → List (ℕ × Y) → List (ℕ × X) → List Z
 walked gives [] firsts = flat_map gives.first firsts
 walked gives (second ∷ seconds) firsts = walked_past gives second (λ left. walked gives seconds left) firsts
-
--- a row of the old table alone goes, one of the new table alone appears, and one of both may stand elsewhere
-abbrev pub changes : Gives VariablePlace VariablePlace ChangedRow
-changes = record {
-  first = λ row. (row.0, None) ∷ [];
-  second = λ row. (row.0, Some row.1) ∷ [];
-  both = λ before row. if same_place before.1 row.1 then [] else (row.0, Some row.1) ∷ [];
-}
 
 -- a changed variable has its new row, and any other row stays
 abbrev pub merges : Gives (Option VariablePlace) VariablePlace Row

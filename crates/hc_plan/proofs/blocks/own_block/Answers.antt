@@ -2,7 +2,7 @@ use Rattle.std.proofs.Common.{◌≡◌, ◌∙◌, ◌+◌, ◌∷◌, [], None
 use Rattle.hc_records.specs.declared.records.Slave.{Slave}
 use Rattle.hc_records.specs.Line.{Member}
 use Rattle.hc_plan.specs.inner.Blocks.{own_left}
-use Rattle.hc_plan.proofs.Compared.{block-early}
+use Rattle.hc_plan.proofs.LineBlocks.{block-early}
 use Rattle.hc_plan.proofs.LineBlocks.{own-met, own-past}
 use Rattle.hc_plan.proofs.blocks.own_block.Goals as goal
 

@@ -28,8 +28,8 @@ invariant_of-result c =
       opened-project c.into_groups.result c.in_ok-groups.groups
           (c.in_ok-groups.ensures ∙ ap (map opened_group) c.into_vec.ensures)
           (ap lowest_fault c.into_groups.ensures.value ∙ c.into_groups.ensures.kept),
-      subst (λ (g : List Declared). crowded_task (line_from 1 g) ≡ None) groups c.in_ok-cuts.ensures.accepted,
-      c.in_ok-cuts.ensures.places ∙ ap (λ (g : List Declared). table_of (line_from 1 g)) groups,
-      c.in_ok-cuts.ensures.kept ∙ ap (λ (g : List Declared). line_kept (areas_by_rank g)) groups,
+      subst (λ (g : List Declared). crowded_task (line_from 1 g) ≡ None) groups c.in_ok-line.ensures.accepted,
+      c.in_ok-line.ensures.places ∙ ap (λ (g : List Declared). table_of (line_from 1 g)) groups,
+      c.in_ok-line.ensures.kept ∙ ap (λ (g : List Declared). line_kept (areas_by_rank g)) groups,
       subst (λ (g : List Declared). IsIndexOf g c.in_ok-index.index) c.as_slice.ensures c.in_ok-index.ensures,
     )

@@ -1,5 +1,0 @@
-use Rattle.hc_changes.proofs.lemmas.Compared.{all-compared}
-use Rattle.hc_changes.proofs.laws.moved_blocks_are_compared.Goals as goal
-
-pub returns : goal.returns
-returns c changed groups edit none none' differ = all-compared changed groups edit none none' differ

@@ -1,0 +1,67 @@
+-- The tasks of a project's line, opened, and the table that is made of them.
+use Rattle.std.proofs.Common.{◌≡◌, ◌∙◌, ℕ, suc, ◌+◌, ◌-◌, ◌<◌, ◌≤◌, List, [], ◌∷◌, ◌++◌, None, refl, sym, ap, subst, arith, append_assoc, append-nil}
+use Rattle.std.specs.Prelude.{map}
+use Rattle.std.specs.List.{flat_map, range_with_len}
+use Rattle.hc_records.specs.declared.records.Area.{Area}
+use Rattle.hc_records.specs.declared.records.Declared.{Declared}
+use Rattle.hc_records.specs.Edits.{crowded_task}
+use Rattle.hc_records.specs.Image.{task_variables, tasks}
+use Rattle.hc_records.specs.Line.{Member, groups_of, line_from}
+use Rattle.hc_records.specs.Packing.{Placed, opening, packed}
+use Rattle.hc_records.specs.Project.{lowest_fault}
+use Rattle.hc_cuts.specs.Starts.{Kept}
+use Rattle.hc_tasks.specs.Areas.{areas_by_rank, list_by}
+use Rattle.hc_tasks.specs.Kept.{IsLine, crowded_from, line_kept}
+use Rattle.hc_tasks.proofs.lemmas.Projects.{line-crowded, project-line}
+use Rattle.hc_places.specs.Table.{Row, TaskTable, by_number, table_of, task_table}
+use Rattle.hc_places.proofs.Founds.{IsTask, kept-task}
+
+pub is-line : (groups : List Declared) (slaves : List (List Area)) → slaves ≡ areas_by_rank groups → lowest_fault (groups_of groups) ≡ None → IsLine slaves
+is-line groups slaves is none = subst (λ (s : List (List Area)). IsLine s) (sym is) (project-line groups none)
+
+-- what is crowded, by the line and by the areas of its slaves
+pub same-crowded : (groups : List Declared) (slaves : List (List Area)) → slaves ≡ areas_by_rank groups → crowded_task (line_from 1 groups) ≡ crowded_from 8 0 slaves
+same-crowded groups slaves is = line-crowded groups ∙ ap (λ (s : List (List Area)). crowded_from 8 0 s) (sym is)
+
+pub opened-task : (groups : List Declared) (slaves : List (List Area)) (kept : List Kept) (task : ℕ) (places : List Placed)
+    → slaves ≡ areas_by_rank groups → lowest_fault (groups_of groups) ≡ None → crowded_from 8 0 slaves ≡ None → kept ≡ line_kept slaves → task < 8
+    → ((line : List (List Area)) → kept ≡ line_kept line → places ≡ packed opening (list_by task line)) → IsTask groups task places
+opened-task groups slaves kept task places is none fits stands low told =
+    kept-task groups task places low none (same-crowded groups slaves is ∙ fits)
+    (told (areas_by_rank groups) (stands ∙ ap (λ (s : List (List Area)). line_kept s) is))
+
+pub table-made : (line : List Member) (tables : List TaskTable) (rows : List Row) → tables ≡ map (task_table line) tasks → rows ≡ flat_map (task_variables line) tasks
+    → record { tasks = tables; variables = by_number rows } ≡ table_of line
+table-made line tables rows first second = rw (first, second) refl
+
+-- the eight tasks, one after another: those from one on
+abbrev pub tasks_from : ℕ → List ℕ
+tasks_from task = range_with_len task (8 - task)
+
+pub tasks-next : (task : ℕ) → task < 8 → tasks_from task ≡ task ∷ tasks_from (task + 1)
+tasks-next task low =
+    let left : 8 - task ≡ suc (8 - (task + 1)) = omega arith in
+    ap (range_with_len task) left
+
+pub tasks-none : (task : ℕ) → 8 ≤ task → tasks_from task ≡ []
+tasks-none task high =
+    let left : 8 - task ≡ 0 = omega arith in
+    ap (range_with_len task) left
+
+pub map-next : {X : Type 0} (f : ℕ → X) (task : ℕ) (done more all : List X) → task < 8 → more ≡ done ++ f task ∷ []
+    → done ++ map f (tasks_from task) ≡ all → more ++ map f (tasks_from (task + 1)) ≡ all
+map-next f task done more all low adds so_far =
+    rw adds (append_assoc done (f task ∷ []) (map f (tasks_from (task + 1))))
+    ∙ ap (λ tasks. done ++ map f tasks) (sym (tasks-next task low)) ∙ so_far
+
+pub flat_map-next : {X : Type 0} (f : ℕ → List X) (task : ℕ) (done more all : List X) → task < 8 → more ≡ done ++ f task
+    → done ++ flat_map f (tasks_from task) ≡ all → more ++ flat_map f (tasks_from (task + 1)) ≡ all
+flat_map-next f task done more all low adds so_far =
+    rw adds (append_assoc done (f task) (flat_map f (tasks_from (task + 1))))
+    ∙ ap (λ tasks. done ++ flat_map f tasks) (sym (tasks-next task low)) ∙ so_far
+
+pub map-last : {X : Type 0} (f : ℕ → X) (task : ℕ) (done all : List X) → 8 ≤ task → done ++ map f (tasks_from task) ≡ all → done ≡ all
+map-last f task done all high so_far = sym (append-nil done) ∙ ap (λ tasks. done ++ map f tasks) (sym (tasks-none task high)) ∙ so_far
+
+pub flat_map-last : {X : Type 0} (f : ℕ → List X) (task : ℕ) (done all : List X) → 8 ≤ task → done ++ flat_map f (tasks_from task) ≡ all → done ≡ all
+flat_map-last f task done all high so_far = sym (append-nil done) ∙ ap (λ tasks. done ++ flat_map f tasks) (sym (tasks-none task high)) ∙ so_far

@@ -1,6 +1,0 @@
-use Rattle.hc_places.proofs.Compared.{AreTold}
-use Rattle.hc_places.proofs.comparing.tasks_between.Given as goal
-
--- the tasks so far are told
-abbrev pub invariant-loop-number : goal.invariant-loop-number
-invariant-loop-number l = AreTold l.old l.new l.number l.tasks.items
