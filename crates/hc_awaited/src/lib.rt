@@ -7,5 +7,3 @@ mod judging;
 mod kept;
 pub mod laws;
 mod newest;
-#[cfg(test)]
-mod tests;

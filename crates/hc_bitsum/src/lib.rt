@@ -4,13 +4,9 @@
 
 pub mod borders;
 mod branch;
-#[cfg(test)]
-mod drawn;
 pub mod filled;
 pub mod laws;
 mod row;
 pub mod steps;
 pub mod sum;
-#[cfg(test)]
-mod tests;
 pub mod tree;

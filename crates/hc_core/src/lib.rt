@@ -16,6 +16,4 @@ mod reading;
 mod sending;
 mod serving;
 mod taking;
-#[cfg(test)]
-mod tests;
 mod writing;

@@ -4,5 +4,3 @@
 
 pub mod inputs;
 mod slot;
-#[cfg(test)]
-mod tests;

@@ -7,5 +7,3 @@ pub mod laws;
 pub mod outputs;
 mod row;
 mod rows;
-#[cfg(test)]
-mod tests;

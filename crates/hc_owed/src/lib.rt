@@ -11,5 +11,3 @@ mod flags;
 pub mod laws;
 pub mod owed;
 mod room;
-#[cfg(test)]
-mod tests;

@@ -7,6 +7,4 @@ mod framing;
 pub mod laws;
 pub mod parts;
 pub mod proposing;
-#[cfg(test)]
-mod tests;
 pub mod writing;

@@ -1,4 +1,0 @@
-use Rattle.hc_bitsum.proofs.tests.from_key.Given as goal
-
-abbrev pub ghosts-counted : goal.ghosts-counted
-ghosts-counted a = record { name = a.blank.name; parts = a.blank.parts }
