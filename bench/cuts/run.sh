@@ -32,14 +32,21 @@ END_OF_IMPORTS
     fi
     printf '\nabbrev pub %s : goal.%s\n%s %s\n' "$2" "$2" "$2" "$3" >> "$file"
 }
-told set_widths invariant-loop-area 'l = l.task.tree.slaves ≡ l.slaves'
-told tree_of invariant-loop-area 'l = l.tree.slaves ≡ l.slaves'
+told set_widths invariant-loop-area 'l = l.task.slaves ≡ l.slaves'
 told list_of invariant-loop-area 'l = All IsPackable l.list.items'
-told cut_in_rounds invariant-loop-time 'g l = l.task.tree ≡ l.initial.task.tree'
-told cuts_set invariant-loop-time 'l = l.task.tree.slaves ≡ l.slaves'
+told cuts_set invariant-loop-time 'l = l.task.slaves ≡ l.slaves'
 told cuts_set ghosts-cut_in_rounds 'a = record { name = a.blank.name; parts = a.blank.parts }'
 told cuts_cut ghosts-cut_in_rounds 'a = record { name = a.blank.name; parts = a.blank.parts }'
 told cuts_searched ghosts-searched_in_rounds 'a = record { name = a.blank.name; parts = a.blank.parts }'
+# A search can begin at the front.
+mkdir -p "$bench/proofs/first_cut"
+cat > "$bench/proofs/first_cut/Answers.antt" <<'END_OF_ANSWERS'
+use Rattle.std.proofs.Common.{inl, refl}
+use Rattle.cuts_bench.proofs.first_cut.Goals as goal
+
+pub next_cut-requires : goal.next_cut-requires
+next_cut-requires c = inl refl
+END_OF_ANSWERS
 cat > "$bench/src/lib.rt" <<'END_OF_CODE'
 //! What the benchmark calls: each function makes a task of so many slaves with these areas and plays the same
 //! calls in it, in as many rounds as `times` has places, which get the nanoseconds of each round.
@@ -52,7 +59,6 @@ ghost use Rattle.hc_bitsum.specs.Tree.{HasPlace};
 
 use hc_bitsum::steps::Steps;
 use hc_bitsum::tree::SumTree;
-use hc_cuts::cuts::Cuts;
 use hc_cuts::fold::fold_cuts;
 use hc_cuts::next::next_cut;
 use hc_records::keys::Key;
@@ -111,9 +117,9 @@ fn nanoseconds() -> u64 {
 }
 
 /// Sets the widths of the areas that have a place.
-fn set_widths(task: &mut Cuts, slaves: u16, areas: &[Area])
-    requires { task.old.tree.slaves ≡ slaves }
-    ensures { task.new.tree.slaves ≡ slaves }
+fn set_widths(task: &mut SumTree, slaves: u16, areas: &[Area])
+    requires { task.old.slaves ≡ slaves }
+    ensures { task.new.slaves ≡ slaves }
 {
     for area in areas {
         let key = key_of(area);
@@ -123,28 +129,13 @@ fn set_widths(task: &mut Cuts, slaves: u16, areas: &[Area])
     }
 }
 
-/// A task with these areas.
-fn task_of(alloc: Global, slaves: u16, areas: &[Area]) -> Result<Cuts, AllocError>
-    requires { slaves ≤ MOST_SLAVES }
-    ensures { IfOk result (λ task. task.tree.slaves ≡ slaves) }
-{
-    let mut task = Cuts::new(alloc, slaves)?;
-    set_widths(&mut task, slaves, areas);
-    Ok(task)
-}
-
 /// A tree with these areas.
 fn tree_of(alloc: Global, slaves: u16, areas: &[Area]) -> Result<SumTree, AllocError>
     requires { slaves ≤ MOST_SLAVES }
     ensures { IfOk result (λ tree. tree.slaves ≡ slaves) }
 {
     let mut tree = SumTree::new(alloc, slaves)?;
-    for area in areas {
-        let key = key_of(area);
-        if has_place(key, slaves) && u32::from(area.bits) <= MOST_AREA_BITS {
-            tree.set(key, area.bits);
-        }
-    }
+    set_widths(&mut tree, slaves, areas);
     Ok(tree)
 }
 
@@ -210,18 +201,41 @@ fn told_of_starts(starts: &[Key]) -> u64 {
     told
 }
 
-fn cut_in_rounds<L: Ledger>(task: &mut Cuts, times: &mut [u64], blank: Blank)
+/// The key at which the second datagram of a task begins, END where it has fewer.
+fn first_cut<L: Ledger>(task: &SumTree, steps: &mut Steps<L>) -> Key {
+    next_cut(task, Key::START, steps)
+}
+
+/// Searches all boundaries, mixed into one number but the last.
+fn cut<L: Ledger>(task: &SumTree, slaves: u16, steps: &mut Steps<L>) -> u64
+    requires { task.now.slaves ≡ slaves }
+{
+    let mut told = told_of(0, Key::START);
+    let mut key = first_cut(task, steps);
+    for _ in 1..16 {
+        if !has_place(key, slaves) {
+            return told;
+        }
+        told = told_of(told, key);
+        key = next_cut(task, key, steps);
+    }
+    told
+}
+
+fn cut_in_rounds<L: Ledger>(task: &SumTree, slaves: u16, times: &mut [u64], blank: Blank) -> u64
     requires name { blank.name ≡ L.name }
     requires parts { blank.parts ≡ L.parts }
     requires one { L.parts ≡ 1 }
-    ensures { task.new.tree ≡ task.old.tree }
+    requires slaves { task.now.slaves ≡ slaves }
 {
     let mut steps: Steps<L> = Steps::start(blank);
+    let mut told = 0;
     for time in times.iter_mut() {
         let begun = nanoseconds();
-        let _ = task.cut(&mut steps).is_ok();
+        told = cut(task, slaves, &mut steps);
         *time = nanoseconds().wrapping_sub(begun);
     }
+    told
 }
 
 /// Searches all boundaries of the areas, once a round. The boundaries as one number, 0 without memory.
@@ -229,11 +243,8 @@ fn cut_in_rounds<L: Ledger>(task: &mut Cuts, times: &mut [u64], blank: Blank)
 pub extern "C" fn cuts_cut(alloc: Global, slaves: u16, areas: &[Area], times: &mut [u64]) -> u64
     requires { slaves ≤ MOST_SLAVES }
 {
-    match task_of(alloc, slaves, areas) {
-        Ok(mut task) => {
-            cut_in_rounds::<Brand>(&mut task, times, Blank::new(1));
-            told_of_starts(task.starts())
-        }
+    match tree_of(alloc, slaves, areas) {
+        Ok(task) => cut_in_rounds::<Brand>(&task, slaves, times, Blank::new(1)),
         Err(_) => 0,
     }
 }
@@ -249,7 +260,7 @@ pub extern "C" fn cuts_set(
 ) -> u64
     requires { slaves ≤ MOST_SLAVES }
 {
-    let Ok(mut task) = task_of(alloc, slaves, areas) else {
+    let Ok(mut task) = tree_of(alloc, slaves, areas) else {
         return 0;
     };
     for time in times.iter_mut() {
@@ -257,8 +268,7 @@ pub extern "C" fn cuts_set(
         set_widths(&mut task, slaves, changed);
         *time = nanoseconds().wrapping_sub(begun);
     }
-    cut_in_rounds::<Brand>(&mut task, &mut [0], Blank::new(1));
-    told_of_starts(task.starts())
+    cut_in_rounds::<Brand>(&task, slaves, &mut [0], Blank::new(1))
 }
 
 /// The areas as a task's list.

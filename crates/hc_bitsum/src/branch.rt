@@ -33,7 +33,7 @@ pub(crate) struct Branch {
 
 /// Where a walk over rows stands: the next row, a node that begins with it, that node's height above
 /// the last level, and how far a datagram is filled by the rows before.
-#[derive(Clone, Copy, Debug)]
+#[derive(Clone, Copy)]
 struct Stand {
     row: usize,
     node: usize,
@@ -360,17 +360,6 @@ impl Branch {
         ensures { result ≡ bits_at at (slots_of self.now).areas }
     {
         self.rows[(at / 8) as usize][(at % 8) as usize]
-    }
-
-    /// The same: a step.
-    pub(crate) fn width<L: Ledger>(&self, at: u32, reads: &mut Steps<L>) -> u16
-        requires branch { IsBranch self.now }
-        requires within { at < length (slots_of self.now).areas }
-        ensures width { result ≡ bits_at at (slots_of self.now).areas }
-        ensures steps { reads.new ≡ reads.old + 1 }
-    {
-        reads.tick();
-        self.bits(at)
     }
 
     /// Sets the width of the area behind `at` others, in bits.

@@ -19,7 +19,7 @@ pub(crate) type Row = [u16; 8];
 
 /// What a search comes to: the key of the first area that would end past the room, or how far the
 /// datagram is filled behind all of them.
-#[derive(Clone, Copy, Debug)]
+#[derive(Clone, Copy)]
 pub(crate) enum Fit {
     Found(Key),
     Through(Filled),

@@ -135,30 +135,6 @@ impl SumTree {
         }
     }
 
-    /// The width in bits of an area of one of its slaves, at most 11,888; 0 where it takes no place. Each
-    /// node and area that is read is a step, at least 1 and at most 16. It takes no memory.
-    pub fn width<L: Ledger>(&self, key: Key, steps: &mut Steps<L>) -> u16
-        requires { HasPlace self.now.slaves key }
-        ensures width { result ≡ width_in self.now.list key }
-        ensures narrow { result ≤ MOST_AREA_BITS }
-        ensures least { steps.old + 1 ≤ steps.new }
-        ensures most { steps.new ≤ steps.old + 16 }
-    {
-        let place = place_of(key);
-        match key.dir {
-            Dir::Out => self.outputs.width(place, steps),
-            Dir::In => self.inputs.width(place, steps),
-        }
-    }
-
-    /// Whether a key has a place: the rank of one of its slaves, from 1, and an area from 0 to 7.
-    pub fn has_place(&self, key: Key) -> bool
-        ensures yes { IsTrue result → HasPlace self.now.slaves key }
-        ensures no { HasPlace self.now.slaves key → IsTrue result }
-    {
-        has_place(self.slaves, key)
-    }
-
     /// The width in bits of the area with a key, at most 11,888; 0 where it takes no place. The key may
     /// be any. It takes no memory and no steps.
     pub fn bits(&self, key: Key) -> u16

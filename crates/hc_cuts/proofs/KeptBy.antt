@@ -4,7 +4,6 @@ use Rattle.std.proofs.Common.{◌≡◌, ℕ, zero, suc, true, false, Bool, List
 use Rattle.std.specs.Prelude.{◌&&◌, ◌||◌, not, drop, slice_get, option_map}
 use Rattle.std.specs.Option.{option_map_or}
 use Rattle.std.specs.List.{list_any, zip}
-use Rattle.std.proofs.lemmas.Bool.{and_from, and_parts, not-true, or_parts}
 use Rattle.std.proofs.lemmas.Option.{get_or_from_slice_get, slice_get_within}
 use Rattle.hc_records.specs.declared.keys.Key.{Key}
 use Rattle.hc_records.specs.declared.keys.TheConstants.Key.{END}
@@ -13,14 +12,13 @@ use Rattle.hc_records.specs.Keys.{is_before, is_within, same_key}
 use Rattle.hc_records.specs.TaskList.{Keyed}
 use Rattle.hc_records.specs.Boundaries.{Interval, boundaries, hull, is_settled, is_touched, meets_hull, spans, touched}
 use Rattle.hc_records.specs.SpanLaws.{IsTaskList}
-use Rattle.hc_records.proofs.lemmas.KeyOrder.{before-apart as kr-apart, before-else, within-apart, within-else, within-trans}
+use Rattle.hc_records.proofs.lemmas.KeyOrder.{before-apart, before-else, before-other, other-sym, within-apart, within-else}
 use Rattle.hc_records.proofs.lemmas.SpanCuts.{span-begins}
 use Rattle.hc_cuts.specs.declared.hulls.Hulls.{Hulls}
 use Rattle.hc_cuts.specs.Hulls.{AreHulls}
 use Rattle.hc_cuts.specs.Keeping.{begins_at, is_kept, is_kept_by, is_kept_up_to, is_kept_up_to_by, span_from}
 use Rattle.hc_cuts.specs.Repair.{meets_either}
 use Rattle.hc_cuts.proofs.lemmas.HullKeys.{hulls-are}
-use Rattle.hc_cuts.proofs.lemmas.Order.{before-apart}
 
 -- spans are counted from the first one
 shifted : (first : Key) (starts : List Key) (datagram : ℕ) (start : Option Key)
@@ -83,7 +81,7 @@ settled-from hulls old new starts datagram start reach other are same =
 
 -- no span begins at END
 start-apart : (new : List Keyed) (datagram : ℕ) (span : Interval) → IsTaskList new → slice_get (spans (boundaries new)) datagram ≡ Some span → same_key span.0 END ≡ false
-start-apart new datagram span is stands = before-apart span.0 END (span-begins new span is (contained (spans (boundaries new)) datagram span stands))
+start-apart new datagram span is stands = other-sym END span.0 (before-other span.0 END (span-begins new span is (contained (spans (boundaries new)) datagram span stands)))
 
 -- the span of a datagram of the new list, by the keys at which its datagrams begin
 span-told : (starts : List Key) (new : List Keyed) (datagram : ℕ) → starts ++ END ∷ [] ≡ boundaries new
@@ -127,40 +125,6 @@ kept-up_to hulls old_starts new_starts datagram old new is same same' are key =
 
 -- a datagram that is kept whole is kept up to each of its keys
 
-not-met : (hull : Option Interval) (start reach key : Key) → is_within key reach ≡ true → meets_hull hull (start, reach) ≡ false → meets_hull hull (start, key) ≡ false
-not-met None start reach key low clear = refl
-not-met (Some hull) start reach key low clear = by (is_within hull.0 key) refl
-  where
-    by : (begun : Bool) → is_within hull.0 key ≡ begun → (is_within hull.0 key && is_within start hull.1) ≡ false
-    by true begun =
-        let reached : is_within hull.0 reach ≡ true = within-trans hull.0 key reach begun low in
-        rw begun (sym (ap (λ (b : Bool). b && is_within start hull.1) reached) ∙ clear)
-    by false begun = rw begun refl
-
-neither : (first second : Bool) → first ≡ false → second ≡ false → not (first || second) ≡ true
-neither first second none nor = rw (none, nor) refl
-
-throughout : (old new : List Keyed) (datagram : ℕ) (span : Interval) (key : Key) → (is_settled old new span && begins_at old datagram span.0) ≡ true → is_within key span.1 ≡ true
-    → (is_settled old new (span.0, key) && begins_at old datagram span.0) ≡ true
-throughout old new datagram span key kept low =
-    let parts = and_parts (is_settled old new span) (begins_at old datagram span.0) kept in
-    let outputs = hull Out (touched old new) in
-    let inputs = hull In (touched old new) in
-    let settled = and_parts (list_any (same_key span.0) (boundaries old)) (not (meets_hull outputs span || meets_hull inputs span)) parts.0 in
-    let clear = or_parts (meets_hull outputs span) (meets_hull inputs span) (not-true (meets_hull outputs span || meets_hull inputs span) settled.1) in
-    and_from (is_settled old new (span.0, key)) (begins_at old datagram span.0)
-    (and_from (list_any (same_key span.0) (boundaries old)) (not (meets_hull outputs (span.0, key) || meets_hull inputs (span.0, key))) settled.0
-    (neither (meets_hull outputs (span.0, key)) (meets_hull inputs (span.0, key)) (not-met outputs span.0 span.1 key low clear.0) (not-met inputs span.0 span.1 key low clear.1)))
-    parts.1
-
-pub kept-throughout : (old new : List Keyed) (datagram : ℕ) (span : Interval) (key : Key) → slice_get (spans (boundaries new)) datagram ≡ Some span → is_kept old new datagram ≡ true
-    → is_within key span.1 ≡ true → is_kept_up_to old new datagram key ≡ true
-kept-throughout old new datagram span key stands kept low =
-    let own : (is_settled old new span && begins_at old datagram span.0) ≡ true =
-    sym (ap (λ (s : Option Interval). option_map_or (λ t. is_settled old new t && begins_at old datagram t.0) s false) stands) ∙ kept in
-    ap (λ (s : Option Interval). option_map_or (λ t. is_settled old new (t.0, key) && begins_at old datagram t.0) s false) stands
-    ∙ throughout old new datagram span key own low
-
 -- a key is before another exactly where that one isn't it or before it
 not-within : (a b : Key) → is_before b a ≡ not (is_within a b)
 not-within a b = by (is_within a b) refl
@@ -180,7 +144,7 @@ both-false false b is = refl
 -- where the hull ends before the interval begins, none does
 pub met-never : (hull : Interval) (start key : Key) → is_before hull.1 start ≡ true → is_before key END ≡ true → is_before key END ≡ not (meets_hull (Some hull) (start, key))
 met-never hull start key ends low =
-    low ∙ sym (ap not (both-false (is_within hull.0 key) (is_within start hull.1) (kr-apart hull.1 start ends)))
+    low ∙ sym (ap not (both-false (is_within hull.0 key) (is_within start hull.1) (before-apart hull.1 start ends)))
 
 -- else the hull's first key does
 pub met-first : (hull : Interval) (start key : Key) → is_before hull.1 start ≡ false → is_before key hull.0 ≡ not (meets_hull (Some hull) (start, key))

@@ -4,7 +4,6 @@ pub mod Cursors
 pub mod Firsts
 pub mod Placed
 pub mod KeptBy
-pub mod Unsettled
 pub mod Repaired
 pub mod Searched
 pub mod Walked

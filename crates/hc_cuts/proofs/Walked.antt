@@ -138,11 +138,6 @@ pub cuts-on : (fitting : Bool) (next own : Key) → fitting ≡ true → (if fit
 cuts-on true next own test = refl
 cuts-on false next own test = cc
 
-pub record GoesOn (front : Front) (area : Keyed) (areas : List Keyed) : Type 0 where
-  pub room : next_cut (behind (placed_at front area)) areas ≡ END
-  pub carry : carried front (area ∷ areas) ≡ placed_at front area ∷ carried (behind (placed_at front area)) areas
-  pub number : (behind (placed_at front area)).datagram ≡ front.datagram
-
 pub append-none : {X : Type 0} (xs : List X) → xs ++ [] ≡ xs
 append-none [] = refl
 append-none (x ∷ xs) = ap (λ (rest : List _). x ∷ rest) (append-none xs)

@@ -4,5 +4,4 @@ pub mod Found
 pub mod HullKeys
 pub mod Inside
 pub mod KeptPlaces
-pub mod Order
 pub mod Repairs

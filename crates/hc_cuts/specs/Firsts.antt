@@ -1,13 +1,11 @@
 -- The keys at which the datagrams of a task's list begin.
-use Rattle.std.specs.Prelude.{◌≡◌, ◌<◌, All, List, [], ◌∷◌, length}
-use Rattle.std.specs.List.{flat_map}
+use Rattle.std.specs.Prelude.{◌<◌, List, [], ◌∷◌}
 use Rattle.hc_records.specs.declared.limits.TheConstants.{MOST_DATAGRAMS}
 use Rattle.hc_records.specs.declared.keys.Key.{Key}
 use Rattle.hc_records.specs.TaskList.{Keyed}
 use Rattle.hc_records.specs.Packing.{opening, packed}
 use Rattle.hc_records.specs.Image.{datagram_count}
 use Rattle.hc_records.specs.Boundaries.{later_keys}
-use Rattle.hc_records.specs.Laws.{FitsOneDatagram}
 
 -- the key of the first area, and the boundaries inside the list; none of an empty list
 abbrev pub first_keys : List Keyed → List Key
@@ -17,9 +15,3 @@ first_keys (area ∷ areas) = area.0 ∷ later_keys (area ∷ areas)
 -- packing the list gives more than 16 datagrams
 abbrev pub IsCrowded : List Keyed → Type 0
 IsCrowded list = MOST_DATAGRAMS < datagram_count (packed opening list)
-
--- a crowded list has no cut in its order into at most 16 parts that fit a datagram each
-abbrev pub CrowdedHasNoCut : Type 0
-CrowdedHasNoCut =
-    (list : List Keyed) (parts : List (List Keyed)) → IsCrowded list → flat_map (λ part. part) parts ≡ list
-    → All FitsOneDatagram parts → MOST_DATAGRAMS < length parts

@@ -1,9 +1,9 @@
 -- Which datagrams of a task an edit keeps.
-use Rattle.std.specs.Prelude.{◌≡◌, ℕ, ◌+◌, ◌&&◌, not, Bool, true, false, List, [], ◌∷◌, ◌++◌, Some, slice_get, slice_index_or}
+use Rattle.std.specs.Prelude.{ℕ, ◌+◌, ◌&&◌, not, Bool, false, List, [], ◌∷◌, ◌++◌, slice_get, slice_index_or}
 use Rattle.std.specs.Option.{option_map_or}
 use Rattle.hc_records.specs.declared.keys.Key.{Key}
 use Rattle.hc_records.specs.declared.keys.TheConstants.Key.{END}
-use Rattle.hc_records.specs.Keys.{is_within, same_key}
+use Rattle.hc_records.specs.Keys.{same_key}
 use Rattle.hc_records.specs.TaskList.{Keyed}
 use Rattle.hc_records.specs.Boundaries.{Interval, boundaries, is_settled, spans}
 use Rattle.hc_cuts.specs.declared.hulls.Hulls.{Hulls}
@@ -22,12 +22,6 @@ is_kept old new datagram =
 abbrev pub is_kept_up_to : List Keyed → List Keyed → ℕ → Key → Bool
 is_kept_up_to old new datagram key =
     option_map_or (λ span. is_settled old new (span.0, key) && begins_at old datagram span.0) (slice_get (spans (boundaries new)) datagram) false
-
--- a kept datagram is kept up to each of its keys
-abbrev pub KeptDatagramsAreKeptThroughout : Type 0
-KeptDatagramsAreKeptThroughout =
-    (old new : List Keyed) (datagram : ℕ) (span : Interval) (key : Key) → slice_get (spans (boundaries new)) datagram ≡ Some span
-    → is_kept old new datagram ≡ true → is_within key span.1 ≡ true → is_kept_up_to old new datagram key ≡ true
 
 -- the same by the keys at which datagrams begin and by hulls
 

@@ -2,6 +2,7 @@ pub mod Cursors
 pub mod Firsts
 pub mod Hulls
 pub mod Inputs
+pub mod Laws
 pub mod Place
 pub mod Keeping
 pub mod Repair

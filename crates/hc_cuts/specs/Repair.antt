@@ -4,10 +4,9 @@ use Rattle.hc_records.specs.declared.keys.Key.{Key}
 use Rattle.hc_records.specs.declared.keys.TheConstants.Key.{START, END}
 use Rattle.hc_records.specs.Keys.{same_key}
 use Rattle.hc_records.specs.TaskList.{Keyed}
-use Rattle.hc_records.specs.Boundaries.{Interval, boundaries, is_touched, meets_hull, unsettled_spans, width_in}
+use Rattle.hc_records.specs.Boundaries.{Interval, boundaries, meets_hull, unsettled_spans, width_in}
 use Rattle.hc_records.specs.SpanLaws.{IsTaskList}
 use Rattle.hc_cuts.specs.declared.hulls.Hulls.{Hulls}
-use Rattle.hc_cuts.specs.Hulls.{AreHulls}
 use Rattle.hc_cuts.specs.Spans.{unsettled_by}
 
 -- a span has a key in common with the hull of the outputs or with that of the inputs
@@ -40,8 +39,3 @@ pub record HoldTheTouched (hulls : Hulls) (old new : List Keyed) : Type 0 where
   pub count :
       (old_starts new_starts : List Key) → old_starts ++ END ∷ [] ≡ boundaries old → new_starts ++ END ∷ [] ≡ boundaries new
       → unsettled_between hulls old_starts new_starts ≡ unsettled_spans old new
-
--- so do any hulls of the touched keys of two lists
-abbrev pub HullsHoldTheTouched : Type 0
-HullsHoldTheTouched =
-    (hulls : Hulls) (old new : List Keyed) → AreHulls (is_touched old new) hulls → HoldTheTouched hulls old new

@@ -1,10 +1,10 @@
 -- The boundaries of a task by searches in its tree of sums.
-use Rattle.std.specs.Prelude.{◌≡◌, ℕ, Contains, List, [], ◌∷◌, slice_index_or}
+use Rattle.std.specs.Prelude.{ℕ, List, [], ◌∷◌, slice_index_or}
 use Rattle.hc_records.specs.declared.keys.Key.{Key}
 use Rattle.hc_records.specs.declared.keys.TheConstants.Key.{START, END}
 use Rattle.hc_records.specs.TaskList.{Keyed}
-use Rattle.hc_records.specs.Boundaries.{Interval, boundaries, later_keys, spans}
-use Rattle.hc_records.specs.SpanLaws.{IsTaskList, areas_from}
+use Rattle.hc_records.specs.Boundaries.{later_keys}
+use Rattle.hc_records.specs.SpanLaws.{areas_from}
 use Rattle.hc_bitsum.specs.Tree.{Tree}
 
 -- the key at which the second datagram begins where the areas from a key on are packed by themselves; END where one holds them all
@@ -23,8 +23,3 @@ pub record Kept : Type 0 where
 -- a task of so many slaves without areas
 abbrev pub kept_empty : ℕ → Kept
 kept_empty slaves = record { tree = record { slaves = slaves; list = [] }; starts = START ∷ [] }
-
--- from a boundary of a list, the next boundary is the one behind it
-abbrev pub NextBoundariesFollow : Type 0
-NextBoundariesFollow =
-    (list : List Keyed) (span : Interval) → IsTaskList list → Contains (spans (boundaries list)) span → next_boundary span.0 list ≡ span.1

@@ -1,16 +1,36 @@
 //! How far a datagram of a task is filled before a key: where many areas of a task are placed in the order of
 //! its list, each fill goes on from the one before it.
+ghost use Rattle.std.specs.Prelude.{◌≡◌, ◌+◌, ◌<◌, length, slice_index_or, true};
+ghost use Rattle.hc_records.specs.declared.keys.TheConstants.Key.{END};
+ghost use Rattle.hc_records.specs.Keys.{is_before, is_within};
+
 use crate::cuts::end_of;
 use crate::packing::{Front, Placed};
-use crate::place::carrier;
 use hc_bitsum::filled::Filled;
 use hc_bitsum::tree::SumTree;
 use hc_records::keys::Key;
 use hc_records::records::Dir;
 
+/// The number of the datagram that carries a key, by the keys at which datagrams begin: the last of them
+/// that doesn't come behind it.
+fn carrier(starts: &[Key], key: Key) -> usize
+    requires some { 0 < length starts.now }
+    requires first { is_within (slice_index_or starts.now 0 END) key ≡ true }
+    ensures within { result < length starts.now }
+    ensures begun { is_within (slice_index_or starts.now result END) key ≡ true }
+    ensures next { result + 1 < length starts.now → is_before key (slice_index_or starts.now (result + 1) END) ≡ true }
+{
+    for i in 1..starts.len() {
+        if key.is_before(starts[i]) {
+            return i - 1;
+        }
+    }
+    starts.len() - 1
+}
+
 /// A key, the number of the datagram that carries it, and how far that is filled before the key. What it
 /// says is true of one task, as long as the task's areas and boundaries stay as they are.
-#[derive(Clone, Copy, Debug)]
+#[derive(Clone, Copy)]
 pub struct Cursor {
     key: Key,
     datagram: u16,

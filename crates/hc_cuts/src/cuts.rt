@@ -11,10 +11,8 @@ ghost use Rattle.hc_cuts.specs.Starts.{most_read};
 use crate::cursor::Cursor;
 use crate::fold::TooManyDatagrams;
 use crate::hulls::Hulls;
-use crate::next::next_cut;
 use crate::packing::Placed;
 use crate::repair::repaired_starts;
-use crate::settled::{Reach, later};
 use crate::walk::add_span;
 use arrayvec::ArrayVec;
 use hc_bitsum::steps::Steps;
@@ -43,35 +41,6 @@ impl Model for Cuts {
     ghost use Rattle.hc_bitsum.specs.Tree.{HoldsTaskList};
 
     ghost invariant = { λ cuts. HoldsTaskList cuts.tree };
-}
-
-/// The boundaries of a task's areas but the last, `Key::END`, each searched from the one before it.
-fn searched_starts<L: Ledger>(
-    task: &SumTree,
-    steps: &mut Steps<L>,
-) -> Result<ArrayVec<Key, 16>, TooManyDatagrams>
-    ensures starts { IfOk result (λ starts. starts.items ++ END ∷ [] ≡ boundaries task.now.list) }
-    ensures few { OnOk result (datagram_count (packed opening task.now.list) ≤ MOST_DATAGRAMS) }
-    ensures refused { OnErr result (IsCrowded task.now.list) }
-    ensures least { IfOk result (λ starts. steps.old + length starts.items ≤ steps.new) }
-    ensures most { IfOk result (λ starts. steps.new ≤ steps.old + most_read * length starts.items) }
-    ensures bound { OnErr result (steps.new ≤ steps.old + most_read * MOST_DATAGRAMS) }
-    ensures short { IfOk result (λ starts. length starts.items ≤ MOST_DATAGRAMS) }
-{
-    let mut starts = ArrayVec::new();
-    starts.push(Key::START);
-    let mut from = Key::START;
-    'spans: loop {
-        let next = next_cut(task, from, steps);
-        if next.is_same(Key::END) {
-            return Ok(starts);
-        }
-        if starts.is_full() {
-            return Err(TooManyDatagrams);
-        }
-        starts.push(next);
-        from = next;
-    }
 }
 
 /// The boundary behind one of those at which datagrams begin: the next of them, or `Key::END`.
@@ -158,53 +127,6 @@ impl Cuts {
         ensures starts { self.new.starts ≡ others.items }
     {
         self.starts = others;
-    }
-
-    /// Works out the boundaries anew, from the front, by a search for each. `TooManyDatagrams` exactly
-    /// where packing gives more than 16 datagrams, and the boundaries stay as they were. Each search
-    /// takes 1 to 104 steps, and there are at most 16. It takes no memory.
-    pub fn cut<L: Ledger>(&mut self, steps: &mut Steps<L>) -> Result<(), TooManyDatagrams>
-        ensures areas { self.new.tree ≡ self.old.tree }
-        ensures starts { OnOk result (self.new.starts ++ END ∷ [] ≡ boundaries self.old.tree.list) }
-        ensures few { OnOk result (datagram_count (packed opening self.old.tree.list) ≤ MOST_DATAGRAMS) }
-        ensures refused { OnErr result (IsCrowded self.old.tree.list) }
-        ensures stay { OnErr result (self.new.starts ≡ self.old.starts) }
-        ensures least { OnOk result (steps.old + length self.new.starts ≤ steps.new) }
-        ensures most { OnOk result (steps.new ≤ steps.old + most_read * length self.new.starts) }
-        ensures bound { OnErr result (steps.new ≤ steps.old + most_read * MOST_DATAGRAMS) }
-    {
-        self.starts = searched_starts(&self.tree, steps)?;
-        Ok(())
-    }
-
-    /// Works out the boundaries anew as `cut` does, and how many of the spans between them aren't settled,
-    /// where the boundaries before were those of an older list, from which the hulls lead to its areas:
-    /// at most 16. `TooManyDatagrams`, steps and memory as for `cut`.
-    pub fn recut<L: Ledger>(
-        &mut self,
-        hulls: &Hulls,
-        steps: &mut Steps<L>,
-    ) -> Result<u32, TooManyDatagrams>
-        ensures areas { self.new.tree ≡ self.old.tree }
-        ensures starts { OnOk result (self.new.starts ++ END ∷ [] ≡ boundaries self.old.tree.list) }
-        ensures few { OnOk result (datagram_count (packed opening self.old.tree.list) ≤ MOST_DATAGRAMS) }
-        ensures refused { OnErr result (IsCrowded self.old.tree.list) }
-        ensures stay { OnErr result (self.new.starts ≡ self.old.starts) }
-        ensures least { OnOk result (steps.old + length self.new.starts ≤ steps.new) }
-        ensures most { OnOk result (steps.new ≤ steps.old + most_read * length self.new.starts) }
-        ensures bound { steps.new ≤ steps.old + most_read * MOST_DATAGRAMS }
-        ensures count { IfOk result (λ count. (old : List Keyed) → self.old.starts ++ END ∷ [] ≡ boundaries old → AreHulls (is_touched old self.old.tree.list) hulls.now → count ≡ unsettled_spans old self.old.tree.list) }
-        ensures spans { IfOk result (λ count. count ≤ MOST_DATAGRAMS) }
-    {
-        let starts = searched_starts(&self.tree, steps)?;
-        let reach = Reach {
-            old_later: later(&self.starts),
-            outputs: hulls.outputs,
-            inputs: hulls.inputs,
-        };
-        let count = reach.count_unsettled(later(&starts)) as u32;
-        self.starts = starts;
-        Ok(count)
     }
 
     /// Works out the boundaries after widths were set, and how many of the spans between them aren't

@@ -1,13 +1,14 @@
 //! The hulls of an edit of a task: which keys it touches, from the least to the greatest.
 ghost use Rattle.std.specs.Prelude.{◌≡◌};
-ghost use Rattle.hc_records.specs.Boundaries.{widened};
+ghost use Rattle.hc_records.specs.Boundaries.{meets_hull, widened};
+ghost use Rattle.hc_records.specs.Keys.{is_within};
 
 use hc_records::keys::Key;
 use hc_records::records::Dir;
 
 /// The intervals from the least to the greatest touched output and from the least to the greatest
 /// touched input; none where an edit touches none.
-#[derive(Clone, Copy, Debug)]
+#[derive(Clone, Copy)]
 pub struct Hulls {
     /// That of the outputs.
     pub outputs: Option<(Key, Key)>,
@@ -16,7 +17,7 @@ pub struct Hulls {
 }
 
 /// The least interval that holds a key and an interval, if there is one.
-pub(crate) fn widened(hull: Option<(Key, Key)>, key: Key) -> Option<(Key, Key)>
+fn widened(hull: Option<(Key, Key)>, key: Key) -> Option<(Key, Key)>
     ensures { result ≡ widened hull key }
 {
     let Some((first, last)) = hull else {
@@ -26,6 +27,23 @@ pub(crate) fn widened(hull: Option<(Key, Key)>, key: Key) -> Option<(Key, Key)>
         if key.is_before(first) { key } else { first },
         if last.is_before(key) { key } else { last },
     ))
+}
+
+/// Whether a key comes before another or is the same.
+fn is_within(a: Key, b: Key) -> bool
+    ensures { result ≡ is_within a b }
+{
+    a.is_before(b) || a.is_same(b)
+}
+
+/// Whether a span has a key in common with a hull.
+pub(crate) fn meets_hull(hull: Option<(Key, Key)>, span: (Key, Key)) -> bool
+    ensures { result ≡ meets_hull hull span }
+{
+    match hull {
+        Some((first, last)) => is_within(first, span.1) && is_within(span.0, last),
+        None => false,
+    }
 }
 
 impl Hulls {

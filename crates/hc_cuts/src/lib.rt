@@ -9,7 +9,5 @@ pub mod keeping;
 pub mod laws;
 pub mod next;
 pub mod packing;
-pub mod place;
 mod repair;
-pub mod settled;
 mod walk;

@@ -1,8 +1,7 @@
-//! The packing of a task's list, an area at a time (this project's profile): the plain program that
-//! every faster cut is compared with, and what places are worked out by.
-ghost use Rattle.std.specs.Prelude.{◌≡◌, ◌+◌, ◌<◌, ◌≤◌, All, IfOk, length};
-ghost use Rattle.hc_records.specs.Laws.{IsPackable};
-ghost use Rattle.hc_records.specs.Packing.{opening, packed};
+//! The packing of a task's list, an area at a time (this project's profile): what the plain cut and the places
+//! are worked out by.
+ghost use Rattle.std.specs.Prelude.{◌≡◌, ◌+◌, ◌<◌, ◌≤◌};
+ghost use Rattle.hc_records.specs.Packing.{opening};
 ghost use Rattle.hc_records.specs.declared.limits.TheConstants.{MOST_AREA_BITS};
 
 use hc_bitsum::borders::{byte_border, is_turning};
@@ -10,7 +9,6 @@ use hc_bitsum::filled::Filled;
 use hc_records::keys::Key;
 use hc_records::limits::MOST_AREA_BITS;
 use hc_records::records::Dir;
-use std::alloc::{AllocError, Global};
 use std::marker::Model;
 
 /// An area, its width in bits, and the datagram and the bit at which it begins. It ends within the
@@ -39,7 +37,7 @@ impl Model for Placed {
 
 /// The datagram that is being filled: its number, its first free bit, and the direction of the area
 /// before that bit, which lies within the longest datagram or at its end.
-#[derive(Clone, Copy, Debug)]
+#[derive(Clone, Copy)]
 pub struct Front {
     datagram: u16,
     bit: u16,
@@ -185,24 +183,4 @@ impl Front {
             }
         }
     }
-}
-
-/// The areas of a task's list with their places, in its order: packed one after another from the
-/// empty first datagram, however many datagrams that takes. The list has the task's keys with their
-/// widths, 1 to 11,888 bits, fewer than 65,535 of them. The room for all places is taken at the
-/// start; `AllocError` where memory is refused.
-pub fn pack(alloc: Global, list: &[(Key, u16)]) -> Result<Vec<Placed>, AllocError>
-    requires packable { All IsPackable list.now }
-    requires few { length list.now < 65535 }
-    ensures { IfOk result (λ places. places.items ≡ packed opening list.now) }
-{
-    let mut places = Vec::with_capacity(alloc, list.len())?;
-    let mut front = Front::opening();
-    for area in list {
-        let (key, bits) = *area;
-        let place = front.place(key, bits);
-        places.push(place)?;
-        front = place.behind();
-    }
-    Ok(places)
 }

@@ -14,9 +14,8 @@ ghost use Rattle.hc_cuts.specs.Starts.{most_read, next_boundary};
 
 use crate::cuts::end_of;
 use crate::fold::TooManyDatagrams;
-use crate::hulls::Hulls;
+use crate::hulls::{Hulls, meets_hull};
 use crate::next::next_cut;
-use crate::settled::meets_hull;
 use arrayvec::ArrayVec;
 use hc_bitsum::steps::Steps;
 use hc_bitsum::tree::SumTree;

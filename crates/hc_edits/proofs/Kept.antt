@@ -1,6 +1,6 @@
 -- The groups of a project stay those of a project, condition by condition.
-use Rattle.std.proofs.Common.{◌≡◌, ℕ, Bool, true, false, not, List, [], ◌∷◌, None, Result, Ok, Err, length, refl, sym, ap, ◌∙◌, arith}
-use Rattle.std.specs.Prelude.{All, IfOk, ◌+◌, ◌==◌, ◌&&◌, ◌||◌, map, nat_lt, slice_index_or}
+use Rattle.std.proofs.Common.{◌≡◌, ℕ, Bool, true, false, not, List, [], ◌∷◌, None, length, refl, sym, ap, ◌∙◌, arith}
+use Rattle.std.specs.Prelude.{All, ◌+◌, ◌==◌, ◌&&◌, ◌||◌, map, nat_lt, slice_index_or}
 use Rattle.std.specs.List.{flat_map, list_any}
 use Rattle.std.proofs.lemmas.Bool.{or_from, or_parts}
 use Rattle.std.proofs.lemmas.List.{length-map}
@@ -175,9 +175,3 @@ project-kept groups (Connect alias) none own = ap lowest_fault (groups-with_pres
 project-kept groups (Disconnect alias) none own = ap lowest_fault (groups-with_presence alias false groups) ∙ none
 project-kept groups (Remap station index pdos) none own = judged-kept groups station index (with_pdos pdos) (pdos-leave pdos) none (remap-judged groups station index pdos own)
 project-kept groups (Move station index task) none own = judged-kept groups station index (in_task task) (task-leaves task) none (move-judged groups station index task own)
-
--- so do those that a call gives
-pub result-kept : {E : Type 0} (result : Result (List Declared) E) (groups : List Declared) (edit : Edit) → IfOk result (λ after. after ≡ groups_after groups edit) →
-    IfOk result (λ after. lowest_fault (groups_of groups) ≡ None → own_fault groups edit ≡ None → lowest_fault (groups_of after) ≡ None)
-result-kept (Ok after) groups edit is = λ none own. ap (λ (gs : List Declared). lowest_fault (groups_of gs)) is ∙ project-kept groups edit none own
-result-kept (Err refused) groups edit is = tt

@@ -1,11 +1,10 @@
 //! Slaves with one area changed.
-ghost use Rattle.std.specs.Prelude.{◌≡◌, IfOk, if◌then◌else◌, map};
-ghost use Rattle.hc_records.specs.Edits.{with_area};
+ghost use Rattle.std.specs.Prelude.{◌≡◌, IfOk, if◌then◌else◌};
 ghost use Rattle.hc_records.specs.Lists.{changed_at};
 ghost use Rattle.hc_edits.specs.Edits.{changed};
 
 use hc_records::items::{Copied, Items};
-use hc_records::records::{Area, Slave};
+use hc_records::records::Area;
 use std::alloc::{AllocError, Global};
 
 /// What an edit changes in its area.
@@ -90,35 +89,6 @@ pub fn areas_after(
     for i in 0..areas.len() {
         let is_changed = i == usize::from(edit.area);
         after.push(area_after(alloc, &areas[i], is_changed, &edit.change)?)?;
-    }
-    Ok(after)
-}
-
-/// A slave, with an area changed where it has the edit's station address.
-fn slave_after(alloc: Global, slave: &Slave, edit: &AreaEdit) -> Result<Slave, AllocError>
-    ensures { IfOk result (λ after. after ≡ with_area edit.now.station edit.now.area (changed edit.now.change) slave.now) }
-{
-    if slave.station != edit.station {
-        return slave.copied(alloc);
-    }
-    Ok(Slave {
-        station: slave.station,
-        areas: areas_after(alloc, slave.areas.as_slice(), edit)?,
-    })
-}
-
-/// Slaves, with an area changed in each that has the edit's station address. `AllocError` where a growth was
-/// refused.
-pub fn slaves_after(
-    alloc: Global,
-    slaves: &[Slave],
-    edit: &AreaEdit,
-) -> Result<Items<Slave>, AllocError>
-    ensures { IfOk result (λ after. after ≡ map (with_area edit.now.station edit.now.area (changed edit.now.change)) slaves.now) }
-{
-    let mut after = Items::new(alloc);
-    for slave in slaves {
-        after.push(slave_after(alloc, slave, edit)?)?;
     }
     Ok(after)
 }

@@ -13,7 +13,7 @@ use hc_records::records::{Area, Declared, Slave};
 use std::alloc::{AllocError, Global};
 
 /// A declared group that comes or goes.
-#[derive(Clone, Copy, Debug, PartialEq, Eq)]
+#[derive(Clone, Copy, Debug)]
 pub struct PresenceChange {
     /// The group's place among the declared ones, from 0.
     pub group: usize,
@@ -26,7 +26,7 @@ pub struct PresenceChange {
 }
 
 /// Where a declared slave stands.
-#[derive(Clone, Copy, Debug, PartialEq, Eq)]
+#[derive(Clone, Copy, Debug)]
 pub struct SlavePlace {
     /// The place of its group among the declared ones, from 0.
     pub group: usize,

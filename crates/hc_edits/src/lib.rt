@@ -6,6 +6,5 @@ mod areas;
 mod carrying;
 pub mod changes;
 pub mod faults;
-pub mod groups;
 pub mod prepared;
 mod rows;

@@ -12,7 +12,7 @@ use std::alloc::{AllocError, Global};
 use std::marker::Model;
 
 /// A slave of the line, found by an index.
-#[derive(Debug, Drop)]
+#[derive(Drop)]
 pub struct LineSlave<'a> {
     rank: u16,
     slave: &'a Slave,
@@ -113,7 +113,7 @@ impl Index {
 }
 
 /// A project's declared groups with their index. Contracts see the groups.
-#[derive(Debug, Drop)]
+#[derive(Drop)]
 pub struct Indexed<'a> {
     groups: &'a [Declared],
     aliases: &'a [Alias],

@@ -5,5 +5,4 @@
 mod addresses;
 mod aliases;
 pub mod index;
-pub mod laws;
 mod seats;

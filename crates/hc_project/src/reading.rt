@@ -4,7 +4,7 @@ ghost use Rattle.std.specs.Prelude.{◌≡◌};
 ghost use Rattle.std.specs.List.{list_any};
 
 /// What is wrong with a value or inside it.
-#[derive(Clone, Copy, Debug, PartialEq, Eq)]
+#[derive(Clone, Copy)]
 pub struct Flaws {
     /// A needed key is absent, or a value is of another kind.
     pub missing: bool,
@@ -60,7 +60,7 @@ impl Flaws {
 }
 
 /// What reading a value gives.
-#[derive(Debug, Drop)]
+#[derive(Drop)]
 pub struct Reading<T> {
     /// The value. Where it is missing or outside its range, one that stands in for it.
     pub value: T,

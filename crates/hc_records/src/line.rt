@@ -1,12 +1,11 @@
 //! The line of a state: the slaves of the groups that are present, in declared order.
-ghost use Rattle.std.specs.Prelude.{◌≡◌, ◌+◌, ◌<◌, ◌≤◌, ◌++◌, IfOk, IfSome, find, length, position, slice_get};
+ghost use Rattle.std.specs.Prelude.{◌≡◌, ◌+◌, ◌<◌, ◌≤◌, ◌++◌, find, length};
 ghost use Rattle.std.specs.Iterator.{YieldsFirst, item_count};
 ghost use Rattle.std.specs.List.{list_any};
 ghost use Rattle.hc_records.specs.Edits.{has_station};
 ghost use Rattle.hc_records.specs.Line.{IsCounted, is_at, line_from, members_from};
 
 use crate::records::{Declared, Slave};
-use std::alloc::{AllocError, Global};
 use std::marker::Model;
 
 /// A slave of the line.
@@ -102,53 +101,6 @@ impl<'a> Iterator for LineMembers<'a> {
         self.rank += 1;
         Some(Member { rank, slave })
     }
-}
-
-/// How many slaves the line has.
-pub fn slave_count(groups: &[Declared]) -> usize
-    requires { IsCounted groups.now }
-    ensures value { result ≡ length (line_from 1 groups.now) }
-    ensures few { result < 65535 }
-{
-    members(groups).count()
-}
-
-/// The slaves of the present groups, in declared order, each with its rank among all declared slaves. `AllocError` where a growth was refused.
-pub fn line_of<'a>(alloc: Global, groups: &'a [Declared]) -> Result<Vec<Member<'a>>, AllocError>
-    requires { IsCounted groups.now }
-    ensures { IfOk result (λ line. line.items ≡ line_from 1 groups.now) }
-{
-    let mut line = Vec::new(alloc);
-    for member in members(groups) {
-        line.push(member)?;
-    }
-    Ok(line)
-}
-
-/// The slave at an index of the line, counted from 0; none where the line is shorter. It takes no
-/// memory.
-pub fn nth_member<'a>(groups: &'a [Declared], index: usize) -> Option<Member<'a>>
-    requires { IsCounted groups.now }
-    ensures { result ≡ slice_get (line_from 1 groups.now) index }
-{
-    members(groups).nth(index)
-}
-
-/// The index in the line of the slave with a station address, counted from 0; none where none is
-/// present. It takes no memory.
-pub fn member_index(groups: &[Declared], station: u16) -> Option<usize>
-    requires { IsCounted groups.now }
-    ensures value { result ≡ position (is_at station) (line_from 1 groups.now) }
-    ensures low { IfSome result (λ index. index < 65535) }
-{
-    let mut index = 0;
-    for member in members(groups) {
-        if member.slave.station == station {
-            return Some(index);
-        }
-        index += 1;
-    }
-    None
 }
 
 /// The slave of the line with a station address; none where none is present. It takes no memory.

@@ -1,17 +1,9 @@
 -- The working counter of a register write, and that of a datagram by its areas, in the order of their keys.
-use Rattle.std.specs.Prelude.{ℕ, ◌+◌, ◌==◌, ◌&&◌, Bool, if◌then◌else◌, List, [], ◌∷◌, Option, Some, None}
+use Rattle.std.specs.Prelude.{ℕ, ◌+◌, ◌==◌, ◌&&◌, if◌then◌else◌, List, [], ◌∷◌, Option, Some, None}
 use Rattle.hc_records.specs.declared.records.Dir.{Dir}
 use Rattle.hc_records.specs.declared.records.Dir.TheVariants.{Out, In}
 use Rattle.hc_records.specs.declared.keys.Key.{Key}
 use Rattle.hc_records.specs.Keys.{same_dir}
-
--- the working counter with which a register write comes back where its slave has accepted it: that slave adds 1 (ETG.1000.4, 5.4)
-abbrev pub write_count : ℕ
-write_count = 1
-
--- a register write came back from a slave that has accepted it
-abbrev pub is_accepted : ℕ → Bool
-is_accepted counter = counter == write_count
 
 -- what an area of a direction adds to the working counter: 2 for outputs, 1 for inputs
 abbrev pub weight : Dir → ℕ

@@ -6,9 +6,7 @@ ghost use Rattle.hc_records.specs.declared.limits.TheConstants.{LAST_SYNC_MANAGE
 ghost use Rattle.hc_registers.specs.declared.registers.TheConstants.{FMMU_BLOCKS, FMMU_BLOCK_BYTES};
 
 use crate::fmmu::{Mapping, fmmu_block, mapped_block};
-use crate::registers::{
-    FMMU_BLOCK_BYTES, FMMU_BLOCKS, SYNC_MANAGER_BLOCK_BYTES, SYNC_MANAGER_BLOCKS,
-};
+use crate::registers::{FMMU_BLOCK_BYTES, FMMU_BLOCKS, SYNC_MANAGER_BLOCK_BYTES, SYNC_MANAGER_BLOCKS};
 use crate::sync_manager::sized_block;
 use arrayvec::ArrayVec;
 use hc_records::records::Area;
@@ -50,15 +48,6 @@ impl Block {
     ghost use Rattle.hc_records.specs.Area.{width};
     ghost use Rattle.hc_records.specs.declared.limits.TheConstants.{LAST_SYNC_MANAGER, MOST_AREA_BITS, MOST_AREAS};
     ghost use Rattle.hc_registers.specs.Blocks.{IsMappable, fmmu_block, sync_manager_block};
-
-    /// The sync manager block of an area, 8 bytes.
-    pub fn sync_manager(area: &Area) -> Block
-        requires width { width area.now ≤ MOST_AREA_BITS }
-        requires number { area.now.sm ≤ LAST_SYNC_MANAGER }
-        ensures { result ≡ sync_manager_block area.now }
-    {
-        Block::sized_sync_manager(area, area.width())
-    }
 
     /// The same by a caller that knows the area's width in bits: the area's PDOs aren't walked for it.
     pub fn sized_sync_manager(area: &Area, bits: u16) -> Block

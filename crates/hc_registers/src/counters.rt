@@ -4,7 +4,7 @@ ghost use Rattle.std.specs.Prelude.{◌≡◌, ◌≤◌, length, sum_by};
 ghost use Rattle.std.specs.List.{list_any};
 ghost use Rattle.hc_records.specs.Image.{counter_share, is_of};
 ghost use Rattle.hc_records.specs.declared.limits.TheConstants.{MOST_SLAVES};
-ghost use Rattle.hc_registers.specs.Counting.{added_share, is_accepted, weight};
+ghost use Rattle.hc_registers.specs.Counting.{added_share, weight};
 
 use hc_records::keys::Key;
 use hc_records::records::Dir;
@@ -67,11 +67,3 @@ pub fn added_count(before: Option<Key>, key: Key) -> u16
 
 /// The working counter of a register write that its slave has accepted.
 pub const WRITE_COUNT: u16 = 1;
-
-/// Whether a register write that came back with a working counter was accepted: whether the counter
-/// is 1. It is 0 where no slave has the station address, or that slave refused the write.
-pub fn is_accepted(counter: u16) -> bool
-    ensures { result ≡ is_accepted counter }
-{
-    counter == WRITE_COUNT
-}

@@ -2,7 +2,6 @@ pub mod Areas
 pub mod Cursors
 pub mod Keeping
 pub mod Kept
-pub mod Laws
 pub mod Recut
 pub mod Turn
 pub mod Widths

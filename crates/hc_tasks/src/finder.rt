@@ -9,7 +9,7 @@ use std::marker::Model;
 
 /// The tasks of a line, lent, and of each task a cursor among its outputs and one among its inputs. Contracts
 /// see the tasks.
-#[derive(Debug, Drop)]
+#[derive(Drop)]
 pub struct Finder<'a> {
     cuts: &'a LineCuts,
     outputs: [Cursor; 8],

@@ -20,7 +20,7 @@ use std::marker::Model;
 
 /// The boundaries of the eight tasks of a line as they were, and the hulls of the keys whose widths differ
 /// where slaves in a row get other areas.
-#[derive(Debug, Drop)]
+#[derive(Drop)]
 pub struct Before {
     starts: LineStarts,
     hulls: [Hulls; 8],

@@ -5,7 +5,6 @@
 pub mod areas;
 pub mod finder;
 pub mod keeping;
-pub mod laws;
 pub mod starts;
 pub mod tasks;
 pub mod touched;

@@ -5,7 +5,7 @@ use hc_records::keys::Key;
 use std::marker::Model;
 
 /// Those of a task, but `Key::END`.
-#[derive(Debug, Default, Drop)]
+#[derive(Default, Drop)]
 pub(crate) struct TaskStarts {
     keys: ArrayVec<Key, 16>,
 }
@@ -41,7 +41,7 @@ impl TaskStarts {
 }
 
 /// The boundaries of the eight tasks of a line, but `Key::END`, as they were when they were copied.
-#[derive(Debug, Drop)]
+#[derive(Drop)]
 pub struct LineStarts {
     tasks: ArrayVec<TaskStarts, 8>,
 }

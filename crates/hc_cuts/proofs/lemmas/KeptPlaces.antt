@@ -15,7 +15,7 @@ use Rattle.hc_records.specs.Laws.{IsPackable}
 use Rattle.hc_records.specs.Packing.{Front, Placed, behind, packed, placed_at}
 use Rattle.hc_records.specs.SpanLaws.{IsTaskList, areas_from}
 use Rattle.hc_records.specs.TaskList.{Keyed}
-use Rattle.hc_records.proofs.lemmas.KeyOrder.{before-apart as kr-apart, before-else, before-other, before-trans, same_key-same}
+use Rattle.hc_records.proofs.lemmas.KeyOrder.{before-apart, before-else, before-other, before-trans, other-sym, same_key-same}
 use Rattle.hc_records.proofs.lemmas.SettledSpans.{clear-agrees}
 use Rattle.hc_records.proofs.lemmas.SpanCuts.{areas-from, span-begins}
 use Rattle.hc_records.proofs.lemmas.Spans.{Agree, IsListFrom, filter-drops, list-behind, list-tail, width-absent}
@@ -26,7 +26,6 @@ use Rattle.hc_cuts.specs.Walk.{blank_datagram}
 use Rattle.hc_cuts.proofs.Placed.{none-found, skips-spans}
 use Rattle.hc_cuts.proofs.Whole.{boundary, boundary-front, length-end, spans-begin}
 use Rattle.hc_cuts.proofs.lemmas.Datagrams.{at-contained}
-use Rattle.hc_cuts.proofs.lemmas.Order.{before-apart}
 
 -- where the area with a key is packed follows from the areas up to it
 
@@ -52,7 +51,7 @@ found-by false first key front area areas test is rest =
     let dropped : up_to key areas ≡ [] =
     filter-drops (λ a. is_within a.0 key) areas
     (All-weaker (λ a. is_before area.0 a.0 ≡ true) (λ a. is_within a.0 key ≡ false)
-    (λ a behind. kr-apart key a.0 (before-trans key area.0 a.0 (before-else key area.0 test) behind)) areas (list-behind first area areas is)) in
+    (λ a behind. before-apart key a.0 (before-trans key area.0 a.0 (before-else key area.0 test) behind)) areas (list-behind first area areas is)) in
     none-found key front (area ∷ areas) is.packable none
     ∙ sym (ap (λ (list : List Keyed). find (has_key key) (packed front list)) dropped)
 
@@ -131,7 +130,7 @@ kept-by old new datagram key is is' (Some span) stands kept low =
     let settled = and_parts (list_any (same_key start) (boundaries old)) (not (meets_some old new (start, key))) parts.0 in
     let agree = clear-agrees old new (start, key) (not-true (meets_some old new (start, key)) settled.1) in
     let here = span-first (boundaries new) datagram span stands in
-    let other = before-apart start END (span-begins new span is' (at-contained (spans (boundaries new)) datagram span stands)) in
+    let other = other-sym END start (before-other start END (span-begins new span is' (at-contained (spans (boundaries new)) datagram span stands))) in
     let there = not-last (START ∷ later_keys old) datagram start parts.1 other in
     let many = length-end (START ∷ later_keys new) in
     let front = boundary-front (START ∷ later_keys new) (END ∷ []) datagram END (omega (arith, here, many)) in

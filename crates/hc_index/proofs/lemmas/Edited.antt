@@ -18,8 +18,7 @@ use Rattle.hc_records.specs.Project.{lowest_fault}
 use Rattle.hc_index.specs.declared.addresses.Address.{Address}
 use Rattle.hc_index.specs.declared.aliases.Alias.{Alias}
 use Rattle.hc_index.specs.declared.seats.Seat.{Seat}
-use Rattle.hc_index.specs.Index.{Index, IsIndexOf, alias_of, aliases, addresses, block_sum, blocks_of, line_seats, present_blocks, seats_of}
-use Rattle.hc_index.specs.Laws.{EditsKeepDeclared, MovesKeepIndexes, RemapsKeepIndexes}
+use Rattle.hc_index.specs.Index.{Index, IsIndexOf, IsIndexOfDeclared, alias_of, aliases, addresses, block_sum, blocks_of, line_seats, present_blocks, seats_of}
 use Rattle.hc_index.proofs.Declaring.{addresses-group, addresses_from, own_addresses}
 
 -- a change of a declared group keeps its alias
@@ -127,7 +126,9 @@ edit-names groups (Move station area task) =
     let change = with_area station area (λ a. record a { task = task }) in
     aliases-kept (with_slaves change) (slaves-name change) 0 groups
 
-pub kept-declared : EditsKeepDeclared
+pub kept-declared :
+    (groups : List Declared) (index : Index) (edit : Edit) → IsIndexOfDeclared groups index → lowest_fault (groups_of (groups_after groups edit)) ≡ None
+    → IsIndexOfDeclared (groups_after groups edit) index
 kept-declared groups index edit is none =
     record {
       project = none;
@@ -190,12 +191,16 @@ index-kept change keeps groups index is none =
       blocks = is.blocks ∙ sym (blocks-kept change keeps groups);
     }
 
-pub remap-keeps : RemapsKeepIndexes
+pub remap-keeps :
+    (groups : List Declared) (index : Index) (station area : ℕ) (pdos : List ℕ) → IsIndexOf groups index → lowest_fault (groups_of (groups_after groups (Remap station area pdos))) ≡ None
+    → IsIndexOf (groups_after groups (Remap station area pdos)) index
 remap-keeps groups index station area pdos is none =
     let change : Area → Area = λ a. record a { assigned = pdos } in
     index-kept (with_area station area change) (area-keeps station area change) groups index is none
 
-pub move-keeps : MovesKeepIndexes
+pub move-keeps :
+    (groups : List Declared) (index : Index) (station area task : ℕ) → IsIndexOf groups index → lowest_fault (groups_of (groups_after groups (Move station area task))) ≡ None
+    → IsIndexOf (groups_after groups (Move station area task)) index
 move-keeps groups index station area task is none =
     let change : Area → Area = λ a. record a { task = task } in
     index-kept (with_area station area change) (area-keeps station area change) groups index is none

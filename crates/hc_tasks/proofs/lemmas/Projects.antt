@@ -1,16 +1,13 @@
 -- The areas of the slaves of a project's groups, and of those that an edit leaves.
 use Rattle.std.specs.Prelude.{All, None, Option, Some, filter, find, map, nat_lt, sum_by}
-use Rattle.std.proofs.Common.{◌≡◌, ℕ, ◌+◌, ◌==◌, Bool, true, false, List, [], ◌∷◌, length, refl, sym, ap, subst, ◌∙◌, arith, if◌then◌else◌, length-append}
-use Rattle.std.proofs.lemmas.List.{length-map}
+use Rattle.std.proofs.Common.{◌≡◌, ℕ, ◌+◌, Bool, true, false, List, [], ◌∷◌, length, refl, sym, ap, subst, ◌∙◌, arith, if◌then◌else◌, length-append}
 use Rattle.std.proofs.lemmas.List.Elements.{All-append, All-cons, All-head, All-nil, All-tail}
 use Rattle.std.proofs.lemmas.List.Sums.{sum_by-cons}
 use Rattle.hc_records.specs.declared.limits.TheConstants.{MOST_DATAGRAMS}
-use Rattle.hc_records.specs.declared.edit.Edit.{Edit}
-use Rattle.hc_records.specs.declared.edit.Edit.TheVariants.{Connect, Disconnect, Remap, Move}
 use Rattle.hc_records.specs.declared.records.Slave.{Slave}
 use Rattle.hc_records.specs.declared.records.Declared.{Declared}
 use Rattle.hc_records.specs.Boundaries.{is_touched_task, recut, touched, unsettled_spans}
-use Rattle.hc_records.specs.Edits.{crowded_task, groups_after, with_area, with_presence, with_slaves}
+use Rattle.hc_records.specs.Edits.{crowded_task}
 use Rattle.hc_records.specs.Image.{datagram_count, task_places, tasks}
 use Rattle.hc_records.specs.Limits.{IsSlaveInside}
 use Rattle.hc_records.specs.Line.{State, groups_of, line_from}
@@ -108,27 +105,3 @@ line-recut old new =
     ∙ ap (list_recut (list_by task (areas_by_rank old))) (task-listed task new)) tasks
 
 -- an edit declares no slave
-
-length-changed : (change : Declared → Declared) → ((declared : Declared) → length (change declared).group.slaves ≡ length declared.group.slaves)
-    → (groups : List Declared) → length (areas_by_rank (map change groups)) ≡ length (areas_by_rank groups)
-length-changed change same [] = refl
-length-changed change same (declared ∷ groups) =
-    length-append (present_areas (change declared)) (areas_by_rank (map change groups))
-    ∙ ap (λ (n : ℕ). n + length (areas_by_rank (map change groups)))
-    (length-present (change declared).present (change declared).group.slaves ∙ same declared ∙ sym (length-present declared.present declared.group.slaves))
-    ∙ ap (λ (n : ℕ). length (present_areas declared) + n) (length-changed change same groups)
-    ∙ sym (length-append (present_areas declared) (areas_by_rank groups))
-
-presence-by : (named present : Bool) (declared : Declared) → length (if named then record declared { present = present } else declared).group.slaves ≡ length declared.group.slaves
-presence-by true present declared = refl
-presence-by false present declared = refl
-
-pub edit-declares : (groups : List Declared) (edit : Edit) → length (areas_by_rank (groups_after groups edit)) ≡ length (areas_by_rank groups)
-edit-declares groups (Connect alias) = length-changed (with_presence alias true) (λ declared. presence-by (declared.group.alias == alias) true declared) groups
-edit-declares groups (Disconnect alias) = length-changed (with_presence alias false) (λ declared. presence-by (declared.group.alias == alias) false declared) groups
-edit-declares groups (Remap station area pdos) =
-    length-changed (with_slaves (with_area station area (λ a. record a { assigned = pdos })))
-    (λ declared. length-map declared.group.slaves (with_area station area (λ a. record a { assigned = pdos }))) groups
-edit-declares groups (Move station area task) =
-    length-changed (with_slaves (with_area station area (λ a. record a { task = task })))
-    (λ declared. length-map declared.group.slaves (with_area station area (λ a. record a { task = task }))) groups

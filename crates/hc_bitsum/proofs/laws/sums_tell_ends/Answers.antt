@@ -1,5 +1,0 @@
-use Rattle.hc_bitsum.proofs.Ends.{ended-sum_of}
-use Rattle.hc_bitsum.proofs.laws.sums_tell_ends.Goals as goal
-
-pub returns : goal.returns
-returns c = ended-sum_of
