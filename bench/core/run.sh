@@ -9,7 +9,7 @@ top="$here/../.."
 scratch=$(mktemp -d)
 trap 'rm -rf "$scratch"' EXIT
 crates="hc_records hc_project hc_registers hc_bitsum hc_cuts hc_tasks hc_edits hc_index hc_places hc_changes hc_plan hc_owed hc_frames
-    hc_events hc_inputs hc_outputs hc_sendings hc_past hc_awaited hc_bits hc_core"
+    hc_events hc_inputs hc_outputs hc_sendings hc_awaited hc_bits hc_core"
 for crate in $crates; do
     mkdir -p "$scratch/crates/$crate"
     for part in src specs proofs ${KEPT:+out}; do

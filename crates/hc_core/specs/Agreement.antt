@@ -18,7 +18,7 @@ use Rattle.hc_inputs.specs.Image.{Image, data_of}
 use Rattle.hc_outputs.specs.Packed.{Packed}
 use Rattle.hc_owed.specs.Kept.{Owed, declared_blocks}
 use Rattle.hc_owed.specs.Laws.{kept_of}
-use Rattle.hc_past.specs.Records.{record_of}
+use Rattle.hc_core.specs.Records.{record_of}
 use Rattle.hc_core.specs.declared.keeping.Core.TheInside.{Inside}
 use Rattle.hc_core.specs.State.{CoreState}
 use Rattle.hc_core.specs.Values.{HoldsValues}

@@ -7,6 +7,8 @@ pub mod Written
 pub mod Laws
 pub mod LastData
 pub mod Lines
+pub mod Texts
+pub mod Records
 pub mod Agreement
 pub mod Waits
 pub mod Values

@@ -1,10 +1,10 @@
 //! What a core keeps.
+use crate::past::Past;
 use hc_awaited::awaited::Awaited;
 use hc_events::change::Change;
 use hc_inputs::inputs::Inputs;
 use hc_outputs::outputs::Outputs;
 use hc_owed::owed::Owed;
-use hc_past::past::Past;
 use hc_plan::plan::Plan;
 use std::marker::Model;
 use std::snapshot::Snapshot;

@@ -6,11 +6,11 @@ ghost use Rattle.hc_places.specs.Layout.{NamesCrowded};
 ghost use Rattle.hc_events.specs.Accepted.{just_opened};
 
 use crate::keeping::Core;
+use crate::past::Past;
 use hc_awaited::awaited::Awaited;
 use hc_inputs::inputs::Inputs;
 use hc_outputs::outputs::Outputs;
 use hc_owed::owed::Owed;
-use hc_past::past::Past;
 use hc_plan::plan::Plan;
 use hc_records::faults::EditFault;
 use hc_records::project::Project;

@@ -5,7 +5,7 @@ use Rattle.hc_events.specs.Answering.{judged_by}
 use Rattle.hc_events.specs.Arrivals.{read_unless}
 use Rattle.hc_events.specs.Steps.{told_of, told_of_arrival}
 use Rattle.hc_awaited.specs.Judging.{judged_in}
-use Rattle.hc_past.specs.Records.{record_of}
+use Rattle.hc_core.specs.Records.{record_of}
 use Rattle.hc_awaited.proofs.lemmas.Dues.{told-join}
 use Rattle.hc_core.specs.State.{CoreState}
 use Rattle.hc_core.proofs.keeping.Core.arrive.Goals as goal

@@ -19,7 +19,7 @@ use Rattle.hc_outputs.proofs.lemmas.LaidOut.{line-laid_out}
 use Rattle.hc_owed.specs.Edits.{changed}
 use Rattle.hc_owed.specs.Kept.{Owed, declared_blocks}
 use Rattle.hc_owed.proofs.lemmas.Laws.{edited-declared, edits-are-right}
-use Rattle.hc_past.specs.Records.{record_of}
+use Rattle.hc_core.specs.Records.{record_of}
 use Rattle.hc_core.proofs.Edits.{after-is, agree-edited, edited-owed, edited-told}
 use Rattle.hc_core.specs.Agreement.{Agree, Kept, kept_in}
 use Rattle.hc_core.specs.State.{CoreState}

@@ -5,7 +5,7 @@ use Rattle.hc_events.specs.Points.{next_serial}
 use Rattle.hc_awaited.specs.Waiting.{Waiting, wrote}
 use Rattle.hc_owed.specs.Kept.{Owed}
 use Rattle.hc_owed.proofs.lemmas.Laws.{writes-are-right}
-use Rattle.hc_past.specs.Records.{record_of}
+use Rattle.hc_core.specs.Records.{record_of}
 use Rattle.hc_core.proofs.Firsts.{stands-kept}
 use Rattle.hc_core.proofs.Sendings.{agree-wrote}
 use Rattle.hc_core.specs.Agreement.{Agree, kept_in}

@@ -7,7 +7,7 @@ use Rattle.hc_edits.specs.Edits.{own_fault}
 use Rattle.hc_edits.proofs.lemmas.Refusals.{own-refuses}
 use Rattle.hc_events.specs.declared.answer.Answer.{Answer}
 use Rattle.hc_events.specs.Points.{state_of}
-use Rattle.hc_past.specs.Records.{record_of}
+use Rattle.hc_core.specs.Records.{record_of}
 use Rattle.hc_core.proofs.Edits.{own-told}
 use Rattle.hc_core.specs.Agreement.{kept_in}
 use Rattle.hc_core.specs.State.{CoreState}

@@ -1,7 +1,7 @@
 use Rattle.std.proofs.Common.{◌∙◌, ap, arith, subst, sym}
 use Rattle.hc_frames.specs.Sizes.{frame_bytes}
 use Rattle.hc_events.specs.Steps.{sent_text}
-use Rattle.hc_past.specs.Records.{record_of}
+use Rattle.hc_core.specs.Records.{record_of}
 use Rattle.hc_core.proofs.Fills.{carried-counted, known-tasks}
 use Rattle.hc_core.proofs.Values.{text-sent}
 use Rattle.hc_core.specs.Filled.{CanBeFilled}

@@ -4,7 +4,7 @@ use Rattle.hc_events.specs.Outputs.{sent_data}
 use Rattle.hc_events.specs.Points.{line_of}
 use Rattle.hc_sendings.specs.PartTexts.{part_text}
 use Rattle.hc_sendings.specs.Parts.{part_size}
-use Rattle.hc_past.specs.Records.{record_of}
+use Rattle.hc_core.specs.Records.{record_of}
 use Rattle.hc_core.proofs.PartsSent.{part-can, part-fits, part-sent, parts-stand}
 use Rattle.hc_core.specs.Filled.{CanBeFilled}
 use Rattle.hc_core.specs.State.{CoreState}

@@ -8,7 +8,7 @@ use Rattle.hc_events.specs.Owed.{known_bytes, owed_blocks}
 use Rattle.hc_events.specs.Points.{line_of}
 use Rattle.hc_owed.specs.Kept as owed
 use Rattle.hc_owed.specs.Laws.{kept_by}
-use Rattle.hc_past.specs.Records.{record_of}
+use Rattle.hc_core.specs.Records.{record_of}
 use Rattle.hc_core.proofs.Firsts.{first-owed, none-owed}
 use Rattle.hc_core.specs.Firsts.{IsFirstOwed}
 use Rattle.hc_core.specs.State.{CoreState}

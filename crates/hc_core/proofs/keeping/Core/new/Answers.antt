@@ -9,7 +9,7 @@ use Rattle.hc_outputs.specs.Packed.{Holds, IsLaidOut}
 use Rattle.hc_outputs.proofs.lemmas.LaidOut.{line-laid_out}
 use Rattle.hc_places.specs.Table.{Table, table_of}
 use Rattle.hc_owed.specs.Kept.{Owed, declared_blocks, unknown}
-use Rattle.hc_past.specs.Records.{record_of}
+use Rattle.hc_core.specs.Records.{record_of}
 use Rattle.hc_core.proofs.Opens.{IsProject, IsUncrowded, agree-opened}
 use Rattle.hc_core.specs.Agreement.{Agree, Kept}
 use Rattle.hc_core.proofs.keeping.Core.new.Goals as goal

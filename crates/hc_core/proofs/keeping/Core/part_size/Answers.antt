@@ -5,7 +5,7 @@ use Rattle.hc_events.specs.Accepted.{StandsIn}
 use Rattle.hc_events.specs.Points.{line_of}
 use Rattle.hc_events.specs.Sendings.{Frame}
 use Rattle.hc_sendings.specs.Parts.{part_size}
-use Rattle.hc_past.specs.Records.{record_of}
+use Rattle.hc_core.specs.Records.{record_of}
 use Rattle.hc_core.proofs.PartsSent.{parts-stand}
 use Rattle.hc_core.specs.Filled.{CanBeFilled}
 use Rattle.hc_core.specs.State.{CoreState}

@@ -3,7 +3,7 @@ use Rattle.hc_records.specs.Line.{State, line}
 use Rattle.hc_events.specs.Calls.{preview}
 use Rattle.hc_events.specs.Points.{line_of}
 use Rattle.hc_sendings.specs.Previews.{preview_in}
-use Rattle.hc_past.specs.Records.{record_of}
+use Rattle.hc_core.specs.Records.{record_of}
 use Rattle.hc_core.proofs.Fills.{preview-filled}
 use Rattle.hc_core.specs.State.{CoreState}
 use Rattle.hc_core.proofs.keeping.Core.preview.Goals as goal

@@ -10,7 +10,7 @@ use Rattle.hc_events.specs.Points.{line_of, next_serial}
 use Rattle.hc_events.specs.Sendings.{sendings_of}
 use Rattle.hc_events.specs.Steps.{task_faults}
 use Rattle.hc_sendings.specs.Refusals.{early_faults, sending_faults}
-use Rattle.hc_past.specs.Records.{record_of}
+use Rattle.hc_core.specs.Records.{record_of}
 use Rattle.hc_core.proofs.Fills.{few-frames, if-proposed, pieces, proposed-as}
 use Rattle.hc_core.proofs.Firsts.{count-owed}
 use Rattle.hc_core.proofs.ReadsAmong.{if-ok}

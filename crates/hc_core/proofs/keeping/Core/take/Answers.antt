@@ -3,7 +3,7 @@ use Rattle.hc_events.specs.declared.answer.Answer.TheVariants as answer
 use Rattle.hc_events.specs.Answering.{judged_by}
 use Rattle.hc_events.specs.Owed.{owed_blocks}
 use Rattle.hc_events.specs.Steps.{told_of}
-use Rattle.hc_past.specs.Records.{record_of}
+use Rattle.hc_core.specs.Records.{record_of}
 use Rattle.hc_core.proofs.Told.{told-done, told-else, written-owes}
 use Rattle.hc_core.specs.State.{CoreState}
 use Rattle.hc_core.proofs.keeping.Core.take.Goals as goal

@@ -1,7 +1,7 @@
 use Rattle.std.proofs.Common.{◌≡◌, [], ◌∙◌, List, ap, sym, subst}
 use Rattle.hc_events.specs.declared.change.Change.{Change}
 use Rattle.hc_events.specs.Entries.{Record}
-use Rattle.hc_past.specs.Records.{record_of}
+use Rattle.hc_core.specs.Records.{record_of}
 use Rattle.hc_core.proofs.News.{agree-taken}
 use Rattle.hc_core.specs.Agreement.{Agree, kept_in}
 use Rattle.hc_core.proofs.keeping.Core.take_changes.Goals as goal

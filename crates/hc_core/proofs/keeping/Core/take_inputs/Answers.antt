@@ -5,7 +5,7 @@ use Rattle.hc_events.specs.Answering.{judged_by}
 use Rattle.hc_events.specs.Entries.{Record, Came}
 use Rattle.hc_events.specs.Steps.{told_of, with_arrival}
 use Rattle.hc_awaited.specs.Waiting.{Waiting, ended}
-use Rattle.hc_past.specs.Records.{record_of}
+use Rattle.hc_core.specs.Records.{record_of}
 use Rattle.hc_core.proofs.Arrivals.{agree-inputs, goods-fit}
 use Rattle.hc_core.proofs.Told.{told-inputs}
 use Rattle.hc_core.specs.Agreement.{Agree, kept_in}

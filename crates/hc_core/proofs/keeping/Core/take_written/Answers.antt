@@ -8,7 +8,7 @@ use Rattle.hc_registers.specs.Blocks.{LineBlock}
 use Rattle.hc_owed.specs.Kept.{Owed}
 use Rattle.hc_owed.proofs.lemmas.Laws.{writes-are-right}
 use Rattle.hc_owed.specs.Writes.{confirmed}
-use Rattle.hc_past.specs.Records.{record_of}
+use Rattle.hc_core.specs.Records.{record_of}
 use Rattle.hc_core.proofs.Arrivals.{agree-done}
 use Rattle.hc_core.proofs.Firsts.{stands-kept}
 use Rattle.hc_core.proofs.Told.{told-done}

@@ -4,7 +4,7 @@ ghost use Rattle.hc_events.specs.Accepted.{just_opened};
 ghost use Rattle.hc_events.specs.Arrivals.{arrival_in};
 ghost use Rattle.hc_events.specs.Entries.{Edited, Posted, Sent, Wrote};
 ghost use Rattle.hc_events.specs.Steps.{with_arrival, with_sent};
-ghost use Rattle.hc_past.specs.Records.{record_of};
+ghost use Rattle.hc_core.specs.Records.{record_of};
 
 use super::Past;
 use crate::text::text_of;

@@ -1,7 +1,7 @@
 -- The bytes of a text.
 use Rattle.std.specs.Prelude.{ℕ, List, [], ◌∷◌, ◌++◌}
-use Rattle.hc_past.specs.declared.text.Text.{Text}
-use Rattle.hc_past.specs.declared.text.Text.TheVariants.{Empty, Then'}
+use Rattle.hc_core.specs.declared.text.Text.{Text}
+use Rattle.hc_core.specs.declared.text.Text.TheVariants.{Empty, Then'}
 
 -- the bytes of a text, in order: the one that was added last stands last
 abbrev pub bytes_of : Text → List ℕ

@@ -1,6 +1,6 @@
 //! How such bytes are taken from a slice.
 ghost use Rattle.std.specs.Prelude.{◌≡◌};
-ghost use Rattle.hc_past.specs.Texts.{bytes_of};
+ghost use Rattle.hc_core.specs.Texts.{bytes_of};
 
 use super::Text;
 use std::snapshot::Snapshot;

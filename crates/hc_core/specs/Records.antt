@@ -1,13 +1,13 @@
 -- The record that a past stands for.
 use Rattle.std.specs.Prelude.{◌∷◌}
-use Rattle.hc_past.specs.declared.past.Past.{Past}
-use Rattle.hc_past.specs.declared.past.Past.TheVariants.{Opened, Edited', Posted', Sent', Wrote', Came'}
+use Rattle.hc_core.specs.declared.past.Past.{Past}
+use Rattle.hc_core.specs.declared.past.Past.TheVariants.{Opened, Edited', Posted', Sent', Wrote', Came'}
 use Rattle.hc_events.specs.Accepted.{just_opened}
 use Rattle.hc_events.specs.Arrivals.{arrival_in}
 use Rattle.hc_events.specs.Entries.{Record}
 use Rattle.hc_events.specs.Entries as entry
 use Rattle.hc_events.specs.Steps.{with_arrival}
-use Rattle.hc_past.specs.Texts.{bytes_of}
+use Rattle.hc_core.specs.Texts.{bytes_of}
 
 -- the record of a past, entry by entry: the project's opening, and bytes that arrived by what was read of them, if anything was
 abbrev pub record_of : Past → Record

@@ -1,7 +1,7 @@
 use Rattle.std.proofs.Common.{◌≡◌, drop}
 use Rattle.hc_events.specs.Steps.{with_sent}
-use Rattle.hc_past.specs.Records.{record_of}
-use Rattle.hc_past.proofs.past.Past.sent_all.Given as goal
+use Rattle.hc_core.specs.Records.{record_of}
+use Rattle.hc_core.proofs.past.Past.sent_all.Given as goal
 
 -- with what is left to come it is the whole
 abbrev pub invariant-loop-frame : goal.invariant-loop-frame
