@@ -1,28 +1,13 @@
--- What is awaited behind each entry of the events' record.
-use Rattle.std.specs.Prelude.{◌≡◌, ℕ, ◌<◌, not, All, AllPairs, if◌then◌else◌, List, [], ◌∷◌, map, option_map, Option, Some}
+-- What the events' record awaits, and what keeps it.
+use Rattle.std.specs.Prelude.{◌≡◌, ℕ, ◌<◌, not, All, AllPairs, List, [], map, option_map, Option, Some}
 use Rattle.std.specs.List.{list_any}
-use Rattle.hc_events.specs.Entries.{Entry, Record, Opened, Edited, Posted, Sent, Wrote, Came}
+use Rattle.hc_events.specs.Entries.{Entry, Record}
 use Rattle.hc_events.specs.Points.{line_of, next_serial}
-use Rattle.hc_events.specs.Sendings.{Frame, Named}
 use Rattle.hc_events.specs.Heads.{Head}
-use Rattle.hc_events.specs.Answering.{Sending, is_stale_to, sends}
+use Rattle.hc_events.specs.Answering.{Sending, sends}
 use Rattle.hc_events.specs.Awaited.{awaited}
-use Rattle.hc_awaited.specs.Waiting.{AllStand, AwaitedWrite, Waiting, ended, nothing, sent, wrote}
+use Rattle.hc_awaited.specs.Waiting.{AllStand, AwaitedWrite, Waiting}
 use Rattle.hc_awaited.specs.Judging.{Due, due_with}
-
--- a frame by its serial and its datagrams; how many bytes they have says nothing here
-abbrev pub numbered : ℕ → List Named → Frame
-numbered serial datagrams = record { serial = serial; bytes = 0; datagrams = datagrams }
-
--- nothing at the opening and behind an edit; a frame or a write is sent with the next serial; an arrival that isn't stale ends what it answers; a post says nothing of it
-abbrev pub waiting_of : Record → Waiting
-waiting_of [] = nothing
-waiting_of (Opened groups ∷ past) = nothing
-waiting_of (Edited edit ∷ past) = nothing
-waiting_of (Posted task bytes ∷ past) = waiting_of past
-waiting_of (Sent datagrams ∷ past) = sent (waiting_of past) (numbered (next_serial past) datagrams)
-waiting_of (Wrote block ∷ past) = wrote (next_serial past) block (waiting_of past)
-waiting_of (Came arrival ∷ past) = if is_stale_to past arrival then waiting_of past else ended arrival.serial (waiting_of past)
 
 -- what is due to come back of what the record awaits with a serial
 abbrev pub due_in : List Entry → Head → Due

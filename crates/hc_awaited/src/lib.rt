@@ -5,5 +5,4 @@
 pub mod awaited;
 mod judging;
 mod kept;
-pub mod laws;
 mod newest;

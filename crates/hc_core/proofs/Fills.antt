@@ -32,7 +32,7 @@ use Rattle.hc_core.proofs.Commits.{allowed, numbers_of}
 use Rattle.hc_core.proofs.SentAll.{first-number}
 use Rattle.hc_core.proofs.Values.{data-sent}
 use Rattle.hc_core.specs.Filled.{CanBeFilled}
-use Rattle.hc_core.specs.Laws.{PiecesAreTheEvent, PreviewsCanBeFilled}
+use Rattle.hc_core.specs.Laws.{PiecesAreTheEvent}
 use Rattle.hc_core.specs.Proposed.{IsProposal}
 use Rattle.hc_core.specs.Values.{HoldsValues}
 
@@ -120,7 +120,7 @@ shown_filled past task d frame true true stands serials e =
     let same : one ≡ frame = cc in
     subst (CanBeFilled past) same can
 
-pub previews : PreviewsCanBeFilled
+previews : (past : Record) (task d : ℕ) (frame : Frame) → preview past task d ≡ Some frame → CanBeFilled past frame
 previews past task d frame e = shown_filled past task d frame (nat_lt d (datagram_count (task_places task (line_of past)))) (has_serials past 1) refl refl e
 
 pub preview-filled : (past : Record) (task d : ℕ) (found : Option Frame) → found ≡ preview past task d → IfSome found (CanBeFilled past)

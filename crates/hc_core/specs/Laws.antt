@@ -1,9 +1,9 @@
 -- What holds of the pieces and the parts of a sending. Each law is the contract of a function of `laws`.
-use Rattle.std.specs.Prelude.{◌≡◌, ◌≤◌, ℕ, All, List, length, map, Some}
+use Rattle.std.specs.Prelude.{◌≡◌, ◌≤◌, ℕ, All, List, length, map}
 use Rattle.std.specs.List.{flat_map}
 use Rattle.hc_frames.specs.declared.limits.TheConstants.{SETUP_SERIAL}
 use Rattle.hc_events.specs.declared.answer.Answer.TheVariants as answer
-use Rattle.hc_events.specs.Calls.{AreSentTogether, preview}
+use Rattle.hc_events.specs.Calls.{AreSentTogether}
 use Rattle.hc_events.specs.Entries.{Record}
 use Rattle.hc_events.specs.Outputs.{sent_data}
 use Rattle.hc_events.specs.Sendings.{Frame}
@@ -22,10 +22,6 @@ pub record IsSending (past : Record) (frames : List Frame) (is : IsProposal past
 -- so are any frames that are a present proposal of the record
 abbrev pub PiecesAreTheEvent : Type 0
 PiecesAreTheEvent = (past : Record) (frames : List Frame) (is : IsProposal past frames) → IsSending past frames is
-
--- a preview is made to be filled
-abbrev pub PreviewsCanBeFilled : Type 0
-PreviewsCanBeFilled = (past : Record) (task d : ℕ) (frame : Frame) → preview past task d ≡ Some frame → CanBeFilled past frame
 
 -- the parts of tasks that are sent together, joined in their order, are the frames that are proposed for them, one after another
 abbrev pub PartsAreTheProposal : Type 0

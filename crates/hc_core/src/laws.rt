@@ -1,17 +1,12 @@
 //! What follows from the definitions, so that a reader can trust them: each function here does nothing, and
 //! its contract is a law. Nobody calls it.
-ghost use Rattle.hc_core.specs.Laws.{PartsAreTheProposal, PiecesAreTheEvent, PreviewsCanBeFilled};
+ghost use Rattle.hc_core.specs.Laws.{PartsAreTheProposal, PiecesAreTheEvent};
 
 /// The frames of a present proposal can be filled, and their tasks' parts too. Each with the text that `fill`
 /// writes, they are what the event that sends their tasks answers; and what `commit` leaves of them is what
 /// that event leaves.
 pub fn pieces_are_the_event()
     ensures { PiecesAreTheEvent }
-{}
-
-/// A preview can be filled.
-pub fn previews_can_be_filled()
-    ensures { PreviewsCanBeFilled }
 {}
 
 /// The parts of tasks in their present proposal, as `fill_part` writes them, joined in the order of the tasks,

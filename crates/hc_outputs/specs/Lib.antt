@@ -1,4 +1,3 @@
-pub mod Laws
 pub mod Moves
 pub mod Packed
 pub mod Values

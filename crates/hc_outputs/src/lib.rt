@@ -3,7 +3,6 @@
 //! moves the values to their new places when the line changes.
 #![tactic(auto)]
 
-pub mod laws;
 pub mod outputs;
 mod row;
 mod rows;

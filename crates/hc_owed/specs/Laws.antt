@@ -1,4 +1,4 @@
--- What is kept is right for what the slaves are known to have. Each law is the contract of a function of `laws`.
+-- What is kept is right for what the slaves are known to have.
 use Rattle.std.specs.Prelude.{◌≡◌, ℕ, true, if◌then◌else◌, is_some, List, map, slice_get, Option, Some, None, Ok}
 use Rattle.hc_records.specs.declared.edit.Edit.{Edit}
 use Rattle.hc_records.specs.Edits.{edited, slave_at}
@@ -7,7 +7,7 @@ use Rattle.hc_records.specs.Project.{lowest_fault}
 use Rattle.hc_registers.specs.Blocks.{LineBlock, line_blocks}
 use Rattle.hc_plan.specs.declared.report.Report.{Report}
 use Rattle.hc_plan.specs.Reports.{Tells, name_of}
-use Rattle.hc_owed.specs.Kept.{Kept, differs, unknown}
+use Rattle.hc_owed.specs.Kept.{Kept, differs}
 use Rattle.hc_owed.specs.Writes.{confirmed, sent}
 use Rattle.hc_owed.specs.Edits.{changed, same_name}
 
@@ -35,10 +35,6 @@ known_with name bytes known station number = if same_name name (station, number)
 -- behind an edit what was known of the slaves of the old line is known, and nothing of others
 abbrev pub known_over : State → Knowledge → Knowledge
 known_over old known station number = if is_some (slave_at old station) then known station number else None
-
--- with nothing known, every block is owed
-abbrev pub UnknownIsOwed : Type 0
-UnknownIsOwed = (state : State) → map unknown (line_blocks (line state)) ≡ kept_of (λ station number. None) state
 
 -- the state's groups are a project's, and the block stands at a position of its line
 pub record IsBlockAt (state : State) (n : ℕ) (block : LineBlock) : Type 0 where

@@ -8,6 +8,5 @@ mod carrying;
 mod comparing;
 mod entries;
 mod flags;
-pub mod laws;
 pub mod owed;
 mod room;

@@ -4,4 +4,3 @@ pub mod Previews
 pub mod PartTexts
 pub mod Parts
 pub mod Texts
-pub mod Laws

@@ -4,7 +4,6 @@
 
 pub mod filling;
 mod framing;
-pub mod laws;
 pub mod parts;
 pub mod proposing;
 pub mod writing;

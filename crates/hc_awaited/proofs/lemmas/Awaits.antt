@@ -11,25 +11,19 @@ use Rattle.hc_records.specs.Line.{Member}
 use Rattle.hc_records.proofs.lemmas.Lists.{AllPairs-nil}
 use Rattle.hc_registers.specs.Blocks.{LineBlock}
 use Rattle.hc_events.specs.Arrivals.{Arrival}
-use Rattle.hc_events.specs.Accepted.{AreAccepted, IsAccepted, IsFrame, StandsIn, just_opened}
-use Rattle.hc_events.specs.Entries.{Entry, Record, Opened, Edited, Posted, Sent, Wrote, Came}
+use Rattle.hc_events.specs.Accepted.{AreAccepted, StandsIn, just_opened}
+use Rattle.hc_events.specs.Entries.{Record, Edited, Posted, Wrote, Came}
 use Rattle.hc_events.specs.Points.{line_of, next_serial}
-use Rattle.hc_events.specs.Sendings.{Named}
-use Rattle.hc_events.specs.Steps.{told_of}
-use Rattle.hc_events.proofs.lemmas.Accepted.{accepted-more, held-of_accepted}
 use Rattle.hc_events.specs.Heads.{write_head}
 use Rattle.hc_events.specs.Answering.{Sending, followed_by, is_news, is_stale_to, judged_by, just_sent, sending_of}
 use Rattle.hc_events.specs.Awaited.{alive, all_sent_again, awaited, is_ended, is_no_arrival}
 use Rattle.hc_events.specs.Owed.{owed_blocks}
 use Rattle.hc_events.proofs.lemmas.Awaited.{alive_edited, awaited-stale, by_bool, same_is}
 use Rattle.hc_events.proofs.lemmas.OneWrite.{all-alone}
-use Rattle.hc_awaited.specs.Waiting.{AwaitedFrame, AwaitedWrite, Waiting, ended, nothing, sent, written, wrote}
-use Rattle.hc_awaited.specs.Judging.{due_with, found_frame, frame_due, judged_in, write_due}
+use Rattle.hc_awaited.specs.Waiting.{AwaitedFrame, AwaitedWrite, Waiting, nothing, written, wrote}
+use Rattle.hc_awaited.specs.Judging.{due_with, found_frame, frame_due, write_due}
 use Rattle.hc_awaited.proofs.lemmas.Sorts.{none-framed}
-use Rattle.hc_awaited.specs.Record.{KeepsAwaited, due_by, dues_of, numbered, waiting_of}
-use Rattle.hc_awaited.proofs.lemmas.Dues.{told-join}
-use Rattle.hc_awaited.proofs.lemmas.Ended.{waits-ended}
-use Rattle.hc_awaited.proofs.lemmas.Sent.{accepted-first, waits-sent}
+use Rattle.hc_awaited.specs.Record.{KeepsAwaited, due_by, dues_of}
 
 none_some : (write : AwaitedWrite) → None ≡ Some write → ⊥
 none_some write e = let never : false ≡ true = ap is_some e in cc
@@ -135,36 +129,3 @@ waits-wrote past kept block rest all first waits =
       stands = waits.stands;
       apart = λ write e. none;
     }
-
--- so it is behind all entries that were accepted
-
-abbrev KeepsRight : Record → Type 0
-KeepsRight past = AreAccepted past × KeepsAwaited past (waiting_of past)
-
-came_either : (past : Record) (arrival : Arrival) (stale : Bool) → is_stale_to past arrival ≡ stale → AreAccepted past → KeepsAwaited past (waiting_of past)
-    → KeepsAwaited (Came arrival ∷ past) (cond stale (waiting_of past) (ended arrival.serial (waiting_of past)))
-came_either past arrival true e all waits = waits-stale past (waiting_of past) arrival e waits
-came_either past arrival false e all waits = waits-ended past (waiting_of past) arrival all waits e
-
-sent_right : (past : Record) (datagrams : List Named) → AreAccepted past → IsFrame past datagrams → KeepsAwaited past (waiting_of past)
-    → KeepsAwaited (Sent datagrams ∷ past) (sent (waiting_of past) (numbered (next_serial past) datagrams))
-sent_right past datagrams all is waits =
-    let some = accepted-first past datagrams is in
-    waits-sent past (waiting_of past) (numbered (next_serial past) datagrams) all is.programmed refl (record { first = some.first; others = some.others; some = some.some }) is.stands waits
-
-right_more : (past : Record) (entry : Entry) → IsAccepted past entry → KeepsRight past → KeepsRight (entry ∷ past)
-right_more past (Opened groups) is right = absurd is
-right_more past (Edited edit) is right = (accepted-more past (Edited edit) is right.0, waits-edited past edit)
-right_more past (Posted task bytes) is right = (accepted-more past (Posted task bytes) is right.0, waits-posted past (waiting_of past) task bytes right.1)
-right_more past (Sent datagrams) is right = (accepted-more past (Sent datagrams) is right.0, sent_right past datagrams right.0 is right.1)
-right_more past (Wrote block) is right = (accepted-more past (Wrote block) is right.0, waits-wrote past (waiting_of past) block is.rest right.0 is.first right.1)
-right_more past (Came arrival) is right = (accepted-more past (Came arrival) is right.0, came_either past arrival (is_stale_to past arrival) refl right.0 right.1)
-
-right_opened : (groups : List Group) → KeepsRight (just_opened groups)
-right_opened groups = (refl, waits-opened groups)
-
-pub awaited-kept : (past : Record) → AreAccepted past → KeepsAwaited past (waiting_of past)
-awaited-kept past all = (held-of_accepted KeepsRight right_more right_opened past all).1
-
-pub awaited-told : (past : Record) (arrival : Arrival) → AreAccepted past → told_of (judged_in (line_of past) (waiting_of past) arrival) ≡ told_of (judged_by past arrival)
-awaited-told past arrival all = told-join past (waiting_of past) arrival (awaited-kept past all)

@@ -1,18 +1,18 @@
 -- What is kept as awaited stays what the record awaits behind frames of tasks.
 use Rattle.std.proofs.Common.{◌≡◌, ℕ, ◌+◌, ◌<◌, Bool, true, false, cond, List, [], ◌∷◌, ◌++◌, filter, map, refl, sym, ap, ◌∙◌, subst, arith, Some, None}
 use Rattle.std.specs.Prelude.{All, AllPairs, is_some}
-use Rattle.std.specs.List.{flat_map, list_any}
-use Rattle.std.proofs.lemmas.List.Elements.{All-contains, All-nil, All-cons, All-append, All-filter, All-map, All-weaker}
+use Rattle.std.specs.List.{list_any}
+use Rattle.std.proofs.lemmas.List.Elements.{All-nil, All-cons, All-append, All-filter, All-map, All-weaker}
 use Rattle.std.proofs.lemmas.List.Kept.{AllPairs-cons, AllPairs-filter}
 use Rattle.hc_records.specs.Line.{Member}
 use Rattle.hc_records.proofs.lemmas.Lists.{AllPairs-append, AllPairs-map, AllPairs-nil}
-use Rattle.hc_events.specs.Accepted.{AreAccepted, IsFrame, StandsIn, frames_of}
+use Rattle.hc_events.specs.Accepted.{AreAccepted, StandsIn}
 use Rattle.hc_events.specs.Entries.{Record, Sent}
 use Rattle.hc_events.specs.Points.{line_of, next_serial}
-use Rattle.hc_events.specs.Sendings.{Frame, Named, alone, framed, framed_behind, has_room, joined, length_of, task_datagrams}
+use Rattle.hc_events.specs.Sendings.{Frame, Named, alone, framed, framed_behind, has_room, joined, length_of}
 use Rattle.hc_events.specs.Owed.{owed_blocks}
 use Rattle.hc_awaited.specs.Waiting as waiting
-use Rattle.hc_awaited.specs.Waiting.{AwaitedFrame, AwaitedWrite, Carried, Waiting, all_sent, as_sent, is_alive, sent, with_again}
+use Rattle.hc_awaited.specs.Waiting.{AwaitedFrame, AwaitedWrite, Carried, Waiting, as_sent, is_alive, sent, with_again}
 use Rattle.hc_awaited.proofs.lemmas.Resent.{due-both, sent-frames}
 use Rattle.hc_awaited.proofs.lemmas.Sorts.{none-written}
 use Rattle.hc_awaited.specs.Record.{KeepsAwaited}
@@ -23,11 +23,6 @@ pub record HasFirst (frame : Frame) : Type 0 where
   pub first : Named
   pub others : List Named
   pub some : frame.datagrams ≡ first ∷ others
-
-pub record HasSome (datagrams : List Named) : Type 0 where
-  pub first : Named
-  pub others : List Named
-  pub some : datagrams ≡ first ∷ others
 
 abbrev Stands : List Member → AwaitedFrame → Type 0
 Stands line frame = All (λ carried. StandsIn line carried.datagram) frame.datagrams
@@ -110,15 +105,3 @@ pub frames-first : (line : List Member) (serial : ℕ) (datagrams : List Named) 
 frames-first line serial [] = All-nil HasFirst
 frames-first line serial (datagram ∷ datagrams) =
     first_behind line (alone serial datagram (length_of line datagram)) datagrams (record { first = datagram; others = []; some = refl })
-
--- and so does each that is accepted
-has_first : (frame : Frame) → HasFirst frame → HasSome frame.datagrams
-has_first frame some = record { first = some.first; others = some.others; some = some.some }
-
-pub accepted-first : (past : Record) (datagrams : List Named) → IsFrame past datagrams → HasSome datagrams
-accepted-first past datagrams is =
-    let names = flat_map (task_datagrams (line_of past)) is.tasks in
-    All-contains HasSome (frames_of (line_of past) is.serial is.tasks) datagrams
-    (All-map HasSome (λ (frame : Frame). frame.datagrams) (framed (line_of past) is.serial names)
-    (All-weaker HasFirst (λ (frame : Frame). HasSome frame.datagrams) has_first (framed (line_of past) is.serial names) (frames-first (line_of past) is.serial names)))
-    is.one
