@@ -1,14 +1,11 @@
 //! Where the areas of a line stand, in plain Rust: packed from the front of a task, with the tables, the places of
 //! variables and the register blocks that follow from it.
 
+use crate::project_text::AreaKeys;
+pub use crate::project_text::Pdo;
+
 /// The bits of the longest datagram.
 const MOST_BITS: u32 = 11_888;
-
-#[derive(Clone)]
-pub struct Pdo {
-    pub index: u16,
-    pub entries: Vec<(u32, u8)>,
-}
 
 /// An area with its PDOs, and where it stands.
 #[derive(Clone)]
@@ -83,6 +80,12 @@ impl Block {
 }
 
 impl Area {
+    /// What a project's text tells of it.
+    pub fn keys(&self) -> AreaKeys<'_> {
+        let Area { is_out, sm, phys, task, assigned, offered, .. } = self;
+        AreaKeys { is_out: *is_out, sm: *sm, phys: *phys, task: *task, assigned, offered }
+    }
+
     fn pdo(&self, index: u16) -> &[(u32, u8)] {
         self.offered.iter().find(|pdo| pdo.index == index).map_or(&[], |pdo| &pdo.entries)
     }

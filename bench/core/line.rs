@@ -3,7 +3,7 @@
 //! variable that can be made wider, and behind it 100 variables of two bits; the tasks 4 to 7 have short datagrams.
 
 use crate::plain::{Area, Pdo, Slave};
-use std::fmt::Write;
+use crate::project_text::{add_area, add_slave};
 
 /// The first PDO of an area.
 pub const PDO: u16 = 0x1600;
@@ -105,21 +105,8 @@ pub fn line(slaves: usize) -> Vec<Slave> {
 pub fn text(slaves: &[Slave]) -> String {
     let mut text = String::new();
     for slave in slaves {
-        writeln!(text, "[[slave]]\nstation = {}", slave.station).expect("memory");
-        for area in &slave.areas {
-            let dir = if area.is_out { "out" } else { "in" };
-            write!(
-                text,
-                "[[slave.area]]\nsm = {}\ndir = \"{dir}\"\nphys = {}\ntask = {}\nassigned = {:?}\npdo = [",
-                area.sm, area.phys, area.task, area.assigned
-            )
-            .expect("memory");
-            for pdo in &area.offered {
-                let entries: Vec<[u32; 2]> = pdo.entries.iter().map(|entry| [entry.0, entry.1.into()]).collect();
-                write!(text, "{{ index = {}, entries = {entries:?} }},", pdo.index).expect("memory");
-            }
-            text.push_str("]\n");
-        }
+        add_slave(&mut text, 0, slave.station);
+        slave.areas.iter().for_each(|area| add_area(&mut text, 0, &area.keys()));
     }
     text
 }

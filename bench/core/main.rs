@@ -9,8 +9,14 @@
 //!
 //! Words after the program's name: `few` for a short run, any other one for the calls whose names have it.
 
+#[allow(dead_code)]
+#[path = "../../compare/shared/draws.rs"]
+mod draws;
 mod line;
 mod plain;
+#[allow(dead_code)]
+#[path = "../../compare/shared/project_text.rs"]
+mod project_text;
 mod script;
 mod told;
 

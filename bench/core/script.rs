@@ -1,5 +1,6 @@
 //! Events for both cores: each is played on the plain one when it is added, which tells what comes back of a frame.
 
+use crate::draws::Draws;
 use crate::plain::{Answer, Core};
 use crate::told::told_by;
 
@@ -120,11 +121,8 @@ impl Script {
     /// Plays drawn events: posts, sendings, writes, arrivals good, late, doubled, cut, changed or with another counter,
     /// reads and edits, some of which are refused.
     pub fn draw(&mut self, count: usize) {
-        let mut state = 1u64;
-        let mut draw = move |below: usize| {
-            state = state.wrapping_mul(6_364_136_223_846_793_005).wrapping_add(1_442_695_040_888_963_407);
-            (state >> 33) as usize % below
-        };
+        let mut draws = Draws(1);
+        let mut draw = move |below: usize| draws.below(below);
         let mut flying: Vec<Vec<u8>> = Vec::new();
         for _ in 0..count {
             let owes = self.core.owed() > 0;

@@ -4,8 +4,12 @@
 //! What is printed is ratios of the best of many rounds, and no time. The kinds take turns, and the plain tree is timed
 //! twice: where the two differ by more than a tenth no figure is printed.
 
+#[allow(dead_code)]
+#[path = "../../compare/shared/draws.rs"]
+mod draws;
 mod plain;
 
+use draws::Draws;
 use plain::{Area, Tree, told_of};
 use std::hint::black_box;
 use std::time::Instant;
@@ -28,16 +32,6 @@ unsafe extern "C" {
     fn cuts_folded(areas: *const Area, count: usize, times: *mut u64, rounds: usize) -> u64;
 }
 
-/// Numbers drawn one after another by a linear congruence.
-struct Draws(u64);
-
-impl Draws {
-    fn below(&mut self, count: u64) -> u64 {
-        self.0 = self.0.wrapping_mul(6_364_136_223_846_793_005).wrapping_add(1_442_695_040_888_963_407);
-        (self.0 >> 33) % count
-    }
-}
-
 /// A line of so many slaves with 8 areas each, and what is asked of it.
 struct Case {
     slaves: u16,
@@ -52,7 +46,7 @@ struct Case {
 /// Widths are drawn such that the areas fill about 14 datagrams, whatever the number of slaves.
 fn case(slaves: u16) -> Case {
     let mut draws = Draws(20_261_123);
-    let most = 2 * 14 * 11_888 / (8 * u64::from(slaves)) - 7;
+    let most = 2 * 14 * 11_888 / (8 * usize::from(slaves)) - 7;
     let mut areas = Vec::new();
     for is_input in [false, true] {
         for rank in 1..=slaves {
@@ -62,7 +56,7 @@ fn case(slaves: u16) -> Case {
         }
     }
     let mut drawn = |calls: usize| -> Vec<Area> {
-        (0..calls).map(|_| areas[draws.below(areas.len() as u64) as usize]).collect()
+        (0..calls).map(|_| areas[draws.below(areas.len())]).collect()
     };
     let asked = drawn(CALLS);
     let old = drawn(CALLS / 2);

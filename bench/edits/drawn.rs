@@ -1,18 +1,9 @@
 //! Drawn lines and edits, on which both plans are compared.
 
 use crate::asked::{Asked, CONNECT, DISCONNECT, MOVE, REMAP, WHOLE};
+use crate::draws::Draws;
 use crate::plain::Group;
 use crate::plain::layout::{Area, Pdo, Slave};
-
-/// Numbers drawn one after another by a linear congruence.
-struct Draws(u64);
-
-impl Draws {
-    fn below(&mut self, count: usize) -> usize {
-        self.0 = self.0.wrapping_mul(6_364_136_223_846_793_005).wrapping_add(1_442_695_040_888_963_407);
-        (self.0 >> 33) as usize % count
-    }
-}
 
 struct Maker {
     draws: Draws,

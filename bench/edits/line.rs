@@ -4,7 +4,7 @@
 
 use crate::plain::Group;
 use crate::plain::layout::{Area, Pdo, Slave};
-use std::fmt::Write;
+use crate::project_text::{add_area, add_group, add_slave};
 
 /// The PDO that each area has: 11 bytes in two variables.
 pub const OWN: u16 = 0x1600;
@@ -106,29 +106,14 @@ pub fn line(slaves: usize) -> Vec<Group> {
     groups
 }
 
-fn add_area(text: &mut String, head: &str, area: &Area) -> std::fmt::Result {
-    let Area { is_out, sm, phys, task, assigned, .. } = area;
-    let dir = if *is_out { "out" } else { "in" };
-    writeln!(text, "[[{head}.area]]\nsm = {sm}\ndir = \"{dir}\"\nphys = {phys}\ntask = {task}")?;
-    write!(text, "assigned = {assigned:?}\npdo = [")?;
-    for pdo in &area.offered {
-        let entries: Vec<[u32; 2]> = pdo.entries.iter().map(|entry| [entry.0, entry.1.into()]).collect();
-        write!(text, "{{ index = {}, entries = {entries:?} }},", pdo.index)?;
-    }
-    text.write_str("]\n")
-}
-
 /// A project's text.
 pub fn text(groups: &[Group]) -> String {
     let mut text = String::new();
-    for group in groups {
-        let head = if group.alias == 0 { "slave" } else { "group.slave" };
-        if group.alias > 0 {
-            writeln!(text, "[[group]]\nalias = {}", group.alias).expect("memory");
-        }
-        for slave in &group.slaves {
-            writeln!(text, "[[{head}]]\nstation = {}", slave.station).expect("memory");
-            slave.areas.iter().for_each(|area| add_area(&mut text, head, area).expect("memory"));
+    for Group { alias, slaves } in groups {
+        add_group(&mut text, *alias);
+        for slave in slaves {
+            add_slave(&mut text, *alias, slave.station);
+            slave.areas.iter().for_each(|area| add_area(&mut text, *alias, &area.keys()));
         }
     }
     text

@@ -10,9 +10,14 @@
 
 mod asked;
 mod drawn;
+#[allow(dead_code)]
+#[path = "../../compare/shared/draws.rs"]
+mod draws;
 mod growths;
 mod line;
 mod plain;
+#[path = "../../compare/shared/project_text.rs"]
+mod project_text;
 mod told;
 
 use asked::{Asked, CONFIGURE, Round, WHOLE, joining, played};

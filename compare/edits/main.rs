@@ -1,0 +1,147 @@
+//! Compares what the program prints behind edits with a plain model that works each line out from nothing: lists are
+//! packed from their front, boundaries and blocks are compared list by list.
+
+#[allow(dead_code)]
+#[path = "../shared/mod.rs"]
+mod shared;
+
+use shared::draws::Draws;
+use shared::edits::{Edit, Refusal};
+use shared::line::Line;
+use shared::printed::{edit_line, edit_words, layout_lines};
+use shared::projects::Widths::{self, Brimming, Mixed};
+use shared::projects::{Shape, edit, project};
+use shared::questions::{Names, ask};
+use shared::running::{compare, main_of};
+use shared::scripts::Script;
+use std::process::ExitCode;
+
+/// A drawn project with so many edits.
+struct Case {
+    seed: u64,
+    shape: Shape,
+    edits: usize,
+}
+
+const fn case(seed: u64, [slaves, groups, areas, tasks]: [usize; 4], widths: Widths, edits: usize) -> Case {
+    Case { seed, shape: Shape { slaves, groups, areas, tasks, widths }, edits }
+}
+
+/// From one slave to hundreds; where many PDOs are wide, or many areas share a task, tasks get crowded.
+const CASES: [Case; 19] = [
+    case(1, [1, 0, 8, 3], Mixed(30), 300),
+    case(2, [1, 1, 8, 8], Mixed(30), 400),
+    case(3, [3, 2, 4, 2], Mixed(0), 500),
+    case(4, [6, 4, 3, 1], Mixed(5), 600),
+    case(5, [12, 6, 8, 8], Mixed(10), 600),
+    case(6, [16, 8, 8, 1], Mixed(40), 900),
+    case(7, [20, 9, 6, 1], Mixed(40), 900),
+    case(8, [24, 8, 8, 3], Mixed(60), 900),
+    case(9, [40, 12, 3, 1], Mixed(40), 800),
+    case(10, [40, 39, 2, 2], Mixed(0), 500),
+    case(11, [64, 16, 8, 5], Mixed(25), 700),
+    case(12, [100, 20, 4, 1], Mixed(12), 700),
+    case(13, [160, 30, 2, 4], Mixed(15), 500),
+    case(14, [240, 40, 4, 2], Mixed(10), 500),
+    case(15, [300, 60, 8, 8], Mixed(3), 400),
+    case(16, [40, 0, 8, 1], Mixed(60), 0),
+    case(17, [350, 80, 8, 1], Mixed(2), 400),
+    case(19, [14, 5, 2, 2], Brimming, 700),
+    case(18, [500, 100, 4, 2], Mixed(6), 300),
+];
+
+/// What was met in all cases.
+#[derive(Default)]
+struct Met {
+    /// Accepted edits that connect, disconnect, remap and move.
+    accepted: [usize; 4],
+    /// Refusals by their number.
+    refused: [usize; 14],
+    /// Edits that recut a span, those of which a datagram with areas stayed settled, and those that moved a block.
+    recut: usize,
+    moved: usize,
+    others: usize,
+    lines: usize,
+    bytes: usize,
+}
+
+fn kind_of(edit: &Edit) -> usize {
+    match edit {
+        Edit::Connect(_) => 0,
+        Edit::Disconnect(_) => 1,
+        Edit::Remap { .. } => 2,
+        Edit::Move { .. } => 3,
+    }
+}
+
+fn script_of(case: &Case, met: &mut Met) -> Script {
+    let mut draws = Draws(case.seed);
+    let groups = project(&mut draws, case.shape);
+    let mut script = Script::of(case.seed, &groups);
+    let mut line = match Line::opened(&groups) {
+        Ok(line) => line,
+        Err(task) => {
+            script.add("layout", &[], vec![format!("open fault 1 TooManyDatagrams {task}")]);
+            script.status = 3;
+            return script;
+        }
+    };
+    let names = Names::of(&groups);
+    script.add("layout", &[], layout_lines(0, &line.layout));
+    for _ in 0..case.edits {
+        let edit = edit(&mut draws, &line.state, case.shape);
+        let answer = line.edited(&edit);
+        let told = match &answer {
+            Ok((new, recut, moved)) => Ok((new.state.epoch, *recut, *moved)),
+            Err(refusal) => Err(*refusal),
+        };
+        let (name, numbers) = edit_words(&edit);
+        script.add(name, &numbers, vec![edit_line(told)]);
+        match answer {
+            Ok((new, recut, moved)) => {
+                met.accepted[kind_of(&edit)] += 1;
+                met.recut += usize::from(recut > 0);
+                met.moved += usize::from(moved > 0);
+                line = new;
+            }
+            Err(Refusal { number, .. }) => met.refused[number] += 1,
+        }
+        script.add("layout", &[], layout_lines(line.state.epoch, &line.layout));
+        if draws.is(60) {
+            met.others += 1;
+            ask(&mut draws, &mut script, &line, &names, 0);
+        }
+    }
+    script
+}
+
+/// Whether the draws met what they are for.
+fn meets_enough(met: &Met) -> bool {
+    let edits: usize = met.accepted.iter().chain(&met.refused).sum();
+    edits >= 5000
+        && met.accepted.iter().all(|count| *count >= 200)
+        && met.refused[1..=12].iter().all(|count| *count >= 10)
+}
+
+fn compare_all(program: &[String], seed: Option<u64>) -> Result<(), String> {
+    let mut met = Met::default();
+    for case in CASES.iter().filter(|case| seed.is_none_or(|seed| seed == case.seed)) {
+        let script = script_of(case, &mut met);
+        compare(program, &script)?;
+        met.lines += script.wanted.len();
+        met.bytes += script.input.len();
+    }
+    let Met { accepted: [connected, disconnected, remapped, moved], refused, .. } = &met;
+    let edits: usize = met.accepted.iter().chain(refused).sum();
+    println!("{edits} edits: {connected} connect, {disconnected} disconnect, {remapped} remap, {moved} move");
+    println!("refused by number from 1 on: {:?}", &refused[1..=12]);
+    let (recut, moved, others) = (met.recut, met.moved, met.others);
+    println!("{recut} edits recut spans, {moved} moved blocks; {others} questions beside the layouts");
+    println!("{} bytes read, {} lines compared", met.bytes, met.lines);
+    if seed.is_none() && !meets_enough(&met) { Err("the draws meet too little".to_string()) } else { Ok(()) }
+}
+
+fn main() -> ExitCode {
+    let drawn = |seed| CASES.iter().find(|case| case.seed == seed).map(|case| script_of(case, &mut Met::default()));
+    main_of("edits", drawn, compare_all)
+}

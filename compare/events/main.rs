@@ -1,0 +1,406 @@
+//! Compares what the program prints for events with a plain model that keeps the whole list of them: for each answer it
+//! looks back over that list.
+
+#[path = "../shared/mod.rs"]
+mod shared;
+
+mod arrivals;
+mod reading;
+mod record;
+
+use arrivals::{KINDS, Kind, bytes_of, drawn, returned};
+use reading::read;
+use record::{Answer, Entry, Item, Outcome, Sending, answer, line, next_serial, owed, sent_tasks, sent_write, slot};
+use shared::draws::Draws;
+use shared::edits::{Edit, Refusal};
+use shared::line::Line;
+use shared::packing::TASKS;
+use shared::printed::{edit_line, edit_words, hex, layout_lines};
+use shared::projects::Widths::{self, Brimming, Mixed};
+use shared::projects::{Shape, edit, project};
+use shared::questions::{Names, ask};
+use shared::running::{compare, main_of};
+use shared::scripts::Script;
+use std::process::ExitCode;
+use std::rc::Rc;
+
+/// A drawn project with so many events.
+struct Case {
+    seed: u64,
+    shape: Shape,
+    events: usize,
+}
+
+const fn case(seed: u64, [slaves, groups, areas, tasks]: [usize; 4], widths: Widths, events: usize) -> Case {
+    Case { seed, shape: Shape { slaves, groups, areas, tasks, widths }, events }
+}
+
+const CASES: [Case; 15] = [
+    case(101, [1, 0, 2, 1], Mixed(0), 1500),
+    case(119, [1, 1, 3, 2], Mixed(10), 1500),
+    case(103, [2, 1, 3, 2], Mixed(0), 3000),
+    case(104, [3, 2, 3, 3], Mixed(10), 3000),
+    case(105, [4, 2, 2, 8], Mixed(0), 3000),
+    case(106, [5, 3, 4, 8], Mixed(0), 3000),
+    case(107, [5, 2, 3, 3], Mixed(20), 3000),
+    case(108, [6, 3, 3, 1], Mixed(30), 2500),
+    case(109, [8, 4, 2, 4], Mixed(5), 3000),
+    case(110, [10, 6, 3, 6], Mixed(5), 3000),
+    case(111, [12, 4, 2, 2], Mixed(25), 2500),
+    case(112, [16, 15, 1, 3], Mixed(5), 3000),
+    case(113, [24, 6, 3, 8], Mixed(3), 3000),
+    case(114, [40, 10, 2, 5], Mixed(2), 3000),
+    case(118, [6, 1, 1, 6], Brimming, 2000),
+];
+
+/// What was met in all cases.
+#[derive(Default)]
+struct Met {
+    edits: usize,
+    writes: usize,
+    sends: usize,
+    reads: usize,
+    refused: [usize; 28],
+    /// Arrivals by the kind that was drawn.
+    arrived: [usize; KINDS.len()],
+    inputs: usize,
+    wrong: usize,
+    /// Datagrams that are stale beside others that aren't.
+    passed: usize,
+    done: usize,
+    missed: usize,
+    stale: usize,
+    full_slots: usize,
+    empty_slots: usize,
+    /// Frames of several datagrams that were sent.
+    together: usize,
+    lines: usize,
+    bytes: usize,
+}
+
+impl Met {
+    fn arrivals(&self) -> usize {
+        self.arrived.iter().sum()
+    }
+
+    fn events(&self) -> usize {
+        self.edits + self.writes + self.sends + self.reads + self.arrivals()
+    }
+
+    fn refuse(&mut self, refusal: Refusal) -> Vec<String> {
+        self.refused[refusal.number] += 1;
+        vec![refusal.line()]
+    }
+}
+
+/// A script while it is drawn: the events so far, and all bytes that arrived.
+struct Run<'a> {
+    draws: Draws,
+    shape: Shape,
+    names: Names,
+    past: Vec<Entry>,
+    arrived: Vec<Vec<u8>>,
+    script: Script,
+    met: &'a mut Met,
+    events: usize,
+}
+
+fn place_of(kind: Kind) -> usize {
+    KINDS.iter().position(|(own, _)| *own == kind).expect("a kind")
+}
+
+fn answer_lines(answer: &Answer, met: &mut Met) -> Vec<String> {
+    let Answer::Answered { outcomes, .. } = answer else {
+        met.stale += 1;
+        return vec!["stale".to_string()];
+    };
+    let mut lines = Vec::new();
+    for (item, outcome) in outcomes {
+        lines.push(match (item, outcome) {
+            (Item::Process { task, number }, Outcome::Good) => {
+                met.inputs += 1;
+                format!("inputs {task} {number}")
+            }
+            (Item::Process { .. }, Outcome::Wrong { expected, got }) => {
+                met.wrong += 1;
+                format!("wrong count {expected} {got}")
+            }
+            (Item::Block { .. }, Outcome::Good) => {
+                met.done += 1;
+                "write done".to_string()
+            }
+            (Item::Block { .. }, Outcome::Wrong { .. }) => {
+                met.missed += 1;
+                "write missed".to_string()
+            }
+            (_, Outcome::Stale) => {
+                met.passed += 1;
+                "stale".to_string()
+            }
+        });
+    }
+    lines
+}
+
+impl Run<'_> {
+    fn edit(&mut self, edit: &Edit) {
+        self.met.edits += 1;
+        let (name, numbers) = edit_words(edit);
+        let answer = match line(&self.past).edited(edit) {
+            Ok((new, recut, moved)) => {
+                let told = edit_line(Ok((new.state.epoch, recut, moved)));
+                self.past.push(Entry::Edited(Rc::new(new)));
+                vec![told]
+            }
+            Err(refusal) => self.met.refuse(refusal),
+        };
+        self.script.add(name, &numbers, answer);
+        self.events += 1;
+    }
+
+    fn drawn_edit(&mut self) {
+        let edit = edit(&mut self.draws, &line(&self.past).state, self.shape);
+        self.edit(&edit);
+    }
+
+    /// The frames that were sent.
+    fn record(&mut self, sendings: &[Sending]) -> Vec<String> {
+        self.past.extend(sendings.iter().cloned().map(Entry::Sent));
+        self.met.together += sendings.iter().filter(|sending| sending.datagrams.len() > 1).count();
+        sendings.iter().map(|sending| format!("sent {}: {}", sending.serial, hex(&sending.text()))).collect()
+    }
+
+    fn write(&mut self) -> Vec<Sending> {
+        self.met.writes += 1;
+        self.events += 1;
+        let (answer, sendings) = match sent_write(&self.past) {
+            Ok(sending) => (self.record(&[sending.clone()]), vec![sending]),
+            Err(refusal) => (self.met.refuse(refusal), Vec::new()),
+        };
+        self.script.add("write", &[], answer);
+        sendings
+    }
+
+    fn drawn_tasks(&mut self) -> Vec<u8> {
+        let mut tasks: Vec<u8> = (0..TASKS).collect();
+        self.draws.shuffle(&mut tasks);
+        tasks.sort_by_key(|task| usize::from(*task) >= self.shape.tasks);
+        let most = self.shape.tasks.min(self.draws.between(1, TASKS.into()));
+        tasks.truncate(most.max(if self.draws.is(10) { 3 } else { 1 }));
+        if self.draws.is(2) {
+            tasks.insert(0, self.draws.between(TASKS.into(), 255) as u8);
+            tasks.truncate(TASKS.into());
+        }
+        tasks
+    }
+
+    fn send(&mut self, tasks: &[u8]) -> Vec<Sending> {
+        self.met.sends += 1;
+        self.events += 1;
+        let (answer, sendings) = match sent_tasks(&self.past, tasks) {
+            Ok(sendings) if sendings.is_empty() => (vec!["no frame".to_string()], sendings),
+            Ok(sendings) => (self.record(&sendings), sendings),
+            Err(refusal) => (self.met.refuse(refusal), Vec::new()),
+        };
+        self.script.add("send", &tasks.iter().map(|task| u32::from(*task)).collect::<Vec<u32>>(), answer);
+        sendings
+    }
+
+    fn drawn_send(&mut self) -> Vec<Sending> {
+        let tasks = self.drawn_tasks();
+        self.send(&tasks)
+    }
+
+    fn arrive(&mut self, kind: usize, bytes: Vec<u8>) {
+        self.met.arrived[kind] += 1;
+        self.events += 1;
+        let lines = match read(&bytes) {
+            Err(number) => self.met.refuse(Refusal::of(number)),
+            Ok(arrival) => {
+                let answer = answer(&self.past, &arrival);
+                let lines = answer_lines(&answer, self.met);
+                self.past.push(Entry::Came { arrival, answer });
+                lines
+            }
+        };
+        self.script.add_bytes("arrive", &bytes, lines);
+        self.arrived.push(bytes);
+    }
+
+    /// A frame comes back from every slave.
+    fn come_back(&mut self, sending: &Sending) {
+        let arrival = returned(&mut self.draws, line(&self.past), sending);
+        let bytes = bytes_of(&mut self.draws, &arrival);
+        self.arrive(place_of(Kind::True), bytes);
+    }
+
+    fn drawn_arrival(&mut self) {
+        if let Some((kind, bytes)) = drawn(&mut self.draws, &self.past, &self.arrived) {
+            self.arrive(place_of(kind), bytes);
+        }
+    }
+
+    fn read(&mut self, task: u8) {
+        self.met.reads += 1;
+        self.events += 1;
+        let lines = if task >= TASKS {
+            self.met.refuse(Refusal::of(8))
+        } else {
+            let Line { state, layout, .. } = line(&self.past);
+            let mut lines = vec![format!("epoch {}", state.epoch)];
+            for number in 0..layout.tasks[usize::from(task)].datagrams.len() {
+                let slot = slot(&self.past, task, number);
+                *if slot.is_some() { &mut self.met.full_slots } else { &mut self.met.empty_slots } += 1;
+                lines.push(format!("slot {number} {}", slot.map_or("none".to_string(), hex)));
+            }
+            lines
+        };
+        self.script.add("read", &[task.into()], lines);
+    }
+
+    fn drawn_read(&mut self) {
+        let task = if self.draws.is(3) { self.draws.between(8, 255) } else { self.draws.below(self.shape.tasks) };
+        self.read(task as u8);
+    }
+
+    /// Owed blocks are written, and most writes answered at once.
+    fn program(&mut self) {
+        for _ in 0..60 {
+            if owed(&self.past).is_empty() || !self.draws.is(98) {
+                return;
+            }
+            for sending in self.write() {
+                if self.draws.is(96) {
+                    self.come_back(&sending);
+                }
+            }
+        }
+    }
+
+    /// Tasks are sent, and their frames come back in some order.
+    fn cycle(&mut self) {
+        let mut sendings = self.drawn_send();
+        if self.draws.is(20) {
+            self.draws.shuffle(&mut sendings);
+        }
+        for sending in sendings {
+            self.come_back(&sending);
+        }
+        self.drawn_read();
+    }
+
+    /// A frame comes before it is sent, and the same bytes again behind that.
+    fn foretell(&mut self) {
+        let task = self.draws.below(self.shape.tasks) as u8;
+        let sending = sent_write(&self.past).ok().or_else(|| sent_tasks(&self.past, &[task]).ok()?.into_iter().next());
+        let Some(sending) = sending else {
+            return;
+        };
+        let arrival = returned(&mut self.draws, line(&self.past), &sending);
+        let bytes = bytes_of(&mut self.draws, &arrival);
+        self.arrive(place_of(Kind::Early), bytes.clone());
+        if self.write().is_empty() {
+            self.send(&[task]);
+        }
+        self.arrive(place_of(Kind::Repeated), bytes);
+    }
+
+    /// A question that is no event.
+    fn ask(&mut self) {
+        let (line, serial) = (line(&self.past), next_serial(&self.past));
+        if self.draws.is(20) {
+            return self.script.add("layout", &[], layout_lines(line.state.epoch, &line.layout));
+        }
+        ask(&mut self.draws, &mut self.script, line, &self.names, serial);
+    }
+
+    fn step(&mut self) {
+        let is_owed = !owed(&self.past).is_empty();
+        match self.draws.below(100) {
+            0..=2 => self.drawn_edit(),
+            3..=7 if is_owed => self.program(),
+            3..=7 => self.cycle(),
+            8..=36 if is_owed => drop(self.write()),
+            8..=36 => drop(self.drawn_send()),
+            37 | 38 => drop(self.drawn_send()),
+            39 | 40 => drop(self.write()),
+            41 => self.foretell(),
+            42..=87 => self.drawn_arrival(),
+            88..=96 => self.drawn_read(),
+            _ => self.ask(),
+        }
+    }
+}
+
+fn script_of(case: &Case, met: &mut Met) -> Script {
+    let mut draws = Draws(case.seed);
+    let groups = project(&mut draws, case.shape);
+    let script = Script::of(case.seed, &groups);
+    let opened = Line::opened(&groups).ok().expect("a line that can be opened");
+    let past = vec![Entry::Opened(Rc::new(opened))];
+    let (shape, names) = (case.shape, Names::of(&groups));
+    let mut run = Run { draws, shape, names, past, arrived: Vec::new(), script, met, events: 0 };
+    for group in &groups[1..] {
+        if run.draws.is(70) {
+            run.edit(&Edit::Connect(group.alias));
+        }
+    }
+    while run.events < case.events {
+        run.step();
+    }
+    run.script
+}
+
+/// Whether the draws met what they are for.
+fn meets_enough(met: &Met) -> bool {
+    let kinds = met.arrived.iter().all(|count| *count >= 200);
+    let frames = met.refused[20..=27].iter().all(|count| *count >= 5);
+    let refusals = [8, 17, 18].iter().all(|number| met.refused[*number] >= 20);
+    let answers = [met.inputs, met.wrong, met.passed, met.done, met.missed, met.stale, met.full_slots, met.empty_slots];
+    met.events() >= 20_000
+        && kinds
+        && frames
+        && refusals
+        && answers.iter().all(|count| *count >= 100)
+        && met.together >= 100
+}
+
+fn tell(met: &Met) {
+    let Met { edits, writes, sends, reads, inputs, wrong, passed, done, missed, stale, .. } = met;
+    println!(
+        "{} events: {edits} edits, {writes} writes, {sends} sends, {} arrivals, {reads} reads",
+        met.events(),
+        met.arrivals()
+    );
+    let kinds: Vec<String> =
+        KINDS.iter().zip(met.arrived).map(|((_, name), count)| format!("{count} {name}")).collect();
+    println!("arrivals: {}", kinds.join(", "));
+    println!(
+        "answers: {inputs} inputs, {wrong} wrong count, {passed} stale beside others, {done} write done, {missed} write missed, {stale} stale"
+    );
+    let refused = met.refused.iter().enumerate().filter(|(_, count)| **count > 0);
+    let refused: Vec<String> = refused.map(|(number, count)| format!("{number}: {count}")).collect();
+    println!("refused by number: {}", refused.join(", "));
+    println!(
+        "{} frames of several datagrams; slots read: {} with data, {} without",
+        met.together, met.full_slots, met.empty_slots
+    );
+    println!("{} bytes read, {} lines compared", met.bytes, met.lines);
+}
+
+fn compare_all(program: &[String], seed: Option<u64>) -> Result<(), String> {
+    let mut met = Met::default();
+    for case in CASES.iter().filter(|case| seed.is_none_or(|seed| seed == case.seed)) {
+        let script = script_of(case, &mut met);
+        compare(program, &script)?;
+        met.lines += script.wanted.len();
+        met.bytes += script.input.len();
+    }
+    tell(&met);
+    if seed.is_none() && !meets_enough(&met) { Err("the draws meet too little".to_string()) } else { Ok(()) }
+}
+
+fn main() -> ExitCode {
+    let drawn = |seed| CASES.iter().find(|case| case.seed == seed).map(|case| script_of(case, &mut Met::default()));
+    main_of("events", drawn, compare_all)
+}

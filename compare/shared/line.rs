@@ -1,0 +1,42 @@
+//! A line as it stands between two edits: its state, and all that follows from it, worked out from nothing.
+
+use super::blocks::{Block, line_blocks, moved};
+use super::boundaries::recut;
+use super::edits::{Edit, Refusal, edited};
+use super::packing::{Layout, crowded_task, layout_of};
+use super::records::{Group, State};
+
+pub struct Line {
+    pub state: State,
+    pub layout: Layout,
+    /// The register blocks in line and block order, each with the station address of its slave.
+    pub blocks: Vec<(u16, Block)>,
+}
+
+impl Line {
+    pub fn of(state: State) -> Line {
+        let line = state.line();
+        let layout = layout_of(&line);
+        let blocks = line_blocks(&line, &layout);
+        Line { state, layout, blocks }
+    }
+
+    /// The line at its opening, or the lowest task that needs too many datagrams.
+    pub fn opened(groups: &[Group]) -> Result<Line, u8> {
+        let state = State::opened(groups);
+        let crowded = crowded_task(&state.line());
+        crowded.map_or_else(|| Ok(Line::of(state)), Err)
+    }
+
+    /// The line behind an edit, and what became different.
+    pub fn edited(&self, edit: &Edit) -> Result<(Line, usize, usize), Refusal> {
+        let new = Line::of(edited(&self.state, edit)?);
+        let (recut, moved) = (recut(&self.layout, &new.layout), moved(&self.blocks, &new.blocks));
+        Ok((new, recut, moved))
+    }
+
+    /// Whether a slave is in the line.
+    pub fn has(&self, station: u16) -> bool {
+        self.state.slaves().any(|(is_present, slave)| is_present && slave.station == station)
+    }
+}

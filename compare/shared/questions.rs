@@ -1,0 +1,43 @@
+//! Questions about a line beside its layout, drawn.
+
+use super::draws::Draws;
+use super::line::Line;
+use super::printed::{place_line, regs_lines, show_line};
+use super::records::{Group, Slave};
+use super::scripts::Script;
+
+/// What a project declares that can be asked about, whether it is there or not.
+pub struct Names {
+    stations: Vec<u16>,
+    variables: Vec<u32>,
+}
+
+impl Names {
+    pub fn of(groups: &[Group]) -> Names {
+        let slaves: Vec<&Slave> = groups.iter().flat_map(|group| &group.slaves).collect();
+        let pdos = slaves.iter().flat_map(|slave| &slave.areas).flat_map(|area| &area.offered);
+        let variables = pdos.flat_map(|pdo| &pdo.entries).map(|(variable, _)| *variable);
+        Names { stations: slaves.iter().map(|slave| slave.station).collect(), variables: variables.collect() }
+    }
+}
+
+/// Asks for a slave's blocks, a variable's place or a datagram's frame, which would have this serial.
+pub fn ask(draws: &mut Draws, script: &mut Script, line: &Line, names: &Names, serial: u64) {
+    match draws.below(4) {
+        0 | 1 => {
+            let is_drawn = names.stations.is_empty() || draws.is(5);
+            let station = if is_drawn { draws.below(0x1_0000) as u16 } else { *draws.one_of(&names.stations) };
+            script.add("regs", &[station.into()], regs_lines(&line.state, &line.layout, station));
+        }
+        2 => {
+            let is_drawn = names.variables.is_empty() || draws.is(5);
+            let variable = if is_drawn { draws.below(0x8000_0000) as u32 } else { *draws.one_of(&names.variables) };
+            script.add("place", &[variable], vec![place_line(&line.state, &line.layout, variable)]);
+        }
+        _ => {
+            let [task, number] = [draws.below(9), draws.below(17).min(draws.below(17))].map(|number| number as u8);
+            let answer = vec![show_line(&line.layout, serial, task, number)];
+            script.add("show", &[task.into(), number.into()], answer);
+        }
+    }
+}

@@ -1,0 +1,91 @@
+//! What the program is given to read, and what it must print.
+
+use super::draws::Draws;
+use super::records::{Group, text_of};
+
+/// The most bytes that the program reads.
+pub const MOST_INPUT: usize = 4_194_304;
+
+/// A line that is wanted, and the number of the input's line that it answers, counted from 1.
+pub struct Wanted {
+    pub line: usize,
+    pub text: String,
+}
+
+/// An input with its answers.
+pub struct Script {
+    pub seed: u64,
+    pub input: String,
+    pub wanted: Vec<Wanted>,
+    pub status: i32,
+    /// Drawn apart from everything else: how numbers and lines are spelt.
+    spelling: Draws,
+    lines: usize,
+}
+
+impl Script {
+    /// The project's text and the line behind it.
+    pub fn of(seed: u64, groups: &[Group]) -> Script {
+        let input = text_of(groups) + "%%\n";
+        let lines = input.lines().count();
+        Script { seed, input, wanted: Vec::new(), status: 0, spelling: Draws(!seed), lines }
+    }
+
+    /// A number in decimal or hexadecimal digits.
+    fn number(&mut self, number: u32) -> String {
+        match self.spelling.below(12) {
+            0 => format!("0x{number:x}"),
+            1 => format!("0x{number:X}"),
+            2 => format!("00{number}"),
+            _ => number.to_string(),
+        }
+    }
+
+    /// A gap between words, or in front of the first and behind the last where `least` is 0.
+    fn gap(&mut self, least: usize) -> String {
+        let more = if self.spelling.is(3) { self.spelling.between(1, 3) } else { 0 };
+        " ".repeat(least + more)
+    }
+
+    fn end_line(&mut self) {
+        self.input.push_str(if self.spelling.is(3) { "\r\n" } else { "\n" });
+        self.lines += 1;
+    }
+
+    fn add_words(&mut self, words: &[String], answer: Vec<String>) {
+        if self.spelling.is(1) {
+            self.end_line();
+        }
+        let front = self.gap(0);
+        self.input.push_str(&front);
+        for (place, word) in words.iter().enumerate() {
+            let gap = if place == 0 { String::new() } else { self.gap(1) };
+            self.input.push_str(&gap);
+            self.input.push_str(word);
+        }
+        let behind = self.gap(0);
+        self.input.push_str(&behind);
+        self.end_line();
+        let line = self.lines;
+        self.wanted.extend(answer.into_iter().map(|text| Wanted { line, text }));
+    }
+
+    /// A command of a name and numbers, with the lines that answer it.
+    pub fn add(&mut self, name: &str, numbers: &[u32], answer: Vec<String>) {
+        let numbers: Vec<String> = numbers.iter().map(|number| self.number(*number)).collect();
+        let words: Vec<String> = [name.to_string()].into_iter().chain(numbers).collect();
+        self.add_words(&words, answer);
+    }
+
+    /// A command of a name and bytes.
+    pub fn add_bytes(&mut self, name: &str, bytes: &[u8], answer: Vec<String>) {
+        let is_upper = self.spelling.is(10);
+        let digits = bytes.iter().map(|byte| if is_upper { format!("{byte:02X}") } else { format!("{byte:02x}") });
+        let digits = digits.collect();
+        self.add_words(&[name.to_string(), digits], answer);
+    }
+
+    pub fn wanted_text(&self) -> String {
+        self.wanted.iter().map(|wanted| wanted.text.clone() + "\n").collect()
+    }
+}

@@ -1,0 +1,56 @@
+#!/bin/sh
+# Compares what the program that `rt ci` has built prints for drawn scripts with what the plain models of compare/ work out
+# of them. Each of the two comparisons is also shown three wrong programs, of which it must find the wrong line: one with
+# another byte in a line, one that leaves a line out, one that tells the epoch before. The last line is 'N passed, M
+# failed'. Words after its name are a program to be compared in place of the built one.
+set -u
+cd "$(dirname "$0")/.."
+[ "$#" -gt 0 ] || set -- crates/hotline/out/hotline
+if ! command -v rustc >/dev/null; then
+    echo "compare: rustc is missing"
+    exit 1
+fi
+scratch=$(mktemp -d)
+trap 'rm -rf "$scratch"' EXIT
+passed=0
+failed=0
+
+# build NAME SOURCE
+build() {
+    rustc -O --edition 2021 -o "$scratch/$1" "$2" || {
+        echo "compare: $2 isn't built"
+        exit 1
+    }
+}
+
+# pass LABEL, fail LABEL
+pass() {
+    echo "compare: $*"
+    passed=$((passed + 1))
+}
+fail() {
+    echo "compare: $*"
+    cat "$scratch/said"
+    failed=$((failed + 1))
+}
+
+build wrong compare/wrong_program.rs
+for name in edits events; do
+    build "$name" "compare/$name/main.rs"
+    if "$scratch/$name" "$@" >"$scratch/said" 2>&1; then
+        cat "$scratch/said"
+        pass "$name: the program prints what the model says"
+    else
+        fail "$name: the program prints something else"
+    fi
+    for way in byte line epoch; do
+        "$scratch/$name" "$scratch/wrong" "$way" "$@" >"$scratch/said" 2>&1
+        if [ "$?" -eq 1 ] && grep -q 'is wanted' "$scratch/said"; then
+            pass "$name: refused with another $way"
+        else
+            fail "$name: not refused with another $way"
+        fi
+    done
+done
+echo "$passed passed, $failed failed"
+[ "$passed" -gt 0 ] && [ "$failed" -eq 0 ]
