@@ -6,10 +6,12 @@
 set -u
 cd "$(dirname "$0")/.."
 [ "$#" -gt 0 ] || set -- crates/hotline/out/hotline
-if ! command -v rustc >/dev/null; then
-    echo "compare: rustc is missing"
-    exit 1
-fi
+for needed in rustc "$1"; do
+    if ! command -v "$needed" >/dev/null; then
+        echo "compare: $needed is missing"
+        exit 1
+    fi
+done
 scratch=$(mktemp -d)
 trap 'rm -rf "$scratch"' EXIT
 passed=0

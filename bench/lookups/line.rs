@@ -1,7 +1,7 @@
 //! The line of the benchmark: 64 or 2,048 slaves with eight areas of 11 bytes, one in each task, and its text. Half of
 //! the slaves are mandatory, and four groups have an eighth each. Station addresses don't ascend along the line.
 
-use std::fmt::Write;
+use crate::project_text::{AreaKeys, Pdo, add_area, add_group, add_slave};
 
 /// How many groups come and go, with the aliases from 1 on.
 pub const GROUPS: u16 = 4;
@@ -43,30 +43,22 @@ pub fn line(slaves: usize) -> Vec<Group> {
     groups
 }
 
-fn add_slave(text: &mut String, slave: &Slave, table: &str) {
-    writeln!(text, "[[{table}]]\nstation = {}", slave.station).expect("memory");
-    for area in &slave.areas {
-        let dir = if area.sm % 2 == 0 { "out" } else { "in" };
-        let phys = 0x1000 + 16 * u16::from(area.sm);
-        writeln!(
-            text,
-            "[[{table}.area]]\nsm = {}\ndir = \"{dir}\"\nphys = {phys}\ntask = {}\nassigned = [1]\n\
-             pdo = [{{ index = 1, entries = [[{}, 64], [0, 24]] }}]",
-            area.sm, area.task, area.variable
-        )
-        .expect("memory");
-    }
+fn add_own_area(text: &mut String, alias: u16, area: &Area) {
+    let Area { sm, task, variable } = *area;
+    let (phys, offered) = (0x1000 + 16 * u16::from(sm), [Pdo { index: 1, entries: vec![(variable, 64), (0, 24)] }]);
+    let keys = AreaKeys { is_out: sm % 2 == 0, sm, phys, task, assigned: &[1], offered: &offered };
+    add_area(text, alias, &keys);
 }
 
 /// The project's text.
 pub fn text(groups: &[Group]) -> String {
     let mut text = String::new();
-    for (alias, group) in groups.iter().enumerate() {
-        if alias > 0 {
-            writeln!(text, "[[group]]\nalias = {alias}").expect("memory");
+    for (alias, group) in (0..).zip(groups) {
+        add_group(&mut text, alias);
+        for slave in &group.slaves {
+            add_slave(&mut text, alias, slave.station);
+            slave.areas.iter().for_each(|area| add_own_area(&mut text, alias, area));
         }
-        let table = if alias > 0 { "group.slave" } else { "slave" };
-        group.slaves.iter().for_each(|slave| add_slave(&mut text, slave, table));
     }
     text
 }

@@ -6,6 +6,8 @@
 
 mod line;
 mod plain;
+#[path = "../../compare/shared/project_text.rs"]
+mod project_text;
 
 use line::{GROUPS, Group};
 use plain::{Asked, BLOCK, BLOCKS, KINDS, NTH_BLOCK, PLACE, POSITION, STATION, Sorted, walked};
