@@ -133,8 +133,7 @@ sweep_test worked_pieces project_texts::projects::project_or_memory
 sweep_test worked_lines lines::edits_tell_what_they_change
 sweep_test worked_lines lines::a_list_of_edits_is_answered_in_its_order
 sweep_test worked_lines found::a_group_is_found_by_its_alias
-sweep_test worked_events drawn::sixty_events_or_memory
-sweep_test worked_events values::a_value_or_memory
+sweep_test worked_events values::values_are_sent_where_their_variables_stand
 sweep_test hc_rings tests::a_buffer_begins_anew
 sweep_test hc_rings tests::four_buffers_go_round
 sweep_test hc_rings tests::a_dropped_sender_leaves_its_posts

@@ -3,7 +3,7 @@ use crate::asked::Asked::{Arrive, Comes, Post, Read, Remap, Send};
 use crate::asked::{Back, Row, Wanted};
 use crate::lines::AXIS;
 use crate::stages::Stage::{Blocks, Rows, Sends};
-use crate::stages::{Stage, first_wrong_of, first_wrong_written};
+use crate::stages::{Case, first_wrong_case};
 use hc_events::answer::Outcome::{Inputs, WrongCount};
 use hc_events::faults::CoreFault;
 use hc_frames::Command::{Fpwr, Lrw};
@@ -50,12 +50,6 @@ const UNPOSTED: &[Row] = &[
     (Read(8), Wanted::Refused(CoreFault::NoSuchTask)),
 ];
 
-#[test]
-fn an_answer_is_read_once(rt: HostRuntime) -> Result<(), Fail> {
-    assert_eq!(rt; first_wrong_written(rt.alloc(), AXIS, 4, UNPOSTED)?, None);
-    Ok(())
-}
-
 /// A post of one byte, as many as the task has outputs, is sent in the datagram's first byte, before two of inputs,
 /// the counter and 29 zeros. What is read are the data of the good answer, and those still behind one with the
 /// counter 2; a good one for the same frame comes too late then.
@@ -95,12 +89,6 @@ pub const POSTED: &[Row] = &[
     (Read(0), Wanted::Image(0, &[Some(b"\x02\x34\x0a")])),
 ];
 
-#[test]
-fn a_post_is_sent_and_answered(rt: HostRuntime) -> Result<(), Fail> {
-    assert_eq!(rt; first_wrong_written(rt.alloc(), AXIS, 4, POSTED)?, None);
-    Ok(())
-}
-
 /// Remaps to what is assigned already change no width and no block, and begin an epoch all the same: a frame that is
 /// under way answers nothing any more, and what was read is gone.
 pub const THREE_EPOCHS: &[Row] = &[
@@ -129,15 +117,6 @@ pub const THREE_EPOCHS: &[Row] = &[
     (Remap(1001, 1, &[0x1a00]), Wanted::Edited(5, 0, 0)),
     (Read(0), Wanted::Image(5, &[None])),
 ];
-
-#[test]
-fn an_epoch_begins_without_answers(rt: HostRuntime) -> Result<(), Fail> {
-    assert_eq!(rt;
-        first_wrong_written(rt.alloc(), AXIS, 4, THREE_EPOCHS)?,
-        None
-    );
-    Ok(())
-}
 
 /// The bytes of an answer answer nothing before the sending, and answer it afterwards; the serial of alias reads and
 /// station writes, 2^40 - 1, is no sending's. Another command or address of the same length answers nothing either,
@@ -173,12 +152,6 @@ const FOREIGN: &[Row] = &[
     (Read(0), Wanted::Image(0, &[Some(b"\x02\x34\x0a")])),
 ];
 
-#[test]
-fn a_foreign_frame_answers_nothing(rt: HostRuntime) -> Result<(), Fail> {
-    assert_eq!(rt; first_wrong_written(rt.alloc(), AXIS, 4, FOREIGN)?, None);
-    Ok(())
-}
-
 /// The answer to the only datagram of task 0.
 pub const ANSWERED: Wanted = Wanted::Answered(&[Inputs {
     task: 0,
@@ -192,14 +165,6 @@ pub const INDEX_ALONE: &[Row] = &[
     (Comes(260, &[GOOD]), ANSWERED),
 ];
 
-const TURNED_ROUND: &[Stage] = &[Blocks(4), Sends(257), Rows(INDEX_ALONE)];
-
-#[test]
-fn the_index_alone_answers_nothing(rt: HostRuntime) -> Result<(), Fail> {
-    assert_eq!(rt; first_wrong_of(rt.alloc(), AXIS, TURNED_ROUND)?, None);
-    Ok(())
-}
-
 /// A thousand sendings without an answer have the serials 4 to 1003; the last one is answered, and none before it.
 /// The next one has the serial 1004 = 0x3ec.
 const LAST_OF_MANY: &[Row] = &[
@@ -212,10 +177,18 @@ const LAST_OF_MANY: &[Row] = &[
     ),
 ];
 
-const THOUSAND: &[Stage] = &[Blocks(4), Sends(1000), Rows(LAST_OF_MANY)];
+/// All of them, each from the axis' opening on.
+const ANSWERS: &[Case] = &[
+    (AXIS, &[Blocks(4), Rows(UNPOSTED)]),
+    (AXIS, &[Blocks(4), Rows(POSTED)]),
+    (AXIS, &[Blocks(4), Rows(THREE_EPOCHS)]),
+    (AXIS, &[Blocks(4), Rows(FOREIGN)]),
+    (AXIS, &[Blocks(4), Sends(257), Rows(INDEX_ALONE)]),
+    (AXIS, &[Blocks(4), Sends(1000), Rows(LAST_OF_MANY)]),
+];
 
 #[test]
-fn the_last_of_a_thousand_is_answered(rt: HostRuntime) -> Result<(), Fail> {
-    assert_eq!(rt; first_wrong_of(rt.alloc(), AXIS, THOUSAND)?, None);
+fn an_answer_is_read_once(rt: HostRuntime) -> Result<(), Fail> {
+    assert_eq!(rt; first_wrong_case(rt.alloc(), ANSWERS)?, None);
     Ok(())
 }

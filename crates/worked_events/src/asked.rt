@@ -1,7 +1,6 @@
 //! Rows of events and of the answers that they are to have, as constant tables, and their judges.
 use crate::driven::Driven;
-use crate::record::Part;
-use crate::texts::text_of;
+use crate::texts::back;
 use hc_events::answer::{Answer, Outcome};
 use hc_events::event::Event;
 use hc_events::faults::CoreFault;
@@ -153,31 +152,13 @@ pub fn is_wanted(answer: &Answer, wanted: &Wanted) -> bool {
     }
 }
 
-/// The frame with a serial of datagrams that come back.
-pub fn back(alloc: Global, serial: u64, datagrams: &[Back]) -> Result<Vec<u8>, AllocError> {
-    let mut parts = Vec::new(alloc);
-    for datagram in datagrams {
-        parts.push(Part {
-            command: datagram.0,
-            address: datagram.1,
-            bytes: Vec::from_slice(alloc, datagram.2)?,
-            counter: datagram.3,
-        })?;
-    }
-    text_of(alloc, serial, parts.as_slice())
-}
-
 /// The answer to an edit.
-fn edited<D: Driven>(driven: &mut D, alloc: Global, edit: Edit) -> Result<Answer, AllocError> {
+fn edited(driven: &mut Driven, alloc: Global, edit: Edit) -> Result<Answer, AllocError> {
     driven.put(alloc, Event::Edit(&edit))
 }
 
 /// The answer to a row's event.
-pub fn answer<D: Driven>(
-    driven: &mut D,
-    alloc: Global,
-    asked: Asked,
-) -> Result<Answer, AllocError> {
+pub fn answer(driven: &mut Driven, alloc: Global, asked: Asked) -> Result<Answer, AllocError> {
     match asked {
         Asked::Connect(alias) => edited(driven, alloc, Edit::Connect(alias)),
         Asked::Disconnect(alias) => edited(driven, alloc, Edit::Disconnect(alias)),
@@ -215,14 +196,14 @@ pub fn answer<D: Driven>(
 }
 
 /// Whether an event is answered as its row wants.
-pub fn holds<D: Driven>(driven: &mut D, alloc: Global, row: &Row) -> Result<bool, AllocError> {
+pub fn holds(driven: &mut Driven, alloc: Global, row: &Row) -> Result<bool, AllocError> {
     Ok(is_wanted(&answer(driven, alloc, row.0)?, &row.1))
 }
 
 /// The number, from 0, of the first row whose event has another answer than it wants, none where all have
 /// theirs.
-pub fn first_wrong<D: Driven>(
-    driven: &mut D,
+pub fn first_wrong(
+    driven: &mut Driven,
     alloc: Global,
     rows: &[Row],
 ) -> Result<Option<usize>, AllocError> {

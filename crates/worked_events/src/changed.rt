@@ -109,17 +109,13 @@ fn shows(answer: &Answer, data: Option<&[u8]>) -> bool {
 }
 
 /// Whether task 0 reads these data, or none.
-fn reads<D: Driven>(
-    driven: &mut D,
-    alloc: Global,
-    data: Option<&[u8]>,
-) -> Result<bool, AllocError> {
+fn reads(driven: &mut Driven, alloc: Global, data: Option<&[u8]>) -> Result<bool, AllocError> {
     Ok(shows(&driven.put(alloc, Event::Read(0))?, data))
 }
 
 /// Whether the answer to a frame that arrives is that which is told.
-fn is_answered<D: Driven>(
-    driven: &mut D,
+fn is_answered(
+    driven: &mut Driven,
     alloc: Global,
     frame: &[u8],
     told: Meaning,
@@ -128,13 +124,13 @@ fn is_answered<D: Driven>(
 }
 
 /// Whether nothing is read, nothing is owed, and the next serial is 5.
-fn awaits_still<D: Driven>(driven: &mut D, alloc: Global) -> Result<bool, AllocError> {
-    Ok(reads(driven, alloc, None)? && driven.count_owed() == 0 && driven.coming_serial() == 5)
+fn awaits_still(driven: &mut Driven, alloc: Global) -> Result<bool, AllocError> {
+    Ok(reads(driven, alloc, None)? && driven.core.owed() == 0 && driven.core.next_serial() == 5)
 }
 
 /// Whether a frame that is no answer is answered as told, and leaves all as it was.
-fn is_left_out<D: Driven>(
-    driven: &mut D,
+fn is_left_out(
+    driven: &mut Driven,
     alloc: Global,
     frame: &[u8],
     told: Meaning,
@@ -163,7 +159,7 @@ fn changed(serial: u64, at: usize, value: u8) -> [u8; SIZE] {
 }
 
 /// Whether an epoch begins by a remap that changes nothing.
-fn is_edited<D: Driven>(driven: &mut D, alloc: Global) -> Result<bool, AllocError> {
+fn is_edited(driven: &mut Driven, alloc: Global) -> Result<bool, AllocError> {
     let edited = answer(driven, alloc, Remap(1001, 1, &[0x1a00]))?;
     Ok(matches!(
         edited,
@@ -176,13 +172,13 @@ fn is_edited<D: Driven>(driven: &mut D, alloc: Global) -> Result<bool, AllocErro
 }
 
 /// Whether an epoch begins, in which nothing was read, and the task is sent in it.
-fn begins_anew<D: Driven>(driven: &mut D, alloc: Global) -> Result<bool, AllocError> {
+fn begins_anew(driven: &mut Driven, alloc: Global) -> Result<bool, AllocError> {
     Ok(is_edited(driven, alloc)? && is_sent(driven, alloc)?)
 }
 
 /// Whether a frame that is the answer is answered as told, and its data are read then where its counter is good.
-fn is_taken<D: Driven>(
-    driven: &mut D,
+fn is_taken(
+    driven: &mut Driven,
     alloc: Global,
     frame: &[u8],
     told: Meaning,
@@ -196,16 +192,11 @@ fn is_taken<D: Driven>(
 
 /// Whether the answer with another value of a byte is answered as told, and leaves what it should: one that answers
 /// nothing with the serial 4, one that answers with a serial and an epoch of its own.
-fn holds_of<D: Driven>(
-    driven: &mut D,
-    alloc: Global,
-    at: usize,
-    value: u8,
-) -> Result<bool, AllocError> {
+fn holds_of(driven: &mut Driven, alloc: Global, at: usize, value: u8) -> Result<bool, AllocError> {
     if !leaves_an_answer(at) {
         return is_left_out(driven, alloc, &changed(4, at, value), told(at, value));
     }
-    let serial = driven.coming_serial();
+    let serial = driven.core.next_serial();
     Ok(
         begins_anew(driven, alloc)?
             && is_taken(driven, alloc, &changed(serial, at, value), told(at, value))?,
@@ -213,7 +204,7 @@ fn holds_of<D: Driven>(
 }
 
 /// How many of a byte's other values hold.
-fn held<D: Driven>(driven: &mut D, alloc: Global, at: usize, old: u8) -> Result<u32, AllocError> {
+fn held(driven: &mut Driven, alloc: Global, at: usize, old: u8) -> Result<u32, AllocError> {
     let mut held = 0_u32;
     for value in 0..=255_u8 {
         if value != old && holds_of(driven, alloc, at, value)? {
@@ -224,7 +215,7 @@ fn held<D: Driven>(driven: &mut D, alloc: Global, at: usize, old: u8) -> Result<
 }
 
 /// Whether the unchanged frame is the answer, or came too late, since an epoch began.
-fn ends_well<D: Driven>(driven: &mut D, alloc: Global, at: usize) -> Result<bool, AllocError> {
+fn ends_well(driven: &mut Driven, alloc: Global, at: usize) -> Result<bool, AllocError> {
     let told = if leaves_an_answer(at) {
         Meaning::Stale
     } else {
@@ -235,12 +226,7 @@ fn ends_well<D: Driven>(driven: &mut D, alloc: Global, at: usize) -> Result<bool
 
 /// How many of a byte's other values hold on a line that awaits the answer; none where it doesn't, or the unchanged
 /// frame behind them all is something else than it should.
-fn held_of<D: Driven>(
-    driven: &mut D,
-    alloc: Global,
-    at: usize,
-    old: u8,
-) -> Result<u32, AllocError> {
+fn held_of(driven: &mut Driven, alloc: Global, at: usize, old: u8) -> Result<u32, AllocError> {
     if first_wrong_at(driven, alloc, AWAITING)?.is_some() {
         return Ok(0);
     }
@@ -293,7 +279,7 @@ fn cut(size: usize) -> &'static [u8] {
 }
 
 /// Whether each cut of the awaited answer is refused and leaves all as it was, and the whole one is answered.
-fn cuts_hold<D: Driven>(driven: &mut D, alloc: Global) -> Result<bool, AllocError> {
+fn cuts_hold(driven: &mut Driven, alloc: Global) -> Result<bool, AllocError> {
     for size in 0..SIZE {
         let told = Meaning::Refused(cut_fault(size));
         if !is_left_out(driven, alloc, cut(size), told)? {
@@ -304,7 +290,7 @@ fn cuts_hold<D: Driven>(driven: &mut D, alloc: Global) -> Result<bool, AllocErro
 }
 
 /// Whether they do on a line from its opening on.
-fn cuts_hold_of<D: Driven>(driven: &mut D, alloc: Global) -> Result<bool, AllocError> {
+fn cuts_hold_of(driven: &mut Driven, alloc: Global) -> Result<bool, AllocError> {
     let wrong = first_wrong_at(driven, alloc, AWAITING)?;
     Ok(wrong.is_none() && cuts_hold(driven, alloc)?)
 }
@@ -322,7 +308,7 @@ fn every_cut_answer(rt: HostRuntime) -> Result<(), Fail> {
 }
 
 /// Whether each cut of the answer is refused.
-fn refuses_cuts<D: Driven>(driven: &mut D, alloc: Global) -> Result<bool, AllocError> {
+fn refuses_cuts(driven: &mut Driven, alloc: Global) -> Result<bool, AllocError> {
     for size in 0..SIZE {
         let told = Meaning::Refused(cut_fault(size));
         if !is_answered(driven, alloc, cut(size), told)? {
@@ -333,7 +319,7 @@ fn refuses_cuts<D: Driven>(driven: &mut D, alloc: Global) -> Result<bool, AllocE
 }
 
 /// Whether each answer with another value of a byte is refused that can't be read.
-fn refuses_at<D: Driven>(driven: &mut D, alloc: Global, at: usize) -> Result<bool, AllocError> {
+fn refuses_at(driven: &mut Driven, alloc: Global, at: usize) -> Result<bool, AllocError> {
     for value in 0..=255_u8 {
         let told = told(at, value);
         let frame = changed(4, at, value);
@@ -347,7 +333,7 @@ fn refuses_at<D: Driven>(driven: &mut D, alloc: Global, at: usize) -> Result<boo
 }
 
 /// Whether every one of them is refused, and every cut.
-fn refuses_all<D: Driven>(driven: &mut D, alloc: Global) -> Result<bool, AllocError> {
+fn refuses_all(driven: &mut Driven, alloc: Global) -> Result<bool, AllocError> {
     for at in 0..SIZE {
         if !refuses_at(driven, alloc, at)? {
             return Ok(false);
@@ -358,8 +344,8 @@ fn refuses_all<D: Driven>(driven: &mut D, alloc: Global) -> Result<bool, AllocEr
 
 /// The number of the first row that isn't answered as it wants, or before which one of the frames that can't be read
 /// isn't refused.
-fn first_disturbed<D: Driven>(
-    driven: &mut D,
+fn first_disturbed(
+    driven: &mut Driven,
     alloc: Global,
     rows: &[Row],
 ) -> Result<Option<usize>, AllocError> {
@@ -374,8 +360,8 @@ fn first_disturbed<D: Driven>(
 }
 
 /// The same of a line with every block written.
-fn first_disturbed_written<D: Driven>(
-    driven: &mut D,
+fn first_disturbed_written(
+    driven: &mut Driven,
     alloc: Global,
     rows: &[Row],
 ) -> Result<Option<usize>, AllocError> {
@@ -402,7 +388,7 @@ fn refused_frames_stand_between_edits(rt: HostRuntime) -> Result<(), Fail> {
 }
 
 /// Whether 257 frames are sent with the frames that can't be read before each of them.
-fn sends_disturbed<D: Driven>(driven: &mut D, alloc: Global) -> Result<bool, AllocError> {
+fn sends_disturbed(driven: &mut Driven, alloc: Global) -> Result<bool, AllocError> {
     for _ in 0..257 {
         if !refuses_all(driven, alloc)? || !is_sent(driven, alloc)? {
             return Ok(false);
@@ -412,7 +398,7 @@ fn sends_disturbed<D: Driven>(driven: &mut D, alloc: Global) -> Result<bool, All
 }
 
 /// Whether they are on a line with every block written, and the last one alone is answered then.
-fn last_is_answered<D: Driven>(driven: &mut D, alloc: Global) -> Result<bool, AllocError> {
+fn last_is_answered(driven: &mut Driven, alloc: Global) -> Result<bool, AllocError> {
     write_all(driven, alloc)?;
     let sent = sends_disturbed(driven, alloc)?;
     Ok(sent && first_wrong(driven, alloc, INDEX_ALONE)? == None)

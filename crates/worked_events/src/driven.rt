@@ -1,43 +1,49 @@
-//! What answers events: the program that looks back, or the core.
+//! A core that events are put to.
+ghost use Rattle.std.specs.Prelude.{◌≡◌, ◌==◌, IsTrue};
+ghost use Rattle.std.specs.List.{list_any};
+ghost use Rattle.hc_records.specs.Lists.{has_repeat};
+ghost use Rattle.hc_events.specs.Calls.{AreSentTogether};
 ghost use Rattle.hc_events.specs.Steps.{step_of};
 ghost use Rattle.hc_core.specs.Serving.{IsAsked};
 
-use crate::asking::is_asked;
 use hc_core::keeping::Core;
 use hc_events::answer::Answer;
-use hc_events::change::Change;
 use hc_events::event::Event;
 use hc_events::faults::CoreFault;
+use hc_records::limits::TASKS;
 use std::alloc::{AllocError, Global};
 
-/// What events are put to, one after another.
-pub trait Driven: Drop {
-    /// The answer to the next event.
-    fn put(&mut self, alloc: Global, event: Event<'_>) -> Result<Answer, AllocError>;
-
-    /// How many register blocks are owed.
-    fn count_owed(&self) -> u32;
-
-    /// The serial of the next sending.
-    fn coming_serial(&self) -> u64;
+/// Whether a task stands in a list.
+fn stands_in(task: u8, list: &[u8]) -> bool
+    ensures { result ≡ list_any (λ other. other == task) list.now }
+{
+    list.iter().any(|other| *other == task)
 }
 
-/// A core by itself. Its drop is written out: a derived one is opened, with all that a core keeps, on each path of each
-/// function that lets one go.
-pub struct Alone {
-    pub core: Core,
-}
-
-impl Drop for Alone {
-    fn drop(self) {
-        let Alone { core: _ } = self;
+/// Whether a task stands twice. A sending has at most eight, so deep is this recursion.
+fn repeats(tasks: &[u8]) -> bool
+    ensures { result ≡ has_repeat tasks.now }
+{
+    match tasks {
+        [] => false,
+        [first, rest @ ..] => stands_in(*first, rest) || repeats(rest),
     }
 }
 
-impl Alone {
-    /// The changes since they were taken last.
-    pub fn changes(&mut self, alloc: Global) -> Vec<Change> {
-        self.core.take_changes(alloc)
+/// Whether tasks can be sent together: at least one, at most eight, and none twice.
+pub fn are_sent_together(tasks: &[u8]) -> bool
+    ensures { IsTrue result → AreSentTogether tasks.now }
+{
+    !tasks.is_empty() && tasks.len() <= usize::from(TASKS) && !repeats(tasks)
+}
+
+/// Whether an event is one that a caller may ask of a core.
+fn is_asked(event: Event<'_>) -> bool
+    ensures { IsTrue result → IsAsked (step_of event.entry) }
+{
+    match event {
+        Event::SendTasks(tasks) => are_sent_together(tasks),
+        _ => true,
     }
 }
 
@@ -48,20 +54,46 @@ fn served(core: &mut Core, alloc: Global, event: Event<'_>) -> Answer
     core.step(alloc, event)
 }
 
-impl Driven for Alone {
-    /// The core's answer alone; want of memory to an event that may not be asked of it.
-    fn put(&mut self, alloc: Global, event: Event<'_>) -> Result<Answer, AllocError> {
+/// What is left by events: the owed blocks, the next serial and the epoch.
+fn left_by(core: &Core) -> (u32, u64, u32) {
+    (core.owed(), core.next_serial(), core.plan().epoch())
+}
+
+/// The core's answer. Where it wants memory it is asked once more, if it is left as it was.
+fn served_or_again(core: &mut Core, alloc: Global, event: Event<'_>) -> Answer
+    requires { IsAsked (step_of event) }
+{
+    let left = left_by(core);
+    let answer = served(core, alloc, event);
+    if matches!(answer, Answer::Refused(CoreFault::Memory)) && left_by(core) == left {
+        return served(core, alloc, event);
+    }
+    answer
+}
+
+/// A core. Its drop is written out: a derived one is opened, with all that a core keeps, on each path of each function
+/// that lets one go.
+pub struct Driven {
+    pub core: Core,
+}
+
+impl Drop for Driven {
+    fn drop(self) {
+        let Driven { core: _ } = self;
+    }
+}
+
+impl Driven {
+    /// The answer to the next event. Want of memory where a growth was refused twice, and to an event that may not be
+    /// asked of a core.
+    pub fn put(&mut self, alloc: Global, event: Event<'_>) -> Result<Answer, AllocError> {
         if !is_asked(event) {
-            return Ok(Answer::Refused(CoreFault::Memory));
+            return Err(AllocError);
         }
-        Ok(served(&mut self.core, alloc, event))
-    }
-
-    fn count_owed(&self) -> u32 {
-        self.core.owed()
-    }
-
-    fn coming_serial(&self) -> u64 {
-        self.core.next_serial()
+        let answer = served_or_again(&mut self.core, alloc, event);
+        if matches!(answer, Answer::Refused(CoreFault::Memory)) {
+            return Err(AllocError);
+        }
+        Ok(answer)
     }
 }

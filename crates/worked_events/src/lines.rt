@@ -1,13 +1,11 @@
 //! The lines of the rows.
-use crate::driven::{Alone, Driven};
-use crate::lookback::LookBack;
-use crate::twins::Twins;
+use crate::driven::Driven;
 use hc_core::keeping::Core;
 use hc_events::answer::Answer;
 use hc_events::event::Event;
 use hc_project::read_project;
 use hc_records::faults::{EditFault, ProjectFault};
-use hc_records::items::{Copied, Items};
+use hc_records::items::Items;
 use hc_records::project::Project;
 use hc_records::records::{Area, Dir, Entry, Group, Pdo, Slave, VarId};
 use std::alloc::{AllocError, Global};
@@ -39,62 +37,23 @@ pub enum Refused {
     Opening(EditFault),
 }
 
-/// What the rows are put to.
-pub type Opened = Twins;
-
-/// Copies of a project's groups.
-fn groups_copied(alloc: Global, project: &Project) -> Result<Items<Group>, AllocError> {
-    let mut groups = Items::new(alloc);
-    for group in project.groups() {
-        groups.push(group.copied(alloc)?)?;
-    }
-    Ok(groups)
-}
-
-/// A copy of a project.
-fn project_copied(alloc: Global, project: &Project) -> Result<Project, ProjectFault> {
-    match groups_copied(alloc, project) {
-        Ok(groups) => Project::checked(alloc, groups),
-        Err(_) => Err(ProjectFault::Memory),
-    }
-}
-
-/// The program that looks back over a project's opening.
-fn looking_back(alloc: Global, project: &Project) -> Result<LookBack, Refused> {
-    let copy = match project_copied(alloc, project) {
-        Ok(copy) => copy,
-        Err(fault) => return Err(Refused::Project(fault)),
-    };
-    match LookBack::opened(alloc, copy) {
-        Ok(back) => Ok(back),
-        Err(fault) => Err(Refused::Opening(fault)),
-    }
-}
-
-/// The core of a project beside it.
-fn beside(alloc: Global, project: Project, back: LookBack) -> Result<Opened, Refused> {
-    match Core::new(alloc, project) {
-        Ok(core) => Ok(Twins::of(core, back)),
-        Err(fault) => Err(Refused::Opening(fault)),
-    }
-}
-
 /// A project at its opening.
-pub fn opened_project(
+fn opened_project(
     alloc: Global,
     project: Result<Project, ProjectFault>,
-) -> Result<Opened, Refused> {
-    match project {
-        Ok(project) => {
-            let back = looking_back(alloc, &project)?;
-            beside(alloc, project, back)
-        }
-        Err(fault) => Err(Refused::Project(fault)),
+) -> Result<Driven, Refused> {
+    let project = match project {
+        Ok(project) => project,
+        Err(fault) => return Err(Refused::Project(fault)),
+    };
+    match Core::new(alloc, project) {
+        Ok(core) => Ok(Driven { core }),
+        Err(fault) => Err(Refused::Opening(fault)),
     }
 }
 
 /// The project of a text at its opening.
-pub fn opened(alloc: Global, text: &str) -> Result<Opened, Refused> {
+pub fn opened(alloc: Global, text: &str) -> Result<Driven, Refused> {
     opened_project(alloc, read_project(alloc, text.as_bytes()))
 }
 
@@ -143,17 +102,9 @@ fn axis(alloc: Global) -> Result<Items<Group>, AllocError> {
 }
 
 /// The axis at its opening, with no text to be read: for rows that need it often.
-pub fn opened_axis(alloc: Global) -> Result<Opened, Fail> {
+pub fn opened_axis(alloc: Global) -> Result<Driven, Fail> {
     let groups = axis(alloc)?;
     Ok(opened_project(alloc, Project::checked(alloc, groups))?)
-}
-
-/// The core of it alone.
-pub fn core_of_axis(alloc: Global) -> Result<Alone, Fail> {
-    let groups = axis(alloc)?;
-    Ok(Alone {
-        core: Core::new(alloc, Project::checked(alloc, groups)?)?,
-    })
 }
 
 /// The bytes that a PDO of 64 entries holds.
@@ -213,7 +164,7 @@ fn wide(alloc: Global, areas: &[(u8, u16)]) -> Result<Items<Group>, AllocError> 
 }
 
 /// The line of these slaves at its opening.
-pub fn opened_wide(alloc: Global, areas: &[(u8, u16)]) -> Result<Opened, Fail> {
+pub fn opened_wide(alloc: Global, areas: &[(u8, u16)]) -> Result<Driven, Fail> {
     let groups = wide(alloc, areas)?;
     Ok(opened_project(alloc, Project::checked(alloc, groups))?)
 }
@@ -231,7 +182,7 @@ fn answer_write(frame: &mut [u8]) {
 
 /// Writes the next owed block, and answers it; false where nothing is owed, or its answer isn't taken as the
 /// confirmation.
-fn write_one<D: Driven>(driven: &mut D, alloc: Global) -> Result<bool, AllocError> {
+fn write_one(driven: &mut Driven, alloc: Global) -> Result<bool, AllocError> {
     let sent = driven.put(alloc, Event::SendWrite)?;
     let Answer::WriteSent(text) = sent else {
         return Ok(false);
@@ -244,7 +195,7 @@ fn write_one<D: Driven>(driven: &mut D, alloc: Global) -> Result<bool, AllocErro
 
 /// Writes the owed blocks one after another, each answered, and tells how many there were. Twice as many blocks
 /// as any row has are enough.
-pub fn write_all<D: Driven>(driven: &mut D, alloc: Global) -> Result<u32, AllocError> {
+pub fn write_all(driven: &mut Driven, alloc: Global) -> Result<u32, AllocError> {
     let mut written = 0_u32;
     for _ in 0..200 {
         if !write_one(driven, alloc)? {

@@ -7,13 +7,13 @@ ghost use Rattle.hc_core.specs.Filled.{CanBeFilled};
 ghost use Rattle.hc_core.specs.Serving.{IsAsked};
 
 use crate::asked::Asked::{Comes, Read, Send};
-use crate::asked::{Row, Text, Wanted, are_texts, back, first_wrong, is_text, is_wanted};
-use crate::asking::are_sent_together;
-use crate::driven::{Alone, Driven};
-use crate::lines::core_of_axis;
+use crate::asked::{Row, Text, Wanted, are_texts, first_wrong, is_text, is_wanted};
+use crate::driven::{Driven, are_sent_together};
+use crate::lines::opened_axis;
 use crate::shared::{FIRST, FIRST_INPUTS, SECOND, SECOND_INPUTS, TO_TASK_1};
 use crate::stages::Stage::{Blocks, Rows};
 use crate::stages::{Stage, first_wrong_at};
+use crate::texts::back;
 use hc_core::keeping::Core;
 use hc_events::answer::Answer;
 use hc_events::event::Event;
@@ -123,18 +123,18 @@ const BEHIND: &[Row] = &[
 
 /// The first of these rows that doesn't hold once the tasks were sent in pieces; one behind them all where they
 /// weren't.
-fn first_wrong_behind(alloc: Global, alone: &mut Alone) -> Result<Option<usize>, CoreFault> {
-    let wrong = first_wrong_at(alone, alloc, BEFORE)?;
-    if wrong.is_some() || !is_sent_in_pieces(alloc, &mut alone.core)? {
+fn first_wrong_behind(alloc: Global, driven: &mut Driven) -> Result<Option<usize>, CoreFault> {
+    let wrong = first_wrong_at(driven, alloc, BEFORE)?;
+    if wrong.is_some() || !is_sent_in_pieces(alloc, &mut driven.core)? {
         return Ok(Some(BEHIND.len()));
     }
-    Ok(first_wrong(alone, alloc, BEHIND)?)
+    Ok(first_wrong(driven, alloc, BEHIND)?)
 }
 
 /// The same from the axis' opening on.
 fn wrong_in_pieces(alloc: Global) -> Result<Option<usize>, Fail> {
-    let mut alone = core_of_axis(alloc)?;
-    Ok(first_wrong_behind(alloc, &mut alone)?)
+    let mut driven = opened_axis(alloc)?;
+    Ok(first_wrong_behind(alloc, &mut driven)?)
 }
 
 #[test]
@@ -153,11 +153,11 @@ fn unproposed(alloc: Global, core: &Core, tasks: &[u8]) -> Option<CoreFault> {
 
 /// The faults of proposals at the axis' opening: its four blocks are owed, and there are eight tasks.
 fn unproposed_at_opening(alloc: Global) -> Result<[Option<CoreFault>; 3], Fail> {
-    let alone = core_of_axis(alloc)?;
+    let driven = opened_axis(alloc)?;
     Ok([
-        unproposed(alloc, &alone.core, &[0]),
-        unproposed(alloc, &alone.core, &[7]),
-        unproposed(alloc, &alone.core, &[0, 8]),
+        unproposed(alloc, &driven.core, &[0]),
+        unproposed(alloc, &driven.core, &[7]),
+        unproposed(alloc, &driven.core, &[0, 8]),
     ])
 }
 
@@ -225,9 +225,9 @@ fn posted(core: &mut Core) -> [Result<(), CoreFault>; 4] {
 
 /// What posts are answered, and the first datagram that isn't shown as it should behind them.
 fn posted_and_shown(alloc: Global) -> Result<([Result<(), CoreFault>; 4], Option<usize>), Fail> {
-    let mut alone = core_of_axis(alloc)?;
-    let posted = posted(&mut alone.core);
-    let unshown = first_unshown(alloc, &alone.core)?;
+    let mut driven = opened_axis(alloc)?;
+    let posted = posted(&mut driven.core);
+    let unshown = first_unshown(alloc, &driven.core)?;
     Ok((posted, unshown))
 }
 
@@ -267,10 +267,10 @@ type Written = ([(Result<usize, CoreFault>, bool); 2], u32, u64);
 
 /// They are done at the axis' opening.
 fn written_at_opening(alloc: Global) -> Result<Written, Fail> {
-    let mut alone = core_of_axis(alloc)?;
-    let short = written(&mut alone.core, &mut [0; 59]);
-    let long = written(&mut alone.core, &mut [0; 64]);
-    Ok(([short, long], alone.count_owed(), alone.coming_serial()))
+    let mut driven = opened_axis(alloc)?;
+    let short = written(&mut driven.core, &mut [0; 59]);
+    let long = written(&mut driven.core, &mut [0; 64]);
+    Ok(([short, long], driven.core.owed(), driven.core.next_serial()))
 }
 
 /// A frame has 60 bytes at least. Refused for room a write uses no serial. What was sent is owed until it is answered.
@@ -283,9 +283,9 @@ fn a_block_is_written_into_a_slice(rt: HostRuntime) -> Result<(), Fail> {
 
 /// What a write is answered once no block is owed.
 fn unwritten(alloc: Global) -> Result<Result<usize, CoreFault>, Fail> {
-    let mut alone = core_of_axis(alloc)?;
-    let _ = first_wrong_at(&mut alone, alloc, &[Blocks(4)])?;
-    Ok(alone.core.write_into(&mut [0; 64]))
+    let mut driven = opened_axis(alloc)?;
+    let _ = first_wrong_at(&mut driven, alloc, &[Blocks(4)])?;
+    Ok(driven.core.write_into(&mut [0; 64]))
 }
 
 #[test]
@@ -376,8 +376,8 @@ fn runs(alloc: Global, core: &mut Core) -> Result<bool, AllocError> {
 
 /// The same from the axis' opening on.
 fn is_run(alloc: Global) -> Result<bool, Fail> {
-    let mut alone = core_of_axis(alloc)?;
-    Ok(runs(alloc, &mut alone.core)?)
+    let mut driven = opened_axis(alloc)?;
+    Ok(runs(alloc, &mut driven.core)?)
 }
 
 #[test]

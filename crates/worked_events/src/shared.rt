@@ -4,7 +4,7 @@ use crate::asked::{Back, Row, Wanted};
 use crate::driven::Driven;
 use crate::lines::{AXIS, opened_wide, write_all};
 use crate::stages::Stage::{Blocks, Rows};
-use crate::stages::{Stage, first_wrong_of};
+use crate::stages::{Case, first_wrong_case};
 use hc_events::answer::Outcome::{Inputs, Stale, WrongCount};
 use hc_events::answer::{Answer, Outcome};
 use hc_events::event::Event;
@@ -146,19 +146,22 @@ const EXCHANGED: &[Row] = &[
 ];
 
 /// All of them, one after another.
-const SHARED: &[Stage] = &[
-    Blocks(4),
-    Rows(TO_TASK_1),
-    Blocks(2),
-    Rows(TOGETHER),
-    Rows(SENT_AGAIN),
-    Rows(TURNED),
-    Rows(EXCHANGED),
-];
+const SHARED: &[Case] = &[(
+    AXIS,
+    &[
+        Blocks(4),
+        Rows(TO_TASK_1),
+        Blocks(2),
+        Rows(TOGETHER),
+        Rows(SENT_AGAIN),
+        Rows(TURNED),
+        Rows(EXCHANGED),
+    ],
+)];
 
 #[test]
 fn tasks_share_a_frame(rt: HostRuntime) -> Result<(), Fail> {
-    assert_eq!(rt; first_wrong_of(rt.alloc(), AXIS, SHARED)?, None);
+    assert_eq!(rt; first_wrong_case(rt.alloc(), SHARED)?, None);
     Ok(())
 }
 
@@ -189,8 +192,8 @@ fn are_sized(answer: &Answer, sizes: &[Sized]) -> bool {
 type Wide = (&'static [(u8, u16)], &'static [u8], &'static [Sized]);
 
 /// Whether tasks are sent in such frames, once every block is written.
-fn sends_in<D: Driven>(
-    driven: &mut D,
+fn sends_in(
+    driven: &mut Driven,
     alloc: Global,
     tasks: &[u8],
     sizes: &[Sized],
@@ -209,7 +212,7 @@ fn is_sent_in(alloc: Global, row: &Wide) -> Result<bool, Fail> {
 /// in the highest four bits. With a byte more each has a frame of its own, of 750 = 0x2ee and 749 = 0x2ed.
 ///
 /// A datagram joins no other frame than the one just before it, though an older one has room: 712 bytes are 0x2c8,
-/// 1,012 are 0x3f4, and 1,424 are 0x590.
+/// 1,012 are 0x3f4, and 1,424 are 0x590. A task may have several datagrams, or none.
 const WIDE: &[Wide] = &[
     (&[(0, 737), (1, 737)], &[0, 1], &[(1514, 0xda, 0x15)]),
     (
@@ -227,6 +230,12 @@ const WIDE: &[Wide] = &[
         &[0, 2, 1],
         &[(1440, 0x90, 0x15), (1028, 0xf4, 0x13)],
     ),
+    (
+        &[(3, 1486), (3, 1)],
+        &[3],
+        &[(1514, 0xda, 0x15), (60, 0x0d, 0x10)],
+    ),
+    (&[(3, 1486)], &[0], &[]),
 ];
 
 /// The number of the first row whose tasks aren't sent in its frames, none where all are.

@@ -1,8 +1,7 @@
 //! What a line is put through, one stage after another.
 use crate::asked::{Row, first_wrong};
 use crate::driven::Driven;
-use crate::lines::{opened, opened_axis, write_all};
-use crate::twins::Again;
+use crate::lines::{opened, write_all};
 use hc_events::answer::Answer;
 use hc_events::event::Event;
 use std::alloc::{AllocError, Global};
@@ -23,13 +22,13 @@ pub enum Stage {
 pub type At = (usize, usize);
 
 /// Sends task 0, and tells whether that was accepted.
-pub fn is_sent<D: Driven>(driven: &mut D, alloc: Global) -> Result<bool, AllocError> {
+pub fn is_sent(driven: &mut Driven, alloc: Global) -> Result<bool, AllocError> {
     let answer = driven.put(alloc, Event::SendTasks(&[0]))?;
     Ok(matches!(answer, Answer::Sent(_)))
 }
 
 /// Sends task 0 so many times, and tells whether each was accepted.
-fn send_times<D: Driven>(driven: &mut D, alloc: Global, times: u32) -> Result<bool, AllocError> {
+fn send_times(driven: &mut Driven, alloc: Global, times: u32) -> Result<bool, AllocError> {
     for _ in 0..times {
         if !is_sent(driven, alloc)? {
             return Ok(false);
@@ -39,8 +38,8 @@ fn send_times<D: Driven>(driven: &mut D, alloc: Global, times: u32) -> Result<bo
 }
 
 /// The number of the first row of a stage that doesn't hold, none where all do.
-fn first_wrong_row<D: Driven>(
-    driven: &mut D,
+fn first_wrong_row(
+    driven: &mut Driven,
     alloc: Global,
     stage: Stage,
 ) -> Result<Option<usize>, AllocError> {
@@ -53,8 +52,8 @@ fn first_wrong_row<D: Driven>(
 }
 
 /// Where it is that stages don't hold first, none where all do.
-pub fn first_wrong_at<D: Driven>(
-    driven: &mut D,
+pub fn first_wrong_at(
+    driven: &mut Driven,
     alloc: Global,
     stages: &[Stage],
 ) -> Result<Option<At>, AllocError> {
@@ -68,24 +67,23 @@ pub fn first_wrong_at<D: Driven>(
     Ok(None)
 }
 
-/// The same of the line of a text, from its opening on.
-pub fn first_wrong_of(alloc: Global, text: &str, stages: &[Stage]) -> Result<Option<At>, Fail> {
-    let mut driven = opened(alloc, text)?;
-    Ok(first_wrong_at(&mut driven, alloc, stages)?)
+/// A line's text, and its stages from the opening on.
+pub type Case = (&'static str, &'static [Stage]);
+
+/// Where it is that a line's stages don't hold first, none where all do.
+fn first_wrong_of(alloc: Global, case: &Case) -> Result<Option<At>, Fail> {
+    let mut driven = opened(alloc, case.0)?;
+    Ok(first_wrong_at(&mut driven, alloc, case.1)?)
 }
 
-/// The same of rows, once all owed blocks are written and answered well, so many.
-pub fn first_wrong_written(
-    alloc: Global,
-    text: &str,
-    blocks: u32,
-    rows: &'static [Row],
-) -> Result<Option<At>, Fail> {
-    first_wrong_of(alloc, text, &[Stage::Blocks(blocks), Stage::Rows(rows)])
-}
-
-/// The same of the axis, where each event for which the core wants memory is put once more.
-pub fn first_wrong_again(alloc: Global, stages: &[Stage]) -> Result<Option<At>, Fail> {
-    let mut driven = Again::of(opened_axis(alloc)?);
-    Ok(first_wrong_at(&mut driven, alloc, stages)?)
+/// The number of the first line whose stages don't hold, and where; none where all do.
+pub fn first_wrong_case(alloc: Global, cases: &[Case]) -> Result<Option<(usize, At)>, Fail> {
+    let mut number = 0_usize;
+    for case in cases {
+        if let Some(at) = first_wrong_of(alloc, case)? {
+            return Ok(Some((number, at)));
+        }
+        number = number.saturating_add(1);
+    }
+    Ok(None)
 }

@@ -3,7 +3,7 @@ use crate::asked::Asked::{Comes, Connect, Disconnect, Move, Post, Read, Remap, S
 use crate::asked::{Row, Wanted};
 use crate::lines::AXIS;
 use crate::stages::Stage::{Blocks, Rows};
-use crate::stages::{Stage, first_wrong_again, first_wrong_of, first_wrong_written};
+use crate::stages::{Case, first_wrong_case};
 use hc_events::answer::Outcome::Inputs;
 use hc_events::faults::CoreFault;
 use hc_frames::Command::{Fpwr, Lrw};
@@ -71,22 +71,6 @@ const MOVED: &[Row] = &[
     ),
 ];
 
-#[test]
-fn a_value_goes_with_its_variable(rt: HostRuntime) -> Result<(), Fail> {
-    assert_eq!(rt; first_wrong_written(rt.alloc(), AXIS, 4, MOVED)?, None);
-    Ok(())
-}
-
-const WRITTEN_AND_MOVED: &[Stage] = &[Blocks(4), Rows(MOVED)];
-
-/// The same where growths are refused to the core: an edit is refused as a whole, and what is sent behind it, once it
-/// is accepted, is as if it hadn't been refused.
-#[test]
-fn a_value_or_memory(rt: HostRuntime) -> Result<(), Fail> {
-    assert_eq!(rt; first_wrong_again(rt.alloc(), WRITTEN_AND_MOVED)?, None);
-    Ok(())
-}
-
 /// The value is moved before it was ever sent. A post of the epoch before is refused.
 const POSTED_AND_MOVED: &[Row] = &[
     (Post(0, 0, &[2]), Wanted::Posted),
@@ -106,19 +90,6 @@ const SENT_APART: &[Row] = &[
         Wanted::Sent(&[(7, 0x0e, b"\x0c\x07\0\0\0\x01\x02\0\0\0", 34)]),
     ),
 ];
-
-const MOVED_UNSENT: &[Stage] = &[
-    Blocks(4),
-    Rows(POSTED_AND_MOVED),
-    Blocks(2),
-    Rows(SENT_APART),
-];
-
-#[test]
-fn a_value_is_moved_unsent(rt: HostRuntime) -> Result<(), Fail> {
-    assert_eq!(rt; first_wrong_of(rt.alloc(), AXIS, MOVED_UNSENT)?, None);
-    Ok(())
-}
 
 /// The axis in a group of its own.
 const TOOL: &str = r#"
@@ -179,21 +150,6 @@ const ZERO_AGAIN: &[Row] = &[(
     Wanted::Sent(&[(9, 0x0f, b"\x0c\x09\0\0\0\x01\x03\0\0\0", 34)]),
 )];
 
-/// The whole of it: each time it comes four blocks are written.
-const IN_AND_OUT: &[Stage] = &[
-    Rows(COMES),
-    Blocks(4),
-    Rows(COMES_AGAIN),
-    Blocks(4),
-    Rows(ZERO_AGAIN),
-];
-
-#[test]
-fn a_tool_comes_again(rt: HostRuntime) -> Result<(), Fail> {
-    assert_eq!(rt; first_wrong_of(rt.alloc(), TOOL, IN_AND_OUT)?, None);
-    Ok(())
-}
-
 /// Two slaves with a byte of outputs each.
 const TWO_BYTES: &str = r#"
 slave = [
@@ -231,15 +187,6 @@ const THERE_AND_BACK: &[Row] = &[
         Wanted::Sent(&[(5, 0x0e, b"\x0c\x05\0\0\0\x01\x02\0\0\0\x44\x55", 32)]),
     ),
 ];
-
-#[test]
-fn a_value_is_of_the_task_that_a_variable_then_had(rt: HostRuntime) -> Result<(), Fail> {
-    assert_eq!(rt;
-        first_wrong_written(rt.alloc(), TWO_BYTES, 4, THERE_AND_BACK)?,
-        None
-    );
-    Ok(())
-}
 
 /// A slave with two PDOs of 4 bits in its outputs.
 const TWO_PDOS: &str = r#"
@@ -305,15 +252,6 @@ const EXCHANGED: &[Row] = &[
     ),
 ];
 
-#[test]
-fn a_value_stays_where_its_variable_stays_placed(rt: HostRuntime) -> Result<(), Fail> {
-    assert_eq!(rt;
-        first_wrong_written(rt.alloc(), TWO_PDOS, 2, EXCHANGED)?,
-        None
-    );
-    Ok(())
-}
-
 /// Outputs of 3 bits and 11 bits with a gap of 2 bits between them, and a byte of inputs.
 const GAPS: &str = r#"
 slave = [
@@ -354,8 +292,36 @@ const GAP: &[Row] = &[
     (Read(0), Wanted::Image(0, &[Some(b"\xff\xff\xa5")])),
 ];
 
+/// All of them, each from its line's opening on. Each time the tool comes its four blocks are written.
+const LINES: &[Case] = &[
+    (AXIS, &[Blocks(4), Rows(MOVED)]),
+    (
+        AXIS,
+        &[
+            Blocks(4),
+            Rows(POSTED_AND_MOVED),
+            Blocks(2),
+            Rows(SENT_APART),
+        ],
+    ),
+    (
+        TOOL,
+        &[
+            Rows(COMES),
+            Blocks(4),
+            Rows(COMES_AGAIN),
+            Blocks(4),
+            Rows(ZERO_AGAIN),
+        ],
+    ),
+    (TWO_BYTES, &[Blocks(4), Rows(THERE_AND_BACK)]),
+    (TWO_PDOS, &[Blocks(2), Rows(EXCHANGED)]),
+    (GAPS, &[Blocks(4), Rows(GAP)]),
+];
+
+/// A growth that is refused once changes nothing: the event is asked again.
 #[test]
-fn gaps_and_inputs_are_sent_as_zeros(rt: HostRuntime) -> Result<(), Fail> {
-    assert_eq!(rt; first_wrong_written(rt.alloc(), GAPS, 4, GAP)?, None);
+fn values_are_sent_where_their_variables_stand(rt: HostRuntime) -> Result<(), Fail> {
+    assert_eq!(rt; first_wrong_case(rt.alloc(), LINES)?, None);
     Ok(())
 }

@@ -1,9 +1,9 @@
 //! The register blocks of an axis are written.
-use crate::asked::Asked::{Comes, Remap, Send, Write};
+use crate::asked::Asked::{Comes, Connect, Disconnect, Remap, Send, Write};
 use crate::asked::{Row, Wanted};
 use crate::lines::AXIS;
-use crate::stages::Stage::Rows;
-use crate::stages::{Stage, first_wrong_of, first_wrong_written};
+use crate::stages::Stage::{Blocks, Rows};
+use crate::stages::{Case, first_wrong_case};
 use hc_events::faults::CoreFault;
 use hc_frames::Command::{Apwr, Fpwr, Lrw};
 use std::test::Fail;
@@ -78,14 +78,6 @@ const LAST_ANSWER: &[Row] = &[
 const LAST_BLOCK: &[u8] =
     b"\x05\x03\xe9\x03\x10\x06\x10\0\0\0\x01\0\0\x01\x02\0\0\x03\x80\x11\0\x01\x01\0\0\0";
 
-const FOUR_BLOCKS: &[Stage] = &[Rows(WRITES), Rows(LAST_ANSWER)];
-
-#[test]
-fn four_blocks_are_written(rt: HostRuntime) -> Result<(), Fail> {
-    assert_eq!(rt; first_wrong_of(rt.alloc(), AXIS, FOUR_BLOCKS)?, None);
-    Ok(())
-}
-
 /// The last write is answered with the counter 0, so its block stays owed and is sent again with the serial 4,
 /// and once more with 5. An answer to an older write of it, with whatever counter, is stale.
 const MISSED: &[Row] = &[
@@ -116,14 +108,6 @@ const CONFIRMED: &[Row] = &[
     (Write, Wanted::Refused(CoreFault::NothingOwed)),
 ];
 
-const THIRD_TIME: &[Stage] = &[Rows(WRITES), Rows(MISSED), Rows(CONFIRMED)];
-
-#[test]
-fn a_missed_write_is_sent_again(rt: HostRuntime) -> Result<(), Fail> {
-    assert_eq!(rt; first_wrong_of(rt.alloc(), AXIS, THIRD_TIME)?, None);
-    Ok(())
-}
-
 /// A frame with the write's serial and another command, station, register or length answers nothing and uses up
 /// nothing. An answer with the counter 2 is no confirmation, and uses the answer up.
 const FOREIGN: &[Row] = &[
@@ -139,14 +123,6 @@ const FOREIGN: &[Row] = &[
     (Comes(3, &[(Fpwr, 0x0610_03e9, &[0; 16], 1)]), Wanted::Stale),
     (Send(&[0]), Wanted::Refused(CoreFault::Unprogrammed(1))),
 ];
-
-const FOREIGN_ANSWERS: &[Stage] = &[Rows(WRITES), Rows(FOREIGN)];
-
-#[test]
-fn a_foreign_frame_confirms_nothing(rt: HostRuntime) -> Result<(), Fail> {
-    assert_eq!(rt; first_wrong_of(rt.alloc(), AXIS, FOREIGN_ANSWERS)?, None);
-    Ok(())
-}
 
 /// From the sending of a write on nothing is known of its block, though an older write of it was confirmed with
 /// the very bytes that the line has again: without inputs the sync manager's block has length 0 and isn't
@@ -183,8 +159,73 @@ const UNDER_WAY: &[Row] = &[
     (Write, Wanted::Refused(CoreFault::NothingOwed)),
 ];
 
+/// An axis with a byte of outputs and a byte of inputs, and its tool with a byte of outputs.
+const TOOL_CHANGER: &str = r#"
+slave = [
+  { station = 1001, area = [
+    { sm = 2, dir = "out", phys = 0x1100, task = 0, assigned = [0x1600], pdo = [
+      { index = 0x1600, entries = [[0, 8]] },
+    ] },
+    { sm = 3, dir = "in", phys = 0x1180, task = 0, assigned = [0x1a00], pdo = [
+      { index = 0x1a00, entries = [[0, 8]] },
+    ] },
+  ] },
+]
+group = [
+  { alias = 5, slave = [
+    { station = 1002, area = [
+      { sm = 2, dir = "out", phys = 0x1100, task = 0, assigned = [0x1600], pdo = [
+        { index = 0x1600, entries = [[0, 8]] },
+      ] },
+    ] },
+  ] },
+]
+"#;
+
+/// The tool comes: its two blocks are owed, and the FMMU block of the axis' input, which gives way by a byte.
+const TOOL_COMES: &[Row] = &[
+    (Connect(5), Wanted::Edited(1, 1, 3)),
+    (Send(&[0]), Wanted::Refused(CoreFault::Unprogrammed(3))),
+];
+
+/// The axis' output area is emptied: its own two blocks change, and the FMMU blocks of all that stands behind it. Its
+/// PDO comes back while the write of its first block is under way: every other block is known to have what it now
+/// needs. The tool goes, and the input moves up by a byte; it comes again, and the input is where it was, but nothing
+/// is known of the tool.
+const EMPTIED: &[Row] = &[
+    (Remap(1001, 0, &[]), Wanted::Edited(2, 1, 4)),
+    (Send(&[0]), Wanted::Refused(CoreFault::Unprogrammed(4))),
+    (
+        Write,
+        Wanted::WriteSent((
+            7,
+            0x14,
+            b"\x05\x07\xe9\x03\x10\x08\x08\0\0\0\0\x11\0\0\x64\0\0\0",
+            26,
+        )),
+    ),
+    (Remap(1001, 0, &[0x1600]), Wanted::Edited(3, 1, 4)),
+    (Send(&[0]), Wanted::Refused(CoreFault::Unprogrammed(1))),
+    (Disconnect(5), Wanted::Edited(4, 1, 1)),
+    (Send(&[0]), Wanted::Refused(CoreFault::Unprogrammed(2))),
+    (Connect(5), Wanted::Edited(5, 1, 3)),
+    (Send(&[0]), Wanted::Refused(CoreFault::Unprogrammed(3))),
+];
+
+/// All of them, each from its line's opening on.
+const LINES: &[Case] = &[
+    (AXIS, &[Rows(WRITES), Rows(LAST_ANSWER)]),
+    (AXIS, &[Rows(WRITES), Rows(MISSED), Rows(CONFIRMED)]),
+    (AXIS, &[Rows(WRITES), Rows(FOREIGN)]),
+    (AXIS, &[Blocks(4), Rows(UNDER_WAY)]),
+    (
+        TOOL_CHANGER,
+        &[Blocks(4), Rows(TOOL_COMES), Blocks(3), Rows(EMPTIED)],
+    ),
+];
+
 #[test]
-fn a_write_under_way_is_unknown(rt: HostRuntime) -> Result<(), Fail> {
-    assert_eq!(rt; first_wrong_written(rt.alloc(), AXIS, 4, UNDER_WAY)?, None);
+fn blocks_are_owed_until_they_are_confirmed(rt: HostRuntime) -> Result<(), Fail> {
+    assert_eq!(rt; first_wrong_case(rt.alloc(), LINES)?, None);
     Ok(())
 }
