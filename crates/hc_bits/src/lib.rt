@@ -12,6 +12,3 @@ pub mod plain;
 mod run;
 
 pub use run::{copy_bits, get_bits, put_bits};
-
-#[cfg(test)]
-mod tests;

@@ -20,6 +20,3 @@ pub use opened::{Open, build_frame};
 #[derive(Clone, Copy, PartialEq, Eq, Debug, Error)]
 #[error("{0} bytes are needed")]
 pub struct Room(pub usize);
-
-#[cfg(test)]
-mod tests;

@@ -9,6 +9,3 @@ mod returned;
 pub use faults::FrameFault;
 pub use frames::read_frame;
 pub use returned::{Part, Parts, Returned};
-
-#[cfg(test)]
-mod tests;

@@ -1,10 +1,9 @@
-//! Runs worked out by hand, and the quick bodies against the plain ones over many runs.
-
+//! Runs of bits that were worked out by hand.
 ghost use Rattle.std.specs.Prelude.{◌+◌, ◌*◌, ◌≤◌, ◌↔◌, length, IsTrue};
 
-use super::*;
+use hc_bits::{copy_bits, get_bits, put_bits};
 
-/// Does the run lie in the slice, which has at most 32 bytes?
+/// Whether the run lies in the slice, which has at most 32 bytes.
 fn is_run(bytes: &[u8], at: usize, n: usize) -> bool
     requires { length bytes.now ≤ 32 }
     ensures { IsTrue result ↔ (at + n ≤ 8 * length bytes.now) }
@@ -12,10 +11,10 @@ fn is_run(bytes: &[u8], at: usize, n: usize) -> bool
     n <= 8 * bytes.len() && at <= 8 * bytes.len() - n
 }
 
-// Low bit first: 10100101 00111100 00001111 11110000 10000001 01111110 01001000 00101100 01101010 00011110.
+/// Low bit first: 10100101 00111100 00001111 11110000 10000001 01111110 01001000 00101100 01101010 00011110.
 const READ: [u8; 10] = [0xa5, 0x3c, 0xf0, 0x0f, 0x81, 0x7e, 0x12, 0x34, 0x56, 0x78];
 
-// The hexadecimal digits in order, low digit first, from 0 to f and then to 7.
+/// The hexadecimal digits in order, low digit first, from 0 to f and then to 7.
 const DIGITS: [u8; 12] = [
     0x10, 0x32, 0x54, 0x76, 0x98, 0xba, 0xdc, 0xfe, 0x10, 0x32, 0x54, 0x76,
 ];
@@ -50,13 +49,10 @@ const READS: [Read; 24] = [
     (80, 0, 0),
 ];
 
-/// Do both bodies read this value?
+/// Whether this value is read.
 fn is_read(row: &Read) -> bool {
     let (at, n, value) = *row;
-    n <= 64
-        && is_run(&READ, at, n)
-        && get_bits(&READ, at, n) == value
-        && plain::get_bits(&READ, at, n) == value
+    n <= 64 && is_run(&READ, at, n) && get_bits(&READ, at, n) == value
 }
 
 /// The bit and the count of the first row that isn't read.
@@ -67,11 +63,6 @@ fn misread(rows: &[Read]) -> Option<(usize, usize)> {
         }
     }
     None
-}
-
-#[test]
-fn reads_over_byte_and_word_edges(rt: HostRuntime) {
-    assert_eq!(rt; misread(&READS), None);
 }
 
 /// What every byte is before, where, how many bits, which value, and what the bytes are after.
@@ -126,17 +117,15 @@ const PUTS: [Put; 10] = [
     ),
 ];
 
-/// Do both bodies put this value?
+/// Whether this value is put.
 fn is_put(row: &Put) -> bool {
     let (before, at, n, value, after) = *row;
-    let mut quick = [before; 10];
-    let mut slow = [before; 10];
-    if n > 64 || !is_run(&quick, at, n) || (n < 64 && value >> n != 0) {
+    let mut bytes = [before; 10];
+    if n > 64 || !is_run(&bytes, at, n) || (n < 64 && value >> n != 0) {
         return false;
     }
-    put_bits(&mut quick, at, n, value);
-    plain::put_bits(&mut slow, at, n, value);
-    quick == after && slow == after
+    put_bits(&mut bytes, at, n, value);
+    bytes == after
 }
 
 /// The bit and the count of the first row that isn't put.
@@ -147,11 +136,6 @@ fn misput(rows: &[Put]) -> Option<(usize, usize)> {
         }
     }
     None
-}
-
-#[test]
-fn puts_over_byte_and_word_edges(rt: HostRuntime) {
-    assert_eq!(rt; misput(&PUTS), None);
 }
 
 /// From where in `DIGITS`, what every byte is before, to where, how many bits, and what the bytes are
@@ -209,17 +193,15 @@ const COPIES: [Copied; 8] = [
     (92, 0, 3, 4, [0x38, 0, 0, 0, 0, 0, 0, 0, 0, 0, 0, 0]),
 ];
 
-/// Do both bodies copy these bits?
+/// Whether these bits are copied.
 fn is_copied(row: &Copied) -> bool {
     let (at, before, at2, n, after) = *row;
-    let mut quick = [before; 12];
-    let mut slow = [before; 12];
-    if !is_run(&DIGITS, at, n) || !is_run(&quick, at2, n) {
+    let mut bytes = [before; 12];
+    if !is_run(&DIGITS, at, n) || !is_run(&bytes, at2, n) {
         return false;
     }
-    copy_bits(&DIGITS, at, &mut quick, at2, n);
-    plain::copy_bits(&DIGITS, at, &mut slow, at2, n);
-    quick == after && slow == after
+    copy_bits(&DIGITS, at, &mut bytes, at2, n);
+    bytes == after
 }
 
 /// The bits, from and to, and the count of the first row that isn't copied.
@@ -233,70 +215,9 @@ fn miscopied(rows: &[Copied]) -> Option<(usize, usize, usize)> {
 }
 
 #[test]
-fn copies_over_byte_and_word_edges(rt: HostRuntime) {
-    assert_eq!(rt; miscopied(&COPIES), None);
-}
-
-/// Bytes drawn from a fixed seed.
-fn drawn(seed: u64) -> [u8; 32] {
-    let mut state = seed;
-    let mut bytes = [0; 32];
-    for byte in bytes.iter_mut() {
-        state = state
-            .wrapping_mul(6_364_136_223_846_793_005)
-            .wrapping_add(1_442_695_040_888_963_407);
-        *byte = state.to_be_bytes()[0];
-    }
-    bytes
-}
-
-/// Do both bodies read the same run of the bytes, and put its value alike over others?
-fn is_alike(bytes: &[u8; 32], at: usize, n: usize) -> bool
-    requires begins { at ≤ 96 }
-    requires count { n ≤ 64 }
-{
-    let value = get_bits(bytes, at, n);
-    let mut quick = drawn(2);
-    let mut slow = drawn(2);
-    put_bits(&mut quick, at, n, value);
-    plain::put_bits(&mut slow, at, n, value);
-    value == plain::get_bits(bytes, at, n) && quick == slow
-}
-
-#[test]
-fn quick_reads_and_puts_are_the_plain_ones(rt: HostRuntime) {
-    let bytes = drawn(1);
-    for at in 0..96usize {
-        for n in 0..65usize {
-            assert!(rt; is_alike(&bytes, at, n), "{n} bits at {at}");
-        }
-    }
-}
-
-/// Do both bodies copy this run of the bytes alike over others?
-fn is_copied_alike(from: &[u8; 32], at: usize, at2: usize, n: usize) -> bool
-    requires begins { at ≤ 16 }
-    requires arrives { at2 ≤ 16 }
-    requires count { n ≤ 216 }
-{
-    let mut quick = drawn(4);
-    let mut slow = drawn(4);
-    copy_bits(from, at, &mut quick, at2, n);
-    plain::copy_bits(from, at, &mut slow, at2, n);
-    quick == slow
-}
-
-#[test]
-fn quick_copies_are_the_plain_ones(rt: HostRuntime) {
-    let from = drawn(3);
-    for at in 0..17usize {
-        for at2 in 0..17usize {
-            for n in 0..216usize {
-                assert!(rt;
-                    is_copied_alike(&from, at, at2, n),
-                    "{n} bits at {at} to {at2}"
-                );
-            }
-        }
-    }
+fn runs_go_over_byte_and_word_edges(rt: HostRuntime) {
+    assert_eq!(rt;
+        (misread(&READS), misput(&PUTS), miscopied(&COPIES)),
+        (None, None, None)
+    );
 }

@@ -1,11 +1,11 @@
-//! Frames whose bytes were worked out by hand from the standard's tables.
-ghost use Rattle.std.specs.Prelude.{◌≡◌, ◌+◌, ◌^◌, ◌<◌, ◌≤◌, [], ◌∷◌, length};
-ghost use Rattle.hc_frames.specs.FrameText.{frame_text, lrw};
-ghost use Rattle.hc_frames.specs.Sizes.{frame_bytes};
+//! Frames that are built, whose bytes were worked out by hand from the standard's tables (ETG.1000.4, 5.3 and 5.4).
+ghost use Rattle.std.specs.Prelude.{◌≡◌, length};
 
-use super::*;
-use crate::Command;
-use crate::limits::{BESIDE_DATA_BYTES, HEAD_BYTES, MAX_DATAGRAMS};
+use hc_frames::Command;
+use hc_frames::building::{
+    Room, build_alias_read, build_datagram, build_frame, build_head, build_lrw, build_station,
+    build_write, frame_size,
+};
 use std::test::Fail;
 
 const OLD: u8 = 0xa5;
@@ -40,96 +40,79 @@ fn has_head(out: &[u8], serial: u8, low: u8, high: u8) -> bool {
     stands(out, 0, &head)
 }
 
-/// Writes the frame of two datagrams, given by address and data, into a slice of its exact size: the form in which a
-/// frame is written whose data stand elsewhere, each byte once.
-fn write_two(out: &mut [u8], serial: u64, address: u32, bytes: &[u8], address2: u32, bytes2: &[u8])
-    requires serial { serial < 2 ^ 40 }
-    requires size { 24 + length bytes.now + length bytes2.now ≤ MAX_DATAGRAMS }
-    requires first { length bytes.now ≤ 1486 }
-    requires second { length bytes2.now ≤ 1486 }
-    requires exact { length out.old ≡ frame_bytes (24 + length bytes.now + length bytes2.now) }
-    ensures { out.new ≡ frame_text serial (lrw address bytes.now ∷ lrw address2 bytes2.now ∷ []) }
-{
-    let size = 2 * BESIDE_DATA_BYTES + bytes.len() + bytes2.len();
-    let (head, rest) = out.split_at_mut(HEAD_BYTES);
-    let (texts, padding) = rest.split_at_mut(size);
-    let (text, text2) = texts.split_at_mut(BESIDE_DATA_BYTES + bytes.len());
-    build_head(head, serial, size as u16);
-    build_datagram_of(text, serial, address, bytes, true);
-    build_datagram_of(text2, serial, address2, bytes2, false);
-    padding.fill(0);
-}
-
-const TWO_TASKS: [Piece; 2] = [
-    (
-        16,
-        &[
-            0x0c, 6, 0, 0, 0, 1, 2, 0x80, 0, 0, 0x34, 0x0a, 0, 0, 0x0c, 6, 0, 0, 0, 2, 1, 0, 0, 0,
-            2, 0, 0,
-        ],
-    ),
-    (43, &[0; 17]),
-];
-
-#[test]
-fn two_tasks_from_their_data(rt: HostRuntime) {
-    let mut out = [OLD; 60];
-    write_two(&mut out, 6, 0x0100_0000, &[0x34, 0x0a], 0x0200_0000, &[2]);
-    assert!(rt; has_head(&out, 6, 0x1b, 0x10) && stand(&out, &TWO_TASKS));
-}
-
 const THREE_BYTES: [Piece; 3] = [
     (16, &[0x0c, 0, 0, 0, 0, 1, 3, 0, 0, 0]),
     (26, &[0; 34]),
     (60, &[OLD; 4]),
 ];
 
-#[test]
-fn process_data_of_three_bytes(rt: HostRuntime) -> Result<(), Fail> {
-    let mut out = [OLD; 64];
-    let data = build_lrw(&mut out, 0, 0x0100_0000, 3)?;
-    let is_blank = &*data == [0, 0, 0].as_slice();
-    assert!(rt; is_blank && has_head(&out, 0, 0x0f, 0x10) && stand(&out, &THREE_BYTES));
-    Ok(())
-}
-
 const FILLED: [Piece; 2] = [
     (16, &[0x0c, 6, 0, 0, 0, 2, 1, 0, 0, 0, 2, 0, 0, 0]),
     (30, &[0; 30]),
 ];
 
-#[test]
-fn process_data_that_was_filled(rt: HostRuntime) -> Result<(), Fail> {
-    let mut out = [OLD; 60];
-    let data = build_lrw(&mut out, 6, 0x0200_0000, 1)?;
-    data.fill(2);
-    assert!(rt; has_head(&out, 6, 0x0d, 0x10) && stand(&out, &FILLED));
-    Ok(())
-}
-
 const LONGEST: [Piece; 3] = [(14, &[0xda, 0x15]), (22, &[0xce, 0x05]), (1511, &[1, 0, 0])];
 
-#[test]
-fn longest_process_data(rt: HostRuntime) -> Result<(), Fail> {
-    let mut out = [OLD; 1514];
-    let data = build_lrw(&mut out, 0, 0x0100_0000, 1486)?;
-    let sizes = (frame_size(1486), data.len());
-    data.fill(1);
-    assert!(rt; sizes == (1514, 1486) && stand(&out, &LONGEST));
-    Ok(())
+/// Whether a frame of process data hands out zeros, and has such a head and these pieces once each of them is filled.
+fn is_built(
+    out: &mut [u8],
+    serial: u8,
+    address: u32,
+    fill: (u16, u8),
+    header: (u8, u8),
+    pieces: &[Piece],
+) -> bool {
+    if fill.0 < 1 || 1486 < fill.0 {
+        return false;
+    }
+    let Ok(data) = build_lrw(out, u64::from(serial), address, fill.0) else {
+        return false;
+    };
+    let was_blank = data.len() == usize::from(fill.0) && data.iter().all(|byte| *byte == 0);
+    data.fill(fill.1);
+    was_blank && has_head(out, serial, header.0, header.1) && stand(out, pieces)
 }
 
-/// How many of the seven calls, from the first on, say that 60 bytes are needed.
+#[test]
+fn process_data_are_built(rt: HostRuntime) {
+    let are_built = [
+        is_built(
+            &mut [OLD; 64],
+            0,
+            0x0100_0000,
+            (3, 0),
+            (0x0f, 0x10),
+            &THREE_BYTES,
+        ),
+        is_built(
+            &mut [OLD; 60],
+            6,
+            0x0200_0000,
+            (1, 2),
+            (0x0d, 0x10),
+            &FILLED,
+        ),
+        is_built(
+            &mut [OLD; 1514],
+            0,
+            0x0100_0000,
+            (1486, 1),
+            (0xda, 0x15),
+            &LONGEST,
+        ),
+    ];
+    assert_eq!(rt; (are_built, frame_size(1486)), ([true; 3], 1514));
+}
+
+/// How many of the five calls say that 60 bytes are needed.
 fn calls_without_room(out: &mut [u8]) -> usize
     requires { length out.old ≡ 59 }
 {
     let calls = [
         matches!(build_lrw(out, 0, 0x0100_0000, 3), Err(Room(60))),
-        build_blank_lrw(out, 0, 0x0100_0000, 3) == Err(Room(60)),
         build_write(out, 0, 1001, 0x0810, &[0; 8]) == Err(Room(60)),
         build_alias_read(out, 2) == Err(Room(60)),
         build_station(out, 2, 1001) == Err(Room(60)),
-        build_blank_frame(out, 0, &[(0, 1)]) == Err(Room(60)),
         matches!(build_frame(out, 0, &[(0, 1)]), Err(Room(60))),
     ];
     calls.iter().filter(|call| **call).count()
@@ -139,7 +122,7 @@ fn calls_without_room(out: &mut [u8]) -> usize
 fn room_for_process_data(rt: HostRuntime) {
     let mut out = [OLD; 59];
     let calls = calls_without_room(&mut out);
-    assert!(rt; calls == 7 && out == [OLD; 59]);
+    assert!(rt; calls == 5 && out == [OLD; 59]);
 }
 
 /// The block of a sync manager.
@@ -201,16 +184,6 @@ fn two_tasks_in_one_frame(rt: HostRuntime) -> Result<(), Fail> {
     Ok(())
 }
 
-#[test]
-fn frames_of_two_large_tasks(rt: HostRuntime) {
-    let mut out = [OLD; 1514];
-    let built = build_blank_frame(&mut out, 0, &[(0x0100_0000, 737), (0x0200_0000, 737)]);
-    let is_long = built == Ok(1514) && stands(&out, 14, &[0xda, 0x15]);
-    let first = build_blank_lrw(&mut out, 0, 0x0100_0000, 738) == Ok(766);
-    let second = build_blank_lrw(&mut out, 0, 0x0200_0000, 737) == Ok(765);
-    assert!(rt; is_long && first && second);
-}
-
 /// The second datagram of the two.
 const SECOND: [u8; 13] = [0x0c, 6, 0, 0, 0, 2, 1, 0, 0, 0, 2, 0, 0];
 
@@ -238,13 +211,6 @@ fn one_frame_from_its_pieces(rt: HostRuntime) {
     let mut start = [OLD; 16];
     build_head(&mut start, 6, 27);
     assert!(rt; has_head(&start, 6, 0x1b, 0x10) && is_first_built() && is_second_built());
-}
-
-#[test]
-fn datagram_of_zeros(rt: HostRuntime) {
-    let mut out = [OLD; 14];
-    build_blank_datagram(&mut out, 6, 0x0100_0000, 2, true);
-    assert!(rt; out == FIRST);
 }
 
 #[test]
