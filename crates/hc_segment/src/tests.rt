@@ -4,7 +4,6 @@ ghost use Rattle.std.specs.Prelude.{◌+◌, ◌≤◌, length};
 mod chained;
 mod logical;
 mod physical;
-mod plain;
 
 use hc_machine::SlaveMachine;
 use std::process::Abort;
