@@ -6,7 +6,9 @@ ghost use Rattle.hc_records.specs.declared.limits.TheConstants.{LAST_SYNC_MANAGE
 ghost use Rattle.hc_registers.specs.declared.registers.TheConstants.{FMMU_BLOCKS, FMMU_BLOCK_BYTES};
 
 use crate::fmmu::{Mapping, fmmu_block, mapped_block};
-use crate::registers::{FMMU_BLOCK_BYTES, FMMU_BLOCKS, SYNC_MANAGER_BLOCK_BYTES, SYNC_MANAGER_BLOCKS};
+use crate::registers::{
+    FMMU_BLOCK_BYTES, FMMU_BLOCKS, SYNC_MANAGER_BLOCK_BYTES, SYNC_MANAGER_BLOCKS,
+};
 use crate::sync_manager::sized_block;
 use arrayvec::ArrayVec;
 use hc_records::records::Area;
