@@ -139,7 +139,6 @@ sweep_test hc_rings tests::four_buffers_go_round
 sweep_test hc_rings tests::a_dropped_sender_leaves_its_posts
 sweep_test hc_rings tests::frames::frames_go_in_order
 sweep_test hc_segment tests::chained::machines_stay_where_a_chain_is_refused
-sweep_test hotline tests::edits::a_group_comes_and_goes
 sweep_program "alone lasting" "its first run" crates/hotline/stdin crates/hotline/stdout 0
 sweep_program "alone lasting" "every command" tools/commands.in tools/commands.out 2
 sweep_program "alone lasting" "frames" tools/frames.in tools/frames.out 0

@@ -1,5 +1,5 @@
-//! The same calls one bit at a time, with the same contracts: the contracts read as code. Tests compare the
-//! quick bodies with these, and the benchmark measures against them; no other caller needs them.
+//! The same calls one bit at a time, with the same contracts: the contracts read as code. The benchmark measures
+//! the quick bodies against them; no other caller needs them.
 
 ghost use Rattle.std.specs.Prelude.{◌≡◌, ℕ, ◌+◌, ◌*◌, ◌^◌, ◌<◌, ◌≤◌, length};
 ghost use Rattle.std.specs.Int.{bit_at};

@@ -3,15 +3,14 @@
 mod breaks;
 mod devices;
 mod edits;
-mod event_words;
 mod frames;
-mod long_frames;
-mod refusals;
 mod runs;
 mod wide_lines;
+mod words;
 
 use crate::engine::{RunEnd, run_hotline};
 use std::alloc::{AllocError, Global};
+use std::test::Fail;
 
 /// One mandatory slave with an output and an input area.
 const ONE_SLAVE: &str = r#"[[slave]]
@@ -54,7 +53,7 @@ frame 0: ffffffffffff02000000000088a40f100c0000000001030000000000000000000000000
 const ROOM: usize = 16_384;
 
 /// What a run printed, and how it ended.
-#[derive(Debug, Drop)]
+#[derive(Drop)]
 struct Printed {
     end: RunEnd,
     text: Vec<u8>,
@@ -111,78 +110,12 @@ fn joined(alloc: Global, project: &str, commands: &str) -> Result<String, AllocE
     Ok(input)
 }
 
-/// Whether a project text with commands behind it ends with a status and a text.
-fn prints(
-    alloc: Global,
-    project: &str,
-    commands: &str,
-    status: u8,
-    text: &str,
-) -> Result<bool, AllocError> {
-    let input = joined(alloc, project, commands)?;
-    ends_as(alloc, input.as_bytes(), status, text)
-}
+/// A run: the pieces of its input, its status, and the pieces of its text. A piece may have marks, which are written out:
+/// `<entries N>`, `<pdos N>` and `<slaves A B T N>` have N bits, `<zeros N>` are N bytes 0, and `<sends A B>` and
+/// `<sent A B>` are sendings of the task of `ONE_SLAVE`, and what they print.
+type Run = (&'static [&'static str], u8, &'static [&'static str]);
 
-/// How many of the lines, from the first on, are no command behind one that is.
-fn no_commands(alloc: Global, lines: &[&str]) -> Result<usize, AllocError> {
-    let mut count = 0;
-    for line in lines {
-        let text = "epoch 0\nline 4: bad command\n";
-        if !prints(alloc, "%%\nlayout\n\n", *line, 2, text)? {
-            return Ok(count);
-        }
-        count = count.saturating_add(1);
-    }
-    Ok(count)
-}
-
-/// An output area of task 0, without its PDOs.
-const OUTPUTS: &str = "sm = 0\ndir = 'out'\nphys = 0x1000\ntask = 0\n";
-
-/// An input area of task 0, without its PDOs.
-const INPUTS: &str = "sm = 1\ndir = 'in'\nphys = 0x1800\ntask = 0\n";
-
-/// Adds a slave to an array of tables, as `slave` or `group.slave`.
-fn push_slave(text: &mut String, table: &str, station: u32) -> Result<(), AllocError> {
-    write!(text, "[[{table}]]\nstation = {station}\n")
-}
-
-/// Adds an area to the last slave of an array of tables: the indexes that it has assigned, and the
-/// index and the bits of each PDO that it offers, at most 4,096.
-fn push_area(
-    text: &mut String,
-    table: &str,
-    head: &str,
-    assigned: &str,
-    offered: &[(u32, u32)],
-) -> Result<(), AllocError> {
-    write!(
-        text,
-        "[[{table}.area]]\n{head}assigned = {assigned}\npdo = ["
-    )?;
-    for (index, bits) in offered {
-        write!(text, "{{ index = {index}, entries = [")?;
-        push_entries(text, *bits)?;
-        text.push_str("] }, ")?;
-    }
-    text.push_str("]\n")
-}
-
-/// Adds an area of so many bits, at most 12,288, to the last slave of an array of tables.
-fn push_wide_area(text: &mut String, table: &str, head: &str, bits: u32) -> Result<(), AllocError> {
-    let first = bits.min(4096);
-    let second = (bits - first).min(4096);
-    let offered = [(1, first), (2, second), (3, bits - first - second)];
-    push_area(text, table, head, "[1, 2, 3]", &offered)
-}
-
-/// Adds a mandatory slave with one output area of so many bits, at most 12,288, in task 0.
-fn push_wide_slave(text: &mut String, station: u32, bits: u32) -> Result<(), AllocError> {
-    push_slave(text, "slave", station)?;
-    push_wide_area(text, "slave", OUTPUTS, bits)
-}
-
-/// Adds at most 64 gaps that have so many bits together.
+/// Adds gaps that have so many bits together, at most 4,096.
 fn push_entries(text: &mut String, bits: u32) -> Result<(), AllocError> {
     let mut left = bits;
     for _ in 0..64 {
@@ -194,4 +127,121 @@ fn push_entries(text: &mut String, bits: u32) -> Result<(), AllocError> {
         left -= width;
     }
     Ok(())
+}
+
+/// Adds the PDOs 1 to 3, which have so many bits together.
+fn push_pdos(text: &mut String, bits: u32) -> Result<(), AllocError> {
+    let mut left = bits;
+    for index in 1..4 {
+        let width = left.min(4096);
+        write!(text, "{{ index = {index}, entries = [")?;
+        push_entries(text, width)?;
+        text.push_str("] }, ")?;
+        left -= width;
+    }
+    Ok(())
+}
+
+/// Adds mandatory slaves with stations from one to another, each with an output area of a task with so many bits.
+fn push_slaves(
+    text: &mut String,
+    from: u32,
+    to: u32,
+    task: u32,
+    bits: u32,
+) -> Result<(), AllocError> {
+    for station in from..=to {
+        write!(text, "[[slave]]\nstation = {station}\n[[slave.area]]\n")?;
+        write!(text, "sm = 0\ndir = 'out'\nphys = 0x1000\ntask = {task}\n")?;
+        text.push_str("assigned = [1, 2, 3]\npdo = [")?;
+        push_pdos(text, bits)?;
+        text.push_str("]\n")?;
+    }
+    Ok(())
+}
+
+/// Adds so many bytes 0, as a frame's bytes are printed.
+fn push_zeros(text: &mut String, count: u32) -> Result<(), AllocError> {
+    for _ in 0..count {
+        text.push_str("00")?;
+    }
+    Ok(())
+}
+
+/// Adds what is printed of sendings with serials from one to another.
+fn push_sent(text: &mut String, from: u32, to: u32) -> Result<(), AllocError> {
+    for serial in from..=to {
+        let index = serial % 256;
+        write!(text, "sent {serial}: ffffffffffff02{serial:010x}88a40f10")?;
+        write!(text, "0c{index:02x}0000000103000000")?;
+        push_zeros(text, 34)?;
+        text.push_str("\n")?;
+    }
+    Ok(())
+}
+
+/// Adds what a mark stands for.
+fn push_mark(text: &mut String, mark: &str) -> Result<(), Fail> {
+    let mut numbers = [0; 4];
+    let mut words = mark.split(' ');
+    let name = words.next();
+    for (number, word) in numbers.iter_mut().zip(words) {
+        *number = word.parse::<u32>()?;
+    }
+    let [first, second, third, fourth] = numbers;
+    match name {
+        Some("entries") => push_entries(text, first)?,
+        Some("pdos") => push_pdos(text, first)?,
+        Some("slaves") => push_slaves(text, first, second, third, fourth)?,
+        Some("zeros") => push_zeros(text, first)?,
+        Some("sent") => push_sent(text, first, second)?,
+        _ => {
+            for _ in first..=second {
+                text.push_str("send 0\n")?;
+            }
+        }
+    }
+    Ok(())
+}
+
+/// Adds a piece, its marks written out.
+fn push_piece(text: &mut String, piece: &str) -> Result<(), Fail> {
+    for part in piece.split('<') {
+        match part.split_once('>') {
+            Some((mark, rest)) => {
+                push_mark(text, mark)?;
+                text.push_str(rest)?;
+            }
+            None => text.push_str(part)?,
+        }
+    }
+    Ok(())
+}
+
+/// The pieces one behind another.
+fn written(alloc: Global, pieces: &[&str]) -> Result<String, Fail> {
+    let mut text = String::new(alloc);
+    for piece in pieces {
+        push_piece(&mut text, *piece)?;
+    }
+    Ok(text)
+}
+
+/// Whether a run ends as it is to.
+fn is_run(alloc: Global, run: &Run) -> Result<bool, Fail> {
+    let input = written(alloc, run.0)?;
+    let text = written(alloc, run.2)?;
+    Ok(ends_as(alloc, input.as_bytes(), run.1, text.as_str())?)
+}
+
+/// The number of the first run that doesn't end as it is to, none where all do.
+fn first_wrong(alloc: Global, runs: &[Run]) -> Result<Option<usize>, Fail> {
+    let mut number = 0_usize;
+    for run in runs {
+        if !is_run(alloc, run)? {
+            return Ok(Some(number));
+        }
+        number = number.saturating_add(1);
+    }
+    Ok(None)
 }

@@ -1,8 +1,5 @@
 //! Runs that edit the line.
-use super::{
-    INPUTS, ONE_SLAVE, OUTPUTS, ends_as, no_commands, prints, push_area, push_slave,
-    push_wide_area, push_wide_slave,
-};
+use super::{ONE_SLAVE, Run, first_wrong};
 use std::test::Fail;
 
 /// No mandatory slave, and one slave with an output and an input area in a group.
@@ -54,30 +51,8 @@ assigned = [1]
 pdo = [{ index = 1, entries = [[0, 1]] }]
 "#;
 
-/// Lines that begin with an edit's name and are no command.
-const NO_EDITS: [&str; 17] = [
-    "connect",
-    "connect 1 2",
-    "connect x",
-    "connect 65536",
-    "disconnect",
-    "disconnect 1 2",
-    "disconnect 65536",
-    "remap",
-    "remap 1001",
-    "remap 65536 0",
-    "remap 1001 256",
-    "remap 1001 0 x",
-    "remap 1001 0 0x1a00 65536",
-    "move 1001 0",
-    "move 1001 256 0",
-    "move 1001 0 256",
-    "move 1001 0 0 0",
-];
-
-#[test]
-fn a_group_comes_and_goes(rt: HostRuntime) -> Result<(), Fail> {
-    let commands = "%%
+/// Connects and disconnects a group, the mandatory one and one that isn't declared.
+const COMES_AND_GOES: &str = "%%
 connect 100
 connect 100
 disconnect 100
@@ -86,7 +61,9 @@ disconnect 0
 connect 0
 connect 7
 ";
-    let text = "epoch 1 recut 1 moved 4
+
+/// What that prints.
+const COMES_AND_GOES_TEXT: &str = "epoch 1 recut 1 moved 4
 refused 2 AlreadyPresent
 epoch 2 recut 1 moved 0
 refused 3 NotPresent
@@ -94,14 +71,12 @@ refused 4 Mandatory
 refused 2 AlreadyPresent
 refused 1 UnknownAlias
 ";
-    assert!(rt; prints(rt.alloc(), ONE_GROUP, commands, 0, text)?);
-    Ok(())
-}
 
-#[test]
-fn an_area_without_pdos_has_no_bits(rt: HostRuntime) -> Result<(), Fail> {
-    let commands = "%%\nremap 1001 1\nregs 1001\nlayout\n";
-    let text = "epoch 1 recut 1 moved 2
+/// An area without PDOs has no bits.
+const NO_BITS: &str = "%%\nremap 1001 1\nregs 1001\nlayout\n";
+
+/// What that prints.
+const NO_BITS_TEXT: &str = "epoch 1 recut 1 moved 2
 sm 2 at 0x0810: 00 11 01 00 64 00 01 00
 fmmu 0 at 0x0600: 00 00 00 01 01 00 00 01 00 11 00 02 01 00 00 00
 sm 3 at 0x0818: 80 11 00 00 20 00 00 00
@@ -110,60 +85,38 @@ epoch 1
 task 0 parts 1 0
 datagram 0 address 0x01000000 length 1 expected 2
 ";
-    assert!(rt; prints(rt.alloc(), ONE_SLAVE, commands, 0, text)?);
-    Ok(())
-}
 
-#[test]
-fn an_area_moves_to_another_task(rt: HostRuntime) -> Result<(), Fail> {
-    let commands = "%%\nmove 1001 0 1\nlayout\n";
-    let text = "epoch 1 recut 2 moved 2
+/// An area moves to another task.
+const MOVED: &str = "%%\nmove 1001 0 1\nlayout\n";
+
+/// What that prints.
+const MOVED_TEXT: &str = "epoch 1 recut 2 moved 2
 epoch 1
 task 0 parts 0 2
 datagram 0 address 0x01000000 length 2 expected 1
 task 1 parts 1 0
 datagram 0 address 0x02000000 length 1 expected 2
 ";
-    assert!(rt; prints(rt.alloc(), ONE_SLAVE, commands, 0, text)?);
-    Ok(())
-}
 
-#[test]
-fn the_same_pdos_begin_an_epoch_alone(rt: HostRuntime) -> Result<(), Fail> {
-    let commands = "%%\nremap 1001 1 0x1a00\nremap 1001 1 0x1a00\nremap 1001 1 6656\n";
-    let text = "epoch 1 recut 0 moved 0\nepoch 2 recut 0 moved 0\nepoch 3 recut 0 moved 0\n";
-    assert!(rt; prints(rt.alloc(), ONE_SLAVE, commands, 0, text)?);
-    Ok(())
-}
+/// The same PDOs begin an epoch alone.
+const SAME: &str = "%%\nremap 1001 1 0x1a00\nremap 1001 1 0x1a00\nremap 1001 1 6656\n";
 
-#[test]
-fn pdos_stand_in_the_order_of_a_remap(rt: HostRuntime) -> Result<(), Fail> {
-    let commands = "%%\nplace 3\nremap 1001 0 0x1a01 0x1a00\nplace 3\nplace 2\n";
-    let text = "var 3 task 0 datagram 0 bit 4 bits 4 dir in
+/// What that prints.
+const SAME_TEXT: &str =
+    "epoch 1 recut 0 moved 0\nepoch 2 recut 0 moved 0\nepoch 3 recut 0 moved 0\n";
+
+/// PDOs stand in the order of a remap.
+const TURNED: &str = "%%\nplace 3\nremap 1001 0 0x1a01 0x1a00\nplace 3\nplace 2\n";
+
+/// What that prints.
+const TURNED_TEXT: &str = "var 3 task 0 datagram 0 bit 4 bits 4 dir in
 epoch 1 recut 0 moved 0
 var 3 task 0 datagram 0 bit 0 bits 4 dir in
 var 2 task 0 datagram 0 bit 4 bits 4 dir in
 ";
-    assert!(rt; prints(rt.alloc(), TWO_PDOS, commands, 0, text)?);
-    Ok(())
-}
 
-#[test]
-fn blocks_of_a_group_without_bits_are_new(rt: HostRuntime) -> Result<(), Fail> {
-    let mut input = String::new(rt.alloc());
-    input.push_str("[[group]]\nalias = 100\n")?;
-    push_slave(&mut input, "group.slave", 1001)?;
-    push_area(&mut input, "group.slave", OUTPUTS, "[]", &[(1, 2)])?;
-    push_area(&mut input, "group.slave", INPUTS, "[]", &[(2, 12)])?;
-    input.push_str("%%\nconnect 100\nlayout\n")?;
-    let text = "epoch 1 recut 0 moved 4\nepoch 1\n";
-    assert!(rt; ends_as(rt.alloc(), input.as_bytes(), 0, text)?);
-    Ok(())
-}
-
-#[test]
-fn refused_edits_change_nothing(rt: HostRuntime) -> Result<(), Fail> {
-    let commands = "%%
+/// Refused edits change nothing.
+const REFUSED: &str = "%%
 remap 9 0
 remap 1001 5
 move 1001 0 8
@@ -171,7 +124,9 @@ remap 1001 1 1
 remap 1001 1 0x1a00 0x1a00
 layout
 ";
-    let text = "refused 5 UnknownStation
+
+/// What that prints.
+const REFUSED_TEXT: &str = "refused 5 UnknownStation
 refused 7 NoSuchArea
 refused 8 NoSuchTask
 refused 9 UnknownPdo
@@ -180,33 +135,33 @@ epoch 0
 task 0 parts 1 2
 datagram 0 address 0x01000000 length 3 expected 3
 ";
-    assert!(rt; prints(rt.alloc(), ONE_SLAVE, commands, 0, text)?);
-    Ok(())
-}
 
-#[test]
-fn an_absent_slave_is_not_edited(rt: HostRuntime) -> Result<(), Fail> {
-    let commands = "%%\nremap 1001 0\nmove 1001 0 1\nlayout\n";
-    let text = "refused 6 Absent\nrefused 6 Absent\nepoch 0\n";
-    assert!(rt; prints(rt.alloc(), ONE_GROUP, commands, 0, text)?);
-    Ok(())
-}
+/// An absent slave isn't edited.
+const ABSENT: &str = "%%\nremap 1001 0\nmove 1001 0 1\nlayout\n";
 
-#[test]
-fn a_seventeenth_datagram_is_refused(rt: HostRuntime) -> Result<(), Fail> {
-    let mut input = String::new(rt.alloc());
-    for station in 1..=16 {
-        push_wide_slave(&mut input, station, 8 * 1486)?;
-    }
-    input.push_str(ONE_BIT_IN_TASK_1)?;
-    input.push_str("%%\nmove 17 0 0\nmove 17 0 2\n")?;
-    let text = "refused 12 TooManyDatagrams 0\nepoch 1 recut 2 moved 1\n";
-    assert!(rt; ends_as(rt.alloc(), input.as_bytes(), 0, text)?);
-    Ok(())
-}
+/// What that prints.
+const ABSENT_TEXT: &str = "refused 6 Absent\nrefused 6 Absent\nepoch 0\n";
 
-/// An output area of task 2, without its PDOs.
-const OUTPUTS_IN_TASK_2: &str = "sm = 0\ndir = 'out'\nphys = 0x1000\ntask = 2\n";
+/// A group of a slave with areas that have nothing assigned.
+const NOTHING_ASSIGNED: &str = r#"[[group]]
+alias = 100
+[[group.slave]]
+station = 1001
+[[group.slave.area]]
+sm = 0
+dir = 'out'
+phys = 0x1000
+task = 0
+assigned = []
+pdo = [{ index = 1, entries = [[0, 2]] }]
+[[group.slave.area]]
+sm = 1
+dir = 'in'
+phys = 0x1800
+task = 0
+assigned = []
+pdo = [{ index = 2, entries = [[0, 12]] }]
+"#;
 
 /// The blocks of the slave with one bit in task 1.
 const REGISTERS_IN_TASK_1: &str = "\
@@ -214,25 +169,46 @@ sm 0 at 0x0800: 00 10 01 00 64 00 01 00
 fmmu 0 at 0x0600: 00 00 00 02 01 00 00 00 00 10 00 02 01 00 00 00
 ";
 
-#[test]
-fn a_crowded_task_leaves_those_before_it(rt: HostRuntime) -> Result<(), Fail> {
-    let mut input = String::new(rt.alloc());
-    for station in 1..=16 {
-        push_slave(&mut input, "slave", station)?;
-        push_wide_area(&mut input, "slave", OUTPUTS_IN_TASK_2, 8 * 1486)?;
-    }
-    input.push_str(ONE_BIT_IN_TASK_1)?;
-    input.push_str("%%\nmove 17 0 2\nregs 17\nmove 17 0 3\n")?;
-    let mut text = String::new(rt.alloc());
-    text.push_str("refused 12 TooManyDatagrams 2\n")?;
-    text.push_str(REGISTERS_IN_TASK_1)?;
-    text.push_str("epoch 1 recut 2 moved 1\n")?;
-    assert!(rt; ends_as(rt.alloc(), input.as_bytes(), 0, text.as_str())?);
-    Ok(())
-}
+/// A seventeenth datagram is refused; a crowded task leaves those before it.
+const RUNS: &[Run] = &[
+    (&[ONE_GROUP, COMES_AND_GOES], 0, &[COMES_AND_GOES_TEXT]),
+    (&[ONE_SLAVE, NO_BITS], 0, &[NO_BITS_TEXT]),
+    (&[ONE_SLAVE, MOVED], 0, &[MOVED_TEXT]),
+    (&[ONE_SLAVE, SAME], 0, &[SAME_TEXT]),
+    (&[TWO_PDOS, TURNED], 0, &[TURNED_TEXT]),
+    (&[ONE_SLAVE, REFUSED], 0, &[REFUSED_TEXT]),
+    (&[ONE_GROUP, ABSENT], 0, &[ABSENT_TEXT]),
+    (
+        &[NOTHING_ASSIGNED, "%%\nconnect 100\nlayout\n"],
+        0,
+        &["epoch 1 recut 0 moved 4\nepoch 1\n"],
+    ),
+    (
+        &[
+            "<slaves 1 16 0 11888>",
+            ONE_BIT_IN_TASK_1,
+            "%%\nmove 17 0 0\nmove 17 0 2\n",
+        ],
+        0,
+        &["refused 12 TooManyDatagrams 0\nepoch 1 recut 2 moved 1\n"],
+    ),
+    (
+        &[
+            "<slaves 1 16 2 11888>",
+            ONE_BIT_IN_TASK_1,
+            "%%\nmove 17 0 2\nregs 17\nmove 17 0 3\n",
+        ],
+        0,
+        &[
+            "refused 12 TooManyDatagrams 2\n",
+            REGISTERS_IN_TASK_1,
+            "epoch 1 recut 2 moved 1\n",
+        ],
+    ),
+];
 
 #[test]
-fn words_that_spell_no_edit(rt: HostRuntime) -> Result<(), Fail> {
-    assert!(rt; no_commands(rt.alloc(), &NO_EDITS)? == NO_EDITS.len());
+fn edits_change_the_line(rt: HostRuntime) -> Result<(), Fail> {
+    assert_eq!(rt; first_wrong(rt.alloc(), RUNS)?, None);
     Ok(())
 }

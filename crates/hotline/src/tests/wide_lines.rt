@@ -1,43 +1,56 @@
 //! Runs that edit lines of wide slaves, so that areas go from one datagram to another.
-use super::{
-    INPUTS, OUTPUTS, ends_as, joined, push_area, push_slave, push_wide_area, push_wide_slave,
-};
-use std::alloc::{AllocError, Global};
+use super::{Run, first_wrong};
 use std::test::Fail;
 
-/// Adds a group with an alias, with one output area in each of its slaves: its station address, and its
-/// bytes.
-fn push_group(text: &mut String, alias: u32, slaves: &[(u32, u16)]) -> Result<(), AllocError> {
-    write!(text, "[[group]]\nalias = {alias}\n")?;
-    for (station, bytes) in slaves {
-        push_slave(text, "group.slave", *station)?;
-        push_wide_area(text, "group.slave", OUTPUTS, 8 * u32::from(*bytes))?;
-    }
-    Ok(())
-}
+/// Output areas of 100, 700 and 1,400 bytes of a group's slave.
+const OUT_100: &str = r#"[[group.slave.area]]
+sm = 0
+dir = 'out'
+phys = 0x1000
+task = 0
+assigned = [1, 2, 3]
+pdo = [<pdos 800>]
+"#;
 
-/// A group of one slave, and one of seven.
-fn two_groups(alloc: Global) -> Result<String, AllocError> {
-    let mut text = String::new(alloc);
-    push_group(&mut text, 10, &[(1, 700)])?;
-    let others = [
-        (2, 700),
-        (3, 700),
-        (4, 700),
-        (5, 700),
-        (6, 1400),
-        (7, 700),
-        (8, 700),
-    ];
-    push_group(&mut text, 20, &others)?;
-    Ok(text)
-}
+const OUT_700: &str = r#"[[group.slave.area]]
+sm = 0
+dir = 'out'
+phys = 0x1000
+task = 0
+assigned = [1, 2, 3]
+pdo = [<pdos 5600>]
+"#;
 
-#[test]
-fn later_slaves_fall_into_lower_datagrams(rt: HostRuntime) -> Result<(), Fail> {
-    let mut input = two_groups(rt.alloc())?;
-    input.push_str("%%\nconnect 10\nconnect 20\nlayout\ndisconnect 10\nlayout\nregs 6\n")?;
-    let text = "epoch 1 recut 1 moved 2
+const OUT_1400: &str = r#"[[group.slave.area]]
+sm = 0
+dir = 'out'
+phys = 0x1000
+task = 0
+assigned = [1, 2, 3]
+pdo = [<pdos 11200>]
+"#;
+
+/// Input areas of 100 and 1,400 bytes.
+const IN_100: &str = r#"[[group.slave.area]]
+sm = 1
+dir = 'in'
+phys = 0x1800
+task = 0
+assigned = [1, 2, 3]
+pdo = [<pdos 800>]
+"#;
+
+const IN_1400: &str = r#"[[group.slave.area]]
+sm = 1
+dir = 'in'
+phys = 0x1800
+task = 0
+assigned = [1, 2, 3]
+pdo = [<pdos 11200>]
+"#;
+
+/// Later slaves fall into lower datagrams.
+const FALLEN: &str = "epoch 1 recut 1 moved 2
 epoch 2 recut 5 moved 14
 epoch 2
 task 0 parts 6300 0
@@ -56,20 +69,21 @@ datagram 3 address 0x01001800 length 1400 expected 4
 sm 0 at 0x0800: 00 10 78 05 64 00 01 00
 fmmu 0 at 0x0600: 00 10 00 01 78 05 00 07 00 10 00 02 01 00 00 00
 ";
-    assert!(rt; ends_as(rt.alloc(), input.as_bytes(), 0, text)?);
-    Ok(())
-}
 
-#[test]
-fn a_slave_joins_the_datagram_before(rt: HostRuntime) -> Result<(), Fail> {
-    let mut input = String::new(rt.alloc());
-    push_wide_slave(&mut input, 1, 8 * 1000)?;
-    push_slave(&mut input, "slave", 2)?;
-    let pdos = [(0x1600, 8 * 300), (0x1601, 8 * 400)];
-    push_area(&mut input, "slave", OUTPUTS, "[0x1600, 0x1601]", &pdos)?;
-    push_wide_slave(&mut input, 3, 8 * 700)?;
-    input.push_str("%%\nlayout\nremap 2 0 0x1600\nlayout\nregs 2\n")?;
-    let text = "epoch 0
+/// A slave with two PDOs, of 300 and 400 bytes.
+const TWO_PDOS: &str = r#"[[slave]]
+station = 2
+[[slave.area]]
+sm = 0
+dir = 'out'
+phys = 0x1000
+task = 0
+assigned = [0x1600, 0x1601]
+pdo = [{ index = 0x1600, entries = [<entries 2400>] }, { index = 0x1601, entries = [<entries 3200>] }]
+"#;
+
+/// A slave joins the datagram before.
+const JOINED: &str = "epoch 0
 task 0 parts 2400 0
 datagram 0 address 0x01000000 length 1000 expected 2
 datagram 1 address 0x01000800 length 1400 expected 4
@@ -81,37 +95,9 @@ datagram 1 address 0x01000800 length 700 expected 2
 sm 0 at 0x0800: 00 10 2c 01 64 00 01 00
 fmmu 0 at 0x0600: e8 03 00 01 2c 01 00 07 00 10 00 02 01 00 00 00
 ";
-    assert!(rt; ends_as(rt.alloc(), input.as_bytes(), 0, text)?);
-    Ok(())
-}
 
-/// Adds a slave of a group with an output and an input area of so many bytes.
-fn push_both_ways(text: &mut String, station: u32, bytes: u16) -> Result<(), AllocError> {
-    let bits = 8 * u32::from(bytes);
-    push_slave(text, "group.slave", station)?;
-    push_wide_area(text, "group.slave", OUTPUTS, bits)?;
-    push_wide_area(text, "group.slave", INPUTS, bits)
-}
-
-/// A group of one slave with outputs and inputs, and one of three slaves, of which the first has inputs.
-fn groups_with_inputs(alloc: Global) -> Result<String, AllocError> {
-    let mut text = String::new(alloc);
-    text.push_str("[[group]]\nalias = 10\n")?;
-    push_both_ways(&mut text, 1, 100)?;
-    text.push_str("[[group]]\nalias = 20\n")?;
-    push_both_ways(&mut text, 2, 1400)?;
-    for station in 3..=4 {
-        push_slave(&mut text, "group.slave", station)?;
-        push_wide_area(&mut text, "group.slave", OUTPUTS, 8 * 1400)?;
-    }
-    Ok(text)
-}
-
-#[test]
-fn inputs_behind_the_common_end_of_outputs(rt: HostRuntime) -> Result<(), Fail> {
-    let mut input = groups_with_inputs(rt.alloc())?;
-    input.push_str("%%\nconnect 10\nconnect 20\nlayout\ndisconnect 10\nlayout\n")?;
-    let text = "epoch 1 recut 1 moved 4
+/// Inputs stand behind the common end of outputs.
+const INPUTS_BEHIND: &str = "epoch 1 recut 1 moved 4
 epoch 2 recut 6 moved 9
 epoch 2
 task 0 parts 4300 1500
@@ -129,9 +115,6 @@ datagram 1 address 0x01000800 length 1400 expected 2
 datagram 2 address 0x01001000 length 1400 expected 2
 datagram 3 address 0x01001800 length 1400 expected 1
 ";
-    assert!(rt; ends_as(rt.alloc(), input.as_bytes(), 0, text)?);
-    Ok(())
-}
 
 /// What `layout` prints of sixteen slaves of 1,400 bytes.
 const SIXTEEN_DATAGRAMS: &str = "epoch 0
@@ -154,36 +137,96 @@ datagram 14 address 0x01007000 length 1400 expected 2
 datagram 15 address 0x01007800 length 1400 expected 2
 ";
 
-#[test]
-fn a_group_without_a_datagram_left_stays_absent(rt: HostRuntime) -> Result<(), Fail> {
-    let mut input = String::new(rt.alloc());
-    for station in 1..=16 {
-        push_wide_slave(&mut input, station, 8 * 1400)?;
-    }
-    push_group(&mut input, 10, &[(17, 1400)])?;
-    input.push_str("%%\nconnect 10\nlayout\n")?;
-    let text = joined(
-        rt.alloc(),
-        "refused 12 TooManyDatagrams 0\n",
-        SIXTEEN_DATAGRAMS,
-    )?;
-    assert!(rt; ends_as(rt.alloc(), input.as_bytes(), 0, text.as_str())?);
-    Ok(())
-}
+/// A slave with three PDOs, which are a bit wider than a datagram together.
+const TOO_WIDE: &str = r#"[[slave]]
+station = 1
+[[slave.area]]
+sm = 0
+dir = 'out'
+phys = 0x1000
+task = 0
+assigned = [1]
+pdo = [<pdos 11889>]
+"#;
 
-#[test]
-fn an_area_is_not_made_wider_than_a_datagram(rt: HostRuntime) -> Result<(), Fail> {
-    let mut input = String::new(rt.alloc());
-    push_slave(&mut input, "slave", 1)?;
-    let pdos = [(1, 4096), (2, 4096), (3, 3697)];
-    push_area(&mut input, "slave", OUTPUTS, "[1]", &pdos)?;
-    input.push_str("%%\nremap 1 0 1 2 3\nremap 1 0 3 2\nlayout\n")?;
-    let text = "refused 11 AreaTooBig
+/// An area isn't made wider than a datagram.
+const NOT_WIDER: &str = "refused 11 AreaTooBig
 epoch 1 recut 1 moved 2
 epoch 1
 task 0 parts 975 0
 datagram 0 address 0x01000000 length 975 expected 2
 ";
-    assert!(rt; ends_as(rt.alloc(), input.as_bytes(), 0, text)?);
+
+const RUNS: &[Run] = &[
+    (
+        &[
+            "[[group]]\nalias = 10\n[[group.slave]]\nstation = 1\n",
+            OUT_700,
+            "[[group]]\nalias = 20\n[[group.slave]]\nstation = 2\n",
+            OUT_700,
+            "[[group.slave]]\nstation = 3\n",
+            OUT_700,
+            "[[group.slave]]\nstation = 4\n",
+            OUT_700,
+            "[[group.slave]]\nstation = 5\n",
+            OUT_700,
+            "[[group.slave]]\nstation = 6\n",
+            OUT_1400,
+            "[[group.slave]]\nstation = 7\n",
+            OUT_700,
+            "[[group.slave]]\nstation = 8\n",
+            OUT_700,
+            "%%\nconnect 10\nconnect 20\nlayout\ndisconnect 10\nlayout\nregs 6\n",
+        ],
+        0,
+        &[FALLEN],
+    ),
+    (
+        &[
+            "<slaves 1 1 0 8000>",
+            TWO_PDOS,
+            "<slaves 3 3 0 5600>",
+            "%%\nlayout\nremap 2 0 0x1600\nlayout\nregs 2\n",
+        ],
+        0,
+        &[JOINED],
+    ),
+    (
+        &[
+            "[[group]]\nalias = 10\n[[group.slave]]\nstation = 1\n",
+            OUT_100,
+            IN_100,
+            "[[group]]\nalias = 20\n[[group.slave]]\nstation = 2\n",
+            OUT_1400,
+            IN_1400,
+            "[[group.slave]]\nstation = 3\n",
+            OUT_1400,
+            "[[group.slave]]\nstation = 4\n",
+            OUT_1400,
+            "%%\nconnect 10\nconnect 20\nlayout\ndisconnect 10\nlayout\n",
+        ],
+        0,
+        &[INPUTS_BEHIND],
+    ),
+    (
+        &[
+            "<slaves 1 16 0 11200>",
+            "[[group]]\nalias = 10\n[[group.slave]]\nstation = 17\n",
+            OUT_1400,
+            "%%\nconnect 10\nlayout\n",
+        ],
+        0,
+        &["refused 12 TooManyDatagrams 0\n", SIXTEEN_DATAGRAMS],
+    ),
+    (
+        &[TOO_WIDE, "%%\nremap 1 0 1 2 3\nremap 1 0 3 2\nlayout\n"],
+        0,
+        &[NOT_WIDER],
+    ),
+];
+
+#[test]
+fn areas_go_from_datagram_to_datagram(rt: HostRuntime) -> Result<(), Fail> {
+    assert_eq!(rt; first_wrong(rt.alloc(), RUNS)?, None);
     Ok(())
 }
