@@ -72,6 +72,3 @@ stands-at line (suc (suc (suc (suc (suc zero))))) d row low e = within line 5 d 
 stands-at line (suc (suc (suc (suc (suc (suc zero)))))) d row low e = within line 6 d row e
 stands-at line (suc (suc (suc (suc (suc (suc (suc zero))))))) d row low e = within line 7 d row e
 stands-at line (suc (suc (suc (suc (suc (suc (suc (suc task)))))))) d row low e = absurd (omega arith)
-
-pub stands-row : (line : List Member) (named : Named) (row : Datagram) → named.0 < TASKS → datagram_in (table_of line) named.0 named.1 ≡ Some row → StandsIn line named
-stands-row line named row low e = stands-at line named.0 named.1 row low e

@@ -1,5 +1,4 @@
 -- What the crates above cite, a file a subject.
-pub mod Stand
 pub mod Dues
 pub mod Sorts
 pub mod Ended

@@ -35,12 +35,22 @@ impl Model for Write {
 /// the order in which they were sent, each datagram with whether this is its newest frame, and the write
 /// under way, if there is one. A frame that is the newest of no datagram is awaited no longer, so there
 /// are at most as many as datagrams, 128.
-#[derive(Debug, Drop)]
+#[derive(Debug)]
 pub struct Awaited {
     pub(crate) newest: Newest,
     // in the order of their serials; some may be the newest of no datagram
     pub(crate) frames: Vec<Kept>,
     pub(crate) write: Option<Write>,
+}
+
+impl Drop for Awaited {
+    fn drop(self) {
+        let Awaited {
+            newest: _,
+            frames: _,
+            write: _,
+        } = self;
+    }
 }
 
 impl Model for Awaited {

@@ -8,7 +8,6 @@
 
 mod byte;
 pub mod laws;
-pub mod plain;
 mod run;
 
 pub use run::{copy_bits, get_bits, put_bits};

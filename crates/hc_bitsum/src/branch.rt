@@ -22,13 +22,24 @@ use std::alloc::{AllocError, Global};
 use std::sync::ledger::Ledger;
 
 /// The areas of one direction, with the sum of each node's areas.
-#[derive(Debug, Drop)]
+#[derive(Debug)]
 pub(crate) struct Branch {
     dir: Dir,
     /// How many levels of nodes stand above the last one: 2 to the power of it rows.
     levels: u32,
     rows: Vec<Row>,
     sums: Vec<Sum>,
+}
+
+impl Drop for Branch {
+    fn drop(self) {
+        let Branch {
+            dir: _,
+            levels: _,
+            rows: _,
+            sums: _,
+        } = self;
+    }
 }
 
 /// Where a walk over rows stands: the next row, a node that begins with it, that node's height above

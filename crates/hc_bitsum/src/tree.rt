@@ -19,11 +19,21 @@ use std::marker::Model;
 use std::sync::ledger::Ledger;
 
 /// The areas of a task with their widths, in two halves: outputs and inputs.
-#[derive(Debug, Drop)]
+#[derive(Debug)]
 pub struct SumTree {
     slaves: u16,
     outputs: Branch,
     inputs: Branch,
+}
+
+impl Drop for SumTree {
+    fn drop(self) {
+        let SumTree {
+            slaves: _,
+            outputs: _,
+            inputs: _,
+        } = self;
+    }
 }
 
 impl Model for SumTree {

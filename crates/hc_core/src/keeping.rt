@@ -12,7 +12,6 @@ use std::snapshot::Snapshot;
 /// The line, the next serial, what is awaited, the input image, the output values, the known and the owed
 /// register blocks, and the changes that nobody took. Contracts see the record of what was accepted, and that
 /// record as it was when the changes were taken last.
-#[derive(Drop)]
 pub struct Core {
     pub(crate) plan: Plan,
     pub(crate) serial: u64,
@@ -23,6 +22,22 @@ pub struct Core {
     pub(crate) changes: Vec<Change>,
     pub(crate) past: Past,
     pub(crate) taken: Snapshot<Past>,
+}
+
+impl Drop for Core {
+    fn drop(self) {
+        let Core {
+            plan: _,
+            serial: _,
+            awaited: _,
+            inputs: _,
+            outputs: _,
+            owed: _,
+            changes: _,
+            past: _,
+            taken: _,
+        } = self;
+    }
 }
 
 impl Model for Core {

@@ -25,10 +25,16 @@ use std::marker::Model;
 use std::sync::ledger::Ledger;
 
 /// A task's areas, and the boundaries that were last worked out for them.
-#[derive(Debug, Drop)]
+#[derive(Debug)]
 pub struct Cuts {
     tree: SumTree,
     starts: ArrayVec<Key, 16>,
+}
+
+impl Drop for Cuts {
+    fn drop(self) {
+        let Cuts { tree: _, starts: _ } = self;
+    }
 }
 
 impl Model for Cuts {

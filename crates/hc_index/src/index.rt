@@ -45,7 +45,7 @@ impl<'a> LineSlave<'a> {
 }
 
 /// What is kept of a project's declared groups to find each by its alias, and their slaves and blocks.
-#[derive(Debug, Drop)]
+#[derive(Debug)]
 pub struct Index {
     // of all declared groups, the lowest alias first
     aliases: Vec<Alias>,
@@ -55,6 +55,17 @@ pub struct Index {
     seats: Vec<Seat>,
     // how many register blocks the slaves of the line have
     blocks: u32,
+}
+
+impl Drop for Index {
+    fn drop(self) {
+        let Index {
+            aliases: _,
+            addresses: _,
+            seats: _,
+            blocks: _,
+        } = self;
+    }
 }
 
 impl Model for Index {

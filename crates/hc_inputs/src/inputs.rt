@@ -15,9 +15,15 @@ const SLOTS: usize = TASKS as usize * MOST_DATAGRAMS;
 /// For each datagram that a line can have the data of its last good answer in the present epoch, or none.
 /// It has room for the longest data of each, about 190,000 bytes, from the start: so no later epoch and no
 /// answer takes memory.
-#[derive(Debug, Drop)]
+#[derive(Debug)]
 pub struct Inputs {
     slots: Vec<Slot>,
+}
+
+impl Drop for Inputs {
+    fn drop(self) {
+        let Inputs { slots: _ } = self;
+    }
 }
 
 impl Model for Inputs {

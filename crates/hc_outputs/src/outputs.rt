@@ -14,12 +14,22 @@ use std::marker::Model;
 /// The bytes of each datagram as they are sent, and masks of the bits of output variables. It has room for
 /// the longest data of every datagram that a line can have, three times about 190,000 bytes, from the start:
 /// so no post and no edit takes memory.
-#[derive(Debug, Drop)]
+#[derive(Debug)]
 pub struct Outputs {
     sent: Vec<Row>,
     masks: Vec<Row>,
     // where an edit puts the bytes together that are then sent
     next: Vec<Row>,
+}
+
+impl Drop for Outputs {
+    fn drop(self) {
+        let Outputs {
+            sent: _,
+            masks: _,
+            next: _,
+        } = self;
+    }
 }
 
 impl Model for Outputs {

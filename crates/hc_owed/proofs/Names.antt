@@ -1,17 +1,11 @@
 -- What is kept is that of the blocks of a line, under their names, behind writes and edits as well.
-use Rattle.std.proofs.Common.{◌≡◌, ℕ, zero, suc, ◌≤◌, Bool, true, false, cond, List, [], ◌∷◌, map, refl, sym, ap, subst, ◌∙◌}
-use Rattle.std.specs.Prelude.{Ok}
-use Rattle.hc_records.specs.declared.edit.Edit.{Edit}
-use Rattle.hc_records.specs.Edits.{edited}
-use Rattle.hc_records.specs.Line.{State}
+use Rattle.std.proofs.Common.{◌≡◌, ℕ, zero, suc, Bool, true, false, cond, List, [], ◌∷◌, map, refl, ap, ◌∙◌}
 use Rattle.hc_records.specs.Lists.{changed_at}
 use Rattle.hc_registers.specs.Blocks.{LineBlock}
 use Rattle.hc_plan.specs.Reports.{name_of}
-use Rattle.hc_owed.specs.Kept.{Kept, declared_blocks, name_kept, unknown}
+use Rattle.hc_owed.specs.Kept.{Kept, name_kept, unknown}
 use Rattle.hc_owed.specs.Edits.{carried, changed, compared, is_moved, kept_after}
-use Rattle.hc_owed.specs.Writes.{confirmed, sent}
 use Rattle.hc_owed.proofs.Steps.{named-carried}
-use Rattle.hc_owed.proofs.lemmas.Laws.{edited-declared}
 
 pub unknown-names : (blocks : List LineBlock) → map name_kept (map unknown blocks) ≡ map name_of blocks
 unknown-names [] = refl
@@ -21,12 +15,6 @@ names-stay : (n : ℕ) (f : Kept → Kept) → ((k : Kept) → name_kept (f k) �
 names-stay n f same [] = refl
 names-stay zero f same (k ∷ kept) = ap (λ (name : ℕ × ℕ). name ∷ map name_kept kept) (same k)
 names-stay (suc n) f same (k ∷ kept) = ap (λ (names : List (ℕ × ℕ)). name_kept k ∷ names) (names-stay n f same kept)
-
-pub sent-names : (n : ℕ) (kept : List Kept) → map name_kept (sent n kept) ≡ map name_kept kept
-sent-names n kept = names-stay n _ (λ k. refl) kept
-
-pub confirmed-names : (n : ℕ) (bytes : List ℕ) (kept : List Kept) → map name_kept (confirmed n bytes kept) ≡ map name_kept kept
-confirmed-names n bytes kept = names-stay n _ (λ k. refl) kept
 
 after-name : (old : List Kept) (moved : List (ℕ × ℕ)) (block : LineBlock) → name_kept (kept_after old moved block) ≡ name_of block
 after-name old moved block = by (is_moved moved block)
@@ -40,6 +28,3 @@ changed-names old moved [] = refl
 changed-names old moved (block ∷ blocks) =
     ap (λ (name : ℕ × ℕ). name ∷ map name_kept (changed old moved blocks)) (after-name old moved block)
     ∙ ap (λ (names : List (ℕ × ℕ)). name_of block ∷ names) (changed-names old moved blocks)
-
-pub room-stays : (old new : State) (edit : Edit) (room : ℕ) → edited old edit ≡ Ok new → declared_blocks old.groups ≤ room → declared_blocks new.groups ≤ room
-room-stays old new edit room accepted enough = subst (λ (n : ℕ). n ≤ room) (sym (edited-declared old new edit accepted)) enough

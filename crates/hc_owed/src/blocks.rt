@@ -27,13 +27,24 @@ fn differs(entry: &Entry, block: &Block) -> bool
 }
 
 /// What is kept of blocks, in line and block order. It never grows over its room.
-#[derive(Debug, Drop)]
+#[derive(Debug)]
 pub(crate) struct Blocks {
     entries: Vec<Entry>,
     owed: Flags,
     // how many of them are owed
     count: usize,
     room: usize,
+}
+
+impl Drop for Blocks {
+    fn drop(self) {
+        let Blocks {
+            entries: _,
+            owed: _,
+            count: _,
+            room: _,
+        } = self;
+    }
 }
 
 impl Model for Blocks {

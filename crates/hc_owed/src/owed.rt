@@ -15,11 +15,17 @@ use std::mem;
 
 /// Of each block of the line, in line and block order: its known bytes, and whether it's owed. Contracts see it
 /// as an `Owed`, which also has the number of blocks for which there's room.
-#[derive(Debug, Drop)]
+#[derive(Debug)]
 pub struct Owed {
     kept: Blocks,
     // where an edit puts what is kept of the new line
     next: Blocks,
+}
+
+impl Drop for Owed {
+    fn drop(self) {
+        let Owed { kept: _, next: _ } = self;
+    }
 }
 
 impl Model for Owed {

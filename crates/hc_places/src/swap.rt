@@ -17,11 +17,21 @@ pub type ChangedRow = (VarId, Option<Place>);
 
 /// What an edit changes in the table of a line: the tasks whose tables differ, at most 8, and the
 /// places of the variables that stand elsewhere, appear or go.
-#[derive(Debug, Drop)]
+#[derive(Debug)]
 pub struct Swap {
     edit: Edit,
     pub(crate) tasks: Items<ChangedTask>,
     pub(crate) rows: Vec<ChangedRow>,
+}
+
+impl Drop for Swap {
+    fn drop(self) {
+        let Swap {
+            edit: _,
+            tasks: _,
+            rows: _,
+        } = self;
+    }
 }
 
 impl Model for Swap {

@@ -77,10 +77,19 @@ impl Model for TaskTable {
 pub(crate) type Row = (VarId, Place);
 
 /// The datagrams and the parts of the tasks, and the place of each variable of a line.
-#[derive(Debug, Drop)]
+#[derive(Debug)]
 pub struct Places {
     pub(crate) tasks: Items<TaskTable>,
     pub(crate) variables: Vec<Row>,
+}
+
+impl Drop for Places {
+    fn drop(self) {
+        let Places {
+            tasks: _,
+            variables: _,
+        } = self;
+    }
 }
 
 impl Model for Places {

@@ -16,9 +16,15 @@ use std::marker::Model;
 use std::sync::ledger::Ledger;
 
 /// The areas and the boundaries of the eight tasks of a line.
-#[derive(Debug, Drop)]
+#[derive(Debug)]
 pub struct LineCuts {
     tasks: Vec<Cuts>,
+}
+
+impl Drop for LineCuts {
+    fn drop(self) {
+        let LineCuts { tasks: _ } = self;
+    }
 }
 
 impl Model for LineCuts {

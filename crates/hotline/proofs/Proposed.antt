@@ -1,9 +1,8 @@
 -- Frames that are proposed: as they are printed by their own serials, and as the answer prints them.
-use Rattle.std.proofs.Common.{◌≡◌, ℕ, ◌+◌, List, [], ◌∷◌, ◌++◌, map, length, refl, sym, ap, ◌∙◌, Some, None}
+use Rattle.std.proofs.Common.{◌≡◌, ℕ, ◌+◌, List, [], ◌∷◌, ◌++◌, map, length, refl, sym, ap, ◌∙◌, None}
 use Rattle.std.specs.List.{flat_map, range_with_len}
 use Rattle.hc_records.specs.Lists.{lowest}
 use Rattle.hc_events.specs.declared.answer.Answer.TheVariants as answer
-use Rattle.hc_events.specs.declared.faults.CoreFault.{CoreFault}
 use Rattle.hc_events.specs.Entries.{Record}
 use Rattle.hc_events.specs.Points.{next_serial}
 use Rattle.hc_events.specs.Sendings.{Frame}
@@ -11,7 +10,6 @@ use Rattle.hc_events.specs.Steps.{SendsTasks, proposal, sent_text, task_faults, 
 use Rattle.hc_events.proofs.lemmas.Frames.{proposals-numbered}
 use Rattle.hotline.specs.Answers.{answer_text, frames_text, sent_lines, told}
 use Rattle.hotline.specs.Frames.{proposed_line, proposed_text, sent_line}
-use Rattle.hotline.specs.Refusals.{refusal_text}
 
 lines_as : (past : Record) (frames : List Frame) (serial : ℕ) → map (λ frame. frame.serial) frames ≡ range_with_len serial (length frames)
     → sent_lines serial (map (sent_text past) frames) ≡ flat_map (proposed_line past) frames
@@ -35,9 +33,3 @@ proposed_told past tasks frames whole accepted =
     ap (λ found. answer_text (next_serial past) (unless found (answer.Sent (map (sent_text past) all)))) accepted
     ∙ text_as past all (next_serial past) (proposals-numbered past tasks)
     ∙ ap (proposed_text past) (sym whole)
-
--- a refused sending
-pub refused_told : (past : Record) (tasks : List ℕ) (fault : CoreFault) → lowest (task_faults past tasks) ≡ Some fault → told past (SendsTasks tasks) ≡ refusal_text fault
-unfolding told
-refused_told past tasks fault refused =
-    ap (λ found. answer_text (next_serial past) (unless found (answer.Sent (map (sent_text past) (proposal past tasks))))) refused
