@@ -15,14 +15,9 @@ use std::marker::Model;
 
 /// The memory that carrying a swap out on a table needs: none where no variable appears or goes, else
 /// that of as many rows as the table will have, or more.
+#[derive(Drop)]
 pub struct Room {
     rows: Option<Vec<Row>>,
-}
-
-impl Drop for Room {
-    fn drop(self) {
-        let Room { rows: _ } = self;
-    }
 }
 
 impl Model for Room {
