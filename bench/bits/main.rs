@@ -14,46 +14,33 @@ const ROUNDS: usize = 301;
 
 unsafe extern "C" {
     fn bits_copy(from: *const u8, from_len: usize, at: usize, to: *mut u8, to_len: usize, at2: usize, n: usize);
-    fn bits_copy_plain(from: *const u8, from_len: usize, at: usize, to: *mut u8, to_len: usize, at2: usize, n: usize);
 }
 
 #[derive(Clone, Copy)]
 enum Kind {
     Memory,
-    Quick(usize, usize),
-    Plain(usize, usize),
+    Bits(usize, usize),
 }
 
-const KINDS: [(&str, Kind); 10] = [
+const KINDS: [(&str, Kind); 7] = [
     ("memory copy of 1,486 bytes", Kind::Memory),
     ("the same once more, as a control", Kind::Memory),
-    ("alike, both runs begin with a byte", Kind::Quick(0, 0)),
-    ("alike, both runs begin at bit 3 of a byte", Kind::Quick(3, 3)),
-    ("unlike, from bit 3 to bit 0", Kind::Quick(3, 0)),
-    ("unlike, from bit 0 to bit 3", Kind::Quick(0, 3)),
-    ("unlike, from bit 5 to bit 2", Kind::Quick(5, 2)),
-    ("bit by bit, both runs begin with a byte", Kind::Plain(0, 0)),
-    ("bit by bit, from bit 3 to bit 0", Kind::Plain(3, 0)),
-    ("bit by bit, from bit 5 to bit 2", Kind::Plain(5, 2)),
+    ("alike, both runs begin with a byte", Kind::Bits(0, 0)),
+    ("alike, both runs begin at bit 3 of a byte", Kind::Bits(3, 3)),
+    ("unlike, from bit 3 to bit 0", Kind::Bits(3, 0)),
+    ("unlike, from bit 0 to bit 3", Kind::Bits(0, 3)),
+    ("unlike, from bit 5 to bit 2", Kind::Bits(5, 2)),
 ];
 
 /// Calls a round, so that each kind's share of a round is long enough to be timed.
-fn calls(kind: Kind) -> u32 {
-    match kind {
-        Kind::Plain(..) => 4,
-        _ => 2_000,
-    }
-}
+const CALLS: u32 = 2_000;
 
 fn run(kind: Kind, from: &[u8], to: &mut [u8]) {
     match kind {
         Kind::Memory => to[..BYTES].copy_from_slice(&from[..BYTES]),
         // Both runs lie in their slices: these have 8 bytes more than the bits need.
-        Kind::Quick(at, at2) => unsafe {
+        Kind::Bits(at, at2) => unsafe {
             bits_copy(from.as_ptr(), from.len(), at, to.as_mut_ptr(), to.len(), at2, BITS)
-        },
-        Kind::Plain(at, at2) => unsafe {
-            bits_copy_plain(from.as_ptr(), from.len(), at, to.as_mut_ptr(), to.len(), at2, BITS)
         },
     }
 }
@@ -66,7 +53,7 @@ fn bit(bytes: &[u8], k: usize) -> u8 {
 fn compare(kind: Kind, from: &[u8]) {
     let (at, at2) = match kind {
         Kind::Memory => (0, 0),
-        Kind::Quick(at, at2) | Kind::Plain(at, at2) => (at, at2),
+        Kind::Bits(at, at2) => (at, at2),
     };
     let mut to = vec![0x5a; from.len()];
     let old = to.clone();
@@ -78,7 +65,7 @@ fn compare(kind: Kind, from: &[u8]) {
 }
 
 fn repeat(kind: Kind, from: &[u8], to: &mut [u8]) {
-    for _ in 0..calls(kind) {
+    for _ in 0..CALLS {
         run(kind, black_box(from), black_box(to));
     }
 }
@@ -103,7 +90,7 @@ fn main() {
             repeat(kind, &from, &mut to);
             let begun = Instant::now();
             repeat(kind, &from, &mut to);
-            seconds[number].push(begun.elapsed().as_secs_f64() / f64::from(calls(kind)));
+            seconds[number].push(begun.elapsed().as_secs_f64() / f64::from(CALLS));
         }
     }
     let medians: Vec<f64> = seconds

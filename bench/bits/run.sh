@@ -23,14 +23,6 @@ pub extern "C" fn bits_copy(from: &[u8], at: usize, to: &mut [u8], at2: usize, n
 {
     hc_bits::copy_bits(from, at, to, at2, n);
 }
-
-#[unsafe(no_mangle)]
-pub extern "C" fn bits_copy_plain(from: &[u8], at: usize, to: &mut [u8], at2: usize, n: usize)
-    requires from_within { at + n ≤ 8 * length from.now }
-    requires to_within { at2 + n ≤ 8 * length to.old }
-{
-    hc_bits::plain::copy_bits(from, at, to, at2, n);
-}
 END
 (cd "$scratch/crates/bits_bench" && rt lib) > "$scratch/lib.txt" 2>&1 || { cat "$scratch/lib.txt"; exit 1; }
 rustc --edition 2024 -O "$here/main.rs" -o "$scratch/bench" \

@@ -50,7 +50,8 @@ fn slot_number(task: u8, number: u8) -> usize
 impl Inputs {
     ghost use Rattle.std.specs.Prelude.{◌≡◌, ◌<◌, ◌≤◌, IfOk, length};
     ghost use Rattle.hc_records.specs.declared.limits.TheConstants.{MOST_DATAGRAMS, MOST_DATAGRAM_BYTES, TASKS};
-    ghost use Rattle.hc_inputs.specs.Image.{HasNone, Renews, data_of_first};
+    ghost use Rattle.std.specs.Option.{option_copied};
+    ghost use Rattle.hc_inputs.specs.Image.{HasNone, Renews, data_of, data_of_first};
 
     /// An image in which no datagram has data. `AllocError` where the growth was refused; no other call
     /// but `read` takes memory.
@@ -82,6 +83,16 @@ impl Inputs {
         ensures { Renews self.old self.new task number bytes.now }
     {
         self.slots[slot_number(task, number)].put(bytes);
+    }
+
+    /// The data of a datagram, lent: those that were put last in this epoch, or none. Its task is 0 to 7,
+    /// and its number in the task 0 to 15. It takes no memory.
+    pub fn data(&self, task: u8, number: u8) -> Option<&[u8]>
+        requires task { task < TASKS }
+        requires number { number < MOST_DATAGRAMS }
+        ensures { option_copied result ≡ data_of self.now task number }
+    {
+        self.slots[slot_number(task, number)].data()
     }
 
     /// The data of a task's first datagrams, at most 16, each with its data or none: a line's task has so

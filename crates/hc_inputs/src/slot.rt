@@ -1,5 +1,6 @@
 //! The data of one datagram.
 ghost use Rattle.std.specs.Prelude.{◌≡◌, ◌≤◌, IfOk, length};
+ghost use Rattle.std.specs.Option.{option_copied};
 ghost use Rattle.hc_records.specs.declared.limits.TheConstants.{MOST_DATAGRAM_BYTES};
 
 use arrayvec::ArrayVec;
@@ -50,13 +51,24 @@ impl Slot {
         self.is_fresh = true;
     }
 
+    /// Its data, lent, or none.
+    pub(crate) fn data(&self) -> Option<&[u8]>
+        ensures { option_copied result ≡ self.now }
+    {
+        if self.is_fresh {
+            Some(self.bytes.as_slice())
+        } else {
+            None
+        }
+    }
+
     /// A copy of its data, or none. `AllocError` where a growth was refused.
     pub(crate) fn read(&self, alloc: Global) -> Result<Option<Items<u8>>, AllocError>
         ensures { IfOk result (λ copy. copy ≡ self.now) }
     {
-        if !self.is_fresh {
+        let Some(bytes) = self.data() else {
             return Ok(None);
-        }
-        Ok(Some(Items::of(Vec::from_slice(alloc, self.bytes.as_slice())?)))
+        };
+        Ok(Some(Items::of(Vec::from_slice(alloc, bytes)?)))
     }
 }

@@ -1,5 +1,5 @@
 //! Fields of a frame and of a datagram at the front of some bytes.
-ghost use Rattle.std.specs.Prelude.{◌≡◌, ◌+◌, ◌<◌, ◌≤◌, drop, length, true};
+ghost use Rattle.std.specs.Prelude.{◌≡◌, ◌+◌, ◌^◌, ◌<◌, ◌≤◌, drop, length, true};
 ghost use Rattle.hc_frames.specs.Arrived.{circulates, data_size, has_bad_type, has_other_index, is_not_ethercat, is_unknown, is_whole, long_at, says_more, serial_in, word_at};
 
 use crate::commands::Command;
@@ -24,7 +24,8 @@ pub(crate) fn long_at(bytes: &[u8], at: usize) -> u32
 /// The serial: the forty bits behind the source's first byte, high byte first.
 pub(crate) fn serial_in(frame: &[u8]) -> u64
     requires { 12 ≤ length frame.now }
-    ensures { result ≡ serial_in frame.now }
+    ensures value { result ≡ serial_in frame.now }
+    ensures below { result < 2 ^ 40 }
 {
     u64::from_be_bytes([0, 0, 0, frame[7], frame[8], frame[9], frame[10], frame[11]])
 }

@@ -1,5 +1,5 @@
 //! What a frame that was read tells.
-ghost use Rattle.std.specs.Prelude.{◌≡◌, ◌+◌, ◌-◌, ◌<◌, ◌∷◌, true, length, map, slice_get};
+ghost use Rattle.std.specs.Prelude.{◌≡◌, ◌+◌, ◌-◌, ◌^◌, ◌<◌, ◌≤◌, ◌∷◌, true, length, map, slice_get};
 ghost use Rattle.std.specs.List.{list_all};
 ghost use Rattle.hc_frames.specs.Arrived.{carried, datagrams_in, is_whole, placed_from, region, Reading};
 
@@ -43,7 +43,7 @@ pub struct Returned<'a> {
 }
 
 impl<'a> Model for Returned<'a> {
-    ghost use Rattle.std.specs.Prelude.{◌≡◌, ◌<◌, true, length, map};
+    ghost use Rattle.std.specs.Prelude.{◌≡◌, ◌^◌, ◌<◌, ◌≤◌, true, length, map};
     ghost use Rattle.std.specs.List.{list_all};
     ghost use Rattle.hc_frames.specs.Arrived.{carried, datagrams_in, is_whole, Reading};
 
@@ -51,7 +51,7 @@ impl<'a> Model for Returned<'a> {
 
     ghost view = { λ frame. record { serial = frame.serial; parts = map carried (datagrams_in frame.region.now) } };
 
-    ghost invariant = { λ frame. (list_all is_whole (datagrams_in frame.region.now) ≡ true) × (frame.count ≡ length (datagrams_in frame.region.now)) × (length frame.region.now < 2048) };
+    ghost invariant = { λ frame. (list_all is_whole (datagrams_in frame.region.now) ≡ true) × (frame.count ≡ length (datagrams_in frame.region.now)) × (length frame.region.now < 2048) × (frame.serial < 2 ^ 40) × (1 ≤ frame.count) };
 }
 
 impl<'a> Returned<'a> {
@@ -60,6 +60,8 @@ impl<'a> Returned<'a> {
         requires whole { list_all is_whole (datagrams_in region.now) ≡ true }
         requires counted { count ≡ length (datagrams_in region.now) }
         requires short { length region.now < 2048 }
+        requires serial { serial < 2 ^ 40 }
+        requires some { 1 ≤ count }
         ensures { result ≡ record { serial = serial; parts = map carried (datagrams_in region.now) } }
     {
         Returned {
@@ -71,14 +73,16 @@ impl<'a> Returned<'a> {
 
     /// The sending's serial, below 2^40.
     pub fn serial(&self) -> u64
-        ensures { result ≡ self.now.serial }
+        ensures value { result ≡ self.now.serial }
+        ensures below { result < 2 ^ 40 }
     {
         self.serial
     }
 
     /// How many datagrams the frame has, at least 1.
     pub fn len(&self) -> usize
-        ensures { result ≡ length self.now.parts }
+        ensures value { result ≡ length self.now.parts }
+        ensures some { 1 ≤ result }
     {
         self.count
     }

@@ -33,6 +33,6 @@ returns-in-Some-2 c =
     ∙ ap (λ (frames : List Kept). find (λ (one : AwaitedFrame). one.serial == serial) (awaited_frames newest frames)) c.as_slice.ensures.value
     ∙ ap (λ (w : Waiting). find (λ (one : AwaitedFrame). one.serial == serial) w.frames) c.self.view_is in
     let other : option_map_or (λ (one : AwaitedWrite). one.serial == serial) c.self.inside.write false ≡ false =
-    ap (λ (n : ℕ). option_map_or (λ (one : AwaitedWrite). one.serial == n) c.self.inside.write false) (sym c.serial.ensures) ∙ sym c.has_serial.ensures ∙ c.if-has_serial.false in
+    ap (λ (n : ℕ). option_map_or (λ (one : AwaitedWrite). one.serial == n) c.self.inside.write false) (sym c.serial.ensures.value) ∙ sym c.has_serial.ensures ∙ c.if-has_serial.false in
     frame-told (line c.args.plan.now) (frame_by newest frame) c.args.arrival.now c.in-Some-2.outcomes c.in-Some.ensures.alive (sym c.in-Some-2.is ∙ c.in_ok-outcomes.ensures)
     ∙ ap told_of (judged-frame (line c.args.plan.now) c.args.self.now c.args.arrival.now c.self.inside.write (Some (frame_by newest frame)) (ap (λ (w : Waiting). w.write) c.self.view_is) other found)

@@ -36,7 +36,7 @@ invariant_of-self-2 c =
     let taken = record_of inside.taken.value in
     let grown = c.came.ensures ∙ ap (with_arrival past) c.requires.read in
     let told : told_of (judged_by past arrival) ≡ answer.Answered outcomes = ap (λ (state : CoreState). told_of (judged_by state.past arrival)) c.self.view_is ∙ c.requires.told in
-    let over = c.end.ensures ∙ ap (λ serial. ended serial inside.awaited) c.serial.ensures in
+    let over = c.end.ensures ∙ ap (λ serial. ended serial inside.awaited) c.serial.ensures.value in
     let more = c.in_ok-append.ensures.items ∙ ap (λ (changes : List Change). inside.changes.items ++ changes) c.in_ok-changes.ensures in
     subst (λ (grows : Record). Agree (record (kept_in inside) { awaited = c.end.new.self; inputs = c.put_goods.new.inputs; changes = c.append.new.self.items }) grows taken) (sym grown)
     (subst (λ (left : Waiting). Agree (record (kept_in inside) { awaited = left; inputs = c.put_goods.new.inputs; changes = c.append.new.self.items }) (Came arrival ∷ past) taken) (sym over)

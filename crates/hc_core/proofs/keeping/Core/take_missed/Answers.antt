@@ -19,7 +19,7 @@ invariant_of-self c =
     let taken = record_of inside.taken.value in
     let grown = c.came.ensures ∙ ap (with_arrival past) c.requires.read in
     let told : told_of (judged_by past arrival) ≡ answer.WriteMissed = ap (λ (state : CoreState). told_of (judged_by state.past arrival)) c.self.view_is ∙ c.requires.told in
-    let over = c.end.ensures ∙ ap (λ serial. ended serial inside.awaited) c.serial.ensures in
+    let over = c.end.ensures ∙ ap (λ serial. ended serial inside.awaited) c.serial.ensures.value in
     subst (λ (grows : Record). Agree (record (kept_in inside) { awaited = c.end.new.self }) grows taken) (sym grown)
     (subst (λ (left : Waiting). Agree (record (kept_in inside) { awaited = left }) (Came arrival ∷ past) taken) (sym over)
     (agree-missed (kept_in inside) past taken arrival (told-missed past arrival told) c.self.invariant))

@@ -28,7 +28,7 @@ invariant_of-self c =
     let told : told_of (judged_by past arrival) ≡ answer.WriteDone = ap (λ (state : CoreState). told_of (judged_by state.past arrival)) c.self.view_is ∙ c.requires.told in
     let first : IsFirstOwed past c.args.n block = subst (λ (state : CoreState). IsFirstOwed state.past c.args.n block) (sym c.self.view_is) c.requires.first in
     let known = c.confirmed.ensures ∙ ap (λ (one : LineBlock). let owed : Owed = record inside.owed { blocks = confirmed c.args.n one.block.bytes inside.owed.blocks } in owed) c.block.view_is in
-    let over = c.end.ensures ∙ ap (λ serial. ended serial inside.awaited) c.serial.ensures in
+    let over = c.end.ensures ∙ ap (λ serial. ended serial inside.awaited) c.serial.ensures.value in
     subst (λ (grows : Record). Agree (record (kept_in inside) { awaited = c.end.new.self; owed = c.confirmed.new.self }) grows taken) (sym grown)
     (subst (λ (left : Waiting). Agree (record (kept_in inside) { awaited = left; owed = c.confirmed.new.self }) (Came arrival ∷ past) taken) (sym over)
     (subst (λ (owed : Owed). Agree (record (kept_in inside) { awaited = ended arrival.serial inside.awaited; owed = owed }) (Came arrival ∷ past) taken) (sym known)

@@ -25,32 +25,32 @@ returns-in_default c =
 pub returns-then-seen-eq0 : goal.returns-then-seen-eq0
 returns-then-seen-eq0 c =
     let left : List ℕ = c.in_ok-region.region.now in
-    let there = found_in c.serial_in-serial.result c.args.frame.now left c.in-Some.seen c.serial_in-serial.ensures (sym c.survey_of.ensures ∙ c.in-Some.is) in
+    let there = found_in c.serial_in-serial.result c.args.frame.now left c.in-Some.seen c.serial_in-serial.ensures.value (sym c.survey_of.ensures ∙ c.in-Some.is) in
     unfilled c.args.frame.now left c.in_ok-region.ensures.found
     (none_there c.in-Some.seen.count (length (datagrams_in left)) (list_all is_whole (datagrams_in left) && more_between (datagrams_in left)) there.count c.if-seen-eq0.true)
 
 pub of-requires-clause-whole : goal.of-requires-clause-whole
 of-requires-clause-whole c =
-    (found_in c.serial_in-serial.result c.args.frame.now c.in_ok-region.region.now c.in-Some.seen c.serial_in-serial.ensures (sym c.survey_of.ensures ∙ c.in-Some.is)).whole
+    (found_in c.serial_in-serial.result c.args.frame.now c.in_ok-region.region.now c.in-Some.seen c.serial_in-serial.ensures.value (sym c.survey_of.ensures ∙ c.in-Some.is)).whole
 
 pub of-requires-clause-counted : goal.of-requires-clause-counted
 of-requires-clause-counted c =
-    (found_in c.serial_in-serial.result c.args.frame.now c.in_ok-region.region.now c.in-Some.seen c.serial_in-serial.ensures (sym c.survey_of.ensures ∙ c.in-Some.is)).count
+    (found_in c.serial_in-serial.result c.args.frame.now c.in_ok-region.region.now c.in-Some.seen c.serial_in-serial.ensures.value (sym c.survey_of.ensures ∙ c.in-Some.is)).count
 
 pub returns-in-Some-fault_of : goal.returns-in-Some-fault_of
 returns-in-Some-fault_of c =
     let left : List ℕ = c.in_ok-region.region.now in
-    let there = found_in c.serial_in-serial.result c.args.frame.now left c.in-Some.seen c.serial_in-serial.ensures (sym c.survey_of.ensures ∙ c.in-Some.is) in
+    let there = found_in c.serial_in-serial.result c.args.frame.now left c.in-Some.seen c.serial_in-serial.ensures.value (sym c.survey_of.ensures ∙ c.in-Some.is) in
     filled c.args.frame.now left c.in-Some.seen c.in_ok-region.ensures.found there (some_there c.in-Some.seen.count (length (datagrams_in left)) there.count c.if-seen-eq0.false)
     ∙ sym c.fault_of.ensures ∙ c.in-Some-fault_of.is
 
 pub returns-in-None : goal.returns-in-None
 returns-in-None c =
     let left : List ℕ = c.in_ok-region.region.now in
-    let there = found_in c.serial_in-serial.result c.args.frame.now left c.in-Some.seen c.serial_in-serial.ensures (sym c.survey_of.ensures ∙ c.in-Some.is) in (
+    let there = found_in c.serial_in-serial.result c.args.frame.now left c.in-Some.seen c.serial_in-serial.ensures.value (sym c.survey_of.ensures ∙ c.in-Some.is) in (
       filled c.args.frame.now left c.in-Some.seen c.in_ok-region.ensures.found there (some_there c.in-Some.seen.count (length (datagrams_in left)) there.count c.if-seen-eq0.false)
           ∙ sym c.fault_of.ensures ∙ c.in-None.is,
       c.of.ensures
-          ∙ ap (λ (n : ℕ). record { serial = n; parts = map carried (datagrams_in left) }) c.serial_in-serial.ensures
+          ∙ ap (λ (n : ℕ). record { serial = n; parts = map carried (datagrams_in left) }) c.serial_in-serial.ensures.value
           ∙ ap (λ (bytes : List ℕ). record { serial = serial_in c.args.frame.now; parts = map carried (datagrams_in bytes) }) c.in_ok-region.ensures.found.found_there,
     )
