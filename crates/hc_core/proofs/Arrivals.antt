@@ -66,6 +66,15 @@ agree-stale kept past taken arrival stale agree =
       tells = news-none taken past arrival kept.changes (none_fresh past arrival stale) agree.tells;
     }
 
+all_sent : (past : Record) → AreAccepted past → AllSent StandsIn past
+all_sent [] all = absurd all
+all_sent (Opened groups ∷ past) all = tt
+all_sent (Edited edit ∷ past) all = all_sent past all.1
+all_sent (Posted task bytes ∷ past) all = all_sent past all.1
+all_sent (Sent frame ∷ past) all = (all.0.stands, all_sent past all.1)
+all_sent (Wrote block ∷ past) all = all_sent past all.1
+all_sent (Came arrival ∷ past) all = all_sent past all.1
+
 -- one that answers a frame of tasks
 
 pub agree-inputs : (kept : Kept) (past taken : Record) (arrival : Arrival) (outcomes : List Outcome) (inputs : Image) → TellsInputs past arrival outcomes
@@ -89,7 +98,7 @@ agree-inputs kept past taken arrival outcomes inputs tells puts agree = record {
         ∙ kept-alike (known_bytes past) (known_bytes (Came arrival ∷ past)) (state_of past) (λ station number. sym (known-framed past arrival tells.sending tells.there tells.frame station number));
     room = agree.known.room;
   };
-  tells = news-came taken past arrival kept.changes (goods_in outcomes arrival.parts) tells.goods agree.tells;
+  tells = news-came taken past arrival kept.changes (goods_in outcomes arrival.parts) tells.goods (fresh-fits StandsIn past arrival (all_sent past agree.accepted)) agree.tells;
 }
 
 -- one that answers a register write
@@ -150,15 +159,6 @@ agree-done right kept past taken arrival n block rest tells first at agree =
     }
 
 -- good answers are of datagrams that tasks can have
-
-all_sent : (past : Record) → AreAccepted past → AllSent StandsIn past
-all_sent [] all = absurd all
-all_sent (Opened groups ∷ past) all = tt
-all_sent (Edited edit ∷ past) all = all_sent past all.1
-all_sent (Posted task bytes ∷ past) all = all_sent past all.1
-all_sent (Sent frame ∷ past) all = (all.0.stands, all_sent past all.1)
-all_sent (Wrote block ∷ past) all = all_sent past all.1
-all_sent (Came arrival ∷ past) all = all_sent past all.1
 
 image_fits : (past : Record) → lowest_fault (groups_of (state_of past).groups) ≡ None → crowded_task (line_of past) ≡ None → (good : Fresh) → FitsFresh StandsIn (line_of past) good → FitsImage good
 image_fits past project uncrowded good fit =

@@ -1,6 +1,6 @@
 -- What is kept stays right behind an accepted edit.
 use Rattle.std.proofs.Common.{◌≡◌, ℕ, ◌≤◌, List, [], ◌∷◌, ◌++◌, map, refl, sym, ap, ◌∙◌, subst, append_assoc, Some, None, Option}
-use Rattle.std.specs.Prelude.{Ok, Result}
+use Rattle.std.specs.Prelude.{IsOk, Ok, Result}
 use Rattle.std.specs.Result.{result_unwrap_or}
 use Rattle.std.proofs.lemmas.List.{map-append}
 use Rattle.hc_records.specs.declared.edit.Edit.{Edit}
@@ -21,13 +21,14 @@ use Rattle.hc_plan.specs.Reports.{Tells, name_of}
 use Rattle.hc_events.specs.declared.answer.Answer.TheVariants as answer
 use Rattle.hc_events.specs.declared.change.Change.{Change}
 use Rattle.hc_events.specs.declared.change.Change.TheVariants as change
-use Rattle.hc_events.specs.Changes.{Swapped, SwapsLeadFrom, news_of, told_by}
+use Rattle.hc_events.specs.Changes.{Swapped, news_of, told_by}
 use Rattle.hc_events.specs.Entries.{Record, Edited}
 use Rattle.hc_events.specs.NewsLaws.{state_behind}
 use Rattle.hc_events.specs.Outputs.{value_bit}
 use Rattle.hc_events.specs.Owed.{known_bytes}
 use Rattle.hc_events.specs.Points.{line_of, state_of}
 use Rattle.hc_events.specs.Steps.{told_of_edit}
+use Rattle.hc_events.proofs.lemmas.Views.{legal-joined}
 use Rattle.hc_awaited.specs.Waiting.{nothing}
 use Rattle.hc_inputs.specs.Image.{HasNone, Image}
 use Rattle.hc_outputs.specs.Packed.{Holds, Packed}
@@ -65,12 +66,6 @@ edited-told old new edit report accepted tell =
 
 -- a swap behind the changes
 
-swap_lead : (state : State) (changes : List Change) (swap : Swap) → swapped swap.change (table_of (line (state_behind state changes))) ≡ table_of (line (state_after (state_behind state changes) swap.edit))
-    → SwapsLeadFrom state changes → SwapsLeadFrom state (changes ++ change.Swapped swap ∷ [])
-swap_lead state [] swap leads lead = (leads, tt)
-swap_lead state (change.Swapped other ∷ changes) swap leads lead = (lead.0, swap_lead (state_after state other.edit) changes swap leads lead.1)
-swap_lead state (change.Good task d bytes ∷ changes) swap leads lead = swap_lead state changes swap leads lead
-
 swap_behind : (state : State) (changes : List Change) (swap : Swap) → state_behind state (changes ++ change.Swapped swap ∷ []) ≡ state_after (state_behind state changes) swap.edit
 swap_behind state [] swap = refl
 swap_behind state (change.Swapped other ∷ changes) swap = swap_behind (state_after state other.edit) changes swap
@@ -87,9 +82,14 @@ news-edited taken past edit changes new report accepted tell tells =
           ∙ append_assoc (news_of taken) (map told_by changes) (Swapped edit ∷ [])
           ∙ ap (λ one. news_of taken ++ (map told_by changes ++ Swapped one ∷ [])) (sym tell.named)
           ∙ ap (λ told. news_of taken ++ told) (sym (map-append told_by changes (change.Swapped swap ∷ [])));
-      lead = swap_lead (state_of taken) changes swap
-          (ap (λ state. swapped swap.change (table_of (line state))) behind ∙ tell.leads ∙ ap (λ state. table_of (line state)) (sym after) ∙ ap (λ state. table_of (line (state_after state swap.edit))) (sym behind))
-          tells.lead;
+      legal = legal-joined (state_of taken) changes (change.Swapped swap ∷ []) tells.legal (
+        record {
+          accepted = subst (λ (one : Edit). IsOk (edited (state_behind (state_of taken) changes) one)) (sym tell.named)
+              (subst (λ (state : State). IsOk (edited state edit)) (sym behind) (subst (λ (made : Result State EditFault). IsOk made) (sym accepted) refl));
+          leads = ap (λ state. swapped swap.change (table_of (line state))) behind ∙ tell.leads ∙ ap (λ state. table_of (line state)) (sym after) ∙ ap (λ state. table_of (line (state_after state swap.edit))) (sym behind);
+        },
+        tt,
+      );
       behind = swap_behind (state_of taken) changes swap ∙ ap (λ state. state_after state swap.edit) behind ∙ ap (state_after (state_of past)) tell.named;
     }
 

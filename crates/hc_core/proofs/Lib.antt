@@ -21,5 +21,6 @@ pub mod Fills
 pub mod PostFaults
 pub mod LastData
 pub mod Lines
+pub mod GoesWithout
 pub mod ReadsAmong
 pub mod PartsSent

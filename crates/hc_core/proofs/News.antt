@@ -1,16 +1,21 @@
 -- The changes that nobody took, behind good answers.
-use Rattle.std.proofs.Common.{◌≡◌, List, [], ◌∷◌, ◌++◌, map, refl, sym, ap, ◌∙◌, append_assoc}
+use Rattle.std.proofs.Common.{◌≡◌, List, [], ◌∷◌, ◌++◌, map, refl, sym, ap, ◌∙◌, subst, append_assoc}
+use Rattle.std.specs.Prelude.{All}
 use Rattle.std.proofs.lemmas.List.{append-nil, map-append}
-use Rattle.hc_records.specs.Line.{State}
+use Rattle.std.proofs.lemmas.List.Elements.{All-head, All-tail}
+use Rattle.hc_records.specs.Line.{State, line}
 use Rattle.hc_records.specs.Edits.{state_after}
 use Rattle.hc_events.specs.declared.change.Change.{Change}
 use Rattle.hc_events.specs.declared.change.Change.TheVariants as change
 use Rattle.hc_events.specs.Arrivals.{Arrival}
 use Rattle.hc_events.specs.Entries.{Record, Came}
-use Rattle.hc_events.specs.Points.{state_of}
+use Rattle.hc_events.specs.Points.{line_of, state_of}
+use Rattle.hc_events.specs.Accepted.{StandsIn}
 use Rattle.hc_events.specs.Images.{Fresh, fresh_by}
-use Rattle.hc_events.specs.Changes.{Answered, SwapsLeadFrom, news_of, told_by}
+use Rattle.hc_events.specs.Changes.{Answered, AreLegalFrom, news_of, told_by}
 use Rattle.hc_events.specs.NewsLaws.{state_behind}
+use Rattle.hc_events.proofs.lemmas.Slots.{FitsFresh}
+use Rattle.hc_events.proofs.lemmas.Views.{legal-joined}
 use Rattle.hc_core.specs.Agreement.{Agree, Kept, TellNews}
 use Rattle.hc_core.specs.Goods.{change_of}
 
@@ -18,11 +23,11 @@ goods_told : (goods : List Fresh) → map told_by (map change_of goods) ≡ map 
 goods_told [] = refl
 goods_told (good ∷ goods) = ap (λ rest. Answered good ∷ rest) (goods_told goods)
 
-goods_lead : (state : State) (changes : List Change) (goods : List Fresh) → SwapsLeadFrom state changes → SwapsLeadFrom state (changes ++ map change_of goods)
-goods_lead state [] [] lead = lead
-goods_lead state [] (good ∷ goods) lead = goods_lead state [] goods lead
-goods_lead state (change.Swapped swap ∷ changes) goods lead = (lead.0, goods_lead (state_after state swap.edit) changes goods lead.1)
-goods_lead state (change.Good task d bytes ∷ changes) goods lead = goods_lead state changes goods lead
+goods_legal : (state : State) (goods : List Fresh) → All (FitsFresh StandsIn (line state)) goods → AreLegalFrom state (map change_of goods)
+goods_legal state [] all = tt
+goods_legal state (good ∷ goods) all =
+    let fit = All-head (FitsFresh StandsIn (line state)) good goods all in
+    (record { stands = fit.1; fits = fit.0 }, goods_legal state goods (All-tail (FitsFresh StandsIn (line state)) good goods all))
 
 goods_behind : (state : State) (changes : List Change) (goods : List Fresh) → state_behind state (changes ++ map change_of goods) ≡ state_behind state changes
 goods_behind state [] [] = refl
@@ -30,22 +35,24 @@ goods_behind state [] (good ∷ goods) = goods_behind state [] goods
 goods_behind state (change.Swapped swap ∷ changes) goods = goods_behind (state_after state swap.edit) changes goods
 goods_behind state (change.Good task d bytes ∷ changes) goods = goods_behind state changes goods
 
-pub news-came : (taken past : Record) (arrival : Arrival) (changes : List Change) (goods : List Fresh) → fresh_by past arrival ≡ goods → TellNews taken past changes
+pub news-came : (taken past : Record) (arrival : Arrival) (changes : List Change) (goods : List Fresh) → fresh_by past arrival ≡ goods → All (FitsFresh StandsIn (line_of past)) (fresh_by past arrival) → TellNews taken past changes
     → TellNews taken (Came arrival ∷ past) (changes ++ map change_of goods)
-news-came taken past arrival changes goods same tells = record {
+news-came taken past arrival changes goods same fit tells = record {
   told = ap (λ all. news_of past ++ map Answered all) same
       ∙ ap (λ news. news ++ map Answered goods) tells.told
       ∙ append_assoc (news_of taken) (map told_by changes) (map Answered goods)
       ∙ ap (λ told. news_of taken ++ (map told_by changes ++ told)) (sym (goods_told goods))
       ∙ ap (λ told. news_of taken ++ told) (sym (map-append told_by changes (map change_of goods)));
-  lead = goods_lead (state_of taken) changes goods tells.lead;
+  legal = legal-joined (state_of taken) changes (map change_of goods) tells.legal
+      (subst (λ (state : State). AreLegalFrom state (map change_of goods)) (sym tells.behind)
+      (goods_legal (state_of past) goods (subst (All (FitsFresh StandsIn (line_of past))) same fit)));
   behind = goods_behind (state_of taken) changes goods ∙ tells.behind;
 }
 
 pub news-none : (taken past : Record) (arrival : Arrival) (changes : List Change) → fresh_by past arrival ≡ [] → TellNews taken past changes → TellNews taken (Came arrival ∷ past) changes
 news-none taken past arrival changes none tells = record {
   told = ap (λ all. news_of past ++ map Answered all) none ∙ append-nil (news_of past) ∙ tells.told;
-  lead = tells.lead;
+  legal = tells.legal;
   behind = tells.behind;
 }
 
@@ -63,5 +70,5 @@ agree-taken kept past taken agree = record {
   slots = agree.slots;
   values = agree.values;
   known = agree.known;
-  tells = record { told = sym (append-nil (news_of past)); lead = tt; behind = refl };
+  tells = record { told = sym (append-nil (news_of past)); legal = tt; behind = refl };
 }

@@ -44,7 +44,7 @@ agree-opened groups inputs outputs project uncrowded none zeros = record {
   slots = λ task d below. none task d;
   values = zeros;
   known = record { blocks = refl; room = itself (declared_blocks (opened groups).groups) };
-  tells = record { told = sym (append-nil (news_of (just_opened groups))); lead = tt; behind = refl };
+  tells = record { told = sym (append-nil (news_of (just_opened groups))); legal = tt; behind = refl };
 }
 
 abbrev pub IsProject : State → Type 0

@@ -94,5 +94,5 @@ agree-posted kept past taken task epoch bytes outputs none holds agree = record 
   slots = agree.slots;
   values = values-posted past task bytes outputs agree.project holds;
   known = record { blocks = agree.known.blocks; room = agree.known.room };
-  tells = record { told = agree.tells.told; lead = agree.tells.lead; behind = agree.tells.behind };
+  tells = record { told = agree.tells.told; legal = agree.tells.legal; behind = agree.tells.behind };
 }

@@ -74,7 +74,7 @@ agree-sent kept past taken tasks none owed left agree =
       };
       tells = record {
         told = sent_alike news_of (λ before frame. refl) frames past ∙ agree.tells.told;
-        lead = agree.tells.lead;
+        legal = agree.tells.legal;
         behind = agree.tells.behind ∙ sym same;
       };
     }
@@ -108,5 +108,5 @@ agree-wrote right kept past taken n block first left agree = record {
         ∙ kept-alike (known_with (name_of block) None (known_bytes past)) (known_bytes (Wrote block ∷ past)) (state_of past) (λ station number. sym (known-wrote past block station number));
     room = agree.known.room;
   };
-  tells = record { told = agree.tells.told; lead = agree.tells.lead; behind = agree.tells.behind };
+  tells = record { told = agree.tells.told; legal = agree.tells.legal; behind = agree.tells.behind };
 }

@@ -11,7 +11,7 @@ use Rattle.hc_events.specs.Entries.{Record}
 use Rattle.hc_events.specs.Points.{line_of, next_serial, state_of}
 use Rattle.hc_events.specs.Images.{slot_of}
 use Rattle.hc_events.specs.Owed.{known_bytes}
-use Rattle.hc_events.specs.Changes.{SwapsLeadFrom, news_of, told_by}
+use Rattle.hc_events.specs.Changes.{AreLegalFrom, news_of, told_by}
 use Rattle.hc_events.specs.NewsLaws.{state_behind}
 use Rattle.hc_awaited.specs.Waiting.{Waiting}
 use Rattle.hc_inputs.specs.Image.{Image, data_of}
@@ -33,10 +33,10 @@ pub record Knows (past : Record) (owed : Owed) : Type 0 where
   pub blocks : owed.blocks ≡ kept_of (known_bytes past) (state_of past)
   pub room : declared_blocks (state_of past).groups ≤ owed.room
 
--- the changes that nobody took tell what is news since the last taking, and their swaps lead from the line as it was then to the present one
+-- the changes that nobody took tell what is news since the last taking; they are legal from the state as it was then, and lead to the present one
 pub record TellNews (taken past : Record) (changes : List Change) : Type 0 where
   pub told : news_of past ≡ news_of taken ++ map told_by changes
-  pub lead : SwapsLeadFrom (state_of taken) changes
+  pub legal : AreLegalFrom (state_of taken) changes
   pub behind : state_behind (state_of taken) changes ≡ state_of past
 
 -- the parts of a core

@@ -1,5 +1,5 @@
 -- What a task reads, said of the record alone: which arrivals were good answers of a datagram, and which of these was the last one (this project's profile).
-use Rattle.std.specs.Prelude.{◌≡◌, ℕ, ◌<◌, ◌⊎◌, All, Bool, true, false, List, ◌∷◌, ◌++◌, length, slice_get, take, Option, Some, None}
+use Rattle.std.specs.Prelude.{◌≡◌, ℕ, ◌<◌, ◌⊎◌, All, Bool, true, false, not, if◌then◌else◌, List, [], ◌∷◌, ◌++◌, filter, length, slice_get, take, Option, Some, None}
 use Rattle.std.specs.List.{list_any, zip}
 use Rattle.hc_records.specs.declared.limits.TheConstants.{TASKS}
 use Rattle.hc_records.specs.Image.{datagram_count, expected_counter, task_places}
@@ -13,8 +13,8 @@ use Rattle.hc_events.specs.Sendings.{Named, length_of}
 use Rattle.hc_events.specs.Heads.{Datagram, data_heads}
 use Rattle.hc_events.specs.Answering.{has_heads, sends}
 use Rattle.hc_events.specs.AnswerLaws.{LeavesOpen}
-use Rattle.hc_events.specs.Stale.{SameBehind, without_stale}
-use Rattle.hc_events.specs.Steps.{Step, Reads, answer_to}
+use Rattle.hc_events.specs.Stale.{SameBehind, SaysTheSame, without_stale}
+use Rattle.hc_events.specs.Steps.{Step, Reads, answer_to, answers_to, entries_after_all}
 use Rattle.hc_core.specs.Serving.{MayAnswerAll}
 
 -- an arrival is the return of a frame of tasks: one that was sent before, with as many sendings before it as the arrival's serial says, and with the same commands, addresses and lengths, datagram for datagram; between the two no edit was accepted, and no other such arrival came
@@ -99,3 +99,23 @@ StaleLeavesNothing past told next = told ≡ answer.Stale → (later : List Step
 -- nor do all of a record's stale arrivals
 abbrev pub IsAsWithoutStale : Record → Type 0
 IsAsWithoutStale past = (later : List Step) → SameBehind past (without_stale past) later
+
+-- an answer to an event that leaves nothing: that to a stale arrival, and a refusal for want of memory
+abbrev pub leaves_nothing : Answer → Bool
+leaves_nothing answer.Stale = true
+leaves_nothing (answer.Refused Memory) = true
+leaves_nothing told = false
+
+-- the events whose answers leave something
+abbrev pub events_left : List Step → List Answer → List Step
+events_left (step ∷ steps) (told ∷ answers) = if leaves_nothing told then events_left steps answers else step ∷ events_left steps answers
+events_left _ _ = []
+
+-- these answers
+abbrev pub answers_left : List Answer → List Answer
+answers_left answers = filter (λ told. not (leaves_nothing told)) answers
+
+-- without the events whose answers leave nothing, the others have just the answers that they had, and the record that they lead to says the same as the one that was left
+pub record GoesWithoutThem (past : Record) (steps : List Step) (answers : List Answer) (next : Record) : Type 0 where
+  pub answers_are : answers_to past (events_left steps answers) ≡ answers_left answers
+  pub says : SaysTheSame (entries_after_all past (events_left steps answers)) next

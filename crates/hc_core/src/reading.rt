@@ -4,7 +4,8 @@ ghost use Rattle.hc_records.specs.declared.limits.TheConstants.{TASKS};
 ghost use Rattle.hc_records.specs.Lists.{lowest};
 ghost use Rattle.hc_events.specs.declared.answer.Answer.TheVariants as answer;
 ghost use Rattle.hc_events.specs.Owed.{owed_blocks};
-ghost use Rattle.hc_events.specs.Points.{next_serial, state_of};
+ghost use Rattle.hc_events.specs.Accepted.{IsReachable};
+ghost use Rattle.hc_events.specs.Points.{epoch_of, next_serial, state_of};
 ghost use Rattle.hc_events.specs.Steps.{Reads, answer_to, read_faults};
 ghost use Rattle.hc_core.specs.LastData.{ShowsLastData};
 
@@ -16,9 +17,12 @@ use hc_records::limits::TASKS;
 use std::alloc::{AllocError, Global};
 
 impl Core {
-    /// The plan of the present line.
+    /// The plan of the present line. Its epoch is the number of accepted edits, and the record is one to which
+    /// events lead, as laws of records ask for.
     pub fn plan(&self) -> &Plan
-        ensures { result.now ≡ state_of self.now.past }
+        ensures state { result.now ≡ state_of self.now.past }
+        ensures reachable { IsReachable self.now.past }
+        ensures epoch { (state_of self.now.past).epoch ≡ epoch_of self.now.past }
     {
         &self.plan
     }

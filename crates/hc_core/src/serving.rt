@@ -4,7 +4,7 @@ ghost use Rattle.hc_events.specs.Calls.{AreSentTogether, MayAnswer};
 ghost use Rattle.hc_events.specs.Steps.{Arrives, Edits, Posts, Reads, SendsTasks, SendsWrite, step_of};
 ghost use Rattle.hc_core.specs.Early.{TellsEarly};
 ghost use Rattle.hc_core.specs.Lines.{IsLineAfter};
-ghost use Rattle.hc_core.specs.LastData.{IsAsWithoutStale, ReadsShowLastData, StaleLeavesNothing, TasksReadLastData};
+ghost use Rattle.hc_core.specs.LastData.{GoesWithoutThem, IsAsWithoutStale, ReadsShowLastData, StaleLeavesNothing, TasksReadLastData};
 ghost use Rattle.hc_core.specs.Serving.{IsAsked, MayAnswerAll, answer_of, answer_of_edit, answer_of_post, answer_or_memory};
 
 use crate::keeping::Core;
@@ -167,7 +167,8 @@ impl Core {
     /// between the events (`shown`) or behind them (`reads`), is of each datagram that it has in the present
     /// line the data of the last good answer in the present epoch, or none where there was none in it; that
     /// answer's frame was sent in a line with the same places. A stale frame changes nothing: all that comes
-    /// is answered as if none had come.
+    /// is answered as if none had come, and without the events that were answered `Stale` or refused for want of
+    /// memory the others have the answers that they have, and lead to a record that says the same (`without`).
     pub fn run(&mut self, alloc: Global, events: &[Event<'_>]) -> Result<Vec<Answer>, AllocError>
         requires { All (λ event. IsAsked (step_of event)) events.now }
         ensures answers { IfOk result (λ answers. MayAnswerAll self.old.past (map step_of events.now) answers.items self.new.past) }
@@ -175,6 +176,7 @@ impl Core {
         ensures shown { IfOk result (λ answers. ReadsShowLastData self.old.past (map step_of events.now) answers.items) }
         ensures reads { TasksReadLastData self.new.past }
         ensures stale { IsAsWithoutStale self.new.past }
+        ensures without { IfOk result (λ answers. GoesWithoutThem self.old.past (map step_of events.now) answers.items self.new.past) }
         ensures taken { self.new.taken ≡ self.old.taken }
         ensures unchanged { OnErr result (self.new ≡ self.old) }
     {

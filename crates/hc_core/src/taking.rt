@@ -1,6 +1,6 @@
 //! Takes the changes.
 ghost use Rattle.std.specs.Prelude.{◌≡◌, ◌++◌, map};
-ghost use Rattle.hc_events.specs.Changes.{SwapsLeadFrom, news_of, told_by};
+ghost use Rattle.hc_events.specs.Changes.{AreLegalFrom, SwapsLeadFrom, news_of, told_by};
 ghost use Rattle.hc_events.specs.NewsLaws.{state_behind};
 ghost use Rattle.hc_events.specs.Points.{state_of};
 
@@ -11,11 +11,12 @@ use std::mem;
 use std::snapshot::Snapshot;
 
 impl Core {
-    /// The changes since they were taken last, or since the opening, in order: what was news since then, and
-    /// swaps that lead from the line as it was then to the present one. They are no longer kept, and the
-    /// record stays. It takes no memory: `alloc` is for the empty list that is kept from now on.
+    /// The changes since they were taken last, or since the opening, in order: what was news since then, legal
+    /// from the state as it was then, with swaps that lead from its line to the present one. They are no longer
+    /// kept, and the record stays. It takes no memory: `alloc` is for the empty list that is kept from now on.
     pub fn take_changes(&mut self, alloc: Global) -> Vec<Change>
         ensures told { news_of self.old.past ≡ news_of self.old.taken ++ map told_by result.items }
+        ensures legal { AreLegalFrom (state_of self.old.taken) result.items }
         ensures lead { SwapsLeadFrom (state_of self.old.taken) result.items }
         ensures behind { state_behind (state_of self.old.taken) result.items ≡ state_of self.old.past }
         ensures taken { self.new ≡ record { past = self.old.past; taken = self.old.past } }

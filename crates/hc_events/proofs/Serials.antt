@@ -141,8 +141,10 @@ left_after_all past (step ∷ steps) before = left_after_all (entries_after past
 zero_left : 0 ≤ SETUP_SERIAL
 zero_left = omega arith
 
-pub serials-stay_below : (groups : List Group) (steps : List Step) (serial : ℕ) (sending : Sending) → sending_of (record_of groups steps) serial ≡ Some sending → serial < SETUP_SERIAL
-serials-stay_below groups steps serial sending e =
-    let left : next_serial (record_of groups steps) ≤ SETUP_SERIAL = left_after_all (just_opened groups) steps zero_left in
-    let below : serial < next_serial (record_of groups steps) = serial-below (record_of groups steps) serial (is_some_of (sending_of (record_of groups steps) serial) sending e) in
+pub serials-left : (groups : List Group) (steps : List Step) → Left (record_of groups steps)
+serials-left groups steps = left_after_all (just_opened groups) steps zero_left
+
+pub serials-stay_below : (past : Record) (serial : ℕ) (sending : Sending) → Left past → sending_of past serial ≡ Some sending → serial < SETUP_SERIAL
+serials-stay_below past serial sending left e =
+    let below : serial < next_serial past = serial-below past serial (is_some_of (sending_of past serial) sending e) in
     omega arith

@@ -13,5 +13,6 @@ pub mod SentBits
 pub mod SentValues
 pub mod Slots
 pub mod StaleStays
+pub mod Views
 pub mod Standing
 pub mod WithoutStale

@@ -1,5 +1,5 @@
 -- What is known of an entry by its being accepted, and of a record by the events that led to it.
-use Rattle.std.specs.Prelude.{◌≡◌, ℕ, ◌<◌, All, Contains, List, [], ◌∷◌, length, map, None}
+use Rattle.std.specs.Prelude.{◌≡◌, ℕ, ◌<◌, ◌≤◌, All, Contains, List, [], ◌∷◌, length, map, None}
 use Rattle.hc_records.specs.declared.limits.TheConstants.{TASKS}
 use Rattle.hc_records.specs.declared.records.Group.{Group}
 use Rattle.hc_records.specs.Lists.{lowest}
@@ -7,8 +7,9 @@ use Rattle.hc_records.specs.Line.{Member}
 use Rattle.hc_records.specs.Image.{datagram_count, output_length, task_places}
 use Rattle.hc_records.specs.Edits.{edit_faults}
 use Rattle.hc_registers.specs.Blocks.{LineBlock}
+use Rattle.hc_frames.specs.declared.limits.TheConstants.{SETUP_SERIAL}
 use Rattle.hc_events.specs.Entries.{Entry, Record, Opened, Edited, Posted, Sent, Wrote, Came}
-use Rattle.hc_events.specs.Points.{line_of, state_of}
+use Rattle.hc_events.specs.Points.{line_of, next_serial, opened_with, state_of}
 use Rattle.hc_events.specs.Sendings.{Named, sendings_of}
 use Rattle.hc_events.specs.Owed.{owed_blocks}
 use Rattle.hc_events.specs.Steps.{Step, entries_after_all}
@@ -62,6 +63,16 @@ AreAccepted [] = ⊥
 AreAccepted (Opened groups ∷ past) = past ≡ []
 AreAccepted (entry ∷ past) = IsAccepted past entry × AreAccepted past
 
--- so was each entry of the record to which events lead, when it came
-abbrev pub RecordsAreAccepted : Type 0
-RecordsAreAccepted = (groups : List Group) (steps : List Step) → AreAccepted (record_of groups steps)
+-- what holds of each record to which events lead, and what a law of such records asks for: each entry behind the opening was accepted when it came, and there are no more sendings than serials
+pub record IsReachable (past : Record) : Type 0 where
+  pub accepted : AreAccepted past
+  pub few : next_serial past ≤ SETUP_SERIAL
+
+-- a record to which events lead from a project's opening, with that project's groups
+pub record IsLedTo (groups : List Group) (past : Record) : Type 0 where
+  pub reachable : IsReachable past
+  pub groups_are : opened_with past ≡ groups
+
+-- so is each
+abbrev pub RecordsAreReachable : Type 0
+RecordsAreReachable = (groups : List Group) (steps : List Step) → IsLedTo groups (record_of groups steps)

@@ -1,7 +1,6 @@
 -- What holds of answers: an arrival answers a sending as its first one, and what is awaited is what arrivals can answer.
 use Rattle.std.specs.Prelude.{◌≡◌, ◌↔◌, ℕ, ◌==◌, ◌&&◌, not, true, false, if◌then◌else◌, All, Contains, List, [], ◌∷◌, ◌++◌, map, Some, Ok}
 use Rattle.std.specs.List.{flat_map, list_any, zip}
-use Rattle.hc_records.specs.declared.records.Group.{Group}
 use Rattle.hc_records.specs.Line.{Member}
 use Rattle.hc_records.specs.Image.{expected_counter}
 use Rattle.hc_registers.specs.Blocks.{LineBlock, line_blocks}
@@ -16,8 +15,8 @@ use Rattle.hc_events.specs.Heads.{Head, Item, Datagram as DatagramItem, Block, d
 use Rattle.hc_events.specs.Answering.{Sending, answered_by, has_heads, is_stale_to, judge, judged, judged_by, sends}
 use Rattle.hc_events.specs.Awaited.{awaited, is_write}
 use Rattle.hc_events.specs.Images.{Fresh, fresh_by}
-use Rattle.hc_events.specs.Steps.{Step, Arrives, answer_to, sent_datagram, told_of}
-use Rattle.hc_events.specs.Accepted.{StandsIn, record_of}
+use Rattle.hc_events.specs.Steps.{Arrives, answer_to, sent_datagram, told_of}
+use Rattle.hc_events.specs.Accepted.{IsReachable, StandsIn}
 use Rattle.hc_events.specs.SendingLaws.{StandsAt, heads_of}
 
 -- an entry leaves a sending to be answered: it is no opening, no accepted edit, and no arrival with the sending's serial, commands, addresses and lengths
@@ -52,8 +51,8 @@ IsHeadOf line head = IsItemOf line head.item head
 -- a sending that is answered is of the present line: command, address, length and expected working counter of each datagram are those that it has now
 abbrev pub AnsweredAreOfTheLine : Type 0
 AnsweredAreOfTheLine =
-    (groups : List Group) (steps : List Step) (arrival : Arrival) (sending : Sending)
-    → answered_by (record_of groups steps) arrival ≡ Some sending → All (IsHeadOf (line_of (record_of groups steps))) sending.heads
+    (past : Record) (arrival : Arrival) (sending : Sending) → IsReachable past → answered_by past arrival ≡ Some sending
+    → All (IsHeadOf (line_of past)) sending.heads
 
 -- something is awaited with an arrival's serial, and the arrival has its commands, addresses and lengths
 pub record IsAwaited (past : Record) (arrival : Arrival) : Type 0 where
@@ -80,9 +79,9 @@ AwaitedAreAnswered = (past : Record) (arrival : Arrival) → AnswersTheAwaited p
 -- where a register write is awaited nothing else is, neither another write nor a frame of tasks
 abbrev pub WritesAreAwaitedAlone : Type 0
 WritesAreAwaitedAlone =
-    (groups : List Group) (steps : List Step) (serial other : ℕ) (write sending : Sending)
-    → awaited (record_of groups steps) serial ≡ Some write → is_write write ≡ true
-    → awaited (record_of groups steps) other ≡ Some sending → other ≡ serial
+    (past : Record) (serial other : ℕ) (write sending : Sending) → IsReachable past
+    → awaited past serial ≡ Some write → is_write write ≡ true
+    → awaited past other ≡ Some sending → other ≡ serial
 
 -- the datagrams with which a sending goes out
 abbrev pub sent_datagrams : Record → Entry → List Datagram

@@ -2,7 +2,6 @@
 use Rattle.std.specs.Prelude.{◌≡◌, ℕ, IsNone, IsSome, IsTrue, List, ◌∷◌, length, map, Some, None}
 use Rattle.std.specs.List.{list_any, range_with_len}
 use Rattle.hc_records.specs.declared.edit.Edit.{Edit}
-use Rattle.hc_records.specs.declared.records.Group.{Group}
 use Rattle.hc_registers.specs.Blocks.{LineBlock, line_blocks, same_block}
 use Rattle.hc_events.specs.Arrivals.{Arrival}
 use Rattle.hc_events.specs.Entries.{Record, Edited, Came}
@@ -12,7 +11,7 @@ use Rattle.hc_events.specs.Answering.{answered_by}
 use Rattle.hc_events.specs.Images.{slot_of}
 use Rattle.hc_events.specs.Owed.{is_owed}
 use Rattle.hc_events.specs.Steps.{Step, Edits, edit_refused, entries_after, entries_after_all, proposal}
-use Rattle.hc_events.specs.Accepted.{record_of}
+use Rattle.hc_events.specs.Accepted.{IsReachable}
 
 -- no sending is answered twice: once an arrival has answered one, no arrival with its serial answers any, whatever comes in between
 abbrev pub AnswersOnce : Type 0
@@ -45,5 +44,4 @@ UnmovedIsOwedAsBefore =
 
 -- the epoch of the state is the number of accepted edits
 abbrev pub EpochsAreCounted : Type 0
-EpochsAreCounted =
-    (groups : List Group) (steps : List Step) → (state_of (record_of groups steps)).epoch ≡ epoch_of (record_of groups steps)
+EpochsAreCounted = (past : Record) → IsReachable past → (state_of past).epoch ≡ epoch_of past

@@ -25,5 +25,6 @@ pub mod SendingLaws
 pub mod AnswerLaws
 pub mod DataLaws
 pub mod NewsLaws
+pub mod ViewLaws
 pub mod FaultLaws
 pub mod CallLaws

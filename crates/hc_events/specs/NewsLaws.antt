@@ -9,13 +9,13 @@ use Rattle.hc_events.specs.declared.change.Change.{Change}
 use Rattle.hc_events.specs.declared.change.Change.TheVariants as change
 use Rattle.hc_events.specs.Arrivals.{Arrival, Part}
 use Rattle.hc_events.specs.Entries.{Entry, Record, Edited, Came}
-use Rattle.hc_events.specs.Points.{epoch_of, line_of}
+use Rattle.hc_events.specs.Points.{epoch_of, line_of, opened_with}
 use Rattle.hc_events.specs.Heads.{Datagram, Head}
 use Rattle.hc_events.specs.Answering.{Sending, answered_by, sends}
 use Rattle.hc_events.specs.Images.{Fresh, is_for, slot_of}
 use Rattle.hc_events.specs.Changes.{AreChangesOf, AreLegal, IsAnswerIn, News, Swapped, Answered, epoch_behind, news_of, slot_behind, table_behind, told_by}
 use Rattle.hc_events.specs.Steps.{Step, entries_after_all}
-use Rattle.hc_events.specs.Accepted.{record_of}
+use Rattle.hc_events.specs.Accepted.{IsReachable}
 
 -- events add news behind those that there are, and take none away
 pub record Grows (old new : List News) : Type 0 where
@@ -87,8 +87,8 @@ LegalChangesDecide = (groups : List Group) (changes : List Change) → AreLegal 
 -- the changes that events lead to are legal for the project
 abbrev pub ChangesAreLegal : Type 0
 ChangesAreLegal =
-    (groups : List Group) (steps : List Step) (changes : List Change) → AreChangesOf groups (record_of groups steps) changes
-    → AreLegal groups changes
+    (past : Record) (changes : List Change) → IsReachable past → AreChangesOf (opened_with past) past changes
+    → AreLegal (opened_with past) changes
 
 -- a list of changes leads to what is read behind a record
 pub record TellsAll (groups : List Group) (past : Record) (changes : List Change) : Type 0 where
@@ -99,8 +99,8 @@ pub record TellsAll (groups : List Group) (past : Record) (changes : List Change
 -- so does each legal list that tells the record's edits and answers, however its swaps come to the next places
 abbrev pub ChangesTellAll : Type 0
 ChangesTellAll =
-    (groups : List Group) (steps : List Step) (changes : List Change) → AreLegal groups changes
-    → map told_by changes ≡ news_of (record_of groups steps) → TellsAll groups (record_of groups steps) changes
+    (past : Record) (changes : List Change) → IsReachable past → AreLegal (opened_with past) changes
+    → map told_by changes ≡ news_of past → TellsAll (opened_with past) past changes
 
 -- two lists of changes lead to the same
 pub record LeadToTheSame (groups : List Group) (first second : List Change) : Type 0 where

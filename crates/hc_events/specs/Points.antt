@@ -1,5 +1,6 @@
 -- What follows from a record for the point behind it: the line, the epoch and the next serial.
 use Rattle.std.specs.Prelude.{ℕ, ◌+◌, List, [], ◌∷◌}
+use Rattle.hc_records.specs.declared.records.Group.{Group}
 use Rattle.hc_records.specs.Line.{Member, State, line, opened}
 use Rattle.hc_records.specs.Edits.{state_after}
 use Rattle.hc_events.specs.Entries.{Record, Opened, Edited, Sent, Wrote}
@@ -10,6 +11,12 @@ state_of [] = opened []
 state_of (Opened groups ∷ past) = opened groups
 state_of (Edited edit ∷ past) = state_after (state_of past) edit
 state_of (entry ∷ past) = state_of past
+
+-- the groups of the project that was opened
+abbrev pub opened_with : Record → List Group
+opened_with [] = []
+opened_with (Opened groups ∷ past) = groups
+opened_with (entry ∷ past) = opened_with past
 
 -- the line of a record's state: its present slaves, in order
 abbrev pub line_of : Record → List Member

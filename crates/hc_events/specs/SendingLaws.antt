@@ -1,7 +1,6 @@
 -- What holds of sendings: which of them has a serial, which frames an accepted event sends, and what these carry.
 use Rattle.std.specs.Prelude.{◌≡◌, ◌≢◌, ◌↔◌, ℕ, ◌+◌, ◌%◌, ◌<◌, Bool, true, false, All, IsNone, IsSome, List, [], ◌∷◌, ◌++◌, length, map, slice_index, Some}
 use Rattle.std.specs.List.{flat_map, list_all, list_any}
-use Rattle.hc_records.specs.declared.records.Group.{Group}
 use Rattle.hc_records.specs.Lists.{lowest}
 use Rattle.hc_registers.specs.Blocks.{LineBlock}
 use Rattle.hc_frames.specs.declared.limits.TheConstants.{SETUP_SERIAL}
@@ -13,8 +12,8 @@ use Rattle.hc_events.specs.Sendings.{Frame, size_of, task_datagrams}
 use Rattle.hc_events.specs.Heads.{Head, data_heads, write_head}
 use Rattle.hc_events.specs.Answering.{Sending, just_sent, sending_of}
 use Rattle.hc_events.specs.Owed.{owed_blocks}
-use Rattle.hc_events.specs.Steps.{Step, SendsTasks, SendsWrite, answer_to, entries_after, proposal, sent_text, task_faults, write_faults, write_text}
-use Rattle.hc_events.specs.Accepted.{record_of}
+use Rattle.hc_events.specs.Steps.{SendsTasks, SendsWrite, answer_to, entries_after, proposal, sent_text, task_faults, write_faults, write_text}
+use Rattle.hc_events.specs.Accepted.{IsReachable}
 
 -- a frame of tasks or a register write
 abbrev pub is_sending : Entry → Bool
@@ -61,7 +60,7 @@ SerialsAscend =
 -- each is below the serial of alias reads and station writes
 abbrev pub SerialsStayBelow : Type 0
 SerialsStayBelow =
-    (groups : List Group) (steps : List Step) (serial : ℕ) (sending : Sending) → sending_of (record_of groups steps) serial ≡ Some sending
+    (past : Record) (serial : ℕ) (sending : Sending) → IsReachable past → sending_of past serial ≡ Some sending
     → serial < SETUP_SERIAL
 
 -- the entry is a frame of tasks

@@ -7,6 +7,7 @@ use Rattle.hc_events.specs.Answering.{is_stale_to}
 use Rattle.hc_events.specs.Images.{slot_of}
 use Rattle.hc_events.specs.Outputs.{value_bit}
 use Rattle.hc_events.specs.Owed.{known_bytes}
+use Rattle.hc_events.specs.Changes.{news_of}
 use Rattle.hc_events.specs.Steps.{Step, Arrives, answers_to, entries_after, entries_after_all}
 
 -- a record without the arrivals that were stale when they came
@@ -16,7 +17,7 @@ without_stale (Came arrival ∷ past) =
     if is_stale_to past arrival then without_stale past else Came arrival ∷ without_stale past
 without_stale (entry ∷ past) = entry ∷ without_stale past
 
--- two records say the same of the line, the epoch, the next serial, the input images, the output values and the known bytes
+-- two records say the same of the line, the epoch, the next serial, the input images, the output values, the known bytes and the news
 pub record SaysTheSame (a b : Record) : Type 0 where
   pub state : state_of a ≡ state_of b
   pub epoch : epoch_of a ≡ epoch_of b
@@ -24,6 +25,7 @@ pub record SaysTheSame (a b : Record) : Type 0 where
   pub slots : (task d : ℕ) → slot_of a task d ≡ slot_of b task d
   pub values : (variable k : ℕ) → value_bit a variable k ≡ value_bit b variable k
   pub known : (station number : ℕ) → known_bytes a station number ≡ known_bytes b station number
+  pub news : news_of a ≡ news_of b
 
 -- behind both, these events have the same answers and lead to records that say the same
 pub record SameBehind (a b : Record) (steps : List Step) : Type 0 where

@@ -1,6 +1,6 @@
 //! What follows from the definitions of `specs/`, so that a reader can trust them: each function here
 //! does nothing, and its contract is a law that holds of every record. Nobody calls it.
-ghost use Rattle.hc_events.specs.Accepted.{RecordsAreAccepted};
+ghost use Rattle.hc_events.specs.Accepted.{RecordsAreReachable};
 ghost use Rattle.hc_events.specs.AnswerLaws.{AnsweredAreOfTheLine, AnswersTheSerial, AwaitedAreAnswered, ReturnedFramesAnswer, WritesAreAwaitedAlone};
 ghost use Rattle.hc_events.specs.CallLaws.{FramesFillTheirBytes, PreviewsAreFrames, WritesFillTheirBytes};
 ghost use Rattle.hc_events.specs.DataLaws.{SentDataAreValues};
@@ -8,6 +8,7 @@ ghost use Rattle.hc_events.specs.FaultLaws.{FaultsAreNumbered};
 ghost use Rattle.hc_events.specs.Laws.{AnswersOnce, EditsLeaveNoSlot, EpochsAreCounted, ProposalsAreNumbered, SlotsFit, UnmovedIsOwedAsBefore};
 ghost use Rattle.hc_events.specs.NewsLaws.{ChangesAreLegal, ChangesTellAll, LegalChangesAgree, LegalChangesDecide, NewsAreOfTheRecord, NewsOnlyGrow, SlotsAreLastAnswers};
 ghost use Rattle.hc_events.specs.SendingLaws.{FramesHaveTheirSizes, IndexesComeAgain, ProposalsCarryTheTasks, SendingsHaveSerials, SentFramesAreFound, SentWritesAreFound, SerialsAscend, SerialsStayBelow};
+ghost use Rattle.hc_events.specs.ViewLaws.{ChangesLeadOn, LegalEpochsFit, LegalJoins, ViewsAreReads};
 ghost use Rattle.hc_events.specs.Stale.{StaleArrivalsCanGo, StaleChangesNothing, StaleIsToldWithout, StaleStaysStale, StepsKeepWithout, UnreadableChangesNothing};
 
 /// A record with an arrival that was stale when it came, and the same record without it, whatever was
@@ -46,9 +47,10 @@ pub fn unreadable_changes_nothing()
 
 /// Each entry of a record that events led to was accepted when it came: an edit by the state, a post by
 /// its task and its length, a frame of tasks because all its datagrams are the line's and nothing was
-/// owed, a register write as that of the first owed block.
-pub fn records_are_accepted()
-    ensures { RecordsAreAccepted }
+/// owed, a register write as that of the first owed block. No serial was given twice, and the record begins
+/// with the groups that were opened. This is what the laws of such records ask for.
+pub fn records_are_reachable()
+    ensures { RecordsAreReachable }
 {}
 
 /// An arrival answers a sending just where it has the sending's serial and, datagram for datagram, its
@@ -134,6 +136,28 @@ pub fn legal_changes_agree()
 /// read behind that record: the table of the line, the epoch, and the data of each datagram.
 pub fn changes_tell_all()
     ensures { ChangesTellAll }
+{}
+
+/// Behind two lists of changes in a row is what the second leads to from where the first one leads: table,
+/// epoch, data and state.
+pub fn changes_lead_on()
+    ensures { ChangesLeadOn }
+{}
+
+/// Two lists of changes in a row are legal just where the first is, and the second from the state behind it.
+pub fn legal_lists_join()
+    ensures { LegalJoins }
+{}
+
+/// The epoch behind a legal list of changes is at most the last one.
+pub fn legal_epochs_fit()
+    ensures { LegalEpochsFit }
+{}
+
+/// A legal list of changes that tells a record's edits and good answers shows of each task, 0 to 7, what a
+/// read of the record answers.
+pub fn views_are_reads()
+    ensures { ViewsAreReads }
 {}
 
 /// The changes that a project's record tells are legal for it: along their list each swap names an edit that

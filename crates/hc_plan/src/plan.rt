@@ -16,6 +16,7 @@ use hc_places::table::Places;
 use hc_records::edit::Edit;
 use hc_records::faults::EditFault;
 use hc_records::items::Items;
+use hc_records::keys::Key;
 use hc_records::project::Project;
 use hc_records::records::{Declared, Group};
 use hc_registers::blocks::Block;
@@ -92,8 +93,12 @@ impl Model for Plan {
 }
 
 impl Plan {
-    ghost use Rattle.std.specs.Prelude.{◌≡◌, ◌≢◌, Err, IfErr, IfOk, IfSome, None, Ok, OnErr, OnOk, length, map};
+    ghost use Rattle.std.specs.Prelude.{◌≡◌, ◌≢◌, ◌<◌, ◌≤◌, ◌∷◌, ◌++◌, [], Err, IfErr, IfOk, IfSome, None, Ok, OnErr, OnOk, length, map};
     ghost use Rattle.hc_records.specs.declared.faults.EditFault.TheVariants.{Memory};
+    ghost use Rattle.hc_records.specs.declared.keys.TheConstants.Key.{END};
+    ghost use Rattle.hc_records.specs.declared.limits.TheConstants.{MOST_DATAGRAMS, TASKS};
+    ghost use Rattle.hc_records.specs.Boundaries.{boundaries};
+    ghost use Rattle.hc_records.specs.TaskList.{task_list};
     ghost use Rattle.std.specs.List.{zip};
     ghost use Rattle.hc_records.specs.Edits.{crowded_task, edited, state_after_all};
     ghost use Rattle.hc_records.specs.Line.{groups_of, line, opened};
@@ -182,6 +187,17 @@ impl Plan {
         ensures { result ≡ (config (line self.now)).blocks }
     {
         line_blocks(self.groups.as_slice(), self.laid())
+    }
+
+    /// The keys at which the datagrams of a task, 0 to 7, begin in the present line: `Key::START`, with which the
+    /// first one begins if there is one, and a key for each later one. With `Key::END` behind them they are the
+    /// task's boundaries. It takes no memory.
+    pub fn starts(&self, task: u8) -> &[Key]
+        requires { task < TASKS }
+        ensures keys { result.now ++ END ∷ [] ≡ boundaries (task_list task (line self.now)) }
+        ensures few { length result.now ≤ MOST_DATAGRAMS }
+    {
+        self.cuts.starts(task)
     }
 
     /// The station address of the slave at a position of the line, from 0; none where the line is

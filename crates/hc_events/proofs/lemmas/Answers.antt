@@ -5,7 +5,6 @@ use Rattle.std.specs.Option.{option_map_or}
 use Rattle.std.specs.List.{list_any, zip}
 use Rattle.std.proofs.lemmas.Bool.{and_parts, eq-eqb, eqb-true, not-true, or_parts}
 use Rattle.std.proofs.lemmas.List.Elements.{All-nil, All-cons, All-head, All-tail, All-contains_itself}
-use Rattle.hc_records.specs.declared.records.Group.{Group}
 use Rattle.hc_records.specs.Line.{Member}
 use Rattle.hc_registers.specs.Blocks.{LineBlock, line_blocks}
 use Rattle.hc_records.proofs.lemmas.Lists.{All-passing}
@@ -17,11 +16,9 @@ use Rattle.hc_events.specs.Heads.{Head, data_head, data_heads, write_head}
 use Rattle.hc_events.specs.Answering.{Sending, answered_by, ends, fits, has_heads, is_answer, is_news, is_stale_to, judged, only_if, sending_of}
 use Rattle.hc_events.specs.Awaited.{alive, all_sent_again, is_ended, is_no_arrival}
 use Rattle.hc_events.specs.Owed.{is_owed, owed_blocks}
-use Rattle.hc_events.specs.Steps.{Step}
-use Rattle.hc_events.specs.Accepted.{AreAccepted, IsAccepted, StandsIn, just_opened, record_of}
+use Rattle.hc_events.specs.Accepted.{AreAccepted, IsAccepted, StandsIn}
 use Rattle.hc_events.specs.SendingLaws.{heads_of, is_opening, is_sending}
 use Rattle.hc_events.specs.AnswerLaws.{AnswersTheAwaited, IsAnsweredAs, IsAwaited, IsFirstAnswer, IsHeadOf, LeavesOpen}
-use Rattle.hc_events.proofs.lemmas.Accepted.{accepted-more, kept-after_all}
 use Rattle.hc_events.proofs.lemmas.Awaited.{by_bool, judged-filter, news-is, same_is}
 use Rattle.hc_events.proofs.lemmas.Once.{only-if_some}
 use Rattle.hc_events.proofs.lemmas.Standing.{standing-found, stands-at}
@@ -115,9 +112,6 @@ same_sent before (Came arrival) sends = cc
 same_sent before (Sent frame) sends = refl
 same_sent before (Wrote block) sends = refl
 
-pub all-accepted : (groups : List Group) (steps : List Step) → AreAccepted (record_of groups steps)
-all-accepted groups steps = kept-after_all AreAccepted accepted-more (just_opened groups) steps refl
-
 -- what lies behind entries was accepted too
 accepted_at : (since : List Entry) (before : Record) (entry : Entry) → list_any is_opening since ≡ false → is_sending entry ≡ true → AreAccepted (since ++ entry ∷ before) → IsAccepted before entry
 accepted_at [] before (Opened groups) running sends all = cc
@@ -166,9 +160,8 @@ of-line past arrival sending all first =
     subst (λ heads. All (IsHeadOf (line_of past)) heads) (sym at.heads)
     (subst (λ members. All (IsHeadOf members) (heads_of at.before at.entry)) (sym line) (heads_of_line at.before at.entry at.sends accepted))
 
-pub answered-of_line : (groups : List Group) (steps : List Step) (arrival : Arrival) (sending : Sending) → answered_by (record_of groups steps) arrival ≡ Some sending → All (IsHeadOf (line_of (record_of groups steps))) sending.heads
-answered-of_line groups steps arrival sending e =
-    of-line (record_of groups steps) arrival sending (all-accepted groups steps) (first_answer (record_of groups steps) arrival sending e)
+pub answered-of_line : (past : Record) (arrival : Arrival) (sending : Sending) → AreAccepted past → answered_by past arrival ≡ Some sending → All (IsHeadOf (line_of past)) sending.heads
+answered-of_line past arrival sending all e = of-line past arrival sending all (first_answer past arrival sending e)
 
 -- what is awaited is what is answered
 

@@ -15,13 +15,12 @@ use Rattle.hc_places.specs.Table.{table_of}
 use Rattle.hc_events.specs.declared.change.Change.{Change}
 use Rattle.hc_events.specs.declared.change.Change.TheVariants as change
 use Rattle.hc_events.specs.Entries.{Record, Opened, Edited, Posted, Sent, Wrote, Came}
-use Rattle.hc_events.specs.Points.{epoch_of, state_of}
+use Rattle.hc_events.specs.Points.{epoch_of, opened_with, state_of}
 use Rattle.hc_events.specs.Images.{Fresh, fresh_by, is_for, renewed, slot_of}
 use Rattle.hc_events.specs.Changes.{AreChangesOf, AreLegalFrom, IsAnswerIn, News, Swapped, Answered, SwapsLeadFrom, epoch_behind, news_of, slot_behind, table_behind, told_by}
-use Rattle.hc_events.specs.Steps.{Step}
-use Rattle.hc_events.specs.Accepted.{StandsIn, just_opened, record_of}
+use Rattle.hc_events.specs.Accepted.{AreAccepted, StandsIn, just_opened}
 use Rattle.hc_events.specs.NewsLaws.{DecidesAll, IsLastAnswer, LeadToTheSame, LeavesData, TellsAll, state_behind}
-use Rattle.hc_events.proofs.lemmas.Accepted.{Keeps, kept-after_all}
+use Rattle.hc_events.proofs.lemmas.Accepted.{Keeps, held-of_accepted}
 use Rattle.hc_events.proofs.lemmas.Slots.{AllSent, FitsFresh, fresh-fits}
 
 -- what news lead to by themselves
@@ -99,10 +98,20 @@ follows_grows groups past (Came arrival) accepted follows = record {
       ∙ epoch_goods (epoch_by 0 (news_of past)) (fresh_by past arrival) ∙ follows.epoch;
 }
 
-pub records-follow : (groups : List Group) (steps : List Step) → Follows groups (record_of groups steps)
-records-follow groups steps =
-    kept-after_all (Follows groups) (follows_grows groups) (just_opened groups) steps
-    (record { slots = λ task d. refl; state = refl; epoch = refl })
+abbrev FollowsOwn : Record → Type 0
+FollowsOwn past = Follows (opened_with past) past
+
+follows_more : Keeps FollowsOwn
+follows_more past (Opened others) accepted follows = absurd accepted
+follows_more past (Edited edit) accepted follows = follows_grows (opened_with past) past (Edited edit) accepted follows
+follows_more past (Posted task bytes) accepted follows = follows_grows (opened_with past) past (Posted task bytes) accepted follows
+follows_more past (Sent frame) accepted follows = follows_grows (opened_with past) past (Sent frame) accepted follows
+follows_more past (Wrote block) accepted follows = follows_grows (opened_with past) past (Wrote block) accepted follows
+follows_more past (Came arrival) accepted follows = follows_grows (opened_with past) past (Came arrival) accepted follows
+
+pub records-follow : (past : Record) → AreAccepted past → Follows (opened_with past) past
+records-follow past all =
+    held-of_accepted FollowsOwn follows_more (λ groups. record { slots = λ task d. refl; state = refl; epoch = refl }) past all
 
 -- changes lead where their news lead
 
@@ -124,15 +133,16 @@ table_told state (change.Good t e bytes ∷ changes) lead = table_told state cha
 
 -- along a legal list the swaps lead to the next states' tables
 
-legal_leads : (state : State) (changes : List Change) → AreLegalFrom state changes → SwapsLeadFrom state changes
-legal_leads state [] legal = tt
-legal_leads state (change.Swapped swap ∷ changes) legal = (legal.0.leads, legal_leads (state_after state swap.edit) changes legal.1)
-legal_leads state (change.Good t e bytes ∷ changes) legal = legal_leads state changes legal.1
+pub legal-leads : (state : State) (changes : List Change) → AreLegalFrom state changes → SwapsLeadFrom state changes
+legal-leads state [] legal = tt
+legal-leads state (change.Swapped swap ∷ changes) legal = (legal.0.leads, legal-leads (state_after state swap.edit) changes legal.1)
+legal-leads state (change.Good t e bytes ∷ changes) legal = legal-leads state changes legal.1
 
-pub changes-tell_all : (groups : List Group) (steps : List Step) (changes : List Change) → AreLegalFrom (opened groups) changes → map told_by changes ≡ news_of (record_of groups steps) → TellsAll groups (record_of groups steps) changes
-changes-tell_all groups steps changes legal told =
-    let follows = records-follow groups steps in
-    let lead = legal_leads (opened groups) changes legal in
+pub changes-tell_all : (past : Record) (changes : List Change) → AreAccepted past → AreLegalFrom (opened (opened_with past)) changes → map told_by changes ≡ news_of past → TellsAll (opened_with past) past changes
+changes-tell_all past changes all legal told =
+    let groups = opened_with past in
+    let follows = records-follow past all in
+    let lead = legal-leads (opened groups) changes legal in
     record {
       table = table_told (opened groups) changes lead ∙ ap (λ news. table_of (line (state_by (opened groups) news))) told ∙ ap (λ state. table_of (line state)) follows.state;
       epoch = epoch_told 0 changes ∙ ap (epoch_by 0) told ∙ follows.epoch;
@@ -141,9 +151,9 @@ changes-tell_all groups steps changes legal told =
 
 pub changes-agree : (groups : List Group) (first second : List Change) → AreLegalFrom (opened groups) first → AreLegalFrom (opened groups) second → map told_by first ≡ map told_by second → LeadToTheSame groups first second
 changes-agree groups first second legal legal' same = record {
-  table = table_told (opened groups) first (legal_leads (opened groups) first legal)
+  table = table_told (opened groups) first (legal-leads (opened groups) first legal)
       ∙ ap (λ news. table_of (line (state_by (opened groups) news))) same
-      ∙ sym (table_told (opened groups) second (legal_leads (opened groups) second legal'));
+      ∙ sym (table_told (opened groups) second (legal-leads (opened groups) second legal'));
   epoch = epoch_told 0 first ∙ ap (epoch_by 0) same ∙ sym (epoch_told 0 second);
   slots = λ task d. slot_told task d None first ∙ ap (slot_by task d None) same ∙ sym (slot_told task d None second);
 }
@@ -242,16 +252,16 @@ state_told state [] = refl
 state_told state (change.Swapped swap ∷ changes) = state_told (state_after state swap.edit) changes
 state_told state (change.Good t e bytes ∷ changes) = state_told state changes
 
-one_epoch : (fault : Option EditFault) (state next : State) → IsOk (refused_by fault next) → result_unwrap_or (refused_by fault next) state ≡ next
-one_epoch None state next ok = refl
-one_epoch (Some fault) state next ok = cc
+pub one-epoch : (fault : Option EditFault) (state next : State) → IsOk (refused_by fault next) → result_unwrap_or (refused_by fault next) state ≡ next
+one-epoch None state next ok = refl
+one-epoch (Some fault) state next ok = cc
 
-epoch_legal : (state : State) (changes : List Change) → AreLegalFrom state changes → epoch_behind state.epoch changes ≡ (state_behind state changes).epoch
-epoch_legal state [] legal = refl
-epoch_legal state (change.Swapped swap ∷ changes) legal =
-    let next : state_after state swap.edit ≡ changed state swap.edit = one_epoch (lowest (edit_faults state swap.edit)) state (changed state swap.edit) legal.0.accepted in
-    ap (λ s. epoch_behind s.epoch changes) (sym next) ∙ epoch_legal (state_after state swap.edit) changes legal.1
-epoch_legal state (change.Good t e bytes ∷ changes) legal = epoch_legal state changes legal.1
+pub epoch-legal : (state : State) (changes : List Change) → AreLegalFrom state changes → epoch_behind state.epoch changes ≡ (state_behind state changes).epoch
+epoch-legal state [] legal = refl
+epoch-legal state (change.Swapped swap ∷ changes) legal =
+    let next : state_after state swap.edit ≡ changed state swap.edit = one-epoch (lowest (edit_faults state swap.edit)) state (changed state swap.edit) legal.0.accepted in
+    ap (λ s. epoch_behind s.epoch changes) (sym next) ∙ epoch-legal (state_after state swap.edit) changes legal.1
+epoch-legal state (change.Good t e bytes ∷ changes) legal = epoch-legal state changes legal.1
 
 -- each slot is of a datagram of the state and has its length
 abbrev FitsSlot : State → ℕ → ℕ → Option (List ℕ) → Type 0
@@ -273,8 +283,8 @@ slots_fit state (change.Good t e bytes ∷ changes) task d slot legal fit =
 
 pub changes-decide : (groups : List Group) (changes : List Change) → AreLegalFrom (opened groups) changes → DecidesAll groups changes
 changes-decide groups changes legal = record {
-  table = table_told (opened groups) changes (legal_leads (opened groups) changes legal) ∙ ap (λ state. table_of (line state)) (state_told (opened groups) changes);
-  epoch = epoch_legal (opened groups) changes legal;
+  table = table_told (opened groups) changes (legal-leads (opened groups) changes legal) ∙ ap (λ state. table_of (line state)) (state_told (opened groups) changes);
+  epoch = epoch-legal (opened groups) changes legal;
   slots = λ task d bytes. slots_last task d bytes (map told_by changes) (slot_behind task d None changes) (slot_told task d None changes);
   fits = λ task d. slots_fit (opened groups) changes task d None legal (λ bytes e. cc);
 }
@@ -334,8 +344,21 @@ legal_told state (change.Swapped swap ∷ changes) legal lead =
     (record { accepted = legal.0; leads = lead.0 }, legal_told (state_after state swap.edit) changes legal.1 lead.1)
 legal_told state (change.Good t e bytes ∷ changes) legal lead = (legal.0, legal_told state changes legal.1 lead)
 
-pub changes-are_legal : (groups : List Group) (steps : List Step) (changes : List Change) → AreChangesOf groups (record_of groups steps) changes → AreLegalFrom (opened groups) changes
-changes-are_legal groups steps changes are =
-    let all = kept-after_all (IsLegal groups) (legal_grows groups) (just_opened groups) steps
-    (record { follows = record { slots = λ task d. refl; state = refl; epoch = refl }; sent = tt; legal = tt }) in
-    legal_told (opened groups) changes (subst (LegalNews (opened groups)) (sym are.told) all.legal) are.lead
+abbrev LegalOwn : Record → Type 0
+LegalOwn past = IsLegal (opened_with past) past
+
+legal_more : Keeps LegalOwn
+legal_more past (Opened others) accepted before = absurd accepted
+legal_more past (Edited edit) accepted before = legal_grows (opened_with past) past (Edited edit) accepted before
+legal_more past (Posted task bytes) accepted before = legal_grows (opened_with past) past (Posted task bytes) accepted before
+legal_more past (Sent frame) accepted before = legal_grows (opened_with past) past (Sent frame) accepted before
+legal_more past (Wrote block) accepted before = legal_grows (opened_with past) past (Wrote block) accepted before
+legal_more past (Came arrival) accepted before = legal_grows (opened_with past) past (Came arrival) accepted before
+
+legal_opening : (groups : List Group) → LegalOwn (just_opened groups)
+legal_opening groups = record { follows = record { slots = λ task d. refl; state = refl; epoch = refl }; sent = tt; legal = tt }
+
+pub changes-are_legal : (past : Record) (changes : List Change) → AreAccepted past → AreChangesOf (opened_with past) past changes → AreLegalFrom (opened (opened_with past)) changes
+changes-are_legal past changes all are =
+    let legal = (held-of_accepted LegalOwn legal_more legal_opening past all).legal in
+    legal_told (opened (opened_with past)) changes (subst (LegalNews (opened (opened_with past))) (sym are.told) legal) are.lead

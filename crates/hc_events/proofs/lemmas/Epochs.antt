@@ -1,5 +1,5 @@
 -- The epoch of the state is the number of accepted edits.
-use Rattle.std.proofs.Common.{◌≡◌, ◌+◌, List, refl, ap, ◌∙◌}
+use Rattle.std.proofs.Common.{◌≡◌, ◌+◌, refl, ap, ◌∙◌}
 use Rattle.std.specs.Result.{result_unwrap_or}
 use Rattle.hc_records.specs.Edits.{changed, refused_by}
 use Rattle.hc_events.specs.Entries.{Record, Opened, Edited, Posted, Sent, Wrote, Came}

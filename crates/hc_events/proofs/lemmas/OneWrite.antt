@@ -16,9 +16,8 @@ use Rattle.hc_events.specs.Heads.{Head, block_item, data_heads, is_block, same_i
 use Rattle.hc_events.specs.Answering.{Sending, Judged, Verdict, Good, Wrong, Stale, just_sent, followed_by, sending_of, has_heads, fits, ends, is_answer, only_if, sends, is_good, is_stale, is_news, has_good, judged, judged_by}
 use Rattle.hc_events.specs.Awaited.{all_sent_again, alive, awaited, is_ended, is_no_arrival, is_write}
 use Rattle.hc_events.specs.Owed.{if_confirmed, is_owed, last_write, owed_blocks, was_confirmed}
-use Rattle.hc_events.specs.Steps.{Step}
-use Rattle.hc_events.specs.Accepted.{AreAccepted, just_opened, record_of}
-use Rattle.hc_events.proofs.lemmas.Accepted.{Keeps, held-of_accepted, kept-after_all}
+use Rattle.hc_events.specs.Accepted.{AreAccepted, just_opened}
+use Rattle.hc_events.proofs.lemmas.Accepted.{Keeps, held-of_accepted}
 use Rattle.hc_events.proofs.lemmas.Awaited.{by_bool, news_from, same_is, awaited-any, unless_fits, unless_again, alive_edited, alive_came, alive_other}
 use Rattle.hc_events.proofs.lemmas.Once.{serial-made}
 
@@ -444,6 +443,5 @@ just-opened_alone groups = record {
 pub all-alone : (past : Record) → AreAccepted past → WritesAlone past
 all-alone past all = held-of_accepted WritesAlone alone-grows just-opened_alone past all
 
-pub writes-alone : (groups : List Group) (steps : List Step) (serial other : ℕ) (write sending : Sending) → awaited (record_of groups steps) serial ≡ Some write → is_write write ≡ true → awaited (record_of groups steps) other ≡ Some sending → other ≡ serial
-writes-alone groups steps serial other write sending there w e =
-    ((kept-after_all WritesAlone alone-grows (just_opened groups) steps (just-opened_alone groups)).writes serial write there w).alone other sending e
+pub writes-alone : (past : Record) (serial other : ℕ) (write sending : Sending) → AreAccepted past → awaited past serial ≡ Some write → is_write write ≡ true → awaited past other ≡ Some sending → other ≡ serial
+writes-alone past serial other write sending all there w e = ((all-alone past all).writes serial write there w).alone other sending e

@@ -26,9 +26,10 @@ use Rattle.hc_events.specs.Outputs.{byte_of, bytes_of, has_bit, outputs_in, sent
 use Rattle.hc_events.specs.Owed.{is_owed, known_bytes, owed_blocks}
 use Rattle.hc_events.specs.Steps.{Step, Edits, Posts, SendsTasks, SendsWrite, Arrives, Reads, unless, kept_if, edit_refused, told_of_edit, is_no_task, post_faults, has_serials, serials_left, proposal, task_faults, sent_datagram, sent_text, with_sent, write_faults, told_of_write, with_write, told_of_block, told_of, told_of_arrival, with_arrival, read_faults, answer_to, entries_after, answers_to, entries_after_all}
 use Rattle.hc_events.specs.Heads.{is_block}
+use Rattle.hc_events.specs.Changes.{news_of}
 use Rattle.hc_events.specs.Stale.{SameBehind, SaysTheSame, without_stale}
 use Rattle.hc_events.proofs.lemmas.Awaited.{by_bool, news}
-use Rattle.hc_events.proofs.lemmas.WithoutStale.{without-epoch, without-known, without-news, without-serial, without-slot, without-stale, without-state, without-value}
+use Rattle.hc_events.proofs.lemmas.WithoutStale.{without-epoch, without-known, without-news, without-serial, without-slot, without-stale, without-state, without-told, without-value}
 
 abbrev pub SameWithout : Record → Record → Type 0
 SameWithout a b = without_stale a ≡ without_stale b
@@ -41,6 +42,7 @@ same-says a b same = record {
   slots = λ task d. sym (without-slot a task d) ∙ ap (λ past. slot_of past task d) same ∙ without-slot b task d;
   values = λ variable k. sym (without-value a variable k) ∙ ap (λ past. value_bit past variable k) same ∙ without-value b variable k;
   known = λ station number. sym (without-known a station number) ∙ ap (λ past. known_bytes past station number) same ∙ without-known b station number;
+  news = sym (without-told a) ∙ ap news_of same ∙ without-told b;
 }
 
 -- one more entry keeps them the same

@@ -1,7 +1,8 @@
 -- What a record says is what it says without its stale arrivals.
-use Rattle.std.proofs.Common.{◌≡◌, ℕ, ◌+◌, ◌==◌, Bool, true, false, cond, not, ◌&&◌, ◌||◌, List, [], ◌∷◌, ◌++◌, refl, sym, ap, ◌∙◌, Option, Some, None}
+use Rattle.std.proofs.Common.{◌≡◌, ℕ, ◌+◌, ◌==◌, Bool, true, false, cond, not, ◌&&◌, ◌||◌, List, [], ◌∷◌, ◌++◌, map, refl, sym, ap, ◌∙◌, Option, Some, None}
 use Rattle.std.specs.Prelude.{fold, is_some, option_and_then}
 use Rattle.std.specs.List.{flat_map, list_any}
+use Rattle.std.proofs.lemmas.List.{append-nil}
 use Rattle.hc_records.specs.Image.{variable_place}
 use Rattle.hc_records.specs.Edits.{state_after, slave_at}
 use Rattle.hc_events.specs.Arrivals.{Arrival}
@@ -14,6 +15,7 @@ use Rattle.hc_events.specs.Awaited.{awaited}
 use Rattle.hc_events.specs.Images.{fresh, fresh_by, renewed, slot_of}
 use Rattle.hc_events.specs.Outputs.{posted_bit, value_bit}
 use Rattle.hc_events.specs.Owed.{if_confirmed, is_in_line, known_bytes, last_write, was_confirmed}
+use Rattle.hc_events.specs.Changes.{Answered, Swapped, news_of}
 use Rattle.hc_events.specs.Stale.{without_stale}
 use Rattle.hc_events.proofs.lemmas.Awaited.{by_bool, news, news_from, awaited-any, awaited-grows, awaited-news, awaited-stale}
 
@@ -182,6 +184,19 @@ without-slot (Came arrival ∷ past) task d =
     (λ none. without-slot past task d ∙ sym (ap (λ goods. fold (renewed task d) (slot_of past task d) goods) (goods_none (judged_by past arrival) none)))
     (ap (λ slot. fold (renewed task d) slot (fresh_by (without_stale past) arrival)) (without-slot past task d)
     ∙ ap (λ goods. fold (renewed task d) (slot_of past task d) goods) (without-fresh past arrival))
+
+pub without-told : (past : Record) → news_of (without_stale past) ≡ news_of past
+without-told [] = refl
+without-told (Opened groups ∷ past) = refl
+without-told (Edited edit ∷ past) = ap (λ told. told ++ Swapped edit ∷ []) (without-told past)
+without-told (Posted task bytes ∷ past) = without-told past
+without-told (Sent frame ∷ past) = without-told past
+without-told (Wrote block ∷ past) = without-told past
+without-told (Came arrival ∷ past) =
+    came_either news_of past (without_stale past) arrival (is_stale_to past arrival) refl
+    (λ none. without-told past ∙ sym (ap (λ goods. news_of past ++ map Answered goods) (goods_none (judged_by past arrival) none) ∙ append-nil (news_of past)))
+    (ap (λ told. told ++ map Answered (fresh_by (without_stale past) arrival)) (without-told past)
+    ∙ ap (λ goods. news_of past ++ map Answered goods) (without-fresh past arrival))
 
 and_none : (a b : Bool) → b ≡ false → (a && b) ≡ false
 and_none true b e = e

@@ -1,10 +1,11 @@
 use Rattle.std.proofs.Common.{map}
 use Rattle.hc_events.specs.Steps.{step_of}
 use Rattle.hc_core.specs.Lines.{IsLineAfter}
-use Rattle.hc_core.specs.LastData.{ReadsShowLastData}
+use Rattle.hc_core.specs.LastData.{GoesWithoutThem, ReadsShowLastData}
 use Rattle.hc_core.specs.Serving.{MayAnswerAll}
 use Rattle.hc_core.proofs.Lines.{line-after}
 use Rattle.hc_core.proofs.LastData.{reads-last}
+use Rattle.hc_core.proofs.GoesWithout.{goes-without}
 use Rattle.hc_core.proofs.ReadsAmong.{if-ok, shows-among, without-stale}
 use Rattle.hc_core.proofs.keeping.Core.run.Goals as goal
 
@@ -29,3 +30,11 @@ returns-clause-reads c = reads-last c.serve_all.new.self.past
 
 pub returns-clause-stale : goal.returns-clause-stale
 returns-clause-stale c = without-stale c.serve_all.new.self.past
+
+pub returns-clause-without : goal.returns-clause-without
+returns-clause-without c =
+    let past = c.args.self.now.past in
+    let next = c.serve_all.new.self.past in
+    let steps = map step_of c.args.events.now in
+    if-ok (λ answers. MayAnswerAll past steps answers.items next) (λ answers. GoesWithoutThem past steps answers.items next) c.serve_all.result
+    (λ answers. goes-without past next steps answers.items) c.serve_all.ensures.answers

@@ -1,6 +1,9 @@
 use Rattle.std.proofs.Common.{◌≡◌, [], ◌∙◌, List, ap, sym, subst}
 use Rattle.hc_events.specs.declared.change.Change.{Change}
+use Rattle.hc_events.specs.Changes.{SwapsLeadFrom}
 use Rattle.hc_events.specs.Entries.{Record}
+use Rattle.hc_events.specs.Points.{state_of}
+use Rattle.hc_events.proofs.lemmas.Changes.{legal-leads}
 use Rattle.hc_core.specs.Records.{record_of}
 use Rattle.hc_core.proofs.News.{agree-taken}
 use Rattle.hc_core.specs.Agreement.{Agree, kept_in}
@@ -15,3 +18,9 @@ invariant_of-self c =
     subst (λ (changes : List Change). Agree (record (kept_in inside) { changes = changes }) past (record_of c.of.result.value)) (sym none)
     (subst (λ (taken : Record). Agree (record (kept_in inside) { changes = [] }) past taken) (sym now)
     (agree-taken (kept_in inside) past (record_of inside.taken.value) c.self.invariant))
+
+pub returns-clause-lead : goal.returns-clause-lead
+returns-clause-lead c =
+    let taken = state_of (record_of c.self.inside.taken.value) in
+    subst (λ (changes : List Change). SwapsLeadFrom taken changes) (sym (ap (λ vec. vec.items) c.replace.ensures.value))
+    (legal-leads taken c.self.inside.changes.items c.self.invariant.tells.legal)

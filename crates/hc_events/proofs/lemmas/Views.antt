@@ -1,0 +1,154 @@
+-- Lists of changes one behind another, and what they show.
+use Rattle.std.proofs.Common.{◌≡◌, ℕ, zero, suc, ◌+◌, ◌<◌, ◌≤◌, ◌==◌, Bool, true, false, List, [], ◌∷◌, ◌++◌, length, map, refl, sym, ap, ◌∙◌, subst, arith, Option, Some, None}
+use Rattle.std.specs.Prelude.{IsOk, is_some, unwrap_or}
+use Rattle.std.specs.List.{range_with_len}
+use Rattle.std.proofs.lemmas.Bool.Decides.{nat_tests}
+use Rattle.std.proofs.lemmas.List.FromFn.{length-map-range_with_len}
+use Rattle.hc_records.specs.declared.edit.Edit.{Edit}
+use Rattle.hc_records.specs.declared.faults.EditFault.{EditFault}
+use Rattle.hc_records.specs.declared.faults.EditFault.TheVariants.{EpochsSpent, TooManyDatagrams}
+use Rattle.hc_records.specs.declared.limits.TheConstants.{LAST_EPOCH, TASKS}
+use Rattle.hc_records.specs.declared.records.Group.{Group}
+use Rattle.hc_records.specs.Lists.{lowest}
+use Rattle.hc_records.specs.Line.{Member, State, line, opened}
+use Rattle.hc_records.specs.Image.{datagram_count, task_places}
+use Rattle.hc_records.specs.Edits.{changed, crowded_task, edit_faults, edited, own_faults, refused_by, state_after}
+use Rattle.hc_places.specs.Table.{Table, datagram_of, datagrams_in, table_of}
+use Rattle.hc_events.specs.declared.answer.Answer.TheVariants as answer
+use Rattle.hc_events.specs.declared.change.Change.{Change}
+use Rattle.hc_events.specs.declared.change.Change.TheVariants as change
+use Rattle.hc_events.specs.declared.faults.CoreFault.TheVariants.{NoSuchTask}
+use Rattle.hc_events.specs.Entries.{Record}
+use Rattle.hc_events.specs.Points.{line_of, opened_with}
+use Rattle.hc_events.specs.Images.{renewed, slot_of, slots_of}
+use Rattle.hc_events.specs.Changes.{AreLegalFrom, epoch_behind, news_of, slot_behind, table_behind, told_by}
+use Rattle.hc_events.specs.Steps.{Reads, answer_to, image_of, is_no_task, unless}
+use Rattle.hc_events.specs.Accepted.{AreAccepted}
+use Rattle.hc_events.specs.NewsLaws.{TellsAll, state_behind}
+use Rattle.hc_events.specs.ViewLaws.{LeadsOn, shown}
+use Rattle.hc_places.specs.Swap.{swapped}
+use Rattle.hc_events.proofs.lemmas.Accepted.{passed}
+use Rattle.hc_events.proofs.lemmas.Changes.{changes-tell_all, epoch-legal, one-epoch}
+
+-- ---- one list behind another
+
+table_on : (first second : List Change) (table : Table) → table_behind table (first ++ second) ≡ table_behind (table_behind table first) second
+table_on [] second table = refl
+table_on (change.Swapped swap ∷ first) second table = table_on first second (swapped swap.change table)
+table_on (change.Good task d bytes ∷ first) second table = table_on first second table
+
+epoch_on : (first second : List Change) (epoch : ℕ) → epoch_behind epoch (first ++ second) ≡ epoch_behind (epoch_behind epoch first) second
+epoch_on [] second epoch = refl
+epoch_on (change.Swapped swap ∷ first) second epoch = epoch_on first second (epoch + 1)
+epoch_on (change.Good task d bytes ∷ first) second epoch = epoch_on first second epoch
+
+slot_on : (first second : List Change) (task d : ℕ) (slot : Option (List ℕ)) → slot_behind task d slot (first ++ second) ≡ slot_behind task d (slot_behind task d slot first) second
+slot_on [] second task d slot = refl
+slot_on (change.Swapped swap ∷ first) second task d slot = slot_on first second task d None
+slot_on (change.Good t e bytes ∷ first) second task d slot = slot_on first second task d (renewed task d slot (record { task = t; datagram = e; bytes = bytes }))
+
+state_on : (first second : List Change) (state : State) → state_behind state (first ++ second) ≡ state_behind (state_behind state first) second
+state_on [] second state = refl
+state_on (change.Swapped swap ∷ first) second state = state_on first second (state_after state swap.edit)
+state_on (change.Good task d bytes ∷ first) second state = state_on first second state
+
+pub changes-lead_on : (first second : List Change) → LeadsOn first second
+changes-lead_on first second = record {
+  table = table_on first second;
+  epoch = epoch_on first second;
+  slots = slot_on first second;
+  state = state_on first second;
+}
+
+-- ---- legal lists
+
+pub legal-parts : (state : State) (first second : List Change) → AreLegalFrom state (first ++ second) → AreLegalFrom state first × AreLegalFrom (state_behind state first) second
+legal-parts state [] second legal = (tt, legal)
+legal-parts state (change.Swapped swap ∷ first) second legal =
+    let rest = legal-parts (state_after state swap.edit) first second legal.1 in
+    ((legal.0, rest.0), rest.1)
+legal-parts state (change.Good task d bytes ∷ first) second legal =
+    let rest = legal-parts state first second legal.1 in
+    ((legal.0, rest.0), rest.1)
+
+pub legal-joined : (state : State) (first second : List Change) → AreLegalFrom state first → AreLegalFrom (state_behind state first) second → AreLegalFrom state (first ++ second)
+legal-joined state [] second a b = b
+legal-joined state (change.Swapped swap ∷ first) second a b = (a.0, legal-joined (state_after state swap.edit) first second a.1 b)
+legal-joined state (change.Good task d bytes ∷ first) second a b = (a.0, legal-joined state first second a.1 b)
+
+-- ---- epochs
+
+none_behind : (first second : List (Bool × EditFault)) → lowest (first ++ second) ≡ None → lowest second ≡ None
+none_behind [] second e = e
+none_behind ((true, fault) ∷ first) second e = cc
+none_behind ((false, fault) ∷ first) second e = none_behind first second e
+
+no_fault : (fault : Option EditFault) (next : State) → IsOk (refused_by fault next) → fault ≡ None
+no_fault None next ok = refl
+no_fault (Some fault) next ok = cc
+
+left_one : (epoch : ℕ) → epoch ≤ LAST_EPOCH → (epoch == LAST_EPOCH) ≡ false → epoch + 1 ≤ LAST_EPOCH
+left_one epoch low more = grind (arith, nat_tests)
+
+more_left : (state : State) (edit : Edit) → IsOk (edited state edit) → (state.epoch == LAST_EPOCH) ≡ false
+more_left state edit ok =
+    let crowded = crowded_task (line (changed state edit)) in
+    let last : List (Bool × EditFault) = (state.epoch == LAST_EPOCH, EpochsSpent) ∷ [] in
+    let none = no_fault (lowest (edit_faults state edit)) (changed state edit) ok in
+    let behind = none_behind (own_faults state edit) ((is_some crowded, TooManyDatagrams (unwrap_or crowded 0)) ∷ last) none in
+    (passed (state.epoch == LAST_EPOCH) EpochsSpent [] (passed (is_some crowded) (TooManyDatagrams (unwrap_or crowded 0)) last behind).1).0
+
+next_fits : (state : State) (edit : Edit) → state.epoch ≤ LAST_EPOCH → IsOk (edited state edit) → (state_after state edit).epoch ≤ LAST_EPOCH
+next_fits state edit low ok =
+    let next : state_after state edit ≡ changed state edit = one-epoch (lowest (edit_faults state edit)) state (changed state edit) ok in
+    subst (λ (s : State). s.epoch ≤ LAST_EPOCH) (sym next) (left_one state.epoch low (more_left state edit ok))
+
+fits_from : (state : State) (changes : List Change) → state.epoch ≤ LAST_EPOCH → AreLegalFrom state changes → (state_behind state changes).epoch ≤ LAST_EPOCH
+fits_from state [] low legal = low
+fits_from state (change.Swapped swap ∷ changes) low legal = fits_from (state_after state swap.edit) changes (next_fits state swap.edit low legal.0.accepted) legal.1
+fits_from state (change.Good task d bytes ∷ changes) low legal = fits_from state changes low legal.1
+
+first_fits : 0 ≤ LAST_EPOCH
+first_fits = omega arith
+
+pub legal-epochs : (groups : List Group) (changes : List Change) → AreLegalFrom (opened groups) changes → epoch_behind 0 changes ≤ LAST_EPOCH
+legal-epochs groups changes legal =
+    subst (λ (n : ℕ). n ≤ LAST_EPOCH) (sym (epoch-legal (opened groups) changes legal)) (fits_from (opened groups) changes first_fits legal)
+
+-- ---- what is shown
+
+listed : (line : List Member) (task : ℕ) → length (map (datagram_of line task) (range_with_len 0 (datagram_count (task_places task line)))) ≡ datagram_count (task_places task line)
+listed line task = length-map-range_with_len (datagram_of line task) 0 (datagram_count (task_places task line))
+
+all_listed : (line : List Member) (task : ℕ) → task < TASKS → length (datagrams_in (table_of line) task) ≡ datagram_count (task_places task line)
+all_listed line zero low = listed line 0
+all_listed line (suc zero) low = listed line 1
+all_listed line (suc (suc zero)) low = listed line 2
+all_listed line (suc (suc (suc zero))) low = listed line 3
+all_listed line (suc (suc (suc (suc zero)))) low = listed line 4
+all_listed line (suc (suc (suc (suc (suc zero))))) low = listed line 5
+all_listed line (suc (suc (suc (suc (suc (suc zero)))))) low = listed line 6
+all_listed line (suc (suc (suc (suc (suc (suc (suc zero))))))) low = listed line 7
+all_listed line (suc (suc (suc (suc (suc (suc (suc (suc task)))))))) low = absurd (omega arith)
+
+is_task : (task : ℕ) → task < TASKS → is_no_task task ≡ false
+is_task task low = grind (arith, nat_tests)
+
+answered_as : (past : Record) (task : ℕ) → is_no_task task ≡ false → answer_to past (Reads task) ≡ image_of past task
+answered_as past task is = ap (λ (none : Bool). unless (lowest ((none, NoSuchTask) ∷ [])) (image_of past task)) is
+
+slots_as : (f g : ℕ → Option (List ℕ)) → ((d : ℕ) → f d ≡ g d) → (ds : List ℕ) → map f ds ≡ map g ds
+slots_as f g same [] = refl
+slots_as f g same (d ∷ ds) = ap (λ (slot : Option (List ℕ)). slot ∷ map f ds) (same d) ∙ ap (λ (slots : List (Option (List ℕ))). g d ∷ slots) (slots_as f g same ds)
+
+pub views-are_reads : (past : Record) (changes : List Change) (task : ℕ) → AreAccepted past → AreLegalFrom (opened (opened_with past)) changes → map told_by changes ≡ news_of past → task < TASKS
+    → answer_to past (Reads task) ≡ shown (opened_with past) changes task
+views-are_reads past changes task all legal told low =
+    let tells : TellsAll (opened_with past) past changes = changes-tell_all past changes all legal told in
+    let own : ℕ → Option (List ℕ) = λ d. slot_behind task d None changes in
+    let count : length (datagrams_in (table_behind (table_of (line (opened (opened_with past)))) changes) task) ≡ datagram_count (task_places task (line_of past)) =
+    ap (λ (table : Table). length (datagrams_in table task)) tells.table ∙ all_listed (line_of past) task low in
+    answered_as past task (is_task task low)
+    ∙ ap (λ (epoch : ℕ). answer.Image epoch (slots_of past task)) (sym tells.epoch)
+    ∙ ap (answer.Image (epoch_behind 0 changes)) (slots_as (slot_of past task) own (λ d. sym (tells.slots task d)) (range_with_len 0 (datagram_count (task_places task (line_of past)))))
+    ∙ ap (λ (n : ℕ). answer.Image (epoch_behind 0 changes) (map own (range_with_len 0 n))) (sym count)
