@@ -18,6 +18,7 @@ pub mod Writes
 pub mod Posts
 pub mod Values
 pub mod Fills
+pub mod FewFrames
 pub mod PostFaults
 pub mod LastData
 pub mod Lines

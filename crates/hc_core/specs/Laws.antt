@@ -1,11 +1,14 @@
 -- What holds of the pieces and the parts of a sending. Each law is the contract of a function of `laws`.
-use Rattle.std.specs.Prelude.{◌≡◌, ◌≤◌, ℕ, All, List, length, map}
+use Rattle.std.specs.Prelude.{◌≡◌, ◌≤◌, ◌*◌, ℕ, All, List, length, map, None}
 use Rattle.std.specs.List.{flat_map}
+use Rattle.hc_records.specs.declared.limits.TheConstants.{MOST_DATAGRAMS, TASKS}
+use Rattle.hc_records.specs.Edits.{crowded_task}
 use Rattle.hc_frames.specs.declared.limits.TheConstants.{SETUP_SERIAL}
 use Rattle.hc_events.specs.declared.answer.Answer.TheVariants as answer
 use Rattle.hc_events.specs.Calls.{AreSentTogether}
 use Rattle.hc_events.specs.Entries.{Record}
 use Rattle.hc_events.specs.Outputs.{sent_data}
+use Rattle.hc_events.specs.Points.{line_of}
 use Rattle.hc_events.specs.Sendings.{Frame}
 use Rattle.hc_events.specs.Steps.{SendsTasks, answer_to, entries_after, proposal, sent_text, with_sent}
 use Rattle.hc_sendings.specs.PartTexts.{part_text}
@@ -28,3 +31,9 @@ abbrev pub PartsAreTheProposal : Type 0
 PartsAreTheProposal =
     (past : Record) (tasks : List ℕ) → AreSentTogether tasks
     → flat_map (λ task. part_text (sent_data past) task (proposal past tasks)) tasks ≡ flat_map (sent_text past) (proposal past tasks)
+
+-- a proposal of an uncrowded line has at most as many frames as a line has datagrams
+abbrev pub ProposalsAreFew : Type 0
+ProposalsAreFew =
+    (past : Record) (frames : List Frame) → crowded_task (line_of past) ≡ None → IsProposal past frames
+    → length frames ≤ MOST_DATAGRAMS * TASKS

@@ -1,6 +1,6 @@
 //! What follows from the definitions, so that a reader can trust them: each function here does nothing, and
 //! its contract is a law. Nobody calls it.
-ghost use Rattle.hc_core.specs.Laws.{PartsAreTheProposal, PiecesAreTheEvent};
+ghost use Rattle.hc_core.specs.Laws.{PartsAreTheProposal, PiecesAreTheEvent, ProposalsAreFew};
 
 /// The frames of a present proposal can be filled, and their tasks' parts too. Each with the text that `fill`
 /// writes, they are what the event that sends their tasks answers; and what `commit` leaves of them is what
@@ -13,4 +13,10 @@ pub fn pieces_are_the_event()
 /// are its frames, as `fill` writes them, one after another.
 pub fn parts_are_the_proposal()
     ensures { PartsAreTheProposal }
+{}
+
+/// Where no task of the line needs more than 16 datagrams, as of every plan, a present proposal has at most 128
+/// frames.
+pub fn proposals_are_few()
+    ensures { ProposalsAreFew }
 {}

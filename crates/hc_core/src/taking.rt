@@ -21,7 +21,21 @@ impl Core {
         ensures behind { state_behind (state_of self.old.taken) result.items ≡ state_of self.old.past }
         ensures taken { self.new ≡ record { past = self.old.past; taken = self.old.past } }
     {
+        self.take_changes_into(Vec::new(alloc))
+    }
+
+    /// The same, and a list is handed in for the changes to come: what it holds is dropped, and its room is
+    /// kept. Who hands back the list of the taking before grows none anew. It takes no memory.
+    pub fn take_changes_into(&mut self, spare: Vec<Change>) -> Vec<Change>
+        ensures told { news_of self.old.past ≡ news_of self.old.taken ++ map told_by result.items }
+        ensures legal { AreLegalFrom (state_of self.old.taken) result.items }
+        ensures lead { SwapsLeadFrom (state_of self.old.taken) result.items }
+        ensures behind { state_behind (state_of self.old.taken) result.items ≡ state_of self.old.past }
+        ensures taken { self.new ≡ record { past = self.old.past; taken = self.old.past } }
+    {
+        let mut next = spare;
+        next.clear();
         self.taken = Snapshot::of(&self.past);
-        mem::replace(&mut self.changes, Vec::new(alloc))
+        mem::replace(&mut self.changes, next)
     }
 }

@@ -7,13 +7,13 @@ use Rattle.hc_events.proofs.lemmas.Changes.{legal-leads}
 use Rattle.hc_core.specs.Records.{record_of}
 use Rattle.hc_core.proofs.News.{agree-taken}
 use Rattle.hc_core.specs.Agreement.{Agree, kept_in}
-use Rattle.hc_core.proofs.keeping.Core.take_changes.Goals as goal
+use Rattle.hc_core.proofs.keeping.Core.take_changes_into.Goals as goal
 
 pub invariant_of-self : goal.invariant_of-self
 invariant_of-self c =
     let inside = c.self.inside in
     let past = record_of inside.past in
-    let none : c.replace.new.dest.items ≡ [] = ap (λ vec. vec.items) c.replace.ensures.after ∙ c.new.ensures.items in
+    let none : c.replace.new.dest.items ≡ [] = ap (λ vec. vec.items) c.replace.ensures.after ∙ c.clear.ensures in
     let now : record_of c.of.result.value ≡ past = ap record_of c.of.ensures in
     subst (λ (changes : List Change). Agree (record (kept_in inside) { changes = changes }) past (record_of c.of.result.value)) (sym none)
     (subst (λ (taken : Record). Agree (record (kept_in inside) { changes = [] }) past taken) (sym now)
