@@ -19,7 +19,7 @@ use Rattle.hc_events.specs.Accepted.{AreAccepted, StandsIn}
 use Rattle.hc_events.specs.Entries.{Record, Opened, Edited, Posted, Sent, Wrote, Came}
 use Rattle.hc_events.specs.Points.{line_of, state_of}
 use Rattle.hc_events.specs.Answering.{is_news, is_stale_to, judged_by}
-use Rattle.hc_events.specs.Images.{Fresh, fresh, fresh_by, renewed, slot_of}
+use Rattle.hc_events.specs.Images.{FitsImage, Fresh, fresh, fresh_by, renewed, slot_of}
 use Rattle.hc_events.specs.Owed.{known_bytes, owed_blocks}
 use Rattle.hc_events.specs.declared.answer.Outcome.{Outcome}
 use Rattle.hc_events.proofs.lemmas.SameBehind.{same-says, same-stale}
@@ -37,7 +37,7 @@ use Rattle.hc_core.proofs.Known.{kept-alike, known-done, known-framed, known-mis
 use Rattle.hc_core.proofs.News.{news-came, news-none}
 use Rattle.hc_core.proofs.Told.{TellsInputs, TellsWrite}
 use Rattle.hc_core.specs.Agreement.{Agree, Kept}
-use Rattle.hc_core.specs.Goods.{FitsImage, change_of, goods_in}
+use Rattle.hc_core.specs.Goods.{change_of, goods_in}
 
 -- a stale one
 

@@ -69,7 +69,7 @@ edited-told old new edit report accepted tell =
 swap_behind : (state : State) (changes : List Change) (swap : Swap) → state_behind state (changes ++ change.Swapped swap ∷ []) ≡ state_after (state_behind state changes) swap.edit
 swap_behind state [] swap = refl
 swap_behind state (change.Swapped other ∷ changes) swap = swap_behind (state_after state other.edit) changes swap
-swap_behind state (change.Good task d bytes ∷ changes) swap = swap_behind state changes swap
+swap_behind state (change.Good good ∷ changes) swap = swap_behind state changes swap
 
 news-edited : (taken past : Record) (edit : Edit) (changes : List Change) (new : State) (report : Report) → edited (state_of past) edit ≡ Ok new → Tells (state_of past) edit new report
     → TellNews taken past changes → TellNews taken (Edited edit ∷ past) (changes ++ change.Swapped report.swap ∷ [])

@@ -7,7 +7,8 @@ use Rattle.hc_frames.specs.Arrived.{Placed, placed_from}
 use Rattle.hc_events.specs.declared.answer.Outcome.{Outcome}
 use Rattle.hc_events.specs.declared.answer.Outcome.TheVariants.{Inputs}
 use Rattle.hc_events.specs.Arrivals.{Part}
-use Rattle.hc_core.specs.Goods.{FitsImage, good_of, goods_in, parts_of}
+use Rattle.hc_events.specs.Images.{FitsImage}
+use Rattle.hc_core.specs.Goods.{good_of, goods_in, parts_of}
 
 -- the parts of a frame, without their places in it, are those that it carries
 pub parts-back : (start : ℕ) (parts : List Part) → parts_of (placed_from start parts) ≡ parts

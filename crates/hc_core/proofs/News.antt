@@ -33,7 +33,7 @@ goods_behind : (state : State) (changes : List Change) (goods : List Fresh) → 
 goods_behind state [] [] = refl
 goods_behind state [] (good ∷ goods) = goods_behind state [] goods
 goods_behind state (change.Swapped swap ∷ changes) goods = goods_behind (state_after state swap.edit) changes goods
-goods_behind state (change.Good task d bytes ∷ changes) goods = goods_behind state changes goods
+goods_behind state (change.Good good ∷ changes) goods = goods_behind state changes goods
 
 pub news-came : (taken past : Record) (arrival : Arrival) (changes : List Change) (goods : List Fresh) → fresh_by past arrival ≡ goods → All (FitsFresh StandsIn (line_of past)) (fresh_by past arrival) → TellNews taken past changes
     → TellNews taken (Came arrival ∷ past) (changes ++ map change_of goods)

@@ -1,6 +1,5 @@
 -- The good answers of an arrival, by its outcomes and what came back.
-use Rattle.std.specs.Prelude.{◌<◌, ◌≤◌, List, [], ◌∷◌, ◌++◌, length, map}
-use Rattle.hc_records.specs.declared.limits.TheConstants.{MOST_DATAGRAMS, MOST_DATAGRAM_BYTES, TASKS}
+use Rattle.std.specs.Prelude.{List, [], ◌∷◌, ◌++◌, map}
 use Rattle.hc_frames.specs.Arrived.{Placed}
 use Rattle.hc_events.specs.declared.answer.Outcome.{Outcome}
 use Rattle.hc_events.specs.declared.answer.Outcome.TheVariants.{Inputs, WrongCount, Stale}
@@ -23,13 +22,7 @@ goods_in (outcome ∷ outcomes) (part ∷ parts) = good_of outcome part ++ goods
 
 -- what a reader of the input images is told of a good answer
 abbrev pub change_of : Fresh → Change
-change_of good = change.Good good.task good.datagram good.bytes
-
--- a good answer of a datagram that tasks can have
-pub record FitsImage (good : Fresh) : Type 0 where
-  pub task : good.task < TASKS
-  pub datagram : good.datagram < MOST_DATAGRAMS
-  pub few : length good.bytes ≤ MOST_DATAGRAM_BYTES
+change_of good = change.Good good
 
 -- the data of the datagrams that came back, without their places in the frame
 abbrev pub parts_of : List Placed → List Part

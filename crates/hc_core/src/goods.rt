@@ -1,12 +1,12 @@
 //! What an arrival's good answers change: the input image, and the changes that its readers are told.
 ghost use Rattle.std.specs.Prelude.{◌≡◌, ◌<◌, ℕ, All, IfOk, fold, map, option_to_list};
 ghost use Rattle.hc_records.specs.declared.limits.TheConstants.{MOST_DATAGRAMS};
-ghost use Rattle.hc_events.specs.Images.{renewed};
+ghost use Rattle.hc_events.specs.Images.{FitsImage, renewed};
 ghost use Rattle.hc_inputs.specs.Image.{data_of};
-ghost use Rattle.hc_core.specs.Goods.{FitsImage, change_of, good_of, goods_in};
+ghost use Rattle.hc_core.specs.Goods.{change_of, good_of, goods_in};
 
 use hc_events::answer::Outcome;
-use hc_events::change::Change;
+use hc_events::change::{Change, GoodAnswer};
 use hc_frames::reading::{Part, Returned};
 use hc_inputs::inputs::Inputs;
 use hc_records::items::Items;
@@ -18,16 +18,14 @@ fn change_of(
     outcome: &Outcome,
     part: &Part<'_>,
 ) -> Result<Option<Change>, AllocError>
+    requires { All FitsImage (good_of outcome.now part.now.carried) }
     ensures { IfOk result (λ change. option_to_list change ≡ map change_of (good_of outcome.now part.now.carried)) }
 {
     match outcome {
         Outcome::Inputs { task, datagram } => {
             let bytes = Items::of(Vec::from_slice(alloc, part.bytes)?);
-            Ok(Some(Change::Good {
-                task: *task,
-                datagram: *datagram,
-                bytes,
-            }))
+            let good = GoodAnswer::of(*task, *datagram, bytes);
+            Ok(Some(Change::Good(good)))
         }
         Outcome::WrongCount {
             expected: _,
@@ -43,6 +41,7 @@ pub(crate) fn changes_of(
     outcomes: &[Outcome],
     arrival: &Returned<'_>,
 ) -> Result<Vec<Change>, AllocError>
+    requires { All FitsImage (goods_in outcomes.now arrival.now.parts) }
     ensures { IfOk result (λ changes. changes.items ≡ map change_of (goods_in outcomes.now arrival.now.parts)) }
 {
     let mut changes = Vec::new(alloc);

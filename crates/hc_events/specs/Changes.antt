@@ -28,7 +28,7 @@ news_of (entry ∷ past) = news_of past
 -- what a change tells: a swap names its edit
 abbrev pub told_by : Change → News
 told_by (change.Swapped swap) = Swapped swap.edit
-told_by (change.Good task d bytes) = Answered (record { task = task; datagram = d; bytes = bytes })
+told_by (change.Good good) = Answered good
 
 -- a datagram of the state, and data of its length
 pub record IsAnswerIn (state : State) (task d : ℕ) (bytes : List ℕ) : Type 0 where
@@ -46,7 +46,7 @@ AreLegalFrom state [] = Unit {0}
 AreLegalFrom state (change.Swapped swap ∷ changes) =
     IsSwapOf state swap.edit (swapped swap.change (table_of (line state)))
     × AreLegalFrom (state_after state swap.edit) changes
-AreLegalFrom state (change.Good task d bytes ∷ changes) = IsAnswerIn state task d bytes × AreLegalFrom state changes
+AreLegalFrom state (change.Good good ∷ changes) = IsAnswerIn state good.task good.datagram good.bytes × AreLegalFrom state changes
 
 -- the changes of a project's running line
 abbrev pub AreLegal : List Group → List Change → Type 0
@@ -56,20 +56,20 @@ AreLegal groups changes = AreLegalFrom (opened groups) changes
 abbrev pub table_behind : Table → List Change → Table
 table_behind table [] = table
 table_behind table (change.Swapped swap ∷ changes) = table_behind (swapped swap.change table) changes
-table_behind table (change.Good task d bytes ∷ changes) = table_behind table changes
+table_behind table (change.Good good ∷ changes) = table_behind table changes
 
 -- the epoch behind the changes: each swap is the next one
 abbrev pub epoch_behind : ℕ → List Change → ℕ
 epoch_behind epoch [] = epoch
 epoch_behind epoch (change.Swapped swap ∷ changes) = epoch_behind (epoch + 1) changes
-epoch_behind epoch (change.Good task d bytes ∷ changes) = epoch_behind epoch changes
+epoch_behind epoch (change.Good good ∷ changes) = epoch_behind epoch changes
 
 -- a datagram's data behind the changes: those of its last good answer behind the last swap; without either, those of before
 abbrev pub slot_behind : ℕ → ℕ → Option (List ℕ) → List Change → Option (List ℕ)
 slot_behind task d slot [] = slot
 slot_behind task d slot (change.Swapped swap ∷ changes) = slot_behind task d None changes
-slot_behind task d slot (change.Good t e bytes ∷ changes) =
-    slot_behind task d (renewed task d slot (record { task = t; datagram = e; bytes = bytes })) changes
+slot_behind task d slot (change.Good good ∷ changes) =
+    slot_behind task d (renewed task d slot good) changes
 
 -- along the list each swap leads to the table of the next state
 abbrev pub SwapsLeadFrom : State → List Change → Type 0
@@ -77,7 +77,7 @@ SwapsLeadFrom state [] = Unit {0}
 SwapsLeadFrom state (change.Swapped swap ∷ changes) =
     (swapped swap.change (table_of (line state)) ≡ table_of (line (state_after state swap.edit)))
     × SwapsLeadFrom (state_after state swap.edit) changes
-SwapsLeadFrom state (change.Good task d bytes ∷ changes) = SwapsLeadFrom state changes
+SwapsLeadFrom state (change.Good good ∷ changes) = SwapsLeadFrom state changes
 
 -- these are the changes that a record of a project tells
 pub record AreChangesOf (groups : List Group) (past : Record) (changes : List Change) : Type 0 where

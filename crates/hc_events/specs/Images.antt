@@ -1,6 +1,7 @@
 -- What a task reads: for each datagram of the present epoch the data of its last good answer in it, or none.
-use Rattle.std.specs.Prelude.{ℕ, ◌==◌, ◌&&◌, Bool, if◌then◌else◌, List, [], ◌∷◌, fold, map, Option, Some, None}
+use Rattle.std.specs.Prelude.{ℕ, ◌==◌, ◌<◌, ◌≤◌, ◌&&◌, Bool, if◌then◌else◌, List, [], ◌∷◌, fold, length, map, Option, Some, None}
 use Rattle.std.specs.List.{flat_map, range_with_len}
+use Rattle.hc_records.specs.declared.limits.TheConstants.{MOST_DATAGRAMS, MOST_DATAGRAM_BYTES, TASKS}
 use Rattle.hc_records.specs.Image.{datagram_count, task_places}
 use Rattle.hc_events.specs.Arrivals.{Arrival}
 use Rattle.hc_events.specs.Entries.{Record, Opened, Edited, Came}
@@ -13,6 +14,12 @@ pub record Fresh : Type 0 where
   pub task : ℕ
   pub datagram : ℕ
   pub bytes : List ℕ
+
+-- of a datagram that a task can have, with no more data than a datagram can have
+pub record FitsImage (good : Fresh) : Type 0 where
+  pub task : good.task < TASKS
+  pub datagram : good.datagram < MOST_DATAGRAMS
+  pub few : length good.bytes ≤ MOST_DATAGRAM_BYTES
 
 -- a list of one, the good answer of a task's datagram with these data; empty for a register block
 abbrev pub fresh_item : Item → List ℕ → List Fresh

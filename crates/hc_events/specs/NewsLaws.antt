@@ -71,7 +71,7 @@ SlotsAreLastAnswers = (past : Record) (task d : ℕ) (bytes : List ℕ) → (slo
 abbrev pub state_behind : State → List Change → State
 state_behind state [] = state
 state_behind state (change.Swapped swap ∷ changes) = state_behind (state_after state swap.edit) changes
-state_behind state (change.Good task d bytes ∷ changes) = state_behind state changes
+state_behind state (change.Good good ∷ changes) = state_behind state changes
 
 -- a list of changes decides by itself, without any event, what is read behind it: the places are those of its state's line, the epoch is that state's, and a datagram's data are its last good answer's behind the last swap, of a datagram of that line and with its length
 pub record DecidesAll (groups : List Group) (changes : List Change) : Type 0 where

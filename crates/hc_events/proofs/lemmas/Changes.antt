@@ -118,25 +118,25 @@ records-follow past all =
 slot_told : (task d : ℕ) (slot : Option (List ℕ)) (changes : List Change) → slot_behind task d slot changes ≡ slot_by task d slot (map told_by changes)
 slot_told task d slot [] = refl
 slot_told task d slot (change.Swapped swap ∷ changes) = slot_told task d None changes
-slot_told task d slot (change.Good t e bytes ∷ changes) = slot_told task d (renewed task d slot (record { task = t; datagram = e; bytes = bytes })) changes
+slot_told task d slot (change.Good good ∷ changes) = slot_told task d (renewed task d slot good) changes
 
 epoch_told : (epoch : ℕ) (changes : List Change) → epoch_behind epoch changes ≡ epoch_by epoch (map told_by changes)
 epoch_told epoch [] = refl
 epoch_told epoch (change.Swapped swap ∷ changes) = epoch_told (epoch + 1) changes
-epoch_told epoch (change.Good t e bytes ∷ changes) = epoch_told epoch changes
+epoch_told epoch (change.Good good ∷ changes) = epoch_told epoch changes
 
 table_told : (state : State) (changes : List Change) → SwapsLeadFrom state changes → table_behind (table_of (line state)) changes ≡ table_of (line (state_by state (map told_by changes)))
 table_told state [] lead = refl
 table_told state (change.Swapped swap ∷ changes) lead =
     ap (λ table. table_behind table changes) lead.0 ∙ table_told (state_after state swap.edit) changes lead.1
-table_told state (change.Good t e bytes ∷ changes) lead = table_told state changes lead
+table_told state (change.Good good ∷ changes) lead = table_told state changes lead
 
 -- along a legal list the swaps lead to the next states' tables
 
 pub legal-leads : (state : State) (changes : List Change) → AreLegalFrom state changes → SwapsLeadFrom state changes
 legal-leads state [] legal = tt
 legal-leads state (change.Swapped swap ∷ changes) legal = (legal.0.leads, legal-leads (state_after state swap.edit) changes legal.1)
-legal-leads state (change.Good t e bytes ∷ changes) legal = legal-leads state changes legal.1
+legal-leads state (change.Good good ∷ changes) legal = legal-leads state changes legal.1
 
 pub changes-tell_all : (past : Record) (changes : List Change) → AreAccepted past → AreLegalFrom (opened (opened_with past)) changes → map told_by changes ≡ news_of past → TellsAll (opened_with past) past changes
 changes-tell_all past changes all legal told =
@@ -250,7 +250,7 @@ slots-last past task d bytes = slots_last task d bytes (news_of past) (slot_of p
 state_told : (state : State) (changes : List Change) → state_by state (map told_by changes) ≡ state_behind state changes
 state_told state [] = refl
 state_told state (change.Swapped swap ∷ changes) = state_told (state_after state swap.edit) changes
-state_told state (change.Good t e bytes ∷ changes) = state_told state changes
+state_told state (change.Good good ∷ changes) = state_told state changes
 
 pub one-epoch : (fault : Option EditFault) (state next : State) → IsOk (refused_by fault next) → result_unwrap_or (refused_by fault next) state ≡ next
 one-epoch None state next ok = refl
@@ -261,7 +261,7 @@ epoch-legal state [] legal = refl
 epoch-legal state (change.Swapped swap ∷ changes) legal =
     let next : state_after state swap.edit ≡ changed state swap.edit = one-epoch (lowest (edit_faults state swap.edit)) state (changed state swap.edit) legal.0.accepted in
     ap (λ s. epoch_behind s.epoch changes) (sym next) ∙ epoch-legal (state_after state swap.edit) changes legal.1
-epoch-legal state (change.Good t e bytes ∷ changes) legal = epoch-legal state changes legal.1
+epoch-legal state (change.Good good ∷ changes) legal = epoch-legal state changes legal.1
 
 -- each slot is of a datagram of the state and has its length
 abbrev FitsSlot : State → ℕ → ℕ → Option (List ℕ) → Type 0
@@ -277,8 +277,7 @@ renewed_slot state task d slot good false own is before = before
 slots_fit : (state : State) (changes : List Change) (task d : ℕ) (slot : Option (List ℕ)) → AreLegalFrom state changes → FitsSlot state task d slot → FitsSlot (state_behind state changes) task d (slot_behind task d slot changes)
 slots_fit state [] task d slot legal fit = fit
 slots_fit state (change.Swapped swap ∷ changes) task d slot legal fit = slots_fit (state_after state swap.edit) changes task d None legal.1 (λ bytes e. cc)
-slots_fit state (change.Good t e bytes ∷ changes) task d slot legal fit =
-    let good : Fresh = record { task = t; datagram = e; bytes = bytes } in
+slots_fit state (change.Good good ∷ changes) task d slot legal fit =
     slots_fit state changes task d (renewed task d slot good) legal.1 (renewed_slot state task d slot good (is_for task d good) refl legal.0 fit)
 
 pub changes-decide : (groups : List Group) (changes : List Change) → AreLegalFrom (opened groups) changes → DecidesAll groups changes
@@ -342,7 +341,7 @@ legal_told : (state : State) (changes : List Change) → LegalNews state (map to
 legal_told state [] legal lead = tt
 legal_told state (change.Swapped swap ∷ changes) legal lead =
     (record { accepted = legal.0; leads = lead.0 }, legal_told (state_after state swap.edit) changes legal.1 lead.1)
-legal_told state (change.Good t e bytes ∷ changes) legal lead = (legal.0, legal_told state changes legal.1 lead)
+legal_told state (change.Good good ∷ changes) legal lead = (legal.0, legal_told state changes legal.1 lead)
 
 abbrev LegalOwn : Record → Type 0
 LegalOwn past = IsLegal (opened_with past) past

@@ -35,22 +35,22 @@ use Rattle.hc_events.proofs.lemmas.Changes.{changes-tell_all, epoch-legal, one-e
 table_on : (first second : List Change) (table : Table) → table_behind table (first ++ second) ≡ table_behind (table_behind table first) second
 table_on [] second table = refl
 table_on (change.Swapped swap ∷ first) second table = table_on first second (swapped swap.change table)
-table_on (change.Good task d bytes ∷ first) second table = table_on first second table
+table_on (change.Good good ∷ first) second table = table_on first second table
 
 epoch_on : (first second : List Change) (epoch : ℕ) → epoch_behind epoch (first ++ second) ≡ epoch_behind (epoch_behind epoch first) second
 epoch_on [] second epoch = refl
 epoch_on (change.Swapped swap ∷ first) second epoch = epoch_on first second (epoch + 1)
-epoch_on (change.Good task d bytes ∷ first) second epoch = epoch_on first second epoch
+epoch_on (change.Good good ∷ first) second epoch = epoch_on first second epoch
 
 slot_on : (first second : List Change) (task d : ℕ) (slot : Option (List ℕ)) → slot_behind task d slot (first ++ second) ≡ slot_behind task d (slot_behind task d slot first) second
 slot_on [] second task d slot = refl
 slot_on (change.Swapped swap ∷ first) second task d slot = slot_on first second task d None
-slot_on (change.Good t e bytes ∷ first) second task d slot = slot_on first second task d (renewed task d slot (record { task = t; datagram = e; bytes = bytes }))
+slot_on (change.Good good ∷ first) second task d slot = slot_on first second task d (renewed task d slot good)
 
 state_on : (first second : List Change) (state : State) → state_behind state (first ++ second) ≡ state_behind (state_behind state first) second
 state_on [] second state = refl
 state_on (change.Swapped swap ∷ first) second state = state_on first second (state_after state swap.edit)
-state_on (change.Good task d bytes ∷ first) second state = state_on first second state
+state_on (change.Good good ∷ first) second state = state_on first second state
 
 pub changes-lead_on : (first second : List Change) → LeadsOn first second
 changes-lead_on first second = record {
@@ -67,14 +67,14 @@ legal-parts state [] second legal = (tt, legal)
 legal-parts state (change.Swapped swap ∷ first) second legal =
     let rest = legal-parts (state_after state swap.edit) first second legal.1 in
     ((legal.0, rest.0), rest.1)
-legal-parts state (change.Good task d bytes ∷ first) second legal =
+legal-parts state (change.Good good ∷ first) second legal =
     let rest = legal-parts state first second legal.1 in
     ((legal.0, rest.0), rest.1)
 
 pub legal-joined : (state : State) (first second : List Change) → AreLegalFrom state first → AreLegalFrom (state_behind state first) second → AreLegalFrom state (first ++ second)
 legal-joined state [] second a b = b
 legal-joined state (change.Swapped swap ∷ first) second a b = (a.0, legal-joined (state_after state swap.edit) first second a.1 b)
-legal-joined state (change.Good task d bytes ∷ first) second a b = (a.0, legal-joined state first second a.1 b)
+legal-joined state (change.Good good ∷ first) second a b = (a.0, legal-joined state first second a.1 b)
 
 -- ---- epochs
 
@@ -106,7 +106,7 @@ next_fits state edit low ok =
 fits_from : (state : State) (changes : List Change) → state.epoch ≤ LAST_EPOCH → AreLegalFrom state changes → (state_behind state changes).epoch ≤ LAST_EPOCH
 fits_from state [] low legal = low
 fits_from state (change.Swapped swap ∷ changes) low legal = fits_from (state_after state swap.edit) changes (next_fits state swap.edit low legal.0.accepted) legal.1
-fits_from state (change.Good task d bytes ∷ changes) low legal = fits_from state changes low legal.1
+fits_from state (change.Good good ∷ changes) low legal = fits_from state changes low legal.1
 
 first_fits : 0 ≤ LAST_EPOCH
 first_fits = omega arith

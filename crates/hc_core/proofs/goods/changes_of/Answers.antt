@@ -1,22 +1,38 @@
-use Rattle.std.proofs.Common.{◌∙◌, ◌++◌, ap, sym, drop, map}
+use Rattle.std.proofs.Common.{◌∙◌, ◌+◌, ◌++◌, ap, sym, subst, drop, get_or, map}
+use Rattle.std.specs.Prelude.{All}
 use Rattle.std.proofs.lemmas.List.{append-nil}
-use Rattle.hc_core.specs.Goods.{change_of, goods_in, parts_of}
-use Rattle.hc_core.proofs.GoodsSteps.{goods-over, goods-short, parts-back}
+use Rattle.hc_records.proofs.lemmas.Lists.{All-append_left}
+use Rattle.hc_events.specs.declared.answer.Outcome.TheVariants.{Inputs}
+use Rattle.hc_events.specs.Images.{FitsImage}
+use Rattle.hc_core.specs.Goods.{change_of, good_of, goods_in, parts_of}
+use Rattle.hc_core.proofs.GoodsSteps.{goods-over, goods-short, goods-step, parts-back}
 use Rattle.hc_core.proofs.goods.changes_of.Goals as goal
 
 pub returns-in_default : goal.returns-in_default
 returns-in_default c =
     sym (append-nil c.loop-outcome.changes.items)
     ∙ sym (ap (λ goods. c.loop-outcome.changes.items ++ map change_of goods) (goods-short (drop c.loop-outcome.outcome-index c.args.outcomes.now) c.loop-outcome.parts c.in_default.ensures.steps.0))
-    ∙ c.loop-outcome.invariant
+    ∙ c.loop-outcome.invariant.same
 
 pub returns : goal.returns
 returns c =
     sym (append-nil c.loop-outcome.changes.items)
     ∙ sym (ap (λ goods. c.loop-outcome.changes.items ++ map change_of goods) (goods-over c.args.outcomes.now c.loop-outcome.outcome-index c.loop-outcome.parts c.loop-outcome-test.false))
-    ∙ c.loop-outcome.invariant
+    ∙ c.loop-outcome.invariant.same
 
 pub loop-outcome-init : goal.loop-outcome-init
 loop-outcome-init c =
-    ap (λ items. items ++ map change_of (goods_in c.args.outcomes.now (parts_of c.parts-parts.result))) c.new-changes.ensures.items
-    ∙ ap (λ parts. map change_of (goods_in c.args.outcomes.now parts)) (ap parts_of c.parts-parts.ensures ∙ parts-back 16 c.args.arrival.now.parts)
+    let back = ap parts_of c.parts-parts.ensures ∙ parts-back 16 c.args.arrival.now.parts in
+    let same = ap (goods_in c.args.outcomes.now) back in
+    record {
+      same = ap (λ items. items ++ map change_of (goods_in c.args.outcomes.now (parts_of c.parts-parts.result))) c.new-changes.ensures.items ∙ ap (map change_of) same;
+      fit = subst (All FitsImage) (sym same) c.requires;
+    }
+
+pub change_of-requires : goal.change_of-requires
+change_of-requires c =
+    let i = c.loop-outcome.outcome-index in
+    let first = good_of (get_or c.args.outcomes.now i (Inputs 0 0)) c.in-Some.part.carried in
+    let rest = goods_in (drop (i + 1) c.args.outcomes.now) (parts_of c.next.new.self) in
+    let split = goods-step c.args.outcomes.now i (Inputs 0 0) c.loop-outcome.parts c.next.new.self c.in-Some.part c.loop-outcome-test.true c.in-Some.ensures.steps in
+    All-append_left FitsImage first rest (subst (All FitsImage) split c.loop-outcome.invariant.fit)

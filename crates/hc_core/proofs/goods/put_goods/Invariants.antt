@@ -1,9 +1,9 @@
 use Rattle.std.proofs.Common.{◌≡◌, ℕ, ◌<◌, drop}
 use Rattle.std.specs.Prelude.{All, fold}
 use Rattle.hc_records.specs.declared.limits.TheConstants.{MOST_DATAGRAMS}
-use Rattle.hc_events.specs.Images.{renewed}
+use Rattle.hc_events.specs.Images.{FitsImage, renewed}
 use Rattle.hc_inputs.specs.Image.{data_of}
-use Rattle.hc_core.specs.Goods.{FitsImage, goods_in, parts_of}
+use Rattle.hc_core.specs.Goods.{goods_in, parts_of}
 use Rattle.hc_core.proofs.goods.put_goods.Given as goal
 
 -- what is left leads from the image so far to that of all; and it fits

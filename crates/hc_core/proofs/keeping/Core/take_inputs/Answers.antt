@@ -13,6 +13,15 @@ use Rattle.hc_core.specs.Goods.{goods_in}
 use Rattle.hc_core.specs.State.{CoreState}
 use Rattle.hc_core.proofs.keeping.Core.take_inputs.Goals as goal
 
+pub changes_of-requires : goal.changes_of-requires
+changes_of-requires c =
+    let inside = c.self.inside in
+    let past = record_of inside.past in
+    let arrival = c.args.arrival.now in
+    let outcomes = c.args.outcomes.now in
+    let told : told_of (judged_by past arrival) ≡ answer.Answered outcomes = ap (λ (state : CoreState). told_of (judged_by state.past arrival)) c.self.view_is ∙ c.requires.told in
+    goods-fit (kept_in inside) past (record_of inside.taken.value) arrival (goods_in outcomes arrival.parts) c.self.invariant (told-inputs past arrival outcomes told).goods
+
 pub put_goods-requires : goal.put_goods-requires
 put_goods-requires c =
     let inside = c.self.inside in

@@ -1,0 +1,14 @@
+use Rattle.std.proofs.Common.{◌≤◌, ℕ, ap, length, sym, subst}
+use Rattle.hc_records.specs.declared.limits.TheConstants.{MOST_DATAGRAM_BYTES}
+use Rattle.hc_frames.specs.Arrived.{Placed}
+use Rattle.hc_core.proofs.GoodsSteps.{input-fits}
+use Rattle.hc_core.proofs.goods.change_of.Goals as goal
+
+pub of-good-requires-clause-task : goal.of-good-requires-clause-task
+of-good-requires-clause-task c = (input-fits c.args.outcome.now c.in-Inputs.task c.in-Inputs.datagram c.args.part.now.carried c.in-Inputs.is c.requires).task
+
+pub of-good-requires-clause-datagram : goal.of-good-requires-clause-datagram
+of-good-requires-clause-datagram c = (input-fits c.args.outcome.now c.in-Inputs.task c.in-Inputs.datagram c.args.part.now.carried c.in-Inputs.is c.requires).datagram
+
+pub of-good-requires-clause-few : goal.of-good-requires-clause-few
+of-good-requires-clause-few c = ?
