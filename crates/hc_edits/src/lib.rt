@@ -6,5 +6,6 @@ mod areas;
 mod carrying;
 pub mod changes;
 pub mod faults;
+pub mod laws;
 pub mod prepared;
 mod rows;
