@@ -1,22 +1,21 @@
-//! Two thousand edits that are drawn from a fixed seed on 64 slaves, task by task: where an edit changes widths they
-//! are set in the task's tree, and the boundaries that are repaired there equal those of the plain fold over the task's
-//! list.
-ghost use Rattle.std.specs.Prelude.{◌≡◌, ◌∷◌, ◌++◌, ◌<◌, [], All, IfOk, OnOk, Some, true};
-ghost use Rattle.hc_records.specs.Boundaries.{boundaries};
+//! Two thousand edits that are drawn from a fixed seed on a plan of 64 slaves: behind each of them the boundaries of
+//! its tasks equal those of the plain fold over the tasks' lists.
+ghost use Rattle.std.specs.Prelude.{◌<◌, All, IfOk};
 ghost use Rattle.hc_records.specs.Laws.{IsPackable};
-ghost use Rattle.hc_records.specs.declared.keys.TheConstants.Key.{END};
-ghost use Rattle.hc_bitsum.specs.Tree.{HasPlace, HoldsTaskList};
-ghost use Rattle.hc_cuts.specs.Repair.{DifferInside};
+ghost use Rattle.hc_bitsum.specs.Tree.{HasPlace};
 
-use hc_bitsum::steps::Steps;
-use hc_cuts::cuts::Cuts;
-use hc_cuts::fold::{TooManyDatagrams, fold_cuts};
-use hc_cuts::hulls::Hulls;
+use crate::opened::{Refused, opened};
+use crate::steps::remap;
+use crate::widths::entries;
+use hc_cuts::fold::fold_cuts;
+use hc_plan::plan::Plan;
+use hc_records::edit::Edit;
+use hc_records::faults::EditFault;
+use hc_records::items::Items;
 use hc_records::keys::Key;
-use hc_records::records::Dir;
+use hc_records::project::Project;
+use hc_records::records::{Area, Dir, Group, Pdo, Slave};
 use std::alloc::{AllocError, Global};
-use std::marker::Brand;
-use std::sync::ledger::{Blank, Ledger};
 use std::test::Fail;
 
 /// The areas: an output area of each of the 64 slaves, then an input area of each.
@@ -123,88 +122,12 @@ fn list_of(alloc: Global, widths: &Widths) -> Result<Vec<(Key, u16)>, AllocError
     Ok(list)
 }
 
-/// Sets the widths that differ from old ones, and answers the hulls of their keys.
-fn set_changed(cuts: &mut Cuts, old: &Widths, new: &Widths) -> Hulls
-    requires slaves { cuts.old.tree.slaves ≡ 64 }
-    requires holds { HoldsTaskList cuts.old.tree }
-    ensures slaves { cuts.new.tree.slaves ≡ 64 }
-    ensures holds { HoldsTaskList cuts.new.tree }
-    ensures starts { cuts.new.starts ≡ cuts.old.starts }
-    ensures inside { DifferInside result cuts.old.tree.list cuts.new.tree.list }
-{
-    let mut hulls = Hulls::none();
-    for place in 0..AREAS {
-        let bits = new[place];
-        if bits != old[place] && bits <= 11_888 {
-            let key = key(place as u16);
-            cuts.set(key, bits);
-            hulls.add(key);
-        }
-    }
-    hulls
-}
-
-/// Sets widths of a task that is cut, and repairs its boundaries.
-fn repair_counted<L: Ledger>(
-    cuts: &mut Cuts,
-    old: &Widths,
-    new: &Widths,
-    blank: Blank,
-) -> Result<u32, TooManyDatagrams>
-    requires name { blank.name ≡ L.name }
-    requires parts { blank.parts ≡ L.parts }
-    requires one { L.parts ≡ 1 }
-    requires slaves { cuts.old.tree.slaves ≡ 64 }
-    requires holds { HoldsTaskList cuts.old.tree }
-    requires cut { cuts.old.starts ++ END ∷ [] ≡ boundaries cuts.old.tree.list }
-    ensures slaves { cuts.new.tree.slaves ≡ 64 }
-    ensures holds { HoldsTaskList cuts.new.tree }
-    ensures cut { OnOk result (cuts.new.starts ++ END ∷ [] ≡ boundaries cuts.new.tree.list) }
-{
-    let mut steps: Steps<L> = Steps::start(blank);
-    let hulls = set_changed(cuts, old, new);
-    cuts.repair(&hulls, &mut steps)
-}
-
-/// A task of 64 slaves without areas.
-fn empty_task(alloc: Global) -> Result<Cuts, AllocError>
-    ensures slaves { IfOk result (λ cuts. cuts.tree.slaves ≡ 64) }
-    ensures holds { IfOk result (λ cuts. HoldsTaskList cuts.tree) }
-    ensures cut { IfOk result (λ cuts. cuts.starts ++ END ∷ [] ≡ boundaries cuts.tree.list) }
-{
-    Cuts::new(alloc, 64)
-}
-
 /// Whether the boundaries are `Key::START` and, behind the first of these keys, the others.
 fn are_starts(starts: &[Key], keys: &[Key]) -> bool {
     match (starts, keys) {
         ([first, later @ ..], [_, others @ ..]) => *first == Key::START && later == others,
         ([first], []) => *first == Key::START,
         _ => false,
-    }
-}
-
-/// Whether a repair of a task that is cut refuses other widths where the fold over their list does, and else
-/// leaves the boundaries of the fold; `None` where both refuse.
-fn is_repaired_as_folded(
-    cuts: &mut Cuts,
-    old: &Widths,
-    new: &Widths,
-    list: &[(Key, u16)],
-) -> Option<bool>
-    requires packable { All IsPackable list.now }
-    requires slaves { cuts.old.tree.slaves ≡ 64 }
-    requires holds { HoldsTaskList cuts.old.tree }
-    requires cut { cuts.old.starts ++ END ∷ [] ≡ boundaries cuts.old.tree.list }
-    ensures slaves { cuts.new.tree.slaves ≡ 64 }
-    ensures holds { HoldsTaskList cuts.new.tree }
-    ensures cut { result ≡ Some true → cuts.new.starts ++ END ∷ [] ≡ boundaries cuts.new.tree.list }
-{
-    let repaired = repair_counted::<Brand>(cuts, old, new, Blank::new(1));
-    match (repaired, fold_cuts(list)) {
-        (Ok(_), Ok(keys)) => Some(are_starts(cuts.starts(), &keys)),
-        (Err(_), Err(_)) => None,
-        _ => Some(false),
     }
 }
 
@@ -219,38 +142,126 @@ fn has_room(alloc: Global, line: &Line) -> Result<bool, AllocError> {
     Ok(true)
 }
 
-/// Whether a task's boundaries, repaired behind each of 2,000 edits, are those of the fold. Where an edit is
-/// refused, for this task or for another one, a task without areas is given the widths that this one had.
-fn follows(alloc: Global, task: u8) -> Result<bool, AllocError> {
-    let mut line = OPENING;
-    let mut state = 20_261_122_u64;
-    let mut cuts = empty_task(alloc)?;
-    for _ in 0..2000 {
-        let old = line.widths(task);
-        let edited = line.edited(drawn(&mut state));
-        let new = edited.widths(task);
-        let repaired = is_repaired_as_folded(&mut cuts, &old, &new, &list_of(alloc, &new)?);
-        let has_room = has_room(alloc, &edited)?;
-        if repaired == Some(true) && has_room {
-            line = edited;
-            continue;
-        }
-        if repaired == Some(false) || has_room {
+/// The bits of the PDOs that each area offers, by their indexes from 0 on.
+const PDOS: [u16; 7] = [3, 8, 700, 3971, 4035, 3974, 3879];
+
+/// The PDOs that a remap assigns, with `BITS` bits together.
+const ASSIGNED: [&[u16]; 8] = [&[], &[0], &[1], &[2], &[3], &[4], &[4, 5], &[4, 5, 6]];
+
+/// An area with nothing assigned.
+fn area(alloc: Global, sm: u8, dir: Dir, phys: u16) -> Result<Area, AllocError> {
+    let mut offered = Items::new(alloc);
+    let mut index = 0_u16;
+    for bits in PDOS {
+        let entries = entries(alloc, bits)?;
+        offered.push(Pdo { index, entries })?;
+        index = index.saturating_add(1);
+    }
+    Ok(Area {
+        sm,
+        dir,
+        phys,
+        offered,
+        assigned: Items::new(alloc),
+        task: 0,
+    })
+}
+
+/// A group of four slaves, the mandatory one for number 0; the slaves' station addresses follow one another from 1 on.
+fn group(alloc: Global, number: u16) -> Result<Group, AllocError>
+    requires { number < 16 }
+{
+    let mut slaves = Items::new(alloc);
+    for place in 0..4 {
+        let mut areas = Items::new(alloc);
+        areas.push(area(alloc, 0, Dir::Out, 0x1000)?)?;
+        areas.push(area(alloc, 1, Dir::In, 0x2000)?)?;
+        let station = 4 * number + place + 1;
+        slaves.push(Slave { station, areas })?;
+    }
+    Ok(Group {
+        alias: number,
+        slaves,
+    })
+}
+
+/// The groups of the project.
+fn groups(alloc: Global) -> Result<Items<Group>, AllocError> {
+    let mut groups = Items::new(alloc);
+    for number in 0..16 {
+        groups.push(group(alloc, number)?)?;
+    }
+    Ok(groups)
+}
+
+/// The plan at the opening.
+fn plan(alloc: Global) -> Result<Plan, Refused> {
+    match groups(alloc) {
+        Ok(groups) => opened(alloc, Project::checked(alloc, groups)),
+        Err(_) => Err(Refused::Opening(EditFault::Memory)),
+    }
+}
+
+/// The edit that a number draws.
+fn edit(alloc: Global, number: usize) -> Result<Edit, AllocError> {
+    let place = number % 128;
+    let choice = number / 128 % 8;
+    let station = (place % 64) as u16 + 1;
+    let area = (place / 64) as u8;
+    match number / 1024 % 4 {
+        0 if place < 8 || choice < 6 => Ok(Edit::Connect((place / 8) as u16)),
+        0 => Ok(Edit::Disconnect((place / 8) as u16)),
+        1 => Ok(Edit::Move {
+            station,
+            area,
+            task: TASKS[choice],
+        }),
+        _ => remap(alloc, station, area, ASSIGNED[choice]),
+    }
+}
+
+/// Whether the boundaries of each task of the plan are those of the fold over the line's list.
+fn has_folded(alloc: Global, plan: &Plan, line: &Line) -> Result<bool, AllocError> {
+    for task in 0..8 {
+        let list = list_of(alloc, &line.widths(task))?;
+        let Ok(keys) = fold_cuts(&list) else {
             return Ok(false);
-        }
-        cuts = empty_task(alloc)?;
-        let list = list_of(alloc, &old)?;
-        if is_repaired_as_folded(&mut cuts, &[0; AREAS], &old, &list) != Some(true) {
+        };
+        if !are_starts(plan.starts(task), &keys) {
             return Ok(false);
         }
     }
     Ok(true)
 }
 
-#[test]
-fn repaired_boundaries_are_those_of_the_fold(rt: HostRuntime) -> Result<(), Fail> {
-    for task in 0..8 {
-        assert!(rt; follows(rt.alloc(), task)?);
+/// How many of 2,000 edits a plan accepts, if behind each of them its boundaries are those of the fold, and one is
+/// refused for its datagrams just where the fold over the lists that it would leave has too many; else none.
+fn accepted(plan: &mut Plan, alloc: Global) -> Result<Option<usize>, AllocError> {
+    let mut line = OPENING;
+    let mut state = 20_261_122_u64;
+    let mut count = 0_usize;
+    for _ in 0..2000 {
+        let number = drawn(&mut state);
+        let next = line.edited(number);
+        match plan.apply(alloc, &edit(alloc, number)?) {
+            Ok(_) => {
+                line = next;
+                count = count.saturating_add(1);
+            }
+            Err(EditFault::TooManyDatagrams(_)) if has_room(alloc, &next)? => return Ok(None),
+            Err(_) => {}
+        }
+        if !has_folded(alloc, plan, &line)? {
+            return Ok(None);
+        }
     }
+    Ok(Some(count))
+}
+
+#[test]
+fn boundaries_are_those_of_the_fold(rt: HostRuntime) -> Result<(), Fail> {
+    let mut plan = plan(rt.alloc())?;
+    let count = accepted(&mut plan, rt.alloc())?;
+    assert!(rt; count > Some(800));
     Ok(())
 }

@@ -16,7 +16,7 @@ const PDO_BITS: u16 = 4096;
 type Width = (Dir, u16);
 
 /// Entries without variables that have so many bits together.
-fn entries(alloc: Global, bits: u16) -> Result<Items<Entry>, AllocError> {
+pub fn entries(alloc: Global, bits: u16) -> Result<Items<Entry>, AllocError> {
     let mut entries = Items::new(alloc);
     for _ in 0..bits / 64 {
         entries.push((None, 64))?;
