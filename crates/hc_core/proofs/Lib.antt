@@ -19,7 +19,6 @@ pub mod Posts
 pub mod Values
 pub mod Fills
 pub mod FewFrames
-pub mod PostFaults
 pub mod LastData
 pub mod Lines
 pub mod GoesWithout

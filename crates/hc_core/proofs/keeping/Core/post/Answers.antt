@@ -15,7 +15,7 @@ use Rattle.hc_outputs.specs.Values.{posted}
 use Rattle.hc_outputs.proofs.lemmas.LaidOut.{line-laid_out}
 use Rattle.hc_core.specs.Records.{record_of}
 use Rattle.hc_core.proofs.Posts.{agree-posted}
-use Rattle.hc_core.proofs.PostFaults.{outputs-listed, post-accepted, post-length, post-stale}
+use Rattle.hc_core.proofs.lemmas.PostFaults.{outputs-listed, post-accepted, post-length, post-stale}
 use Rattle.hc_core.specs.Agreement.{Agree, kept_in}
 use Rattle.hc_core.specs.State.{CoreState}
 use Rattle.hc_core.proofs.keeping.Core.post.Goals as goal
