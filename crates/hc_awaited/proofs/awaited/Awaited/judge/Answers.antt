@@ -16,7 +16,7 @@ outcomes-requires-clause-stands c =
     let frame : Kept = c.in-Some.frame.now in
     let found : Some (frame_by newest frame) ≡ find (λ (one : AwaitedFrame). one.serial == serial) c.args.self.now.frames =
     c.in-Some.ensures.found
-    ∙ ap (λ (n : ℕ). find (λ (one : AwaitedFrame). one.serial == n) (awaited_frames newest c.as_slice.result.now)) c.serial-2.ensures
+    ∙ ap (λ (n : ℕ). find (λ (one : AwaitedFrame). one.serial == n) (awaited_frames newest c.as_slice.result.now)) c.serial-2.ensures.value
     ∙ ap (λ (frames : List Kept). find (λ (one : AwaitedFrame). one.serial == serial) (awaited_frames newest frames)) c.as_slice.ensures.value
     ∙ ap (λ (w : Waiting). find (λ (one : AwaitedFrame). one.serial == serial) w.frames) c.self.view_is in
     found-stands (line c.args.plan.now) newest frame
@@ -29,7 +29,7 @@ returns-in-Some-2 c =
     let frame : Kept = c.in-Some.frame.now in
     let found : Some (frame_by newest frame) ≡ find (λ (one : AwaitedFrame). one.serial == serial) c.args.self.now.frames =
     c.in-Some.ensures.found
-    ∙ ap (λ (n : ℕ). find (λ (one : AwaitedFrame). one.serial == n) (awaited_frames newest c.as_slice.result.now)) c.serial-2.ensures
+    ∙ ap (λ (n : ℕ). find (λ (one : AwaitedFrame). one.serial == n) (awaited_frames newest c.as_slice.result.now)) c.serial-2.ensures.value
     ∙ ap (λ (frames : List Kept). find (λ (one : AwaitedFrame). one.serial == serial) (awaited_frames newest frames)) c.as_slice.ensures.value
     ∙ ap (λ (w : Waiting). find (λ (one : AwaitedFrame). one.serial == serial) w.frames) c.self.view_is in
     let other : option_map_or (λ (one : AwaitedWrite). one.serial == serial) c.self.inside.write false ≡ false =
