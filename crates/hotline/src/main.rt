@@ -1,16 +1,7 @@
 //! The program `hotline`: project text and commands on standard input, answers on standard output.
 #![tactic(auto)]
 
-pub mod commands;
-pub mod engine;
-pub mod frames;
-pub mod opening;
-pub mod refusals;
-pub mod replies;
-#[cfg(test)]
-mod tests;
-
-use engine::run_hotline;
+use hc_program::engine::run_hotline;
 use std::process::ExitCode;
 
 fn main(rt: HostRuntime) -> ExitCode {

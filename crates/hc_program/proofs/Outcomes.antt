@@ -1,0 +1,34 @@
+-- The outcome of an input, from where its project opens, and of what a reader had left.
+use Rattle.std.proofs.Common.{◌≡◌, ℕ, ◌≤◌, List, [], length, cond, false, ap, subst, ◌∙◌, Ok, Err, Some, None}
+use Rattle.std.specs.Prelude.{nat_lt, IfSome, Option}
+use Rattle.std.proofs.lemmas.Bool.{le-ltb}
+use Rattle.hc_events.specs.Entries.{Record}
+use Rattle.hc_text.specs.declared.input.TheConstants.{MOST_INPUT}
+use Rattle.hc_program.specs.declared.opening.Unopened.{Unopened}
+use Rattle.hc_text.specs.Lines.{command_lines, lines_of, project_text}
+use Rattle.hc_program.specs.Opening.{opening_of}
+use Rattle.hc_program.specs.Runs.{run}
+use Rattle.hc_program.specs.Text.{outcome_of, outcome_of_lines, run_opened, unopened}
+
+not_long : (n m : ℕ) → n ≤ m → nat_lt m n ≡ false
+not_long n m within = le-ltb m n within
+
+lines_outcome : (input : List ℕ) → length input ≤ MOST_INPUT → outcome_of input ≡ outcome_of_lines (lines_of input)
+unfolding outcome_of
+lines_outcome input within =
+    ap (λ b. cond b (record { text = []; status = 4 }) (outcome_of_lines (lines_of input))) (not_long (length input) MOST_INPUT within)
+
+pub opened_outcome : (input : List ℕ) (past : Record) → length input ≤ MOST_INPUT → opening_of (project_text (lines_of input)) ≡ Ok past
+    → outcome_of input ≡ run past (command_lines (lines_of input))
+unfolding outcome_of_lines
+opened_outcome input past within opens = lines_outcome input within ∙ ap (λ opening. run_opened opening (command_lines (lines_of input))) opens
+
+pub unopened_outcome : (input : List ℕ) (fault : Unopened) → length input ≤ MOST_INPUT → opening_of (project_text (lines_of input)) ≡ Err fault
+    → outcome_of input ≡ unopened fault
+unfolding outcome_of_lines
+unopened_outcome input fault within opens = lines_outcome input within ∙ ap (λ opening. run_opened opening (command_lines (lines_of input))) opens
+
+-- what holds of the bytes that were read holds of what the reader had left, where that is known
+pub of_known : (remaining : Option (List ℕ)) (Holds : List ℕ → Type 0) (bytes read : List ℕ) → IfSome remaining (λ all. bytes ≡ all) → read ≡ bytes → Holds read → IfSome remaining Holds
+of_known None Holds bytes read same is holds = tt
+of_known (Some all) Holds bytes read same is holds = subst Holds (is ∙ same) holds

@@ -1,0 +1,105 @@
+-- One turn of a run: what is written, and what is left.
+use Rattle.std.proofs.Common.{◌≡◌, ℕ, ◌+◌, List, [], ◌∷◌, ◌++◌, length, take, drop, refl, sym, ◌∙◌, ap, subst, append_assoc, append-nil, take-append-drop, Some, Bool, true, false, cond}
+use Rattle.std.specs.Prelude.{Option}
+use Rattle.std.specs.Io.KnownBytes.{Appends}
+use Rattle.std.proofs.KnownBytes.{Appends-trans, Appends-nil}
+use Rattle.std.proofs.Math.Seq.{take-append_seam}
+use Rattle.hc_events.specs.Entries.{Record}
+use Rattle.hc_text.specs.Lines.{Line}
+use Rattle.hc_text.specs.Cutting.{CutsLine, lines_after}
+use Rattle.hc_program.specs.Runs.{Outcome, Reply, behind, reply_to, run}
+use Rattle.hc_program.specs.Text.{EndsAs}
+use Rattle.hc_program.specs.Turns.{Continues, Ends, GoesOn}
+
+-- the first line's reply, and the rest of the run
+run_line : (past : Record) (line : Line) (lines : List Line)
+    → run past (line ∷ lines) ≡ behind (reply_to past line.number line.text) (run (reply_to past line.number line.text).past lines)
+unfolding run
+run_line past line lines = refl
+
+pub run_cut : (past : Record) (number : ℕ) (input text : List ℕ) (rest : Option (List ℕ)) → CutsLine input text rest
+    → run past (lines_after number (Some input)) ≡ behind (reply_to past number text) (run (reply_to past number text).past (lines_after (number + 1) rest))
+run_cut past number input text rest cut =
+    ap (run past) (cut.lines number) ∙ run_line past (record { number = number; text = text; bytes = cut.bytes }) (lines_after (number + 1) rest)
+
+pub run_none : (past : Record) → run past [] ≡ record { text = []; status = 0 }
+unfolding run
+run_none past = refl
+
+-- a reply is the front of what follows from it
+reply_first : (text tail : List ℕ) (status : ℕ) (b : Bool)
+    → (more : List ℕ) × (Outcome.text (cond b (record { text = text ++ tail; status = status }) (record { text = text; status = 2 })) ≡ text ++ more)
+reply_first text tail status true = (tail, refl)
+reply_first text tail status false = ([], sym (append-nil text))
+
+behind_on : (reply : Reply) (rest : Outcome) → reply.goes_on ≡ true → behind reply rest ≡ record { text = reply.text ++ rest.text; status = rest.status }
+behind_on reply rest on =
+    ap (λ b. cond b (record { text = reply.text ++ rest.text; status = rest.status }) (record { text = reply.text; status = 2 })) on
+
+behind_end : (reply : Reply) (rest : Outcome) → reply.goes_on ≡ false → behind reply rest ≡ record { text = reply.text; status = 2 }
+behind_end reply rest off =
+    ap (λ b. cond b (record { text = reply.text ++ rest.text; status = rest.status }) (record { text = reply.text; status = 2 })) off
+
+-- before the first line
+pub begins : (old : Option (List ℕ)) (all : Outcome) → Continues old old all all
+begins old all = record { text = record { done = []; appended = Appends-nil old; whole = refl }; status = refl }
+
+-- the run goes on behind a whole reply
+pub continues : (old mid new : Option (List ℕ)) (left all : Outcome) (reply : Reply) (next : Record) (of : Record → Outcome)
+    → Continues old mid left all → left ≡ behind reply (of reply.past) → GoesOn mid new next reply → Continues old new (of next) all
+continues old mid new left all reply next of c is turn =
+    let kept : of next ≡ of reply.past = ap of turn.past_kept in
+    let joined : left ≡ record { text = reply.text ++ (of next).text; status = (of next).status } =
+    is ∙ behind_on reply (of reply.past) turn.on ∙ ap (λ (o : Outcome). record { text = reply.text ++ o.text; status = o.status }) (sym kept) in
+    record {
+      text = record {
+        done = c.text.done ++ reply.text;
+        appended = Appends-trans old mid new c.text.done reply.text c.text.appended turn.written;
+        whole = append_assoc c.text.done reply.text (of next).text ∙ ap (λ (o : Outcome). c.text.done ++ o.text) (sym joined) ∙ c.text.whole;
+      };
+      status = ap (λ (o : Outcome). o.status) (sym joined) ∙ c.status;
+    }
+
+-- what was written, where something is left, is a front of all
+front_of : (old new : Option (List ℕ)) (front rest all : List ℕ) → front ++ rest ≡ all → Appends old new front → (n : ℕ) × Appends old new (take n all)
+front_of old new front rest all whole appended =
+    (length front, subst (Appends old new) (sym (take-append_seam front rest) ∙ ap (take (length front)) whole) appended)
+
+-- a run that ends in the middle of a reply, or behind one
+pub ends : (old mid new : Option (List ℕ)) (left all rest : Outcome) (reply : Reply) (status : ℕ)
+    → Continues old mid left all → left ≡ behind reply rest → Ends mid new status reply → EndsAs old new status all
+ends old mid new left all rest reply status c is turn =
+    let (more, first) = reply_first reply.text rest.text rest.status reply.goes_on in
+    let begun : left.text ≡ reply.text ++ more = ap (λ (o : Outcome). o.text) is ∙ first in
+    let (n, part) = turn.front in
+    record {
+      whole = λ not_four.
+          let (written, two, off) = turn.whole not_four in
+          let last : left ≡ record { text = reply.text; status = 2 } = is ∙ behind_end reply rest off in (
+            subst (Appends old new) (ap (λ (o : Outcome). c.text.done ++ o.text) (sym last) ∙ c.text.whole) (Appends-trans old mid new c.text.done reply.text c.text.appended written),
+            two ∙ ap (λ (o : Outcome). o.status) (sym last) ∙ c.status,
+          );
+      front = front_of old new (c.text.done ++ take n reply.text) (drop n reply.text ++ more) all.text
+          (append_assoc c.text.done (take n reply.text) (drop n reply.text ++ more)
+          ∙ ap (λ l. c.text.done ++ l) (sym (append_assoc (take n reply.text) (drop n reply.text) more) ∙ ap (λ l. l ++ more) (take-append-drop n reply.text) ∙ sym begun)
+          ∙ c.text.whole)
+          (Appends-trans old mid new c.text.done (take n reply.text) c.text.appended part);
+    }
+
+-- a text that was written is a front of itself
+pub ends_whole : (old new : Option (List ℕ)) (status : ℕ) (all : Outcome) → Appends old new all.text → status ≡ all.status → EndsAs old new status all
+ends_whole old new status all written same = record {
+  whole = λ _. (written, same);
+  front = front_of old new all.text [] all.text (append-nil all.text) written;
+}
+
+-- a run whose last line was answered
+pub done : (old new : Option (List ℕ)) (left all : Outcome) → Continues old new left all → left ≡ record { text = []; status = 0 } → EndsAs old new 0 all
+done old new left all c none =
+    ends_whole old new 0 all
+    (subst (Appends old new) (sym (append-nil c.text.done) ∙ ap (λ (o : Outcome). c.text.done ++ o.text) (sym none) ∙ c.text.whole) c.text.appended)
+    (ap (λ (o : Outcome). o.status) (sym none) ∙ c.status)
+
+-- a text of which a front was written
+pub ends_broken : (old new : Option (List ℕ)) (all : Outcome) → (n : ℕ) × Appends old new (take n all.text) → EndsAs old new 4 all
+ends_broken old new all front = record { whole = λ not_four. absurd (not_four refl); front = front }

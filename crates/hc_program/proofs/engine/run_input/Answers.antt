@@ -1,0 +1,33 @@
+use Rattle.std.proofs.Common.{subst, sym, ap, ◌∙◌}
+use Rattle.std.specs.Prelude.{IsOk}
+use Rattle.hc_project.specs.Text.{project_in}
+use Rattle.hc_program.specs.Opening.{opening_of}
+use Rattle.hc_program.specs.Runs.{run}
+use Rattle.hc_program.specs.Text.{EndsAs}
+use Rattle.hc_program.proofs.Outcomes.{opened_outcome, unopened_outcome}
+use Rattle.hc_program.proofs.Starved.{starved_lines, starved_unopened}
+use Rattle.hc_program.proofs.engine.run_input.Goals as goal
+
+pub returns-in-Ok-clause-unstarved : goal.returns-in-Ok-clause-unstarved
+returns-in-Ok-clause-unstarved g c unstarved =
+    let opens = ap opening_of (sym c.split_sections-sections.ensures.project) ∙ c.in-Ok.ensures.opened in
+    let all = opened_outcome c.args.input.now c.in-Ok.core.past c.requires opens ∙ ap (run c.in-Ok.core.past) (sym c.split_sections-sections.ensures.commands) in
+    subst (EndsAs _ _ _) (sym all) (c.run_commands.ensures.unstarved unstarved)
+
+pub returns-in-Ok-clause-starved : goal.returns-in-Ok-clause-starved
+returns-in-Ok-clause-starved g c starved =
+    let opens = ap opening_of (sym c.split_sections-sections.ensures.project) ∙ c.in-Ok.ensures.opened in
+    starved_lines _ _ _ c.args.input.now c.in-Ok.core.past _ c.requires opens c.split_sections-sections.ensures.commands (c.run_commands.ensures.starved starved)
+
+pub returns-in-Err-clause-unstarved : goal.returns-in-Err-clause-unstarved
+returns-in-Err-clause-unstarved g c unstarved =
+    let opens = ap opening_of (sym c.split_sections-sections.ensures.project) ∙ c.in-Err.ensures.refused (c.end_unopened.ensures.unstarved unstarved) in
+    subst (EndsAs _ _ _) (sym (unopened_outcome c.args.input.now c.in-Err.fault c.requires opens)) (c.end_unopened.ensures.told unstarved)
+
+pub returns-in-Err-clause-starved : goal.returns-in-Err-clause-starved
+returns-in-Err-clause-starved g c starved =
+    let project = c.split_sections-sections.ensures.project in
+    starved_unopened _ _ _ c.args.input.now c.in-Err.fault c.requires
+    (λ no_memory. ap opening_of (sym project) ∙ c.in-Err.ensures.refused no_memory)
+    (λ is. subst (λ text. IsOk (project_in text)) project (c.in-Err.ensures.memory is))
+    (c.end_unopened.ensures.starved starved)

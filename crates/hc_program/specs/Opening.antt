@@ -1,0 +1,55 @@
+-- Opening the project of an input.
+use Rattle.std.specs.Prelude.{ℕ, Bool, true, false, List, ◌++◌, Option, Some, None, Result, Ok, Err, codes}
+use Rattle.std.specs.Fmt.{decimal}
+use Rattle.hc_records.specs.declared.records.Group.{Group}
+use Rattle.hc_records.specs.declared.faults.ProjectFault.{ProjectFault}
+use Rattle.hc_records.specs.declared.faults.ProjectFault.TheVariants as fault
+use Rattle.hc_records.specs.Edits.{crowded_task}
+use Rattle.hc_records.specs.Line.{line, opened}
+use Rattle.hc_project.specs.Text.{project_in}
+use Rattle.hc_events.specs.Accepted.{just_opened}
+use Rattle.hc_events.specs.Entries.{Record}
+use Rattle.hc_program.specs.declared.opening.Unopened.{Unopened}
+use Rattle.hc_program.specs.declared.opening.Unopened.TheVariants.{Project, TooManyDatagrams, Memory}
+use Rattle.hc_program.specs.Refusals.{project_fault_text}
+
+-- the lowest task of the opening line that needs more than 16 datagrams
+unfoldable pub crowded_at_opening : List Group → Option ℕ
+crowded_at_opening groups = crowded_task (line (opened groups))
+
+-- the record of a core that just opened the groups, where no task is given; else TooManyDatagrams with that task
+abbrev pub opened_unless : Option ℕ → List Group → Result Record Unopened
+opened_unless None groups = Ok (just_opened groups)
+opened_unless (Some task) groups = Err (TooManyDatagrams task)
+
+-- the record of a core that opens the groups, or why there is none: TooManyDatagrams with the lowest crowded task of the opening line, or the project's fault
+abbrev pub opened_project : Result (List Group) ProjectFault → Result Record Unopened
+opened_project (Ok groups) = opened_unless (crowded_at_opening groups) groups
+opened_project (Err refused) = Err (Project refused)
+
+-- the record of a core that opens the project of a text, or why there is none
+unfoldable pub opening_of : List ℕ → Result Record Unopened
+opening_of text = opened_project (project_in text)
+
+-- the line that says why nothing was opened: `project fault N Name`, `open fault 1 TooManyDatagrams T`, or `open fault 2 Memory`
+unfoldable pub unopened_text : Unopened → List ℕ
+unopened_text (Project refused) = project_fault_text refused
+unopened_text (TooManyDatagrams task) = codes "open fault 1 TooManyDatagrams " ++ decimal task ++ codes "\n"
+unopened_text Memory = codes "open fault 2 Memory\n"
+
+-- a growth was refused
+abbrev pub is_project_memory : ProjectFault → Bool
+is_project_memory fault.Memory = true
+is_project_memory _ = false
+
+-- the reason why nothing was opened is want of memory, as a project's fault or while the core was made
+abbrev pub is_memory : Unopened → Bool
+is_memory (Project refused) = is_project_memory refused
+is_memory (TooManyDatagrams task) = false
+is_memory Memory = true
+
+-- what is told in place of a fault where a growth is refused while it is told
+abbrev pub in_want : Unopened → Unopened
+in_want (Project refused) = Project fault.Memory
+in_want (TooManyDatagrams task) = Memory
+in_want Memory = Memory

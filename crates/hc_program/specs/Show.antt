@@ -1,0 +1,31 @@
+-- The command `show`: the frame of a datagram that would be sent next.
+use Rattle.std.specs.Prelude.{ℕ, nat_lt, if◌then◌else◌, List, [], ◌∷◌, Option, Some, None, option_map, option_and_then, codes}
+use Rattle.hc_records.specs.declared.limits.TheConstants.{TASKS}
+use Rattle.hc_text.specs.Numbers.{number_in}
+use Rattle.hc_events.specs.declared.faults.CoreFault.TheVariants.{NoSuchTask}
+use Rattle.hc_events.specs.Calls.{preview}
+use Rattle.hc_events.specs.Entries.{Record}
+use Rattle.hc_events.specs.Sendings.{Frame}
+use Rattle.hc_events.specs.Steps.{sent_text}
+use Rattle.hc_program.specs.Frames.{shown_line}
+use Rattle.hc_program.specs.Refusals.{refusal_text}
+use Rattle.hc_program.specs.declared.commands.Command.{Command}
+use Rattle.hc_program.specs.declared.commands.Command.TheVariants.{Show}
+
+-- its arguments are a task and the number of a datagram
+abbrev pub show_in : List (List ℕ) → Option Command
+show_in [] = None
+show_in (task ∷ []) = None
+show_in (task ∷ datagram ∷ []) =
+    option_and_then (λ t. option_map (λ d. Show t d) (number_in 255 datagram)) (number_in 255 task)
+show_in (task ∷ datagram ∷ other ∷ words) = None
+
+-- a frame with its own serial, and the values that its datagram's output variables have now
+unfoldable pub frame_or_none : Record → Option Frame → List ℕ
+frame_or_none past None = codes "none\n"
+frame_or_none past (Some frame) = shown_line frame.serial (sent_text past frame)
+
+-- it is shown whether or not blocks are owed
+unfoldable pub show_text : Record → ℕ → ℕ → List ℕ
+show_text past task number =
+    if nat_lt task TASKS then frame_or_none past (preview past task number) else refusal_text NoSuchTask

@@ -1,0 +1,32 @@
+-- What the program prints for an input, and its exit status.
+use Rattle.std.specs.Prelude.{◌≡◌, ◌≢◌, ℕ, nat_lt, if◌then◌else◌, List, [], length, take, Option, Result, Ok, Err}
+use Rattle.std.specs.Io.KnownBytes.{Appends}
+use Rattle.hc_events.specs.Entries.{Record}
+use Rattle.hc_text.specs.declared.input.TheConstants.{MOST_INPUT}
+use Rattle.hc_program.specs.declared.opening.Unopened.{Unopened}
+use Rattle.hc_text.specs.Lines.{Line, command_lines, lines_of, project_text}
+use Rattle.hc_program.specs.Opening.{opening_of, unopened_text}
+use Rattle.hc_program.specs.Runs.{Outcome, run}
+
+-- the outcome of a project that isn't opened: the line that says why, and status 3
+abbrev pub unopened : Unopened → Outcome
+unopened fault = record { text = unopened_text fault; status = 3 }
+
+-- the run of the command lines from the record of the opened core; where none was opened, the outcome that says why
+abbrev pub run_opened : Result Record Unopened → List Line → Outcome
+run_opened (Ok past) lines = run past lines
+run_opened (Err fault) lines = unopened fault
+
+-- the project before the mark is opened, then the command lines behind the mark are run
+unfoldable pub outcome_of_lines : List Line → Outcome
+outcome_of_lines lines = run_opened (opening_of (project_text lines)) (command_lines lines)
+
+-- what the program prints for an input, and its exit status; an input that is too long prints nothing
+unfoldable pub outcome_of : List ℕ → Outcome
+outcome_of input =
+    if nat_lt MOST_INPUT (length input) then record { text = []; status = 4 } else outcome_of_lines (lines_of input)
+
+-- what was written is the outcome's text and the status is its status, or the status is 4 and what was written is the front of that text
+pub record EndsAs (old new : Option (List ℕ)) (status : ℕ) (outcome : Outcome) : Type 0 where
+  pub whole : status ≢ 4 → Appends old new outcome.text × (status ≡ outcome.status)
+  pub front : (n : ℕ) × Appends old new (take n outcome.text)

@@ -1,0 +1,124 @@
+//! The command `arrive`.
+ghost use Rattle.std.specs.Prelude.{◌≡◌, ◌≤◌, ◌+◌, ◌*◌, ◌++◌, IfOk, length, map, OnErr, OnOk, string_bytes};
+ghost use Rattle.std.specs.List.{flat_map};
+ghost use Rattle.std.specs.String.{string_capacity, string_len};
+ghost use Rattle.hc_events.specs.Steps.{Arrives, entries_after};
+ghost use Rattle.hc_program.specs.Answers.{outcome_text, pair_text, told};
+ghost use Rattle.hc_program.specs.EventWords.{arrive_in};
+
+use super::Command;
+use crate::refusals::push_refusal;
+use hc_core::keeping::Core;
+use hc_events::answer::{Answer, Outcome};
+use hc_events::event::Event;
+use hc_events::faults::CoreFault;
+use hc_frames::reading::read_frame;
+use hc_records::items::Items;
+use hc_text::numbers::bytes_in;
+use hc_text::room::{MOST_DIGITS, add_number, add_text};
+use std::alloc::{AllocError, Global};
+
+/// The bytes of the longest line about an arrival: words, two numbers, and the line feed.
+const LONGEST_OUTCOME: usize = 14 + 2 * MOST_DIGITS;
+
+/// Its argument is the bytes that arrive, two hexadecimal digits each; none where it is another, or where
+/// there isn't one argument. `AllocError` where a growth was refused.
+pub fn parse(alloc: Global, arguments: &[&[u8]]) -> Result<Option<Command>, AllocError>
+    ensures { IfOk result (λ spelt. spelt ≡ arrive_in (map (λ word. word.now) arguments.now)) }
+{
+    match arguments {
+        [word] => match bytes_in(alloc, word)? {
+            Some(bytes) => Ok(Some(Command::Arrive(Items::of(bytes)))),
+            None => Ok(None),
+        },
+        [] => Ok(None),
+        [_, _, ..] => Ok(None),
+    }
+}
+
+/// Hands in bytes that arrive and adds what they are: a line for each datagram that they answer, one for a
+/// register write or where they are stale, or why they can't be read. `AllocError` where a growth was
+/// refused; nothing has then arrived, and `out` may have a front of the lines. Room for the longest lines
+/// is taken before the bytes are handed in.
+#[tactic(auto, unfolding(crate::specs::Answers::told))]
+pub fn reply(
+    alloc: Global,
+    bytes: &[u8],
+    core: &mut Core,
+    out: &mut String,
+) -> Result<(), AllocError>
+    ensures text { OnOk result (string_bytes out.new ≡ string_bytes out.old ++ told core.old.past (Arrives bytes.now)) }
+    ensures past { OnOk result (core.new.past ≡ entries_after core.old.past (Arrives bytes.now)) }
+    ensures unchanged { OnErr result (core.new.past ≡ core.old.past) }
+{
+    let datagrams = match read_frame(bytes) {
+        Ok(arrival) => arrival.len(),
+        Err(fault) => return push_refusal(CoreFault::from(fault), out),
+    };
+    out.reserve(room_of(datagrams.max(1))?)?;
+    match core.step(alloc, Event::Arrive(bytes)) {
+        Answer::Answered(outcomes) => add_outcomes(outcomes.as_slice(), out),
+        Answer::WriteDone => add_text("write done\n", out),
+        Answer::WriteMissed => add_text("write missed\n", out),
+        Answer::Stale => add_text("stale\n", out),
+        // what can be read is refused in want of memory alone
+        Answer::Refused(_) => return Err(AllocError),
+        _ => unreachable!(),
+    }
+    Ok(())
+}
+
+/// The bytes of so many of the longest lines.
+/// `AllocError` where no memory has so many.
+fn room_of(lines: usize) -> Result<usize, AllocError>
+    ensures { IfOk result (λ room. room ≡ LONGEST_OUTCOME * lines) }
+{
+    match LONGEST_OUTCOME.checked_mul(lines) {
+        Some(room) => Ok(room),
+        None => Err(AllocError),
+    }
+}
+
+/// Adds the lines of what an arrival is for the datagrams that it answers, for which there is room.
+fn add_outcomes(outcomes: &[Outcome], out: &mut String)
+    requires { string_len out.old + LONGEST_OUTCOME * length outcomes.now ≤ string_capacity out.old }
+    ensures { string_bytes out.new ≡ string_bytes out.old ++ flat_map outcome_text outcomes.now }
+{
+    for outcome in outcomes {
+        add_outcome(*outcome, out);
+    }
+}
+
+/// Adds the line of what an arrival is for a datagram, for which there is room.
+#[tactic(auto, unfolding(crate::specs::Answers::outcome_text))]
+fn add_outcome(outcome: Outcome, out: &mut String)
+    requires { string_len out.old + LONGEST_OUTCOME ≤ string_capacity out.old }
+    ensures bytes { string_bytes out.new ≡ string_bytes out.old ++ outcome_text outcome }
+    ensures len { string_len out.new ≤ string_len out.old + LONGEST_OUTCOME }
+    ensures room { string_capacity out.old ≤ string_capacity out.new }
+{
+    match outcome {
+        Outcome::Inputs { task, datagram } => {
+            add_text("inputs ", out);
+            add_pair(u64::from(task), u64::from(datagram), out);
+        }
+        Outcome::WrongCount { expected, got } => {
+            add_text("wrong count ", out);
+            add_pair(u64::from(expected), u64::from(got), out);
+        }
+        Outcome::Stale => add_text("stale\n", out),
+    }
+}
+
+/// Adds two numbers and the end of the line, for which there is room.
+fn add_pair(first: u64, second: u64, out: &mut String)
+    requires { string_len out.old + 2 + 2 * MOST_DIGITS ≤ string_capacity out.old }
+    ensures bytes { string_bytes out.new ≡ string_bytes out.old ++ pair_text first second }
+    ensures len { string_len out.new ≤ string_len out.old + 2 + 2 * MOST_DIGITS }
+    ensures room { string_capacity out.old ≤ string_capacity out.new }
+{
+    add_number(first, out);
+    add_text(" ", out);
+    add_number(second, out);
+    add_text("\n", out);
+}

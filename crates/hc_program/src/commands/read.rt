@@ -1,0 +1,80 @@
+//! The command `read`.
+ghost use Rattle.std.specs.Prelude.{◌≡◌, ◌++◌, map, OnOk, string_bytes};
+ghost use Rattle.hc_events.specs.Steps.{Reads};
+ghost use Rattle.hc_program.specs.Answers.{data_text, image_text, slot_text, slots_text, told};
+ghost use Rattle.hc_program.specs.EventWords.{read_in};
+
+use super::Command;
+use crate::refusals::push_refusal;
+use hc_core::keeping::Core;
+use hc_events::answer::Answer;
+use hc_records::items::Items;
+use hc_text::numbers::byte_in;
+use hc_text::printing::push_bytes;
+use std::alloc::{AllocError, Global};
+
+/// Its argument is a task, at most 255; none where it is another, or where there isn't one argument.
+pub fn parse(arguments: &[&[u8]]) -> Option<Command>
+    ensures { result ≡ read_in (map (λ word. word.now) arguments.now) }
+{
+    match arguments {
+        [task] => match byte_in(task) {
+            Some(task) => Some(Command::Read { task }),
+            None => None,
+        },
+        [] => None,
+        [_, _, ..] => None,
+    }
+}
+
+/// Adds what a task reads: the epoch, and of each datagram its data or none; or the refusal of a task over
+/// 7. `AllocError` where a growth was refused; `out` may then have a front of the lines.
+#[tactic(auto, unfolding(crate::specs::Answers::told))]
+pub fn reply(alloc: Global, task: u8, core: &Core, out: &mut String) -> Result<(), AllocError>
+    ensures { OnOk result (string_bytes out.new ≡ string_bytes out.old ++ told core.now.past (Reads task)) }
+{
+    match core.read(alloc, task)? {
+        Answer::Image { epoch, slots } => push_image(epoch, slots.as_slice(), out),
+        Answer::Refused(fault) => push_refusal(fault, out),
+        _ => unreachable!(),
+    }
+}
+
+#[tactic(auto, unfolding(crate::specs::Answers::image_text))]
+fn push_image(epoch: u32, slots: &[Option<Items<u8>>], out: &mut String) -> Result<(), AllocError>
+    ensures { OnOk result (string_bytes out.new ≡ string_bytes out.old ++ image_text epoch slots.now) }
+{
+    write!(out, "epoch {epoch}\n")?;
+    push_slots(slots, out)
+}
+
+/// Adds the lines of a task's datagrams.
+fn push_slots(slots: &[Option<Items<u8>>], out: &mut String) -> Result<(), AllocError>
+    ensures { OnOk result (string_bytes out.new ≡ string_bytes out.old ++ slots_text 0 slots.now) }
+{
+    let mut number = 0usize;
+    for slot in slots {
+        push_slot(number, slot, out)?;
+        number += 1;
+    }
+    Ok(())
+}
+
+#[tactic(auto, unfolding(crate::specs::Answers::slot_text))]
+fn push_slot(number: usize, slot: &Option<Items<u8>>, out: &mut String) -> Result<(), AllocError>
+    ensures { OnOk result (string_bytes out.new ≡ string_bytes out.old ++ slot_text number slot.now) }
+{
+    write!(out, "slot {number} ")?;
+    push_data(slot, out)?;
+    out.push_str("\n")
+}
+
+/// Adds the data of a datagram, or `none`.
+fn push_data(slot: &Option<Items<u8>>, out: &mut String) -> Result<(), AllocError>
+    ensures { OnOk result (string_bytes out.new ≡ string_bytes out.old ++ data_text slot.now) }
+{
+    match slot {
+        Some(bytes) => push_bytes(bytes.as_slice(), out),
+        None => out.push_str("none"),
+    }
+}

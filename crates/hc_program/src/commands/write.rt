@@ -1,0 +1,67 @@
+//! The command `write`.
+ghost use Rattle.std.specs.Prelude.{◌≡◌, ◌≤◌, ◌+◌, ◌++◌, length, map, OnErr, OnOk, string_bytes};
+ghost use Rattle.std.specs.String.{string_capacity, string_len};
+ghost use Rattle.hc_events.specs.Steps.{SendsWrite, entries_after};
+ghost use Rattle.hc_program.specs.Answers.{told};
+ghost use Rattle.hc_program.specs.EventWords.{write_in};
+ghost use Rattle.hc_program.specs.Frames.{sent_line};
+
+use super::Command;
+use crate::refusals::push_refusal;
+use hc_core::keeping::Core;
+use hc_text::room::{MOST_DIGITS, add_bytes, add_number, add_text};
+use std::alloc::AllocError;
+
+/// The bytes of a frame that writes a register block, of at most 16 bytes: zeros fill it up to the least
+/// frame.
+const WRITE_FRAME: usize = 60;
+
+/// The bytes of the longest line of such a frame: its words, the serial, two digits a byte, and the line
+/// feed.
+const LONGEST_SENT: usize = 8 + MOST_DIGITS + 2 * WRITE_FRAME;
+
+/// It has no argument; none where there is one.
+pub fn parse(arguments: &[&[u8]]) -> Option<Command>
+    ensures { result ≡ write_in (map (λ word. word.now) arguments.now) }
+{
+    if arguments.is_empty() {
+        Some(Command::Write)
+    } else {
+        None
+    }
+}
+
+/// Sends the first owed register block and adds its frame, or why the write is refused. `AllocError`
+/// where a growth was refused; nothing was then sent, and `out` may have a front of the line. Room for the
+/// line is taken before the block is sent.
+#[tactic(auto, unfolding(crate::specs::Answers::told))]
+pub fn reply(core: &mut Core, out: &mut String) -> Result<(), AllocError>
+    ensures text { OnOk result (string_bytes out.new ≡ string_bytes out.old ++ told core.old.past SendsWrite) }
+    ensures past { OnOk result (core.new.past ≡ entries_after core.old.past SendsWrite) }
+    ensures unchanged { OnErr result (core.new.past ≡ core.old.past) }
+{
+    out.reserve(LONGEST_SENT)?;
+    let serial = core.next_serial();
+    let mut frame = [0u8; WRITE_FRAME];
+    match core.write_into(&mut frame) {
+        Ok(size) => {
+            add_sent(serial, &frame[..size], out);
+            Ok(())
+        }
+        Err(fault) => push_refusal(fault, out),
+    }
+}
+
+/// Adds the line of a frame that is sent, for which there is room.
+#[tactic(auto, unfolding(crate::specs::Frames::frame_line))]
+fn add_sent(serial: u64, frame: &[u8], out: &mut String)
+    requires frame { length frame.now ≤ WRITE_FRAME }
+    requires room { string_len out.old + LONGEST_SENT ≤ string_capacity out.old }
+    ensures { string_bytes out.new ≡ string_bytes out.old ++ sent_line serial frame.now }
+{
+    add_text("sent ", out);
+    add_number(serial, out);
+    add_text(": ", out);
+    add_bytes(frame, out);
+    add_text("\n", out);
+}

@@ -1,0 +1,197 @@
+//! The run: reads all input, opens the project, answers each command line, and writes each reply before
+//! the next line is answered.
+ghost use Rattle.std.specs.Prelude.{◌≡◌, ◌≤◌, ◌+◌, false, true, length, IfSome};
+ghost use Rattle.std.specs.Option.{option_copied};
+ghost use Rattle.hc_text.specs.Cutting.{left_in, lines_after};
+ghost use Rattle.hc_program.specs.Opening.{in_want, is_memory};
+ghost use Rattle.hc_program.specs.Runs.{reply_to, run};
+ghost use Rattle.hc_program.specs.Starved.{EndsAsOne, StarvedOutcome, StarvedRun};
+ghost use Rattle.hc_program.specs.Text.{EndsAs, outcome_of, unopened};
+ghost use Rattle.hc_program.specs.Turns.{Starves, Takes};
+ghost use Rattle.hc_text.specs.declared.input.TheConstants.{MOST_INPUT};
+
+use crate::opening::{Unopened, memory_text, open_core, push_unopened};
+use crate::refusals::memory_refusal;
+use crate::replies::answer;
+use hc_core::keeping::Core;
+use hc_text::input::{Unread, read_all};
+use hc_text::lines::{split_line, split_sections};
+use hc_text::output::write_text;
+use std::alloc::Global;
+use std::io::{Read, Write};
+
+/// The exit status of a run whose last line was reached.
+const DONE: u8 = 0;
+
+/// The exit status behind a line that is no command.
+const BAD_COMMAND: u8 = 2;
+
+/// The exit status where the project isn't opened.
+const UNOPENED: u8 = 3;
+
+/// The exit status where the input isn't read or a write failed.
+const BROKEN: u8 = 4;
+
+/// How a run ended.
+#[derive(Clone, Copy, Debug, PartialEq, Eq)]
+pub struct RunEnd {
+    /// The exit status: 0 done, 2 behind a line that is no command, 3 where the project isn't opened,
+    /// 4 where the input isn't read or a write failed.
+    pub status: u8,
+    /// Whether a growth was refused on the way.
+    pub starved: bool,
+}
+
+/// How the turn of a line ended.
+#[derive(Clone, Copy, Debug, PartialEq, Eq)]
+struct Turn {
+    /// The exit status where the run ends here.
+    end: Option<u8>,
+    /// Whether a growth was refused.
+    starved: bool,
+}
+
+/// Answers a line and writes its reply, or the refusal `Memory` where a growth was refused. The changes that
+/// the line made of what tasks read are dropped: nobody follows them here.
+fn take_turn<W: Write>(
+    alloc: Global,
+    line: &[u8],
+    number: u32,
+    core: &mut Core,
+    output: &mut W,
+) -> Turn
+    ensures answered { result.starved ≡ false
+        → Takes (W.contents output.old) (W.contents output.new) core.new.past result.end (reply_to core.old.past number line.now) }
+    ensures refused { result.starved ≡ true → Starves (W.contents output.old) (W.contents output.new) result.end }
+    ensures unchanged { result.starved ≡ true → core.new.past ≡ core.old.past }
+{
+    let answered = answer(alloc, line, number, core);
+    drop(core.take_changes(alloc));
+    let Ok(reply) = answered else {
+        let end = match write_text(output, memory_refusal()) {
+            Ok(()) => None,
+            Err(_) => Some(BROKEN),
+        };
+        return Turn { end, starved: true };
+    };
+    if write_text(output, reply.text.as_bytes()).is_err() {
+        return Turn {
+            end: Some(BROKEN),
+            starved: false,
+        };
+    }
+    if !reply.goes_on {
+        return Turn {
+            end: Some(BAD_COMMAND),
+            starved: false,
+        };
+    }
+    Turn {
+        end: None,
+        starved: false,
+    }
+}
+
+/// Runs the command lines that follow, the first of which has a number.
+fn run_commands<W: Write>(
+    alloc: Global,
+    opened: Core,
+    lines: Option<&[u8]>,
+    first: u32,
+    output: &mut W,
+) -> RunEnd
+    requires { first + left_in (option_copied lines) ≤ MOST_INPUT + 2 }
+    ensures unstarved { result.starved ≡ false
+        → EndsAs (W.contents output.old) (W.contents output.new) result.status (run opened.past (lines_after first (option_copied lines.entry))) }
+    ensures starved { result.starved ≡ true
+        → EndsAsOne (W.contents output.old) (W.contents output.new) result.status (StarvedRun opened.past (lines_after first (option_copied lines.entry))) }
+{
+    let mut core = opened;
+    let mut starved = false;
+    let mut number = first;
+    let mut rest = lines;
+    while let Some(text) = rest {
+        let (line, more) = split_line(text);
+        let turn = take_turn(alloc, line, number, &mut core, output);
+        starved |= turn.starved;
+        if let Some(status) = turn.end {
+            return RunEnd { status, starved };
+        }
+        number += 1;
+        rest = more;
+    }
+    RunEnd {
+        status: DONE,
+        starved,
+    }
+}
+
+/// Writes the line of a project that isn't opened, behind which the run ends.
+fn end_with<W: Write>(line: &[u8], starved: bool, output: &mut W) -> RunEnd
+    ensures told { EndsAs (W.contents output.old) (W.contents output.new) result.status (record { text = line.now; status = 3 }) }
+    ensures starved { result.starved ≡ starved }
+{
+    let status = match write_text(output, line) {
+        Ok(()) => UNOPENED,
+        Err(_) => BROKEN,
+    };
+    RunEnd { status, starved }
+}
+
+/// Tells why the project isn't opened.
+#[tactic(auto, using(crate::proofs::Openings::in_want_memory))]
+fn end_unopened<W: Write>(alloc: Global, fault: Unopened, output: &mut W) -> RunEnd
+    ensures told { result.starved ≡ false
+        → EndsAs (W.contents output.old) (W.contents output.new) result.status (unopened fault) }
+    ensures unstarved { result.starved ≡ false → is_memory fault ≡ false }
+    ensures starved { result.starved ≡ true
+        → EndsAs (W.contents output.old) (W.contents output.new) result.status (unopened (in_want fault)) }
+{
+    let mut line = String::new(alloc);
+    match push_unopened(fault, &mut line) {
+        Ok(()) => end_with(line.as_bytes(), fault.is_memory(), output),
+        Err(_) => end_with(memory_text(fault), true, output),
+    }
+}
+
+/// Runs an input that is read.
+fn run_input<W: Write>(alloc: Global, input: &[u8], output: &mut W) -> RunEnd
+    requires { length input.now ≤ MOST_INPUT }
+    ensures unstarved { result.starved ≡ false
+        → EndsAs (W.contents output.old) (W.contents output.new) result.status (outcome_of input.now) }
+    ensures starved { result.starved ≡ true
+        → EndsAsOne (W.contents output.old) (W.contents output.new) result.status (StarvedOutcome input.now) }
+{
+    let sections = split_sections(input);
+    match open_core(alloc, sections.project) {
+        Ok(core) => run_commands(alloc, core, sections.commands, sections.first, output),
+        Err(fault) => end_unopened(alloc, fault, output),
+    }
+}
+
+/// Runs the program: reads all of a reader, and writes what the definition of its text gives for these
+/// bytes. Where it ends unstarved with another status than 4, what was written is the whole text and
+/// the status is its status; in any unstarved end it is a front of the text.
+///
+/// The same holds of a starved end and one of the texts that a refused growth allows: nothing and status 4
+/// where the input isn't read, `project fault 11 Memory` or `open fault 2 Memory` and status 3 where the
+/// project isn't opened, else the text of the commands, one or more of which gave `refused 28 Memory` and
+/// changed nothing.
+///
+/// Faults are found in the order input, project, opening, commands. Status 4 comes where the input is
+/// longer than 4,194,304 bytes, where reading fails or doesn't end within 4,194,305 turns, and where a
+/// write fails, takes nothing, or is interrupted over 4,194,305 times in one reply.
+pub fn run_hotline<R: Read, W: Write>(alloc: Global, input: &mut R, output: &mut W) -> RunEnd
+    ensures unstarved { result.starved ≡ false → IfSome (R.remaining input.old)
+        (λ bytes. EndsAs (W.contents output.old) (W.contents output.new) result.status (outcome_of bytes)) }
+    ensures starved { result.starved ≡ true → IfSome (R.remaining input.old)
+        (λ bytes. EndsAsOne (W.contents output.old) (W.contents output.new) result.status (StarvedOutcome bytes)) }
+{
+    match read_all(alloc, input) {
+        Ok(bytes) => run_input(alloc, &bytes, output),
+        Err(fault) => RunEnd {
+            status: BROKEN,
+            starved: fault == Unread::Memory,
+        },
+    }
+}

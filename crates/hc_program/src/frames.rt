@@ -1,0 +1,44 @@
+//! Frames as they are printed.
+ghost use Rattle.std.specs.Prelude.{◌≡◌, ◌++◌, OnOk, string_bytes};
+ghost use Rattle.hc_core.specs.Filled.{CanBeFilled};
+ghost use Rattle.hc_events.specs.Steps.{sent_text};
+ghost use Rattle.hc_program.specs.Frames.{frame_line};
+
+use hc_core::keeping::Core;
+use hc_events::sending::Sending;
+use hc_text::printing::push_bytes;
+use std::alloc::AllocError;
+
+/// The bytes of the largest frame.
+const LARGEST_FRAME: usize = 1514;
+
+/// Adds the line of a frame of datagrams of the present line behind a word, as `sent 4: ff..`, with the
+/// values that the datagrams' output variables have now. `AllocError` where a growth was refused; `out` may
+/// then have a front of the line.
+pub fn push_frame(
+    word: &str,
+    core: &Core,
+    frame: &Sending,
+    out: &mut String,
+) -> Result<(), AllocError>
+    requires { CanBeFilled core.now.past frame.now }
+    ensures { OnOk result (string_bytes out.new ≡ string_bytes out.old ++ frame_line word.now frame.now.serial (sent_text core.now.past frame.now)) }
+{
+    // its datagrams fit a frame, so that its size is at most that of the largest
+    let _ = frame.datagrams();
+    let mut bytes = [0u8; LARGEST_FRAME];
+    let bytes = &mut bytes[..frame.size()];
+    core.fill(frame, bytes);
+    push_line(word, frame.serial(), bytes, out)
+}
+
+/// Adds the line of a frame's bytes.
+#[tactic(auto, unfolding(crate::specs::Frames::frame_line))]
+fn push_line(word: &str, serial: u64, frame: &[u8], out: &mut String) -> Result<(), AllocError>
+    ensures { OnOk result (string_bytes out.new ≡ string_bytes out.old ++ frame_line word.now serial frame.now) }
+{
+    out.push_str(word)?;
+    write!(out, "{serial}: ")?;
+    push_bytes(frame, out)?;
+    out.push_str("\n")
+}

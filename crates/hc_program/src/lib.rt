@@ -1,0 +1,10 @@
+//! The program's run, over any reader and writer: project text and commands are read, answers are written. `hotline`
+//! calls it over standard input and output.
+#![tactic(auto)]
+
+mod commands;
+pub mod engine;
+mod frames;
+mod opening;
+mod refusals;
+mod replies;

@@ -1,6 +1,0 @@
-use Rattle.hotline.specs.Layout.{task_text}
-use Rattle.hotline.proofs.Numbered.{one_more}
-use Rattle.hotline.proofs.commands.layout.push_table.Goals as goal
-
-pub loop-task-preserved : goal.loop-task-preserved
-loop-task-preserved c = one_more (task_text c.args.places.now) c.loop-task.task _ _ _ c.loop-task.invariant c.in_ok-push_task.ensures

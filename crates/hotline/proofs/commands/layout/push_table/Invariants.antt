@@ -1,8 +1,0 @@
-use Rattle.std.proofs.Common.{◌≡◌, ◌++◌, string_bytes}
-use Rattle.std.specs.List.{flat_map, range_with_len}
-use Rattle.hotline.specs.Layout.{task_text}
-use Rattle.hotline.proofs.commands.layout.push_table.Given as goal
-
--- the tasks so far are printed
-abbrev pub invariant-loop-task : goal.invariant-loop-task
-invariant-loop-task l = string_bytes l.out ≡ string_bytes l.fn.out ++ flat_map (task_text l.places) (range_with_len 0 l.task)

@@ -1,0 +1,23 @@
+//! Whole runs of the program over memory, and over readers and writers that fail. Expected texts were worked out from
+//! the rules, not taken from a run. There is nothing to call: these are tests. They stand in a crate of their own since
+//! a crate that has tests is proved twice.
+#![tactic(auto)]
+
+#[cfg(test)]
+mod breaks;
+#[cfg(test)]
+mod devices;
+#[cfg(test)]
+mod edits;
+#[cfg(test)]
+mod frames;
+#[cfg(test)]
+mod printed;
+#[cfg(test)]
+mod rows;
+#[cfg(test)]
+mod runs;
+#[cfg(test)]
+mod wide_lines;
+#[cfg(test)]
+mod words;
