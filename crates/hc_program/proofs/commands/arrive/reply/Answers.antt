@@ -11,7 +11,7 @@ pub add_outcomes-requires : goal.add_outcomes-requires
 add_outcomes-requires c =
     let read = ap (λ fault. read_unless fault (reading_of c.args.bytes.now)) c.in-Ok.ensures.0 ∙ ap Ok (sym c.in-Ok.ensures.1) in
     let few = outcomes_few c.args.core.now.past c.step.new.self.past c.args.bytes.now c.in-Ok.arrival c.in-Answered.outcomes read c.in-Answered.ensures.answer in
-    let lines = c.len-datagrams.ensures in
+    let lines = c.len-datagrams.ensures.value in
     let most = c.max.ensures in
     let room = c.in_ok-room_of.ensures in
     let has = c.in_ok-reserve.ensures.capacity in
