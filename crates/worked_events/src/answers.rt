@@ -19,7 +19,7 @@ pub const ARRIVAL: &[u8] =
 
 /// With nothing posted the task is sent with data of zeros, so behind the 10 bytes of the datagram's head there are
 /// 34 zeros up to 60 bytes. The answer is good once; another counter, also a higher one, leaves what was read.
-const UNPOSTED: &[Row] = &[
+pub const UNPOSTED: &[Row] = &[
     (
         Send(&[0]),
         Wanted::Sent(&[(4, 0x0f, b"\x0c\x04\0\0\0\x01\x03\0\0\0", 34)]),

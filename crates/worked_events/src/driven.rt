@@ -71,16 +71,10 @@ fn served_or_again(core: &mut Core, alloc: Global, event: Event<'_>) -> Answer
     answer
 }
 
-/// A core. Its drop is written out: a derived one is opened, with all that a core keeps, on each path of each function
-/// that lets one go.
+/// A core.
+#[derive(Drop)]
 pub struct Driven {
     pub core: Core,
-}
-
-impl Drop for Driven {
-    fn drop(self) {
-        let Driven { core: _ } = self;
-    }
 }
 
 impl Driven {

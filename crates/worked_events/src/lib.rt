@@ -11,6 +11,8 @@ mod changed;
 #[cfg(test)]
 mod driven;
 #[cfg(test)]
+mod handed;
+#[cfg(test)]
 mod lines;
 #[cfg(test)]
 mod pieces;
@@ -20,6 +22,8 @@ mod shared;
 mod stages;
 #[cfg(test)]
 mod texts;
+#[cfg(test)]
+mod told;
 #[cfg(test)]
 mod values;
 #[cfg(test)]

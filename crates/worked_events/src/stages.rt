@@ -2,6 +2,7 @@
 use crate::asked::{Row, first_wrong};
 use crate::driven::Driven;
 use crate::lines::{opened, write_all};
+use crate::told::{News, are_told};
 use hc_events::answer::Answer;
 use hc_events::event::Event;
 use std::alloc::{AllocError, Global};
@@ -16,6 +17,8 @@ pub enum Stage {
     Sends(u32),
     /// Each row's event is answered as it wants.
     Rows(&'static [Row]),
+    /// The changes since they were taken last tell just this.
+    Told(&'static [News]),
 }
 
 /// The number of a stage and that of a row in it, from 0.
@@ -47,6 +50,7 @@ fn first_wrong_row(
         Stage::Blocks(count) => write_all(driven, alloc)? == count,
         Stage::Sends(times) => send_times(driven, alloc, times)?,
         Stage::Rows(rows) => return first_wrong(driven, alloc, rows),
+        Stage::Told(news) => are_told(&driven.core.take_changes(alloc), news),
     };
     Ok(if holds { None } else { Some(0) })
 }
