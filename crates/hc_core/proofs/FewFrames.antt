@@ -1,20 +1,19 @@
 -- How many frames a proposal has.
-use Rattle.std.proofs.Common.{◌≡◌, ℕ, ◌+◌, ◌*◌, ◌<◌, ◌≤◌, nat_lt, Bool, true, false, cond, not, ◌||◌, List, [], ◌∷◌, ◌++◌, length, map, refl, sym, ap, subst, arith, length-append, None}
-use Rattle.std.specs.List.{flat_map, list_any, range_with_len}
+use Rattle.std.proofs.Common.{◌≡◌, ℕ, ◌+◌, ◌*◌, ◌<◌, ◌≤◌, nat_lt, Bool, true, false, cond, not, ◌||◌, List, [], ◌∷◌, length, refl, sym, subst, arith, length-append, None}
+use Rattle.std.specs.List.{flat_map, list_any}
 use Rattle.std.proofs.lemmas.Bool.Decides.{nat_tests}
 use Rattle.std.proofs.lemmas.List.FromFn.{length-map-range_with_len}
 use Rattle.hc_records.specs.declared.limits.TheConstants.{MOST_DATAGRAMS, TASKS}
 use Rattle.hc_records.specs.Edits.{crowded_task}
 use Rattle.hc_records.specs.Image.{datagram_count, task_places}
 use Rattle.hc_records.specs.Line.{Member}
-use Rattle.hc_records.specs.Lists.{lowest}
 use Rattle.hc_records.proofs.lemmas.Addresses.{uncrowded-few}
 use Rattle.hc_events.specs.declared.faults.CoreFault.TheVariants.{NoSuchTask, SerialsSpent, Unprogrammed}
 use Rattle.hc_events.specs.Entries.{Record}
 use Rattle.hc_events.specs.Owed.{owed_blocks}
 use Rattle.hc_events.specs.Points.{line_of, next_serial}
-use Rattle.hc_events.specs.Sendings.{Frame, Named, alone, framed, framed_behind, has_room, joined, length_of, sendings_of, task_datagrams}
-use Rattle.hc_events.specs.Steps.{has_serials, is_no_task, proposal, task_faults}
+use Rattle.hc_events.specs.Sendings.{Frame, Named, alone, framed, framed_behind, has_room, joined, length_of, task_datagrams}
+use Rattle.hc_events.specs.Steps.{has_serials, is_no_task, proposal}
 use Rattle.hc_events.proofs.lemmas.Accepted.{passed}
 use Rattle.hc_core.specs.Proposed.{IsProposal}
 
@@ -30,7 +29,7 @@ behind_few line frame (datagram ∷ datagrams) =
     let size = length_of line datagram in
     let with : length (framed_behind line (joined frame datagram size) datagrams) ≤ 1 + length datagrams = behind_few line (joined frame datagram size) datagrams in
     let next : length (framed_behind line (alone (frame.serial + 1) datagram size) datagrams) ≤ 1 + length datagrams = behind_few line (alone (frame.serial + 1) datagram size) datagrams in
-    either_few (has_room frame.bytes size) (1 + (1 + length datagrams))
+    either_few (has_room frame.bytes size) (1 + length (datagram ∷ datagrams))
     (framed_behind line (joined frame datagram size) datagrams)
     (frame ∷ framed_behind line (alone (frame.serial + 1) datagram size) datagrams)
     (omega (arith, with)) (omega (arith, next))

@@ -1,5 +1,5 @@
 -- Events whose answers leave nothing can be left out.
-use Rattle.std.proofs.Common.{◌≡◌, inl, inr, ℕ, Bool, true, false, cond, not, List, [], ◌∷◌, map, filter, refl, sym, ap, ◌∙◌, Option, Some, None}
+use Rattle.std.proofs.Common.{◌≡◌, inl, inr, ℕ, Bool, true, false, cond, not, List, [], ◌∷◌, map, refl, sym, ap, ◌∙◌, Option, Some, None}
 use Rattle.std.specs.Prelude.{Result, Ok, Err}
 use Rattle.std.specs.List.{list_any}
 use Rattle.hc_records.specs.Edits.{state_after}
@@ -12,11 +12,11 @@ use Rattle.hc_events.specs.declared.faults.CoreFault.{CoreFault}
 use Rattle.hc_events.specs.Answering.{Good, Judged, Stale, Verdict, Wrong, is_news, judged_by}
 use Rattle.hc_events.specs.Arrivals.{Arrival, arrival_in}
 use Rattle.hc_events.specs.Calls.{MayAnswer}
-use Rattle.hc_events.specs.Entries.{Entry, Record, Came, Edited, Posted}
+use Rattle.hc_events.specs.Entries.{Record, Edited, Posted}
 use Rattle.hc_events.specs.Owed.{owed_blocks}
 use Rattle.hc_events.specs.Points.{next_serial, state_of}
-use Rattle.hc_events.specs.Stale.{SaysTheSame, without_stale}
-use Rattle.hc_events.specs.Steps.{Step, Edits, Posts, SendsTasks, SendsWrite, Arrives, Reads, answer_to, answers_to, edit_refused, entries_after, entries_after_all, is_block, kept_if, outcome_for, post_faults, proposal, sent_text, task_faults, told_of, told_of_arrival, told_of_block, told_of_edit, told_of_write, unless, with_arrival, with_sent, with_write, write_faults}
+use Rattle.hc_events.specs.Stale.{without_stale}
+use Rattle.hc_events.specs.Steps.{Step, Edits, Posts, SendsTasks, SendsWrite, Arrives, Reads, answer_to, answers_to, edit_refused, entries_after, entries_after_all, kept_if, outcome_for, post_faults, proposal, sent_text, task_faults, told_of, told_of_arrival, told_of_block, told_of_edit, told_of_write, unless, with_arrival, with_sent, with_write, write_faults}
 use Rattle.hc_events.proofs.lemmas.SameBehind.{SameWithout, same-after, same-answer, same-says, same-stale}
 use Rattle.hc_core.specs.LastData.{GoesWithoutThem, answers_left, events_left, leaves_nothing}
 use Rattle.hc_core.specs.Serving.{MayAnswerAll}
@@ -56,7 +56,7 @@ either_stale false news verdict datagrams e = frame_stale news datagrams e
 
 told_stale : (datagrams : List Judged) → leaves_nothing (told_of datagrams) ≡ true → told_of datagrams ≡ answer.Stale
 told_stale [] e = refl
-told_stale (datagram ∷ datagrams) e = either_stale (is_block datagram.head.item) (list_any is_news (datagram ∷ datagrams)) datagram.verdict (datagram ∷ datagrams) e
+told_stale (datagram ∷ datagrams) e = either_stale _ (list_any is_news (datagram ∷ datagrams)) datagram.verdict (datagram ∷ datagrams) e
 
 arrival_keeps : (past : Record) (read : Result Arrival FrameFault) → leaves_nothing (told_of_arrival past read) ≡ true → SameWithout (with_arrival past read) past
 arrival_keeps past (Err fault) e = refl

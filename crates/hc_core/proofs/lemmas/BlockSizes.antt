@@ -1,5 +1,5 @@
 -- A register block has 8 or 16 bytes, so that the frame that writes it has 60: zeros fill it up.
-use Rattle.std.proofs.Common.{◌≡◌, ◌≤◌, ◌+◌, ℕ, Bool, true, false, cond, List, [], ◌∷◌, length, refl, ap, subst, arith, get_or, Option, Some, None}
+use Rattle.std.proofs.Common.{◌≡◌, ◌≤◌, ℕ, Bool, true, false, cond, List, [], ◌∷◌, length, refl, ap, subst, arith, get_or, Option, Some, None}
 use Rattle.std.specs.Prelude.{All, nat_lt}
 use Rattle.std.specs.List.{enumerate_from}
 use Rattle.std.proofs.lemmas.Bool.{le-ltb}
@@ -11,7 +11,7 @@ use Rattle.hc_records.specs.Lists.{lowest}
 use Rattle.hc_records.proofs.lemmas.Lists.{All-enumerate_from, All-flat_map}
 use Rattle.hc_registers.specs.declared.fmmu.Mapping.{Mapping}
 use Rattle.hc_registers.specs.Blocks.{LineBlock, RegisterBlock, area_blocks, fmmu_block, fmmu_bytes, line_blocks, mapping_of, member_blocks, slave_blocks, sync_manager_block, sync_manager_bytes}
-use Rattle.hc_events.specs.Calls.{room_faults, write_into_faults, write_size}
+use Rattle.hc_events.specs.Calls.{write_into_faults, write_size}
 use Rattle.hc_events.specs.declared.faults.CoreFault.TheVariants.{NothingOwed, Room, SerialsSpent}
 use Rattle.hc_events.specs.Entries.{Record}
 use Rattle.hc_events.specs.Owed.{is_owed, owed_blocks}

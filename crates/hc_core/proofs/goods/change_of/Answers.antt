@@ -1,4 +1,4 @@
-use Rattle.std.proofs.Common.{◌≤◌, ℕ, ap, length, sym, subst}
+use Rattle.std.proofs.Common.{◌≤◌, ◌∙◌, ℕ, List, ap, length, sym, subst}
 use Rattle.hc_records.specs.declared.limits.TheConstants.{MOST_DATAGRAM_BYTES}
 use Rattle.hc_frames.specs.Arrived.{Placed}
 use Rattle.hc_core.proofs.GoodsSteps.{input-fits}
@@ -11,4 +11,7 @@ pub of-good-requires-clause-datagram : goal.of-good-requires-clause-datagram
 of-good-requires-clause-datagram c = (input-fits c.args.outcome.now c.in-Inputs.task c.in-Inputs.datagram c.args.part.now.carried c.in-Inputs.is c.requires).datagram
 
 pub of-good-requires-clause-few : goal.of-good-requires-clause-few
-of-good-requires-clause-few c = ?
+of-good-requires-clause-few c =
+    let same = c.of-bytes.ensures ∙ c.in_ok-from_slice-in-Inputs.ensures.items ∙ ap (λ (part : Placed). part.carried.bytes) c.part.view_is in
+    subst (λ (bytes : List ℕ). length bytes ≤ MOST_DATAGRAM_BYTES) (sym same)
+    (input-fits c.args.outcome.now c.in-Inputs.task c.in-Inputs.datagram c.args.part.now.carried c.in-Inputs.is c.requires).few

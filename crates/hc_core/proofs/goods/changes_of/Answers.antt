@@ -1,11 +1,13 @@
-use Rattle.std.proofs.Common.{◌∙◌, ◌+◌, ◌++◌, ap, sym, subst, drop, get_or, map}
-use Rattle.std.specs.Prelude.{All}
-use Rattle.std.proofs.lemmas.List.{append-nil}
-use Rattle.hc_records.proofs.lemmas.Lists.{All-append_left}
+use Rattle.std.proofs.Common.{◌≡◌, ◌∙◌, ◌+◌, ◌++◌, ap, append_assoc, sym, subst, drop, get_or, map, Option}
+use Rattle.std.specs.Prelude.{All, option_to_list}
+use Rattle.std.proofs.lemmas.List.{append-nil, map-append}
+use Rattle.hc_records.proofs.lemmas.Lists.{All-append_left, All-append_right}
 use Rattle.hc_events.specs.declared.answer.Outcome.TheVariants.{Inputs}
 use Rattle.hc_events.specs.Images.{FitsImage}
 use Rattle.hc_core.specs.Goods.{change_of, good_of, goods_in, parts_of}
 use Rattle.hc_core.proofs.GoodsSteps.{goods-over, goods-short, goods-step, parts-back}
+use Rattle.hc_events.specs.declared.change.Change.{Change}
+use Rattle.hc_core.proofs.goods.changes_of.Goals.{in-Some-2+in_ok-push, in_default-2}
 use Rattle.hc_core.proofs.goods.changes_of.Goals as goal
 
 pub returns-in_default : goal.returns-in_default
@@ -36,3 +38,25 @@ change_of-requires c =
     let rest = goods_in (drop (i + 1) c.args.outcomes.now) (parts_of c.next.new.self) in
     let split = goods-step c.args.outcomes.now i (Inputs 0 0) c.loop-outcome.parts c.next.new.self c.in-Some.part c.loop-outcome-test.true c.in-Some.ensures.steps in
     All-append_left FitsImage first rest (subst (All FitsImage) split c.loop-outcome.invariant.fit)
+
+pub loop-outcome-preserved : goal.loop-outcome-preserved
+loop-outcome-preserved c =
+    let i = c.loop-outcome.outcome-index in
+    let first = good_of (get_or c.args.outcomes.now i (Inputs 0 0)) c.in-Some.part.carried in
+    let rest = goods_in (drop (i + 1) c.args.outcomes.now) (parts_of c.next.new.self) in
+    let split = goods-step c.args.outcomes.now i (Inputs 0 0) c.loop-outcome.parts c.next.new.self c.in-Some.part c.loop-outcome-test.true c.in-Some.ensures.steps in
+    let before = c.loop-outcome.changes.items in
+    let grown : c.match-branch-2.changes.items ≡ before ++ option_to_list c.in_ok-change.field-0 =
+    elim c.match-branch-2.branch [
+      | in-Some-2+in_ok-push w ↦
+          ap (λ vec. vec.items) w.changes-is ∙ w.in_ok-push.ensures.items ∙ ap (λ (told : Option Change). before ++ option_to_list told) (sym w.in-Some-2.is)
+      | in_default-2 w ↦
+          ap (λ vec. vec.items) w.changes-is ∙ sym (append-nil before) ∙ ap (λ (told : Option Change). before ++ option_to_list told) (sym w.in_default-2.is)
+    ] in
+    record {
+      same = ap (λ items. items ++ map change_of rest) (grown ∙ ap (λ told. before ++ told) c.in_ok-change.ensures)
+          ∙ append_assoc before (map change_of first) (map change_of rest)
+          ∙ ap (λ told. before ++ told) (sym (map-append change_of first rest) ∙ ap (map change_of) (sym split))
+          ∙ c.loop-outcome.invariant.same;
+      fit = All-append_right FitsImage first rest (subst (All FitsImage) split c.loop-outcome.invariant.fit);
+    }

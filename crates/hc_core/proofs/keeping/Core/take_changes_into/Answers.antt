@@ -7,13 +7,14 @@ use Rattle.hc_events.proofs.lemmas.Changes.{legal-leads}
 use Rattle.hc_core.specs.Records.{record_of}
 use Rattle.hc_core.proofs.News.{agree-taken}
 use Rattle.hc_core.specs.Agreement.{Agree, kept_in}
+use Rattle.hc_core.specs.State.{CoreState}
 use Rattle.hc_core.proofs.keeping.Core.take_changes_into.Goals as goal
 
 pub invariant_of-self : goal.invariant_of-self
 invariant_of-self c =
     let inside = c.self.inside in
     let past = record_of inside.past in
-    let none : c.replace.new.dest.items ≡ [] = ap (λ vec. vec.items) c.replace.ensures.after ∙ c.clear.ensures in
+    let none : c.replace.new.dest.items ≡ [] = ap (λ vec. vec.items) c.replace.ensures.after ∙ c.clear.ensures.items in
     let now : record_of c.of.result.value ≡ past = ap record_of c.of.ensures in
     subst (λ (changes : List Change). Agree (record (kept_in inside) { changes = changes }) past (record_of c.of.result.value)) (sym none)
     (subst (λ (taken : Record). Agree (record (kept_in inside) { changes = [] }) past taken) (sym now)
@@ -21,6 +22,7 @@ invariant_of-self c =
 
 pub returns-clause-lead : goal.returns-clause-lead
 returns-clause-lead c =
-    let taken = state_of (record_of c.self.inside.taken.value) in
-    subst (λ (changes : List Change). SwapsLeadFrom taken changes) (sym (ap (λ vec. vec.items) c.replace.ensures.value))
-    (legal-leads taken c.self.inside.changes.items c.self.invariant.tells.legal)
+    let inside = c.self.inside in
+    subst (λ (changes : List Change). SwapsLeadFrom (state_of c.args.self.now.taken) changes) (sym (ap (λ vec. vec.items) c.replace.ensures.value))
+    (subst (λ (state : CoreState). SwapsLeadFrom (state_of state.taken) inside.changes.items) c.self.view_is
+    (legal-leads (state_of (record_of inside.taken.value)) inside.changes.items c.self.invariant.tells.legal))
