@@ -1,11 +1,11 @@
 //! A slave of the line.
 
-ghost use Rattle.std.specs.Prelude.{◌≡◌, IfOk, is_none, length, true, vec_len};
+ghost use Rattle.std.specs.Prelude.{◌≡◌, ◌+◌, ◌≤◌, IfOk, is_none, length, true, vec_len};
 ghost use Rattle.std.specs.Borrow.{sem};
 ghost use Rattle.hc_frames.specs.Arrived.{fault_in};
 ghost use Rattle.hc_machine.specs.Frames.{frame_after, memory_behind};
 ghost use Rattle.hc_machine.specs.Lending.{LendsMemory};
-ghost use Rattle.hc_machine.specs.Memory.{fresh_memory, zeros};
+ghost use Rattle.hc_machine.specs.Memory.{fresh_memory, with_part, zeros};
 
 use crate::frames::{is_readable, serve_frame};
 use crate::limits::MEMORY_BYTES;
@@ -66,11 +66,12 @@ impl SlaveMachine {
         Ok(SlaveMachine { memory, spare })
     }
 
-    /// Does what the slave does with a frame, in the frame's place. A frame that the reader doesn't read stays as it is.
-    /// Takes no memory.
+    /// Does what the slave does with a frame, in the frame's place. A frame that the reader doesn't read stays as it is; one
+    /// that it reads is read behind the slave too. Takes no memory.
     pub fn process(&mut self, frame: &mut [u8])
         ensures frame { frame.new ≡ frame_after self.old frame.old }
         ensures memory { self.new ≡ memory_behind self.old frame.old }
+        ensures readable { is_none (fault_in frame.old) ≡ true → is_none (fault_in frame.new) ≡ true }
     {
         if is_readable(frame) {
             self.process_readable(frame);
@@ -103,5 +104,15 @@ impl SlaveMachine {
         ensures size { length result.now ≡ MEMORY_BYTES }
     {
         self.memory.as_mut_slice()
+    }
+
+    /// Puts bytes in the place of those of its memory from byte `at` on, 0 to 12,288 less their number: any of them, the
+    /// alias and the registers too. Takes no memory. It is for callers whose proofs learn nothing from the loan of
+    /// `memory_mut`.
+    pub fn write_memory(&mut self, at: usize, bytes: &[u8])
+        requires within { at + length bytes.now ≤ MEMORY_BYTES }
+        ensures { self.new ≡ with_part at bytes.now self.old }
+    {
+        put_part(&mut self.memory, at, bytes);
     }
 }

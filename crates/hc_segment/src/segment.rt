@@ -1,7 +1,8 @@
 //! A segment of a line: machines that frames meet in order.
-ghost use Rattle.std.specs.Prelude.{◌≡◌, is_none, true};
+ghost use Rattle.std.specs.Prelude.{◌≡◌, All, is_none, length, true};
 ghost use Rattle.std.specs.Borrow.{sem};
 ghost use Rattle.hc_frames.specs.Arrived.{fault_in};
+ghost use Rattle.hc_machine.specs.declared.limits.TheConstants.{MEMORY_BYTES};
 ghost use Rattle.hc_segment.specs.Lending.{LendsMachines};
 ghost use Rattle.hc_segment.specs.Line.{frame_through, machines_behind};
 
@@ -27,6 +28,7 @@ fn pass(machines: &mut [SlaveMachine], frame: &mut [u8])
     requires { is_none (fault_in frame.old) ≡ true }
     ensures frame { frame.new ≡ frame_through machines.old frame.old }
     ensures machines { machines.new ≡ machines_behind machines.old frame.old }
+    ensures readable { is_none (fault_in frame.new) ≡ true }
 {
     for machine in machines.iter_mut() {
         machine.process_readable(frame);
@@ -41,10 +43,12 @@ impl Segment {
         Segment { machines }
     }
 
-    /// Passes a frame through the machines, one after another, in the frame's place. Takes no memory.
+    /// Passes a frame through the machines, one after another, in the frame's place. A frame that the reader reads is read
+    /// behind them too. Takes no memory.
     pub fn process(&mut self, frame: &mut [u8])
         ensures frame { frame.new ≡ frame_through self.old frame.old }
         ensures machines { self.new ≡ machines_behind self.old frame.old }
+        ensures readable { is_none (fault_in frame.old) ≡ true → is_none (fault_in frame.new) ≡ true }
     {
         // a frame that is read is read behind each machine too
         if is_readable(frame) {
@@ -52,11 +56,17 @@ impl Segment {
         }
     }
 
-    /// The machines, in their order.
+    /// The machines, in their order, each with its 12,288 bytes of memory. Takes a step for each of them, and no memory.
     pub fn machines(&self) -> &[SlaveMachine]
-        ensures { result.now ≡ self.now }
+        ensures value { result.now ≡ self.now }
+        ensures sizes { All (λ m. length m ≡ MEMORY_BYTES) self.now }
     {
-        self.machines.as_slice()
+        let machines = self.machines.as_slice();
+        // a list's value doesn't tell its machines' sizes: each machine tells its own
+        for machine in machines {
+            let _bytes = machine.memory();
+        }
+        machines
     }
 
     /// Lends the machines for writing, in their order. Takes no memory.
