@@ -134,11 +134,10 @@ sweep_test worked_lines lines::edits_tell_what_they_change
 sweep_test worked_lines lines::a_list_of_edits_is_answered_in_its_order
 sweep_test worked_lines found::a_group_is_found_by_its_alias
 sweep_test worked_events values::values_are_sent_where_their_variables_stand
-sweep_test hc_rings tests::a_buffer_begins_anew
-sweep_test hc_rings tests::four_buffers_go_round
-sweep_test hc_rings tests::a_dropped_sender_leaves_its_posts
-sweep_test hc_rings tests::frames::frames_go_in_order
-sweep_test hc_segment tests::chained::machines_stay_where_a_chain_is_refused
+sweep_test worked_threads buffers::a_buffer_begins_anew
+sweep_test worked_threads posts::posts_come_as_they_were_posted
+sweep_test worked_threads frames::frames_go_in_order
+sweep_test worked_threads chains::machines_stay_where_a_chain_is_refused
 sweep_program "alone lasting" "its first run" crates/hotline/stdin crates/hotline/stdout 0
 sweep_program "alone lasting" "every command" tools/commands.in tools/commands.out 2
 sweep_program "alone lasting" "frames" tools/frames.in tools/frames.out 0

@@ -1,7 +1,7 @@
 -- A list in parts: its first part and the others, and the parts joined again.
-use Rattle.std.proofs.Common.{◌≡◌, ℕ, zero, suc, ◌<◌, slice_index, slice_index_or, ◌+◌, List, [], ◌∷◌, ◌++◌, length, sum, take, drop, refl, ap, ◌∙◌, arith, length-drop, subst, All}
+use Rattle.std.proofs.Common.{◌≡◌, ℕ, ◌+◌, List, [], ◌∷◌, ◌++◌, length, sum, take, drop, refl, ap, ◌∙◌, arith, length-drop, subst, All}
 use Rattle.std.proofs.Math.Seq.{take-append_seam, drop-append_seam}
-use Rattle.std.proofs.lemmas.List.{take-append-drop, length-take-le}
+use Rattle.std.proofs.lemmas.List.{take-append-drop}
 use Rattle.std.proofs.lemmas.List.Elements.{All-head, All-tail}
 use Rattle.std.proofs.lemmas.List.Sums.{sum_by-cons}
 use Rattle.std.specs.List.{concat, enumerate_from}
@@ -27,25 +27,3 @@ can_work-apart can first n lengths ns bytes part rest lengths_are bytes_are long
     let parts_are : parts_of lengths bytes ≡ part ∷ parts_of ns rest = rw (lengths_are, bytes_are) (parts_of-append part rest n ns long) in
     let both : All may ((first, part) ∷ numbered_parts (first + 1) ns rest) = subst (λ (ps : List (List ℕ)). All may (enumerate_from first ps)) parts_are each in
     (All-head may (first, part) (numbered_parts (first + 1) ns rest) both, All-tail may (first, part) (numbered_parts (first + 1) ns rest) both)
-
--- there are as many parts as lengths
-pub length-numbered_parts : (first : ℕ) (lengths bytes : List ℕ) → length (numbered_parts first lengths bytes) ≡ length lengths
-length-numbered_parts first [] bytes = refl
-length-numbered_parts first (n ∷ ns) bytes = ap (λ (k : ℕ). suc k) (length-numbered_parts (first + 1) ns (drop n bytes))
-
--- the parts are numbered in order
-pub number-numbered_parts : (first : ℕ) (lengths bytes : List ℕ) (k : ℕ) (d : ℕ × List ℕ) → k < length lengths → (slice_index_or (numbered_parts first lengths bytes) k d).0 ≡ first + k
-number-numbered_parts first [] bytes k d below = absurd (omega arith)
-number-numbered_parts first (n ∷ ns) bytes zero d below = omega arith
-number-numbered_parts first (n ∷ ns) bytes (suc k) d below =
-    let below' : k < length ns = omega arith in
-    omega (arith, number-numbered_parts (first + 1) ns (drop n bytes) k d below')
-
--- each part is as long as its length says
-pub length-numbered_part : (first : ℕ) (lengths bytes : List ℕ) (k : ℕ) (d : ℕ × List ℕ) → sum lengths ≡ length bytes → k < length lengths
-    → length (slice_index_or (numbered_parts first lengths bytes) k d).1 ≡ slice_index lengths k
-length-numbered_part first [] bytes k d all below = absurd (omega arith)
-length-numbered_part first (n ∷ ns) bytes zero d all below = length-take-le n bytes (omega (arith, all, sum_by-cons (λ (j : ℕ). j) n ns))
-length-numbered_part first (n ∷ ns) bytes (suc k) d all below =
-    let rest : sum ns ≡ length (drop n bytes) = omega (arith, all, sum_by-cons (λ (j : ℕ). j) n ns, length-drop n bytes) in
-    length-numbered_part (first + 1) ns (drop n bytes) k d rest (omega arith)

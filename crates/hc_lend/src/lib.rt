@@ -3,8 +3,6 @@
 
 mod at_once;
 mod parts;
-#[cfg(test)]
-mod tests;
 
 pub use at_once::{Gate, PartWork, each_at_once};
 pub use parts::Parts;

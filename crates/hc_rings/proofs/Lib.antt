@@ -1,6 +1,5 @@
 pub mod Items
 pub mod Prefixes
-pub mod Rest
 pub mod Whole
 pub mod lemmas
 pub mod Outputs

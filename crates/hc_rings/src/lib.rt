@@ -23,6 +23,3 @@ pub use posts::{
     Full, NoSpare, POSTS_WAITING, PostFault, PostReceiver, PostSender, PostsEnd, SPARE_BUFFERS,
     post_ring,
 };
-
-#[cfg(test)]
-mod tests;

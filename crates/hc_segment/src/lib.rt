@@ -14,6 +14,3 @@ pub use chains::chain;
 pub use faults::ChainFault;
 pub use hc_machine::SlaveMachine;
 pub use segment::Segment;
-
-#[cfg(test)]
-mod tests;

@@ -1,9 +1,9 @@
 use Rattle.std.proofs.Common.{◌++◌, List, length, ap, sym, subst, arith}
 use Rattle.hc_rings.specs.Post.{Post}
 use Rattle.hc_rings.specs.Ring.{taken, left, EndCameAfter}
-use Rattle.hc_rings.proofs.Rest.{one_less_left}
+use Rattle.worked_threads.proofs.Rest.{one_less_left}
 use Rattle.hc_rings.proofs.lemmas.Ended.{taken_then_left}
-use Rattle.hc_rings.proofs.tests.take_what_is_left.Goals as goal
+use Rattle.worked_threads.proofs.ends.take_what_is_left.Goals as goal
 
 pub unreachable-requires : goal.unreachable-requires
 unreachable-requires c = omega (arith, ap length c.in-None.ensures.none_left.0, c.loop.invariant.some_left)

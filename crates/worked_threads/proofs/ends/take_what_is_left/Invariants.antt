@@ -1,6 +1,6 @@
 use Rattle.std.proofs.Common.{◌≡◌, ◌+◌, ◌++◌, length}
 use Rattle.hc_rings.specs.Ring.{taken, left, EndCameAfter}
-use Rattle.hc_rings.proofs.tests.take_what_is_left.Given as goal
+use Rattle.worked_threads.proofs.ends.take_what_is_left.Given as goal
 
 abbrev pub invariant-loop : goal.invariant-loop
 invariant-loop l = record {

@@ -1,7 +1,7 @@
 use Rattle.std.proofs.Common.{◌≡◌, ◌-◌, length}
 use Rattle.hc_rings.specs.Ring.{taken}
 use Rattle.hc_rings.specs.Finished.{all_posted, IsEndOf}
-use Rattle.hc_rings.proofs.tests.take_up_to.Given as goal
+use Rattle.worked_threads.proofs.ends.take_up_to.Given as goal
 
 abbrev pub invariant-loop-receiver : goal.invariant-loop-receiver
 invariant-loop-receiver l = record {

@@ -2,14 +2,9 @@
 ghost use Rattle.std.specs.Prelude.{◌≡◌, ◌≤◌, ℕ, List, [], ◌∷◌, ◌++◌, length, slice_set, IsTrue, OnOk};
 ghost use Rattle.hc_rings.specs.Frames.{frames_sent, frames_taken, AreFrameEnds, SameFrameReceiver, SameFrameSender};
 
-use super::TURNS;
-use crate::{FrameBox, FrameReceiver, FrameSender, LARGEST_FRAME, frame_ring};
+use hc_rings::{FrameBox, FrameReceiver, FrameSender, LARGEST_FRAME, frame_ring};
 use std::alloc::{AllocError, Global};
 use std::test::Fail;
-use std::thread;
-
-/// How many frames go from thread to thread.
-const FRAMES: u32 = 12;
 
 /// Whether a frame of these bytes is sent.
 fn is_sent(alloc: Global, sender: &mut FrameSender, bytes: &[u8]) -> Result<bool, AllocError>
@@ -76,19 +71,16 @@ fn come_in_order(sender: &mut FrameSender, receiver: &mut FrameReceiver, back: F
     first && sent && second && left == 1 && third && receiver.take().is_none()
 }
 
-#[test]
-fn frames_go_in_order(rt: HostRuntime) -> Result<(), Fail> {
-    let alloc = rt.alloc();
+/// Whether two frames and one that was handed back go through a ring for two.
+fn go_in_order(alloc: Global) -> Result<bool, AllocError> {
     let (mut sender, mut receiver) = frame_ring(alloc, 2)?;
     let two = sends_two(alloc, &mut sender, &mut receiver)?;
-    let is_well = match refused(alloc, &mut sender, &[4; 1514])? {
-        Some(mut back) => two
-            && is_changed(&mut back)
-            && come_in_order(&mut sender, &mut receiver, back),
+    Ok(match refused(alloc, &mut sender, &[4; 1514])? {
+        Some(mut back) => {
+            two && is_changed(&mut back) && come_in_order(&mut sender, &mut receiver, back)
+        }
         None => false,
-    };
-    assert!(rt; is_well);
-    Ok(())
+    })
 }
 
 /// Whether a ring with no room hands a frame back, and nothing is left.
@@ -106,11 +98,10 @@ fn hands_each_back(
     Ok(is_back && receiver.beside(sender) == 0)
 }
 
-#[test]
-fn a_ring_with_no_room_hands_each_frame_back(rt: HostRuntime) -> Result<(), Fail> {
-    let (mut sender, mut receiver) = frame_ring(rt.alloc(), 0)?;
-    assert!(rt; hands_each_back(rt.alloc(), &mut sender, &mut receiver)?);
-    Ok(())
+/// The same of a ring of its own.
+fn has_no_room(alloc: Global) -> Result<bool, AllocError> {
+    let (mut sender, mut receiver) = frame_ring(alloc, 0)?;
+    hands_each_back(alloc, &mut sender, &mut receiver)
 }
 
 /// Marks a frame as one that was passed on: its source address becomes a locally administered one (IEEE 802.3).
@@ -134,76 +125,21 @@ fn pass_on(from: &mut FrameReceiver, to: &mut FrameSender) -> bool
     to.send(frame).is_ok()
 }
 
-#[test]
-fn a_frame_is_marked_on_its_way(rt: HostRuntime) -> Result<(), Fail> {
-    let (mut sender, mut between) = frame_ring(rt.alloc(), 1)?;
-    let (mut further, mut receiver) = frame_ring(rt.alloc(), 1)?;
+/// Whether a frame is passed on before one is there; whether one is sent, is then passed on, and comes marked.
+fn is_marked(alloc: Global) -> Result<[bool; 4], AllocError> {
+    let (mut sender, mut between) = frame_ring(alloc, 1)?;
+    let (mut further, mut receiver) = frame_ring(alloc, 1)?;
     let early = pass_on(&mut between, &mut further);
-    let sent = is_sent(rt.alloc(), &mut sender, &[9; 8])?;
+    let sent = is_sent(alloc, &mut sender, &[9; 8])?;
     let passed = pass_on(&mut between, &mut further);
     let marked = gives(&mut receiver, &[9, 9, 9, 9, 9, 9, 2, 9]);
-    assert_eq!(rt; [early, sent, passed, marked], [false, true, true, true]);
-    Ok(())
-}
-
-/// Sends each frame as soon as there is a place, and answers whether it could.
-fn send_all(mut sender: FrameSender, frames: Vec<FrameBox>) -> bool {
-    for frame in frames {
-        if !send_waiting(&mut sender, frame) {
-            return false;
-        }
-    }
-    true
-}
-
-fn send_waiting(sender: &mut FrameSender, frame: FrameBox) -> bool {
-    let mut frame = frame;
-    for _ in 0..TURNS {
-        match sender.send(frame) {
-            Ok(()) => return true,
-            Err(back) => frame = back,
-        }
-        thread::yield_now();
-    }
-    false
-}
-
-/// Takes `FRAMES` frames, and answers whether they came as they were sent, in order.
-fn take_frames(mut receiver: FrameReceiver) -> bool {
-    for number in 0..FRAMES {
-        let Some(frame) = take_frame_waiting(&mut receiver) else {
-            return false;
-        };
-        if frame.bytes() != [(number % 256) as u8, 1].as_slice() {
-            return false;
-        }
-    }
-    receiver.take().is_none()
-}
-
-fn take_frame_waiting(receiver: &mut FrameReceiver) -> Option<FrameBox> {
-    for _ in 0..TURNS {
-        if let Some(frame) = receiver.take() {
-            return Some(frame);
-        }
-        thread::yield_now();
-    }
-    None
+    Ok([early, sent, passed, marked])
 }
 
 #[test]
-fn frames_go_from_thread_to_thread(rt: HostRuntime) -> Result<(), Fail> {
+fn frames_go_in_order(rt: HostRuntime) -> Result<(), Fail> {
     let alloc = rt.alloc();
-    let mut frames = Vec::new(alloc);
-    for number in 0..FRAMES {
-        frames.push(FrameBox::of(alloc, &[(number % 256) as u8, 1])?)?;
-    }
-    let (sender, receiver) = frame_ring(alloc, 3)?;
-    let (sent, taken) = thread::join(
-        &rt,
-        move || send_all(sender, frames),
-        move || take_frames(receiver),
-    );
-    assert!(rt; sent && taken);
+    let found = (go_in_order(alloc)?, has_no_room(alloc)?, is_marked(alloc)?);
+    assert_eq!(rt; found, (true, true, [false, true, true, true]));
     Ok(())
 }

@@ -1,0 +1,193 @@
+//! Chains of one, two and four segments, and that their threads run at once.
+use crate::gates::{Holds, Open};
+use crate::pieces::{frame_of, put, stands};
+use hc_lend::Gate;
+use hc_rings::FrameBox;
+use hc_segment::{ChainFault, Segment, SlaveMachine, chain};
+use std::alloc::{AllocError, Global};
+use std::sync::Wait;
+use std::test::Fail;
+use std::thread::Threads;
+
+/// A slave that reads and writes its own byte of a datagram of eight bytes at logical address 0x01000000.
+fn slave_of(alloc: Global, place: u8) -> Result<SlaveMachine, AllocError> {
+    let mut machine = SlaveMachine::new(alloc, u16::from(place))?;
+    let block = [place, 0, 0, 1, 1, 0, 0, 7, 0, 0x10, 0, 3, 1, 0, 0, 0];
+    put(machine.memory_mut(), 0x0600, &block);
+    put(machine.memory_mut(), 0x1000, &[100 + place % 100]);
+    Ok(machine)
+}
+
+/// Eight slaves in segments of `size`, 1 to 8.
+fn segments_of(alloc: Global, size: u8) -> Result<Vec<Segment>, AllocError> {
+    let mut segments = Vec::new(alloc);
+    let mut machines = Vec::new(alloc);
+    for place in 0..8 {
+        machines.push(slave_of(alloc, place)?)?;
+        if machines.len() == usize::from(size) {
+            segments.push(Segment::of(machines))?;
+            machines = Vec::new(alloc);
+        }
+    }
+    Ok(segments)
+}
+
+/// Frames of process data, alias reads and station writes.
+fn frames_of(alloc: Global) -> Result<Vec<FrameBox>, AllocError> {
+    let mut frames = Vec::new(alloc);
+    for turn in 0..20 {
+        let data = [turn, 1, 2, 3, 4, 5, 6, 7];
+        let position = (65536 - u32::from(turn % 8)) % 65536;
+        let read = frame_of(1, 0x0012_0000 + position, &[0, 0]);
+        let write = frame_of(2, 0x0010_0000 + position, &[turn, 9]);
+        frames.push(FrameBox::of(alloc, &frame_of(12, 0x0100_0000, &data))?)?;
+        frames.push(FrameBox::of(alloc, &read)?)?;
+        frames.push(FrameBox::of(alloc, &write)?)?;
+        frames.push(FrameBox::of(alloc, &[turn; 40])?)?;
+    }
+    Ok(frames)
+}
+
+/// The bytes of frames and memories, one after another.
+fn bytes_of(
+    alloc: Global,
+    frames: &[FrameBox],
+    segments: &[Segment],
+) -> Result<Vec<u8>, AllocError> {
+    let mut bytes = Vec::new(alloc);
+    for frame in frames {
+        bytes.extend_from_slice(frame.bytes())?;
+    }
+    for segment in segments {
+        for machine in segment.machines() {
+            bytes.extend_from_slice(machine.memory())?;
+        }
+    }
+    Ok(bytes)
+}
+
+/// What is left of the frames and of segments of this size where each segment begins once the one in front of it is done.
+fn left_in_turn<G: Gate>(alloc: Global, size: u8, gate: &G) -> Result<Vec<u8>, AllocError> {
+    let mut segments = segments_of(alloc, size)?;
+    let mut frames = frames_of(alloc)?;
+    for (number, segment) in segments.iter_mut().enumerate() {
+        gate.begun(number);
+        for frame in frames.iter_mut() {
+            segment.process(frame.bytes_mut());
+        }
+    }
+    bytes_of(alloc, &frames, &segments)
+}
+
+/// What is left of them in a chain.
+fn left_in_chain<R: Threads + Wait + Sync, G: Gate + Sync>(
+    rt: &R,
+    alloc: Global,
+    size: u8,
+    gate: &G,
+) -> Result<Vec<u8>, ChainFault> {
+    let mut segments = segments_of(alloc, size)?;
+    let frames = frames_of(alloc)?;
+    let out = chain(rt, alloc, &mut segments, frames, gate)?;
+    Ok(bytes_of(alloc, &out, &segments)?)
+}
+
+/// How many frames come out of a chain into which none goes, and of one with no segment.
+fn counts_of_nothing<R: Threads + Wait + Sync>(
+    rt: &R,
+    alloc: Global,
+) -> Result<[usize; 2], ChainFault> {
+    let mut segments = segments_of(alloc, 4)?;
+    let none = chain(rt, alloc, &mut segments, Vec::new(alloc), &Open)?;
+    let all = chain(rt, alloc, &mut [], frames_of(alloc)?, &Open)?;
+    Ok([none.len(), all.len()])
+}
+
+/// How many segments there are of each of three sizes.
+fn counts_of_segments(alloc: Global) -> Result<[usize; 3], AllocError> {
+    Ok([
+        segments_of(alloc, 8)?.len(),
+        segments_of(alloc, 4)?.len(),
+        segments_of(alloc, 2)?.len(),
+    ])
+}
+
+#[test]
+fn chains_are_one_segment(rt: HostRuntime) -> Result<(), Fail> {
+    let alloc = rt.alloc();
+    let wanted = left_in_turn(alloc, 8, &Open)?;
+    for size in [8, 4, 2] {
+        assert!(rt;
+            left_in_chain(&rt, alloc, size, &Open)? == wanted,
+            "segments of {size}"
+        );
+    }
+    let counts = (counts_of_segments(alloc)?, counts_of_nothing(&rt, alloc)?);
+    assert_eq!(rt; counts, ([1, 2, 4], [0, 80]));
+    Ok(())
+}
+
+/// A body that begins with a segment once the one in front of it is done gives the frames and machines that `chain` gives;
+/// the gate alone tells.
+#[test]
+fn segments_run_at_once(rt: HostRuntime) -> Result<(), Fail> {
+    let alloc = rt.alloc();
+    let (gate, gate_in_turn) = (Holds::of(0, 1), Holds::of(0, 1));
+    let left = left_in_chain(&rt, alloc, 4, &gate)?;
+    let left_in_turn = left_in_turn(alloc, 4, &gate_in_turn)?;
+    let are_seen = (gate.has_seen(), gate_in_turn.has_seen());
+    assert_eq!(rt; (are_seen, left == left_in_turn), ((true, false), true));
+    Ok(())
+}
+
+/// Whether each machine's mapped byte is one more than that of the machine before it; the first has this one.
+fn bytes_ascend(segments: &[Segment], first: u8) -> bool {
+    let mut wanted = first;
+    for segment in segments {
+        for machine in segment.machines() {
+            if !stands(machine.memory(), 0x1000, &[wanted]) {
+                return false;
+            }
+            wanted = wanted.wrapping_add(1);
+        }
+    }
+    true
+}
+
+/// Whether one frame of 64 bytes came out. Each slave's byte was 100 and its place; each of the eight counts 1 for a read and
+/// 2 for a write.
+fn is_answered(out: &[FrameBox]) -> bool {
+    match out {
+        [frame] => {
+            let wanted = [100, 101, 102, 103, 104, 105, 106, 107, 24, 0];
+            frame.bytes().len() == 64 && stands(frame.bytes(), 26, &wanted)
+        }
+        _ => false,
+    }
+}
+
+/// One frame of process data.
+fn one_frame(alloc: Global) -> Result<Vec<FrameBox>, AllocError> {
+    let mut frames = Vec::new(alloc);
+    let sent = frame_of(12, 0x0100_0000, &[1, 2, 3, 4, 5, 6, 7, 8]);
+    frames.push(FrameBox::of(alloc, &sent)?)?;
+    Ok(frames)
+}
+
+/// Whether the frame and the machines are as they are to be behind a chain; and where it is refused, the machines as before.
+fn is_whole(answer: &Result<Vec<FrameBox>, ChainFault>, segments: &[Segment]) -> bool {
+    match answer {
+        Ok(out) => is_answered(out.as_slice()) && bytes_ascend(segments, 1),
+        Err(fault) => fault.number() == 1 && bytes_ascend(segments, 100),
+    }
+}
+
+/// The sweep refuses each growth of this test in turn: the machines are then as they were.
+#[test]
+fn machines_stay_where_a_chain_is_refused(rt: HostRuntime) -> Result<(), Fail> {
+    let alloc = rt.alloc();
+    let mut segments = segments_of(alloc, 4)?;
+    let answer = chain(&rt, alloc, &mut segments, one_frame(alloc)?, &Open);
+    assert!(rt; is_whole(&answer, &segments));
+    Ok(())
+}

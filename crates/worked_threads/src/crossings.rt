@@ -1,0 +1,153 @@
+//! Posts and frames that go from thread to thread.
+use hc_rings::{
+    FrameBox, FrameReceiver, FrameSender, PostBuffer, PostReceiver, PostSender, frame_ring,
+    post_ring,
+};
+use std::alloc::{AllocError, Global};
+use std::test::Fail;
+use std::thread;
+
+/// How often a thread looks again before it gives up.
+const TURNS: u32 = 10_000_000;
+
+/// How many posts go from thread to thread.
+const POSTS: u32 = 500;
+
+/// Posts `POSTS` posts, each as soon as a buffer is back, and answers whether it could.
+fn post_all(mut sender: PostSender) -> bool {
+    for number in 0..POSTS {
+        if !post_waiting(&mut sender, number) {
+            return false;
+        }
+    }
+    true
+}
+
+fn post_waiting(sender: &mut PostSender, number: u32) -> bool {
+    for _ in 0..TURNS {
+        if let Ok(mut buffer) = sender.buffer() {
+            buffer.begin(number, number as usize % 7);
+            buffer.bytes_mut().fill((number % 251) as u8);
+            return sender.post(buffer).is_ok();
+        }
+        thread::yield_now();
+    }
+    false
+}
+
+/// Takes `POSTS` posts, and answers whether they came as they were posted, in order, and then the end.
+fn take_all(mut receiver: PostReceiver) -> bool {
+    for number in 0..POSTS {
+        if !takes_waiting(&mut receiver, number) {
+            return false;
+        }
+    }
+    sees_end(&mut receiver)
+}
+
+/// Whether the post with this number comes. Its buffer is given back.
+fn takes_waiting(receiver: &mut PostReceiver, number: u32) -> bool {
+    for _ in 0..TURNS {
+        if let Some(buffer) = receiver.take() {
+            let is_wanted = is_post(&buffer, number);
+            receiver.give_back(buffer);
+            return is_wanted;
+        }
+        thread::yield_now();
+    }
+    false
+}
+
+/// Whether this is the post with this number.
+fn is_post(buffer: &PostBuffer, number: u32) -> bool {
+    let bytes = buffer.bytes();
+    let is_same = bytes.iter().all(|&b| b as u32 == number % 251);
+    buffer.epoch() == number && bytes.len() as u32 == number % 7 && is_same
+}
+
+/// Whether the end comes, and no post before it.
+fn sees_end(receiver: &mut PostReceiver) -> bool {
+    for _ in 0..TURNS {
+        if receiver.finish() == Some(0) {
+            return receiver.take().is_none();
+        }
+        thread::yield_now();
+    }
+    false
+}
+
+#[test]
+fn posts_go_from_thread_to_thread(rt: HostRuntime) -> Result<(), Fail> {
+    let (sender, receiver) = post_ring(rt.alloc())?;
+    let crossed = thread::join(&rt, move || post_all(sender), move || take_all(receiver));
+    assert_eq!(rt; crossed, (true, true));
+    Ok(())
+}
+
+/// How many frames go from thread to thread.
+const FRAMES: u32 = 12;
+
+/// So many frames, each of its number and 1.
+fn numbered_frames(alloc: Global) -> Result<Vec<FrameBox>, AllocError> {
+    let mut frames = Vec::new(alloc);
+    for number in 0..FRAMES {
+        frames.push(FrameBox::of(alloc, &[(number % 256) as u8, 1])?)?;
+    }
+    Ok(frames)
+}
+
+/// Sends each frame as soon as there is a place, and answers whether it could.
+fn send_all(mut sender: FrameSender, frames: Vec<FrameBox>) -> bool {
+    for frame in frames {
+        if !send_waiting(&mut sender, frame) {
+            return false;
+        }
+    }
+    true
+}
+
+fn send_waiting(sender: &mut FrameSender, frame: FrameBox) -> bool {
+    let mut frame = frame;
+    for _ in 0..TURNS {
+        match sender.send(frame) {
+            Ok(()) => return true,
+            Err(back) => frame = back,
+        }
+        thread::yield_now();
+    }
+    false
+}
+
+/// Takes `FRAMES` frames, and answers whether they came as they were sent, in order.
+fn take_frames(mut receiver: FrameReceiver) -> bool {
+    for number in 0..FRAMES {
+        if !takes_frame_waiting(&mut receiver, number) {
+            return false;
+        }
+    }
+    receiver.take().is_none()
+}
+
+/// Whether the frame with this number comes.
+fn takes_frame_waiting(receiver: &mut FrameReceiver, number: u32) -> bool {
+    for _ in 0..TURNS {
+        if let Some(frame) = receiver.take() {
+            return frame.bytes() == [(number % 256) as u8, 1].as_slice();
+        }
+        thread::yield_now();
+    }
+    false
+}
+
+#[test]
+fn frames_go_from_thread_to_thread(rt: HostRuntime) -> Result<(), Fail> {
+    let frames = numbered_frames(rt.alloc())?;
+    let (sender, receiver) = frame_ring(rt.alloc(), 3)?;
+    let crossed = thread::join(
+        &rt,
+        move || send_all(sender, frames),
+        move || take_frames(receiver),
+    );
+    assert_eq!(rt; crossed, (true, true));
+    Ok(())
+}

@@ -1,0 +1,138 @@
+//! Gates that workers and the threads of segments pass.
+use hc_lend::Gate;
+use std::sync::atomic::{AtomicBool, AtomicU64, Ordering};
+use std::thread;
+
+/// Lets every worker pass.
+#[derive(Drop)]
+pub struct Open;
+
+impl Gate for Open {
+    fn begun(&self, _worker: usize) {}
+}
+
+/// The worker `holder` is held until the worker `other` has begun, for at most 1,000,000 turns, each of which yields.
+#[derive(Drop)]
+pub struct Holds {
+    holder: usize,
+    other: usize,
+    other_has_begun: AtomicBool,
+    other_was_seen: AtomicBool,
+}
+
+impl Holds {
+    /// One worker is held for another.
+    pub fn of(holder: usize, other: usize) -> Holds {
+        Holds {
+            holder,
+            other,
+            other_has_begun: AtomicBool::new(false),
+            other_was_seen: AtomicBool::new(false),
+        }
+    }
+
+    /// Whether the holder saw that the other one has begun.
+    pub fn has_seen(&self) -> bool {
+        self.other_was_seen.load(Ordering::SeqCst)
+    }
+}
+
+impl Gate for Holds {
+    fn begun(&self, worker: usize) {
+        if worker == self.other {
+            self.other_has_begun.store(true, Ordering::SeqCst);
+        }
+        if worker != self.holder {
+            return;
+        }
+        for _ in 0..1_000_000 {
+            if self.other_has_begun.load(Ordering::SeqCst) {
+                self.other_was_seen.store(true, Ordering::SeqCst);
+                return;
+            }
+            thread::yield_now();
+        }
+    }
+}
+
+/// Each worker is held until all have begun, for at most 1,000,000 turns, each of which yields.
+#[derive(Drop)]
+pub struct Meets {
+    workers: u64,
+    begun: AtomicU64,
+    met: AtomicU64,
+}
+
+impl Meets {
+    /// So many workers meet.
+    pub fn of(workers: u64) -> Meets {
+        Meets {
+            workers,
+            begun: AtomicU64::new(0),
+            met: AtomicU64::new(0),
+        }
+    }
+
+    /// How many workers saw that all had begun.
+    pub fn met(&self) -> u64 {
+        self.met.load(Ordering::SeqCst)
+    }
+}
+
+impl Gate for Meets {
+    fn begun(&self, _worker: usize) {
+        self.begun.fetch_add(1, Ordering::SeqCst);
+        for _ in 0..1_000_000 {
+            if self.begun.load(Ordering::SeqCst) == self.workers {
+                self.met.fetch_add(1, Ordering::SeqCst);
+                return;
+            }
+            thread::yield_now();
+        }
+    }
+}
+
+/// Counts how often each of eight workers has begun.
+#[derive(Drop)]
+pub struct Counts {
+    begun: [AtomicU64; 8],
+}
+
+impl Counts {
+    /// None has begun.
+    pub fn of_none() -> Counts {
+        Counts {
+            begun: [
+                AtomicU64::new(0),
+                AtomicU64::new(0),
+                AtomicU64::new(0),
+                AtomicU64::new(0),
+                AtomicU64::new(0),
+                AtomicU64::new(0),
+                AtomicU64::new(0),
+                AtomicU64::new(0),
+            ],
+        }
+    }
+
+    /// Whether a worker has begun once.
+    pub fn is_once(&self, worker: usize) -> bool {
+        match self.begun.get(worker) {
+            Some(count) => count.load(Ordering::SeqCst) == 1,
+            None => false,
+        }
+    }
+
+    /// Whether each of the eight has begun once.
+    pub fn are_once(&self) -> bool {
+        (0..8).all(|worker| self.is_once(worker))
+    }
+}
+
+impl Gate for Counts {
+    fn begun(&self, worker: usize) {
+        if let Some(count) = self.begun.get(worker) {
+            count.fetch_add(1, Ordering::SeqCst);
+        }
+    }
+}

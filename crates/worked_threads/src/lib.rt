@@ -1,0 +1,33 @@
+//! Parts of slices, rings between threads, the slave machine and chains of segments, in rows that were worked out by hand,
+//! and what no clause says of them. There is nothing to call: these are tests. They stand in a crate of their own since a
+//! crate that has tests is proved twice.
+#![tactic(auto)]
+
+#[cfg(test)]
+mod buffers;
+#[cfg(test)]
+mod chains;
+#[cfg(test)]
+mod crossings;
+#[cfg(test)]
+mod ends;
+#[cfg(test)]
+mod frames;
+#[cfg(test)]
+mod gates;
+#[cfg(test)]
+mod lines;
+#[cfg(test)]
+mod logical;
+#[cfg(test)]
+mod parts;
+#[cfg(test)]
+mod physical;
+#[cfg(test)]
+mod pieces;
+#[cfg(test)]
+mod posting;
+#[cfg(test)]
+mod posts;
+#[cfg(test)]
+mod workers;
