@@ -207,16 +207,12 @@ fn told_of_place(told: u64, place: &Place) -> u64 {
 
 fn told_of_change(told: u64, change: &Change) -> u64 {
     match change {
-        Change::Good {
-            task,
-            datagram,
-            bytes,
-        } => {
+        Change::Good(good) => {
             let told = told_of(
-                told_of(told_of(told, 31), u64::from(*task)),
-                u64::from(*datagram),
+                told_of(told_of(told, 31), u64::from(good.task())),
+                u64::from(good.datagram()),
             );
-            told_of_bytes(told, bytes.as_slice())
+            told_of_bytes(told, good.bytes())
         }
         Change::Swapped(swap) => {
             let mut told = told_of(told_of(told, 32), u64::from(swap.places()));
