@@ -38,15 +38,6 @@ told cuts_set invariant-loop-time 'l = l.task.slaves ≡ l.slaves'
 told cuts_set ghosts-cut_in_rounds 'a = record { name = a.blank.name; parts = a.blank.parts }'
 told cuts_cut ghosts-cut_in_rounds 'a = record { name = a.blank.name; parts = a.blank.parts }'
 told cuts_searched ghosts-searched_in_rounds 'a = record { name = a.blank.name; parts = a.blank.parts }'
-# A search can begin at the front.
-mkdir -p "$bench/proofs/first_cut"
-cat > "$bench/proofs/first_cut/Answers.antt" <<'END_OF_ANSWERS'
-use Rattle.std.proofs.Common.{inl, refl}
-use Rattle.cuts_bench.proofs.first_cut.Goals as goal
-
-pub next_cut-requires : goal.next_cut-requires
-next_cut-requires c = inl refl
-END_OF_ANSWERS
 cat > "$bench/src/lib.rt" <<'END_OF_CODE'
 //! What the benchmark calls: each function makes a task of so many slaves with these areas and plays the same
 //! calls in it, in as many rounds as `times` has places, which get the nanoseconds of each round.
