@@ -42,6 +42,7 @@ impl Core {
         ensures taken { OnOk result (self.new ≡ record self.old { past = Came arrival.now ∷ self.old.past }) }
         ensures unchanged { OnErr result (self.new ≡ self.old) }
     {
+        // a look at the core tells its invariant, by which the changes fit an image
         let _ = &self.past;
         let mut changes = changes_of(alloc, outcomes, arrival)?;
         self.changes.append(&mut changes)?;

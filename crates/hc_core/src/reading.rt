@@ -17,8 +17,8 @@ use hc_records::limits::TASKS;
 use std::alloc::{AllocError, Global};
 
 impl Core {
-    /// The plan of the present line. Its epoch is the number of accepted edits, and the record is one to which
-    /// events lead, as laws of records ask for.
+    /// The plan of the present line. Its epoch is the number of accepted edits, and the record has what each one
+    /// has to which events lead (`reachable`), for which the laws of such records ask.
     pub fn plan(&self) -> &Plan
         ensures state { result.now ≡ state_of self.now.past }
         ensures reachable { IsReachable self.now.past }

@@ -47,8 +47,8 @@ pub fn unreadable_changes_nothing()
 
 /// Each entry of a record that events led to was accepted when it came: an edit by the state, a post by
 /// its task and its length, a frame of tasks because all its datagrams are the line's and nothing was
-/// owed, a register write as that of the first owed block. No serial was given twice, and the record begins
-/// with the groups that were opened. This is what the laws of such records ask for.
+/// owed, a register write as that of the first owed block. No more sendings were made than there are serials,
+/// and the record begins with the groups that were opened. This is what the laws of such records ask for.
 pub fn records_are_reachable()
     ensures { RecordsAreReachable }
 {}
