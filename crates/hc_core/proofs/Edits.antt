@@ -39,7 +39,8 @@ use Rattle.hc_owed.specs.Laws.{EditsAreRight, kept_by, kept_of, known_over}
 use Rattle.hc_core.proofs.Awaits.{waits-edited}
 use Rattle.hc_core.proofs.Posts.{values-edited}
 use Rattle.hc_core.proofs.Known.{kept-alike, known-edited}
-use Rattle.hc_core.specs.Agreement.{Agree, Kept, TellNews}
+use Rattle.hc_core.specs.Agreement.{Agree, Kept}
+use Rattle.hc_core.specs.News.{TellNews}
 
 -- a fault of its own is that over the declared groups of the plan
 

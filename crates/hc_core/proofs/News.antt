@@ -16,7 +16,8 @@ use Rattle.hc_events.specs.Changes.{Answered, AreLegalFrom, news_of, told_by}
 use Rattle.hc_events.specs.NewsLaws.{state_behind}
 use Rattle.hc_events.proofs.lemmas.Slots.{FitsFresh}
 use Rattle.hc_events.proofs.lemmas.Views.{legal-joined}
-use Rattle.hc_core.specs.Agreement.{Agree, Kept, TellNews}
+use Rattle.hc_core.specs.Agreement.{Agree, Kept}
+use Rattle.hc_core.specs.News.{TellNews}
 use Rattle.hc_core.specs.Goods.{change_of}
 
 goods_told : (goods : List Fresh) → map told_by (map change_of goods) ≡ map Answered goods

@@ -1,5 +1,5 @@
 -- What a core keeps, by the record of what it accepted.
-use Rattle.std.specs.Prelude.{◌≡◌, ℕ, ◌<◌, ◌≤◌, List, ◌++◌, map, None}
+use Rattle.std.specs.Prelude.{◌≡◌, ℕ, ◌<◌, ◌≤◌, List, None}
 use Rattle.hc_records.specs.declared.limits.TheConstants.{MOST_DATAGRAMS}
 use Rattle.hc_records.specs.Line.{State, groups_of}
 use Rattle.hc_records.specs.Edits.{crowded_task}
@@ -11,8 +11,6 @@ use Rattle.hc_events.specs.Entries.{Record}
 use Rattle.hc_events.specs.Points.{line_of, next_serial, state_of}
 use Rattle.hc_events.specs.Images.{slot_of}
 use Rattle.hc_events.specs.Owed.{known_bytes}
-use Rattle.hc_events.specs.Changes.{AreLegalFrom, news_of, told_by}
-use Rattle.hc_events.specs.NewsLaws.{state_behind}
 use Rattle.hc_awaited.specs.Waiting.{Waiting}
 use Rattle.hc_inputs.specs.Image.{Image, data_of}
 use Rattle.hc_outputs.specs.Packed.{Packed}
@@ -20,6 +18,7 @@ use Rattle.hc_owed.specs.Kept.{Owed, declared_blocks}
 use Rattle.hc_owed.specs.Laws.{kept_of}
 use Rattle.hc_core.specs.Records.{record_of}
 use Rattle.hc_core.specs.declared.keeping.Core.TheInside.{Inside}
+use Rattle.hc_core.specs.News.{TellNews}
 use Rattle.hc_core.specs.State.{CoreState}
 use Rattle.hc_core.specs.Values.{HoldsValues}
 use Rattle.hc_core.specs.Waits.{Waits}
@@ -32,12 +31,6 @@ ShowsSlots past image = (task d : ℕ) → d < MOST_DATAGRAMS → data_of image 
 pub record Knows (past : Record) (owed : Owed) : Type 0 where
   pub blocks : owed.blocks ≡ kept_of (known_bytes past) (state_of past)
   pub room : declared_blocks (state_of past).groups ≤ owed.room
-
--- the changes that nobody took tell what is news since the last taking; they are legal from the state as it was then, and lead to the present one
-pub record TellNews (taken past : Record) (changes : List Change) : Type 0 where
-  pub told : news_of past ≡ news_of taken ++ map told_by changes
-  pub legal : AreLegalFrom (state_of taken) changes
-  pub behind : state_behind (state_of taken) changes ≡ state_of past
 
 -- the parts of a core
 pub record Kept : Type 0 where

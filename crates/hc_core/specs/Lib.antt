@@ -9,6 +9,7 @@ pub mod LastData
 pub mod Lines
 pub mod Texts
 pub mod Records
+pub mod News
 pub mod Agreement
 pub mod Waits
 pub mod Values

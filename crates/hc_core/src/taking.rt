@@ -1,8 +1,8 @@
 //! Takes the changes.
-ghost use Rattle.std.specs.Prelude.{◌≡◌, ◌++◌, map};
-ghost use Rattle.hc_events.specs.Changes.{AreLegalFrom, SwapsLeadFrom, news_of, told_by};
-ghost use Rattle.hc_events.specs.NewsLaws.{state_behind};
+ghost use Rattle.std.specs.Prelude.{◌≡◌};
+ghost use Rattle.hc_events.specs.Changes.{SwapsLeadFrom};
 ghost use Rattle.hc_events.specs.Points.{state_of};
+ghost use Rattle.hc_core.specs.News.{TellNews};
 
 use crate::keeping::Core;
 use hc_events::change::Change;
@@ -15,10 +15,8 @@ impl Core {
     /// from the state as it was then, with swaps that lead from its line to the present one. They are no longer
     /// kept, and the record stays. It takes no memory: `alloc` is for the empty list that is kept from now on.
     pub fn take_changes(&mut self, alloc: Global) -> Vec<Change>
-        ensures told { news_of self.old.past ≡ news_of self.old.taken ++ map told_by result.items }
-        ensures legal { AreLegalFrom (state_of self.old.taken) result.items }
+        ensures news { TellNews self.old.taken self.old.past result.items }
         ensures lead { SwapsLeadFrom (state_of self.old.taken) result.items }
-        ensures behind { state_behind (state_of self.old.taken) result.items ≡ state_of self.old.past }
         ensures taken { self.new ≡ record { past = self.old.past; taken = self.old.past } }
     {
         self.take_changes_into(Vec::new(alloc))
@@ -27,10 +25,8 @@ impl Core {
     /// The same, and a list is handed in for the changes to come: what it holds is dropped, and its room is
     /// kept. Who hands back the list of the taking before grows none anew. It takes no memory.
     pub fn take_changes_into(&mut self, spare: Vec<Change>) -> Vec<Change>
-        ensures told { news_of self.old.past ≡ news_of self.old.taken ++ map told_by result.items }
-        ensures legal { AreLegalFrom (state_of self.old.taken) result.items }
+        ensures news { TellNews self.old.taken self.old.past result.items }
         ensures lead { SwapsLeadFrom (state_of self.old.taken) result.items }
-        ensures behind { state_behind (state_of self.old.taken) result.items ≡ state_of self.old.past }
         ensures taken { self.new ≡ record { past = self.old.past; taken = self.old.past } }
     {
         let mut next = spare;
