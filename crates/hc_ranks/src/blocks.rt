@@ -1,0 +1,33 @@
+//! What is told by rank of the blocks of a line and of the slaves that leave it.
+use hc_registers::blocks::Block;
+use std::marker::Model;
+
+/// A block of a line, with the rank of its slave.
+#[derive(Debug, Drop)]
+pub struct RankedBlock {
+    /// The rank of its slave: declared slaves are counted from 1, present or not.
+    pub rank: u16,
+    /// The station address of its slave.
+    pub station: u16,
+    /// Its number in the slave's order, from 0.
+    pub number: u8,
+    /// Its register and its bytes.
+    pub block: Block,
+}
+
+impl Model for RankedBlock {
+    ghost use Rattle.hc_ranks.specs.Blocks.{RankedBlock};
+
+    ghost Value = { RankedBlock };
+
+    ghost view = { λ it. record { rank = it.rank; found = record { station = it.station; number = it.number; block = it.block } } };
+}
+
+/// The slaves that leave a line with an edit: so many, from a rank on.
+#[derive(Clone, Copy, Debug, PartialEq, Eq)]
+pub struct Gone {
+    /// The rank of the first of them, from 1.
+    pub rank: u16,
+    /// How many they are; 0 where none leaves.
+    pub slaves: u16,
+}
