@@ -1,3 +1,4 @@
 pub mod Blocks
 pub mod Places
 pub mod Differences
+pub mod Laws

@@ -1,0 +1,4 @@
+-- What the crates above cite, a file a subject.
+pub mod Gapless
+pub mod Standing
+pub mod Moved

@@ -1,0 +1,42 @@
+-- The moved blocks with their ranks are the moved blocks.
+use Rattle.std.proofs.Common.{◌≡◌, ℕ, Bool, true, false, cond, List, [], ◌∷◌, ◌++◌, map, refl, ap, ◌∙◌}
+use Rattle.std.specs.Prelude.{filter, not}
+use Rattle.std.specs.List.{flat_map, list_any}
+use Rattle.std.proofs.lemmas.List.{map-append}
+use Rattle.hc_records.specs.Line.{Member}
+use Rattle.hc_registers.specs.Blocks.{LineBlock, line_blocks, member_blocks, same_block}
+use Rattle.hc_ranks.specs.Blocks.{RankedBlock, member_ranked, ranked, ranked_blocks}
+use Rattle.hc_ranks.specs.Laws.{RankedAreMoved}
+
+abbrev founds : List RankedBlock → List LineBlock
+founds blocks = map (λ block. block.found) blocks
+
+own-founds : (rank : ℕ) (blocks : List LineBlock) → founds (map (ranked rank) blocks) ≡ blocks
+own-founds rank [] = refl
+own-founds rank (block ∷ blocks) = ap (λ (rest : List LineBlock). block ∷ rest) (own-founds rank blocks)
+
+members-founds : (line members : List Member) → founds (flat_map (member_ranked line) members) ≡ flat_map (member_blocks line) members
+members-founds line [] = refl
+members-founds line (member ∷ members) =
+    map-append (λ (block : RankedBlock). block.found) (member_ranked line member) (flat_map (member_ranked line) members)
+    ∙ ap (λ (own : List LineBlock). own ++ founds (flat_map (member_ranked line) members)) (own-founds member.rank (member_blocks line member))
+    ∙ ap (λ (rest : List LineBlock). member_blocks line member ++ rest) (members-founds line members)
+
+-- the blocks of a line with their ranks are its blocks
+pub ranked-are-blocks : (line : List Member) → founds (ranked_blocks line) ≡ line_blocks line
+ranked-are-blocks line = members-founds line line
+
+kept-by : (passes : Bool) (block : RankedBlock) (kept : List RankedBlock) → founds (cond passes (block ∷ kept) kept) ≡ cond passes (block.found ∷ founds kept) (founds kept)
+kept-by true block kept = refl
+kept-by false block kept = refl
+
+filter-founds : (test : LineBlock → Bool) (blocks : List RankedBlock) → founds (filter (λ block. test block.found) blocks) ≡ filter test (founds blocks)
+filter-founds test [] = refl
+filter-founds test (block ∷ blocks) =
+    kept-by (test block.found) block (filter (λ block. test block.found) blocks)
+    ∙ ap (λ (kept : List LineBlock). cond (test block.found) (block.found ∷ kept) kept) (filter-founds test blocks)
+
+pub ranked-are-moved : RankedAreMoved
+ranked-are-moved old new =
+    let test : LineBlock → Bool = λ block. not (list_any (same_block block) (line_blocks old)) in
+    filter-founds test (ranked_blocks new) ∙ ap (filter test) (ranked-are-blocks new)
