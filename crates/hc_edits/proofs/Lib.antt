@@ -1,6 +1,4 @@
-pub mod CarriedOut
 pub mod Changed
-pub mod Concerned
 pub mod Found
 pub mod Harmless
 pub mod Kept

@@ -1,4 +1,5 @@
 pub mod Answering
+pub mod ByRank
 pub mod Editing
 pub mod LineBlocks
 pub mod Mapped

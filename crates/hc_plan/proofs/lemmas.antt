@@ -1,3 +1,4 @@
 -- What the crates above cite, a file a subject.
 pub mod Configured
+pub mod Differing
 pub mod Unmoved

@@ -1,4 +1,5 @@
 pub mod Configuration
+pub mod Gone
 pub mod Laws
 pub mod Reports
 pub mod inner

@@ -21,10 +21,10 @@ contained-at xs x at = slice_get-get_or xs at.0 x at.1 ∙ ap (λ (y : _). Some 
 
 -- the blocks of one slave
 
-abbrev made : ℕ → ℕ → Option RegisterBlock → Option LineBlock
+abbrev pub made : ℕ → ℕ → Option RegisterBlock → Option LineBlock
 made station n blocks = option_map (λ (e : ℕ × RegisterBlock). record { station = station; number = e.0; block = e.1 }) (option_map (λ b. (n, b)) blocks)
 
-get-own : (station n : ℕ) (blocks : List RegisterBlock) → slice_get (numbered station 0 blocks) n ≡ made station n (slice_get blocks n)
+pub get-own : (station n : ℕ) (blocks : List RegisterBlock) → slice_get (numbered station 0 blocks) n ≡ made station n (slice_get blocks n)
 get-own station n blocks =
     let line_block : ℕ × RegisterBlock → LineBlock = λ e. record { station = station; number = e.0; block = e.1 } in
     slice_get-map line_block (enumerate_from 0 blocks) n ∙ ap (option_map line_block) (get-numbered-from-0 blocks n)

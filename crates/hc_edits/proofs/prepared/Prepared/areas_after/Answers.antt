@@ -1,6 +1,6 @@
 use Rattle.std.proofs.Common.{List, sym, ap, ◌∙◌}
 use Rattle.hc_edits.specs.Rows.{Ranked, nth_areas}
-use Rattle.hc_edits.proofs.Concerned.{areas-row, presence-row}
+use Rattle.hc_edits.proofs.lemmas.Concerned.{areas-row, presence-row}
 use Rattle.hc_edits.proofs.prepared.Prepared.areas_after.Goals as goal
 
 pub returns-in-Presence : goal.returns-in-Presence

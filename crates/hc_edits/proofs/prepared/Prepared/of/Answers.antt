@@ -3,8 +3,8 @@ use Rattle.hc_records.specs.declared.records.Declared.{Declared}
 use Rattle.hc_records.specs.Line.{groups_of}
 use Rattle.hc_records.specs.Project.{lowest_fault}
 use Rattle.hc_records.proofs.lemmas.Slaves.{project-counted}
-use Rattle.hc_edits.proofs.CarriedOut.{carried-after}
-use Rattle.hc_edits.proofs.Concerned.{change-of-row}
+use Rattle.hc_edits.proofs.lemmas.CarriedOut.{carried-after}
+use Rattle.hc_edits.proofs.lemmas.Concerned.{change-of-row}
 use Rattle.hc_edits.proofs.Kept.{project-kept}
 use Rattle.hc_edits.proofs.prepared.Prepared.of.Goals as goal
 

@@ -20,7 +20,7 @@ use Rattle.hc_edits.specs.declared.prepared.Prepared.{Prepared}
 use Rattle.hc_edits.specs.declared.prepared.Prepared.TheVariants.{Presence, Areas}
 use Rattle.hc_edits.specs.Changes.{areas_change, areas_changed, areas_at, carried, change_by, has_alias, has_slave, place_at, place_in, presence_at, presence_change, slave_place, slaves_at, with_areas, with_present, with_slave}
 use Rattle.hc_edits.specs.Rows.{ChangesRow, Ranked, by_rank, given_row, ranked, row}
-use Rattle.hc_edits.proofs.CarriedOut.{joined-some}
+use Rattle.hc_edits.proofs.lemmas.CarriedOut.{joined-some}
 use Rattle.hc_edits.proofs.Found.{first-at, there}
 
 -- a list is what stands before an element, the element, and what stands behind it
@@ -78,7 +78,7 @@ rank_all declared = ranked declared.present declared.group.slaves
 by_rank-around : (front behind : List Declared) (declared : Declared) → by_rank (front ++ declared ∷ behind) ≡ by_rank front ++ (rank_all declared ++ by_rank behind)
 by_rank-around front behind declared = flat_map-append rank_all front (declared ∷ behind)
 
-rank-count : (groups : List Declared) → length (by_rank groups) ≡ sum_by (λ declared. length declared.group.slaves) groups
+pub rank-count : (groups : List Declared) → length (by_rank groups) ≡ sum_by (λ declared. length declared.group.slaves) groups
 rank-count [] = refl
 rank-count (declared ∷ groups) =
     length-append (rank_all declared) (by_rank groups)
