@@ -1,4 +1,5 @@
 -- What the crates above cite, a file a subject.
 pub mod Configured
 pub mod Differing
+pub mod PlaceNames
 pub mod Unmoved

@@ -2,7 +2,8 @@
 use Rattle.std.specs.Prelude.{ℕ, ◌+◌, ◌-◌, ◌*◌, Bool, if◌then◌else◌, List, [], ◌∷◌, ◌++◌, length, map, slice_get, Option}
 use Rattle.std.specs.List.{flat_map, range_with_len}
 use Rattle.hc_records.specs.declared.records.Declared.{Declared}
-use Rattle.hc_records.specs.Line.{Member, State, line, members_from}
+use Rattle.hc_records.specs.Line.{Member, State, groups_of, line, members_from}
+use Rattle.hc_records.specs.Project.{slaves_of}
 use Rattle.hc_registers.specs.Blocks.{LineBlock, member_blocks}
 
 -- the place of the block with a number of the slave with a rank, counted from 1
@@ -27,3 +28,7 @@ places_from line rank (declared ∷ rest) =
 -- the blocks of the line of a state, each at its place
 abbrev pub places : State → List (Option LineBlock)
 places state = places_from (line state) 1 state.groups
+
+-- the station addresses of all declared slaves, present or not, by rank
+abbrev pub stations : State → List ℕ
+stations state = map (λ slave. slave.station) (slaves_of (groups_of state.groups))

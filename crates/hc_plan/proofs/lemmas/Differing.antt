@@ -49,7 +49,7 @@ abbrev SameSlaves : List Declared → List Declared → Type 0
 SameSlaves olds news = map bare_slave (declared_slaves news) ≡ map bare_slave (declared_slaves olds)
 
 -- an element stands at each index within
-there : {X : Type 0} (xs : List X) (i : ℕ) → i < length xs → (x : X) × (slice_get xs i ≡ Some x)
+pub there : {X : Type 0} (xs : List X) (i : ℕ) → i < length xs → (x : X) × (slice_get xs i ≡ Some x)
 there [] i low = absurd (omega (arith, low))
 there (x ∷ xs) zero low = (x, refl)
 there (x ∷ xs) (suc i) low = there xs i (omega (arith, low))
@@ -68,7 +68,7 @@ bare-at groups i one at =
     ∙ ap (option_map bare_slave) (slice_get-map (λ (r : Ranked). r.slave) (by_rank groups) i ∙ ap (option_map (λ (r : Ranked). r.slave)) at)
 
 -- a slave has as many blocks before and after
-bare-count : (a b : Slave) → bare_slave a ≡ bare_slave b → length a.areas ≡ length b.areas
+pub bare-count : (a b : Slave) → bare_slave a ≡ bare_slave b → length a.areas ≡ length b.areas
 bare-count a b same =
     sym (length-map a.areas bare) ∙ ap (λ (s : ℕ × List Area). length s.1) same ∙ length-map b.areas bare
 
@@ -223,7 +223,7 @@ stays-full change old new n block made stood none =
 -- what moves
 
 -- a block's number is its place among its slave's
-number-is : (station first k : ℕ) (blocks : List RegisterBlock) (block : LineBlock) → slice_get (numbered station first blocks) k ≡ Some block → block.number ≡ first + k
+pub number-is : (station first k : ℕ) (blocks : List RegisterBlock) (block : LineBlock) → slice_get (numbered station first blocks) k ≡ Some block → block.number ≡ first + k
 number-is station first k [] block at = cc
 number-is station first zero (b ∷ blocks) block at = let is : record { station = station; number = first; block = b } ≡ block = cc in ap (λ (l : LineBlock). l.number) (sym is) ∙ omega arith
 number-is station first (suc k) (b ∷ blocks) block at = let next = number-is station (first + 1) k blocks block at in omega (arith, next)
