@@ -1,143 +1,233 @@
-//! Edits in plain Rust: the task that an edit touches is packed anew, and what moved in it is told, carried over and
-//! compared with what its slaves are known to have.
+//! Edits of the plain core: what moved is told by the plan; the values of the areas among it are taken along, its blocks
+//! are compared with what their slaves are known to have, and nothing else is walked.
 
-use super::layout::{Packed, fmmu_block, pack, sync_block};
-use super::{Answer, Change, Core, NEVER, Place, ROOM, put_bits};
+use super::{AREAS, Answer, BLOCKS, Change, Core, Edit, Place, ROOM};
+use crate::plan::plain::{Report, Spot};
 
-/// Copies `count` bits, 1 to 64; both arrays have eight bytes behind their last bit.
-fn copy_bits(from: &[u8; ROOM], at: usize, to: &mut [u8; ROOM], at2: usize, count: usize) {
+/// Where the outputs of an area stand in what is sent; nowhere where it has no width.
+#[derive(Clone, Copy, Default)]
+pub struct Seat {
+    slot: u8,
+    bit: u16,
+    width: u16,
+}
+
+/// A variable of an area that gets other PDOs, and its value.
+type Value = (u32, u64);
+
+/// Bits of an array, 1 to 64; it has eight bytes behind its last bit.
+fn get_bits(from: &[u8; ROOM], at: usize, count: usize) -> u64 {
     let source: [u8; 9] = from[at / 8..at / 8 + 9].try_into().expect("nine bytes");
     let low = u64::from_le_bytes(*source.first_chunk().expect("eight bytes"));
     let bits = (u128::from(low) | u128::from(source[8]) << 64) >> (at % 8);
-    put_bits(to, at2, count, bits as u64);
+    bits as u64 & (u64::MAX >> (64 - count))
+}
+
+/// Puts `count` bits, 1 to 64, into an array that has eight bytes behind its last bit.
+fn put_bits(to: &mut [u8; ROOM], at: usize, count: usize, bits: u64) {
+    let mask = u128::from(u64::MAX >> (64 - count)) << (at % 8);
+    let own = &mut to[at / 8..at / 8 + 9];
+    let mut word = [0; 16];
+    word[..9].copy_from_slice(own);
+    let word = u128::from_le_bytes(word) & !mask | (u128::from(bits) << (at % 8)) & mask;
+    own.copy_from_slice(&word.to_le_bytes()[..9]);
+}
+
+impl Seat {
+    fn of(spot: &Spot) -> Seat {
+        Seat { slot: 16 * spot.task + spot.datagram, bit: spot.bit, width: spot.width }
+    }
+
+    /// Where its whole bytes end, and how many bits are left behind them; an area of a byte or more begins with a byte.
+    fn parts(&self) -> (usize, usize, usize) {
+        let whole = if self.width < 8 { 0 } else { usize::from(self.width / 8) };
+        (usize::from(self.bit / 8), whole, usize::from(self.width) - 8 * whole)
+    }
+
+    /// Takes its bits out of a row, which has zeros there then, and adds them to what is lifted.
+    fn lift(&self, row: &mut [u8; ROOM], lifted: &mut Vec<u8>) {
+        let (first, whole, left) = self.parts();
+        let own = &mut row[first..first + whole];
+        lifted.extend_from_slice(own);
+        own.fill(0);
+        if left > 0 {
+            let at = usize::from(self.bit) + 8 * whole;
+            lifted.push(get_bits(row, at, left) as u8);
+            put_bits(row, at, left, 0);
+        }
+    }
+
+    /// Puts lifted bits into a row: what is left of them.
+    fn put<'a>(&self, row: &mut [u8; ROOM], lifted: &'a [u8]) -> &'a [u8] {
+        let (first, whole, left) = self.parts();
+        let (own, rest) = lifted.split_at(whole);
+        row[first..first + whole].copy_from_slice(own);
+        let Some((last, behind)) = rest.split_first().filter(|_| left > 0) else {
+            return rest;
+        };
+        put_bits(row, usize::from(self.bit) + 8 * whole, left, u64::from(*last));
+        behind
+    }
+
+    /// Makes its bits zeros.
+    fn clear(&self, row: &mut [u8; ROOM]) {
+        let (first, whole, left) = self.parts();
+        row[first..first + whole].fill(0);
+        if left > 0 {
+            put_bits(row, usize::from(self.bit) + 8 * whole, left, 0);
+        }
+    }
+}
+
+/// The mapping blocks among those that moved, each by its slave's station address and its area's number.
+fn mapped(blocks: &[(u16, u8)]) -> impl Iterator<Item = (u16, usize)> {
+    let mapped = blocks.iter().filter(|(_, number)| number % 2 == 1);
+    mapped.map(|(station, number)| (*station, usize::from(number / 2)))
 }
 
 impl Core {
-    /// An area gets these PDOs.
+    /// The blocks of the first slaves are owed, and their output values are 0.
+    pub(super) fn open(&mut self, slaves: usize) {
+        for place in 0..slaves {
+            let (_, areas) = self.plan.slave(place);
+            for number in 0..usize::from(areas) {
+                self.seat(AREAS * place + number);
+                self.set_owed(BLOCKS * place + 2 * number, true);
+                self.set_owed(BLOCKS * place + 2 * number + 1, true);
+            }
+        }
+    }
+
+    /// Carries an edit out, or tells why it was refused; then all is as it was.
     #[inline(never)]
-    pub fn remap(&mut self, station: u16, number: u8, pdos: &[u16]) -> Answer {
-        let rank = self.stations[usize::from(station)];
-        let Some(slave) = self.slaves.get_mut(usize::from(rank)) else {
-            return Answer::Refused(5);
+    pub fn edit(&mut self, edit: &Edit) -> Answer {
+        let remapped = self.remapped(edit);
+        let values = remapped.map_or(Vec::new(), |spot| self.values(spot));
+        let report = match self.plan.apply(edit) {
+            Ok(report) => report,
+            Err((fault, _)) => return Answer::Refused(fault),
         };
-        let Some(area) = slave.areas.get_mut(usize::from(number)) else {
-            return Answer::Refused(7);
-        };
-        if pdos.iter().any(|index| area.offered.iter().all(|pdo| pdo.index != *index)) {
-            return Answer::Refused(9);
+        self.lift(remapped, &report.blocks);
+        if let Edit::Disconnect(alias) = edit {
+            self.drop_slaves(*alias);
         }
-        let mut gone = Vec::new();
-        area.each_variable(|variable, place| gone.push((variable, place)));
-        let (task, old_width) = (usize::from(area.task), area.width);
-        let old_pdos = std::mem::replace(&mut area.assigned, pdos.to_vec());
-        area.measure();
-        if area.width > 11_888 {
-            area.assigned = old_pdos;
-            area.measure();
-            return Answer::Refused(11);
+        self.put(&report.blocks);
+        if let Some(spot) = remapped {
+            self.put_values(spot, values);
         }
-        let touched = area.width != old_width;
-        let Some(packed) = pack(task as u8, &self.lists[task], &self.slaves) else {
-            let area = &mut self.slaves[usize::from(rank)].areas[usize::from(number)];
-            area.assigned = old_pdos;
-            area.measure();
-            return Answer::Refused(12);
-        };
-        let at = self.lists[task].iter().position(|key| *key == (rank, number)).unwrap_or(0);
-        let recut = if touched { self.recut(task, at, &packed.starts) } else { 0 };
-        let (rows, moved) = self.turn(task, at, gone, &packed);
-        self.tables[task] = packed.table;
-        self.mask(task);
-        self.epoch += 1;
-        self.newest.fill(NEVER);
+        self.compare(&report.blocks);
         self.frames.clear();
         self.write = None;
         self.fresh.fill(false);
-        let edit = (station, number, pdos.to_vec());
-        self.changes.push(Change::Swapped { edit, tasks: self.tables.clone(), rows });
-        Answer::Edited { epoch: self.epoch, recut, moved }
+        let Report { epoch, recut, moved, edit, tasks, rows, .. } = report;
+        self.changes.push(Change::Swapped { edit, tasks, rows });
+        Answer::Edited { epoch, recut, moved }
     }
 
-    /// The spans of a task that don't begin where one began before, or that have the area in which the widths differ.
-    fn recut(&self, task: usize, at: usize, starts: &[(u8, u16)]) -> u32 {
-        let list = &self.lists[task];
-        let (mut count, mut begun, mut settled, mut last) = (0, 0, true, 0);
-        for (place, (rank, number)) in list.iter().enumerate() {
-            let area = &self.slaves[usize::from(*rank)].areas[usize::from(*number)];
-            if area.width > 0 && starts[place].0 != last {
-                count += u32::from(!settled || (begun..=place).contains(&at));
-                (begun, last) = (place, starts[place].0);
-                settled = area.bit == 0 && area.datagram > 0;
-            }
-        }
-        count + u32::from(!settled || begun <= at)
+    /// The output area that an edit would give other PDOs.
+    fn remapped(&self, edit: &Edit) -> Option<usize> {
+        let Edit::Remap { station, area, .. } = edit else {
+            return None;
+        };
+        let spot = AREAS * self.plan.place_of(*station) + usize::from(*area);
+        (spot < self.seats.len() && !self.plan.spot(spot).is_input).then_some(spot)
     }
 
-    /// Moves the areas of a task to their new places, with the values, the blocks and the rows of what moved.
-    fn turn(
-        &mut self, task: usize, at: usize, mut gone: Vec<(u32, Place)>, packed: &Packed,
-    ) -> (Vec<(u32, Option<Place>)>, u32) {
-        let (mut rows, mut moved) = (Vec::new(), 0);
-        let own = 16 * task..16 * task + self.tables[task].count.max(packed.table.count);
-        let old = self.sent[own.clone()].to_vec();
-        for bytes in &mut self.sent[own] {
-            bytes.fill(0);
+    /// The values of an area's variables.
+    fn values(&self, spot: usize) -> Vec<Value> {
+        let (seat, mut values) = (&self.seats[spot], Vec::new());
+        if seat.width > 0 {
+            let row = &self.sent[usize::from(seat.slot)];
+            let value = |place: Place| get_bits(row, place.bit.into(), place.bits.into());
+            self.plan.each_variable(spot, |variable, place| values.push((variable, value(place))));
         }
-        for place in 0..self.lists[task].len() {
-            let (rank, number) = self.lists[task][place];
-            let area = &mut self.slaves[usize::from(rank)].areas[usize::from(number)];
-            let before = (area.datagram, area.bit);
-            (area.datagram, area.bit) = packed.starts[place];
-            let own = self.firsts[usize::from(rank)] + usize::from(number);
-            if place == at {
-                area.each_variable(|variable, place| match gone.iter().position(|row| row.0 == variable) {
-                    Some(found) => {
-                        let old_place = gone.swap_remove(found).1;
-                        if place != old_place {
-                            rows.push((variable, Some(place)));
-                        }
-                        if place.is_out {
-                            let (from, to) = (usize::from(old_place.datagram), 16 * task + usize::from(place.datagram));
-                            let to = &mut self.sent[to];
-                            copy_bits(&old[from], old_place.bit.into(), to, place.bit.into(), place.bits.into());
-                        }
-                    }
-                    None => rows.push((variable, Some(place))),
-                });
-                rows.extend(gone.drain(..).map(|(variable, _)| (variable, None)));
-            } else {
-                let to = &mut self.sent[16 * task + usize::from(area.datagram)];
-                area.each_variable(|variable, place| {
-                    if before != (area.datagram, area.bit) {
-                        rows.push((variable, Some(place)));
-                    }
-                    if place.is_out {
-                        let bit = usize::from(before.1 + (place.bit - area.bit));
-                        copy_bits(&old[usize::from(before.0)], bit, to, place.bit.into(), place.bits.into());
-                    }
-                });
-            }
-            let new = [sync_block(area), fmmu_block(number, area)];
-            for (n, block) in (2 * own..).zip(new) {
-                if self.blocks[n].block != block {
-                    moved += 1;
-                    self.blocks[n].block = block;
-                    let owed = self.blocks[n].known != Some(block);
-                    self.set_owed(n, owed);
-                }
+        values
+    }
+
+    /// Lifts the values of all moved areas but the one that gets other PDOs, whose bits become zeros.
+    fn lift(&mut self, remapped: Option<usize>, blocks: &[(u16, u8)]) {
+        if let Some(spot) = remapped {
+            self.clear(spot);
+        }
+        self.lifted.iter_mut().for_each(Vec::clear);
+        let [values, masks] = &mut self.lifted;
+        for (station, number) in mapped(blocks) {
+            let seat = self.seats[AREAS * self.plan.place_of(station) + number];
+            if seat.width > 0 {
+                seat.lift(&mut self.sent[usize::from(seat.slot)], values);
+                seat.lift(&mut self.masks[usize::from(seat.slot)], masks);
             }
         }
-        rows.sort_unstable_by_key(|row| row.0);
-        for (variable, place) in &rows {
-            match (self.rows.binary_search_by_key(variable, |row| row.0), place) {
-                (Ok(found), Some(place)) => self.rows[found].1 = *place,
-                (Ok(found), None) => {
-                    self.rows.remove(found);
-                }
-                (Err(found), Some(place)) => self.rows.insert(found, (*variable, *place)),
-                (Err(_), None) => {}
+    }
+
+    /// An area's bits become zeros, and it stands nowhere.
+    fn clear(&mut self, spot: usize) {
+        let seat = std::mem::take(&mut self.seats[spot]);
+        seat.clear(&mut self.sent[usize::from(seat.slot)]);
+        seat.clear(&mut self.masks[usize::from(seat.slot)]);
+    }
+
+    /// Nothing is kept any more of the slaves of a group.
+    fn drop_slaves(&mut self, alias: u16) {
+        for place in self.plan.slaves_of(alias) {
+            (AREAS * place..AREAS * (place + 1)).for_each(|spot| self.clear(spot));
+            for n in BLOCKS * place..BLOCKS * (place + 1) {
+                self.known[n] = None;
+                self.set_owed(n, false);
             }
         }
-        (rows, moved)
+    }
+
+    /// Puts what was lifted to where the moved areas stand now; those that stood nowhere get masks.
+    fn put(&mut self, blocks: &[(u16, u8)]) {
+        let lifted = std::mem::take(&mut self.lifted);
+        let [mut values, mut masks] = lifted.each_ref().map(Vec::as_slice);
+        for (station, number) in mapped(blocks) {
+            let spot = AREAS * self.plan.place_of(station) + number;
+            if self.seats[spot].width == 0 {
+                self.seat(spot);
+                continue;
+            }
+            let seat = Seat::of(self.plan.spot(spot));
+            self.seats[spot] = seat;
+            values = seat.put(&mut self.sent[usize::from(seat.slot)], values);
+            masks = seat.put(&mut self.masks[usize::from(seat.slot)], masks);
+        }
+        self.lifted = lifted;
+    }
+
+    /// An area that stood nowhere gets its seat, and masks of its variables, if it is one of outputs.
+    fn seat(&mut self, spot: usize) {
+        let own = self.plan.spot(spot);
+        if own.is_input {
+            return;
+        }
+        let seat = Seat::of(own);
+        self.seats[spot] = seat;
+        let mask = &mut self.masks[usize::from(seat.slot)];
+        self.plan.each_variable(spot, |_, place| put_bits(mask, place.bit.into(), place.bits.into(), u64::MAX));
+    }
+
+    /// The area that got other PDOs keeps the values of the variables that it keeps.
+    fn put_values(&mut self, spot: usize, mut values: Vec<Value>) {
+        if self.seats[spot].width == 0 {
+            self.seat(spot);
+        }
+        let row = &mut self.sent[usize::from(self.seats[spot].slot)];
+        self.plan.each_variable(spot, |variable, place| {
+            if let Some(found) = values.iter().position(|value| value.0 == variable) {
+                put_bits(row, place.bit.into(), place.bits.into(), values.swap_remove(found).1);
+            }
+        });
+    }
+
+    /// A moved block is owed where its slave isn't known to have its bytes.
+    fn compare(&mut self, blocks: &[(u16, u8)]) {
+        for (station, number) in blocks {
+            let place = self.plan.place_of(*station);
+            let n = BLOCKS * place + usize::from(*number);
+            let owed = self.known[n].is_none_or(|known| known != self.plan.block(place, *number));
+            self.set_owed(n, owed);
+        }
     }
 }

@@ -1,11 +1,8 @@
-//! Where the areas of a line stand, in plain Rust: packed from the front of a task, with the tables, the places of
-//! variables and the register blocks that follow from it.
+//! The areas of a line in plain Rust, with the tables, the places of variables and the register blocks that follow from
+//! where they stand.
 
 use crate::project_text::AreaKeys;
 pub use crate::project_text::Pdo;
-
-/// The bits of the longest datagram.
-const MOST_BITS: u32 = 11_888;
 
 /// An area with its PDOs, and where it stands.
 #[derive(Clone)]
@@ -59,12 +56,6 @@ pub struct Block {
     pub register: u16,
     size: u8,
     bytes: [u8; 16],
-}
-
-/// The table of a task, and where its areas begin.
-pub struct Packed {
-    pub table: Table,
-    pub starts: Vec<(u8, u16)>,
 }
 
 impl Table {
@@ -132,41 +123,4 @@ pub fn fmmu_block(number: u8, area: &Area) -> Block {
         block.bytes = [a0, a1, a2, a3, l0, l1, first, last, p0, p1, 0, kind, 1, 0, 0, 0];
     }
     block
-}
-
-/// Packs the areas of a task; none where they need more than 16 datagrams.
-pub fn pack(task: u8, list: &[(u16, u8)], slaves: &[Slave]) -> Option<Packed> {
-    let mut table = Table::default();
-    let mut starts = Vec::with_capacity(list.len());
-    let (mut bit, mut before, mut outputs) = (0u32, None, None);
-    for (rank, number) in list {
-        let area = &slaves[usize::from(*rank)].areas[usize::from(*number)];
-        let width = u32::from(area.width);
-        if width == 0 {
-            starts.push((0, 0));
-            continue;
-        }
-        let turns = !area.is_out && before.is_some_and(|(_, is_out)| is_out);
-        let mut start = if width >= 8 || turns { (bit + 7) & !7 } else { bit };
-        if table.count == 0 || start + width > MOST_BITS {
-            let offset = table.datagrams().last().map_or(0, |last| last.offset + last.length);
-            let address = address_of(task, table.count as u8);
-            *table.all.get_mut(table.count)? = Datagram { address, length: 0, expected: 0, offset };
-            table.count += 1;
-            (start, before) = (0, None);
-        }
-        let datagram = &mut table.all[table.count - 1];
-        if !area.is_out && outputs.is_none() {
-            outputs = Some(datagram.offset + (start / 8) as u16);
-        }
-        if before != Some((*rank, area.is_out)) {
-            datagram.expected += if area.is_out { 2 } else { 1 };
-        }
-        (bit, before) = (start + width, Some((*rank, area.is_out)));
-        datagram.length = bit.div_ceil(8) as u16;
-        starts.push((table.count as u8 - 1, start as u16));
-    }
-    let end = table.datagrams().last().map_or(0, |last| last.offset + last.length);
-    table.outputs = outputs.unwrap_or(end);
-    Some(Packed { table, starts })
 }

@@ -1,9 +1,9 @@
-//! The line of the benchmark, with 8 or 2,048 slaves of eight areas each, and its text. Task 0 has one datagram of
-//! 1,486 bytes, half of them outputs; task 1 has 16 of 1,482; task 2 has one of 1,486, all outputs; task 3 has a
-//! variable that can be made wider, and behind it 100 variables of two bits; the tasks 4 to 7 have short datagrams.
+//! The line of the benchmark, with 8 or 2,048 slaves of eight areas each. Task 0 has one datagram of 1,486 bytes, half of
+//! them outputs; task 1 has 16 of 1,482; task 2 has one of 1,486, all outputs; task 3 has a variable that can be made
+//! wider, and behind it 100 variables of two bits; the tasks 4 to 7 have short datagrams.
 
-use crate::plain::{Area, Pdo, Slave};
-use crate::project_text::{add_area, add_slave};
+use crate::plan::plain::Group;
+use crate::plan::plain::layout::{Area, Pdo, Slave};
 
 /// The first PDO of an area.
 pub const PDO: u16 = 0x1600;
@@ -95,18 +95,19 @@ impl Maker {
     }
 }
 
-/// A line of so many slaves, 8 or 2,048.
-pub fn line(slaves: usize) -> Vec<Slave> {
-    let mut maker = Maker { slaves, variables: 0 };
-    (0..slaves).map(|place| maker.slave(place)).collect()
+fn slaves(count: usize) -> Vec<Slave> {
+    let mut maker = Maker { slaves: count, variables: 0 };
+    (0..count).map(|place| maker.slave(place)).collect()
 }
 
-/// The project's text.
-pub fn text(slaves: &[Slave]) -> String {
-    let mut text = String::new();
-    for slave in slaves {
-        add_slave(&mut text, 0, slave.station);
-        slave.areas.iter().for_each(|area| add_area(&mut text, 0, &area.keys()));
-    }
-    text
+/// A line of so many slaves, 8 or 2,048, all of them mandatory.
+pub fn line(count: usize) -> Vec<Group> {
+    vec![Group { alias: 0, slaves: slaves(count) }]
+}
+
+/// A line of 8 slaves, three of them mandatory, the others in groups of one and of two.
+pub fn in_groups() -> Vec<Group> {
+    let mut left = slaves(8).into_iter();
+    let groups = (0..).zip([3, 1, 2, 2]);
+    groups.map(|(alias, count)| Group { alias, slaves: left.by_ref().take(count).collect() }).collect()
 }

@@ -7,20 +7,37 @@
 //! one and behind it, then a memory copy; what is printed are medians over the turns of the ratios of medians over the
 //! rounds.
 //!
-//! Words after the program's name: `few` for a short run, any other one for the calls whose names have it.
+//! Edits are timed one by one, on lines of their own: `edited.rs` tells how.
+//!
+//! Words after the program's name: `few` for a short run, `count` for one in which nothing is timed and each edit is
+//! played for who counts instructions, any other one for the calls and edits whose names have it.
 
 #[allow(dead_code)]
 #[path = "../../compare/shared/draws.rs"]
 mod draws;
+mod edited;
+#[path = "../edits/growths.rs"]
+mod growths;
 mod line;
 mod plain;
+/// The plan in plain Rust, with the lines and the edits on which the library's plan is timed.
+#[allow(dead_code)]
+#[path = "../edits"]
+mod plan {
+    pub mod asked;
+    pub mod drawn;
+    pub mod line;
+    pub mod plain;
+    pub mod told;
+}
 #[allow(dead_code)]
 #[path = "../../compare/shared/project_text.rs"]
 mod project_text;
 mod script;
 mod told;
 
-use plain::{Answer, Core, Slave};
+use plain::{Answer, Core};
+use plan::plain::Group;
 use script::{Asked, LISTS, Script, returned, starts};
 use std::hint::black_box;
 use std::time::Instant;
@@ -31,10 +48,6 @@ use std::time::Instant;
 struct Timed {
     kind: u8,
     task: u8,
-    area: u8,
-    station: u16,
-    here: u16,
-    there: u16,
     calls: u32,
 }
 
@@ -46,7 +59,6 @@ const READ_IMAGE: u8 = 4;
 const WRITE_AND_ARRIVE: u8 = 5;
 const POST_OUTPUTS: u8 = 6;
 const FILL: u8 = 7;
-const EDIT: u8 = 8;
 
 unsafe extern "C" {
     fn core_told(
@@ -62,7 +74,7 @@ unsafe extern "C" {
 
 /// A line with what was played on it before.
 struct Opened {
-    slaves: Vec<Slave>,
+    groups: Vec<Group>,
     text: String,
     script: Script,
 }
@@ -79,21 +91,17 @@ struct Case {
     turns: usize,
 }
 
-fn opened(slaves: usize) -> Opened {
-    let slaves = line::line(slaves);
-    let text = line::text(&slaves);
-    let script = Script::new(Core::new(slaves.clone()));
-    Opened { slaves, text, script }
+fn opened(groups: Vec<Group>) -> Opened {
+    let text = plan::line::text(&groups);
+    let script = Script::new(Core::new(&groups));
+    Opened { groups, text, script }
 }
 
 /// Everything is written, posted, sent and answered once.
-fn ready(slaves: usize) -> Opened {
-    let mut opened = opened(slaves);
+fn ready(groups: Vec<Group>) -> Opened {
+    let mut opened = opened(groups);
     opened.script.write_all();
-    for task in 0..8 {
-        let bytes = vec![0xc3; opened.script.core.table(task).outputs.into()];
-        opened.script.add(Asked { kind: script::POST, task: task as u8, ..Asked::default() }, &bytes);
-    }
+    opened.script.post_all();
     for list in 0..4 {
         opened.script.cycle(list);
     }
@@ -207,19 +215,14 @@ fn once(core: &mut Core, timed: &Timed, frame: &mut [u8], places: &[u32]) -> boo
             core.preview_into(timed.task, black_box(frame));
             true
         }
-        _ => {
-            let there = core.remap(timed.station, timed.area, &[timed.there]);
-            let here = core.remap(timed.station, timed.area, &[timed.here]);
-            let both = matches!((there, here), (Answer::Edited { .. }, Answer::Edited { .. }));
-            both && !core.take_changes().is_empty()
-        }
+        _ => false,
     }
 }
 
 /// The nanoseconds of one call of the plain core.
 fn plain(opened: &Opened, case: &Case, kind: u8) -> f64 {
     let timed = Timed { kind, ..case.timed };
-    let mut script = Script::new(Core::new(opened.slaves.clone()));
+    let mut script = Script::new(Core::new(&opened.groups));
     let bytes = &opened.script.bytes;
     for asked in &opened.script.events {
         let own = &bytes[asked.from as usize..(asked.from + asked.size) as usize];
@@ -321,7 +324,7 @@ fn frames_of(opened: &mut Opened, list: u8) -> (Vec<u8>, usize) {
 }
 
 /// All that is timed of a line on which everything was played.
-fn cases(opened: &mut Opened, turns: usize, edits: usize) -> Vec<Case> {
+fn cases(opened: &mut Opened, turns: usize) -> Vec<Case> {
     let (one, one_size) = frames_of(opened, 0);
     let (_, all_size) = frames_of(opened, 1);
     let (outputs, full_size) = frames_of(opened, 2);
@@ -332,14 +335,14 @@ fn cases(opened: &mut Opened, turns: usize, edits: usize) -> Vec<Case> {
     let image = opened.script.core.table(1).datagrams().iter().map(|datagram| usize::from(datagram.length)).sum();
     let case = |name, kind, task, frame, bytes, calls| Case {
         name,
-        timed: Timed { kind, task, area: 3, station: 1001, here: line::PDO, there: line::PDO + 1, calls },
+        timed: Timed { kind, task, calls },
         without: (kind == SEND_AND_ARRIVE).then_some(SEND_ALONE),
         frame,
         bytes,
         rounds: 301,
         turns,
     };
-    let mut all = vec![
+    vec![
         case("arrival, one datagram of 1,486 bytes", SEND_AND_ARRIVE, 0, one, one_size, 100),
         case("arrival, five datagrams", SEND_AND_ARRIVE, 3, five, five_size, 100),
         case("arrival, 60 datagrams, stale", ARRIVE_ALONE, 3, many, many_size, 100),
@@ -347,45 +350,30 @@ fn cases(opened: &mut Opened, turns: usize, edits: usize) -> Vec<Case> {
         case("read of 16 datagrams", READ_IMAGE, 1, Vec::new(), image, 20),
         case("post of 1,486 bytes", POST_OUTPUTS, 2, vec![0x69; posted], posted, 200),
         case("fill of a frame of 1,514 bytes", FILL, 2, outputs, full_size, 200),
-        case("two edits that move 100 variables", EDIT, 3, Vec::new(), 27, 1),
-    ];
-    if let Some(edit) = all.last_mut() {
-        edit.rounds = edits;
-    }
-    all
+    ]
 }
 
-fn main() {
-    let words: Vec<String> = std::env::args().skip(1).collect();
-    let few = words.iter().any(|word| word == "few");
-    let is_wanted = |name: &str| words.iter().all(|word| word == "few" || name.contains(word.as_str()));
-    let mut drawn = ready(8);
-    drawn.script.draw(if few { 300 } else { 3000 });
-    compare("drawn events", &drawn);
-    let (mut small, mut large) = (ready(8), ready(2048));
-    large.script.draw(100);
-    compare("2,048 slaves", &large);
-    large = ready(2048);
-    let turns = if few { 1 } else { 5 };
-    let (small_cases, large_cases) = (cases(&mut small, 2 * turns, 101), cases(&mut large, turns, 21));
-    let mut lost = ready(8);
+/// Prints the rows of all calls but register writes and edits.
+fn tell_calls(turns: usize, is_wanted: &dyn Fn(&str) -> bool) {
+    let (mut small, mut large) = (ready(line::line(8)), ready(line::line(2048)));
+    let (small_cases, large_cases) = (cases(&mut small, 2 * turns), cases(&mut large, turns));
+    let mut lost = ready(line::line(8));
     for round in 0..1000 {
         lost.script.add(Asked { kind: script::TASKS, task: (round % 4) as u8, ..Asked::default() }, &[]);
     }
-    let lost_cases = cases(&mut lost, 2 * turns, 101);
-    println!(
-        "| Call, slaves | To plain Rust | To a memory copy | Plain Rust to a memory copy | Growth | Of plain Rust |"
-    );
-    println!("|---|---|---|---|---|---|");
+    let lost_cases = cases(&mut lost, 2 * turns);
     for ((small_case, large_case), lost_case) in small_cases.iter().zip(&large_cases).zip(&lost_cases) {
-        if !is_wanted(small_case.name) {
-            continue;
+        if is_wanted(small_case.name) {
+            let base = ratios(&small, small_case);
+            tell("8", small_case, &base, &base);
+            tell("8, 1,000 unanswered sendings", lost_case, &ratios(&lost, lost_case), &base);
+            tell("2,048", large_case, &ratios(&large, large_case), &base);
         }
-        let base = ratios(&small, small_case);
-        tell("8", small_case, &base, &base);
-        tell("8, 1,000 unanswered sendings", lost_case, &ratios(&lost, lost_case), &base);
-        tell("2,048", large_case, &ratios(&large, large_case), &base);
     }
+}
+
+/// Prints the rows of register writes.
+fn tell_writes(turns: usize, is_wanted: &dyn Fn(&str) -> bool) {
     let writes = |rounds, turns| Case {
         name: "write with its answer",
         timed: Timed { kind: WRITE_AND_ARRIVE, calls: 16, ..Timed::default() },
@@ -395,14 +383,44 @@ fn main() {
         rounds,
         turns,
     };
-    if !is_wanted(writes(8, 0).name) {
-        return;
+    if is_wanted(writes(8, 0).name) {
+        let (small, large) = (opened(line::line(8)), opened(line::line(2048)));
+        let base = ratios(&small, &writes(8, 20 * turns));
+        tell("8", &writes(8, 0), &base, &base);
+        tell("2,048, the first 128 blocks", &writes(8, 0), &ratios(&large, &writes(8, turns)), &base);
+        tell("2,048, all blocks", &writes(8, 0), &ratios(&large, &writes(2048, turns)), &base);
     }
-    let (small, large) = (opened(8), opened(2048));
-    let base = ratios(&small, &writes(8, 20 * turns));
-    tell("8", &writes(8, 0), &base, &base);
-    tell("2,048, the first 128 blocks", &writes(8, 0), &ratios(&large, &writes(8, turns)), &base);
-    tell("2,048, all blocks", &writes(8, 0), &ratios(&large, &writes(2048, turns)), &base);
+}
+
+/// Both cores play drawn events on 8 slaves and on 2,048, drawn edits, and the edits that are timed.
+fn compare_all(few: bool) {
+    let mut drawn = ready(line::in_groups());
+    drawn.script.draw(if few { 300 } else { 3000 });
+    compare("drawn events", &drawn);
+    let mut large = ready(line::line(2048));
+    large.script.draw(100);
+    compare("2,048 slaves", &large);
+    compare("drawn edits", &edited::drawn(if few { 50 } else { 500 }));
+    for slaves in edited::SLAVES {
+        compare("edits", &edited::joined(slaves));
+    }
+}
+
+fn main() {
+    let words: Vec<String> = std::env::args().skip(1).collect();
+    let has = |word: &str| words.iter().any(|own| own == word);
+    let names: Vec<&String> = words.iter().filter(|word| !["few", "count"].contains(&word.as_str())).collect();
+    let is_wanted = |name: &str| names.iter().all(|word| name.contains(word.as_str()));
+    if has("count") {
+        return edited::count(&is_wanted);
+    }
+    let (few, turns) = (has("few"), if has("few") { 1 } else { 5 });
+    compare_all(few);
+    println!("| Call, slaves | To plain Rust | To a memory copy | Plain Rust to it | Growth | Of plain Rust |");
+    println!("|---|---|---|---|---|---|");
+    tell_calls(turns, &is_wanted);
+    tell_writes(turns, &is_wanted);
+    edited::tell(turns, if few { 3 } else { 11 }, &is_wanted);
 }
 
 /// Prints a row; what it grows by is told by the ratios to a memory copy, since the machine's speed changes.

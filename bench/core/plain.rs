@@ -1,21 +1,22 @@
 //! The same core in plain Rust, written for speed: what is sent is kept packed with masks, what is awaited is found by
-//! its serial, blocks stand in one array by their number, and an edit looks at the task that it touches alone. Of edits
-//! it knows new PDOs for an area.
+//! its serial, and what is known of blocks stands in one array, 16 for each declared slave. Over the plain plan an edit
+//! looks at what the plan tells of it alone.
 
+#[path = "edits.rs"]
+mod edits;
 #[allow(dead_code)]
 #[path = "../frames/plain.rs"]
 mod reader;
 
-#[path = "edits.rs"]
-mod edits;
-#[path = "layout.rs"]
-mod layout;
-
-pub use layout::{Area, Pdo, Place, Slave, Table};
-use layout::{Block, fmmu_block, pack, sync_block};
+use crate::plan::plain::layout::{Block, Place, Table};
+use crate::plan::plain::{Edit, Group, Plan};
+use edits::Seat;
 
 const TASKS: usize = 8;
+const AREAS: usize = 8;
 const SLOTS: usize = 16 * TASKS;
+/// The blocks for which a declared slave has room.
+const BLOCKS: usize = 2 * AREAS;
 const SETUP_SERIAL: u64 = 0xff_ffff_ffff;
 /// Room of a datagram's data, with eight bytes behind for runs of bits.
 const ROOM: usize = 1496;
@@ -47,11 +48,11 @@ pub enum Change {
         datagram: u8,
         bytes: Vec<u8>,
     },
-    /// An edit: the area and its PDOs, the new tables of the tasks, and the places of variables that stand elsewhere.
+    /// An edit, the new tables of the tasks, and the places of variables that stand elsewhere.
     #[allow(dead_code)]
     Swapped {
-        edit: (u16, u8, Vec<u16>),
-        tasks: Vec<Table>,
+        edit: Edit,
+        tasks: Vec<(u8, Table)>,
         rows: Vec<(u32, Option<Place>)>,
     },
 }
@@ -70,23 +71,8 @@ struct Write {
     address: u32,
 }
 
-/// A register block, as the line has it and as its slave is known to have it.
-struct Kept {
-    station: u16,
-    block: Block,
-    known: Option<Block>,
-}
-
 pub struct Core {
-    slaves: Vec<Slave>,
-    /// Where the slave with a station stands; no slave has the number 65,535.
-    stations: Vec<u16>,
-    /// The number of each slave's first area among all areas.
-    firsts: Vec<usize>,
-    lists: Vec<Vec<(u16, u8)>>,
-    tables: Vec<Table>,
-    rows: Vec<(u32, Place)>,
-    epoch: u32,
+    plan: Plan,
     serial: u64,
     newest: [u64; SLOTS],
     frames: Vec<Sending>,
@@ -95,7 +81,12 @@ pub struct Core {
     image: Vec<[u8; ROOM]>,
     sent: Vec<[u8; ROOM]>,
     masks: Vec<[u8; ROOM]>,
-    blocks: Vec<Kept>,
+    /// Where the outputs of each declared area stand in what is sent.
+    seats: Vec<Seat>,
+    /// What an edit takes from one place to another, of bytes and of masks.
+    lifted: [Vec<u8>; 2],
+    /// As each slave is known to have its blocks.
+    known: Vec<Option<Block>>,
     owed: Vec<u64>,
     owed_count: u32,
     changes: Vec<Change>,
@@ -123,47 +114,13 @@ fn finish(out: &mut Vec<u8>, serial: u64) {
     }
 }
 
-/// Puts `count` bits, 1 to 64, into an array that has eight bytes behind its last bit.
-fn put_bits(to: &mut [u8; ROOM], at: usize, count: usize, bits: u64) {
-    let mask = u128::from(u64::MAX >> (64 - count)) << (at % 8);
-    let own = &mut to[at / 8..at / 8 + 9];
-    let mut word = [0; 16];
-    word[..9].copy_from_slice(own);
-    let word = u128::from_le_bytes(word) & !mask | (u128::from(bits) << (at % 8)) & mask;
-    own.copy_from_slice(&word.to_le_bytes()[..9]);
-}
-
 impl Core {
-    pub fn new(slaves: Vec<Slave>) -> Core {
-        let mut stations = vec![u16::MAX; 65_536];
-        let (mut firsts, mut blocks) = (Vec::new(), Vec::new());
-        let mut lists = vec![Vec::new(); TASKS];
-        for is_out in [true, false] {
-            for (rank, slave) in slaves.iter().enumerate() {
-                for (number, area) in slave.areas.iter().enumerate().filter(|(_, area)| area.is_out == is_out) {
-                    lists[usize::from(area.task)].push((rank as u16, number as u8));
-                }
-            }
-        }
-        for (rank, slave) in slaves.iter().enumerate() {
-            stations[usize::from(slave.station)] = rank as u16;
-            firsts.push(blocks.len() / 2);
-            for area in &slave.areas {
-                blocks.push(Kept { station: slave.station, block: sync_block(area), known: None });
-                blocks.push(Kept { station: slave.station, block: Block::default(), known: None });
-            }
-        }
-        let mut owed = vec![u64::MAX; blocks.len().div_ceil(64)];
-        if blocks.len() % 64 != 0 {
-            *owed.last_mut().expect("a word") = (1 << (blocks.len() % 64)) - 1;
-        }
+    /// The core at its opening: the first group alone is present, and all its blocks are owed.
+    pub fn new(groups: &[Group]) -> Core {
+        let plan = Plan::new(groups);
+        let slaves: usize = groups.iter().map(|group| group.slaves.len()).sum();
         let mut core = Core {
-            stations,
-            firsts,
-            lists,
-            tables: vec![Table::default(); TASKS],
-            rows: Vec::new(),
-            epoch: 0,
+            plan,
             serial: 0,
             newest: [NEVER; SLOTS],
             frames: Vec::with_capacity(SLOTS),
@@ -172,45 +129,15 @@ impl Core {
             image: vec![[0; ROOM]; SLOTS],
             sent: vec![[0; ROOM]; SLOTS],
             masks: vec![[0; ROOM]; SLOTS],
-            owed_count: blocks.len() as u32,
-            blocks,
-            owed,
+            seats: vec![Seat::default(); AREAS * slaves],
+            lifted: [Vec::new(), Vec::new()],
+            known: vec![None; BLOCKS * slaves],
+            owed: vec![0; (BLOCKS * slaves).div_ceil(64)],
+            owed_count: 0,
             changes: Vec::new(),
-            slaves,
         };
-        for task in 0..TASKS {
-            core.lay_out(task);
-        }
+        core.open(groups[0].slaves.len());
         core
-    }
-
-    /// Places all areas of a task that was not laid out yet.
-    fn lay_out(&mut self, task: usize) {
-        let packed = pack(task as u8, &self.lists[task], &self.slaves).expect("at most 16 datagrams");
-        self.tables[task] = packed.table;
-        for ((rank, number), (datagram, bit)) in self.lists[task].clone().into_iter().zip(packed.starts) {
-            let area = &mut self.slaves[usize::from(rank)].areas[usize::from(number)];
-            (area.datagram, area.bit) = (datagram, bit);
-            let own = self.firsts[usize::from(rank)] + usize::from(number);
-            self.blocks[2 * own + 1].block = fmmu_block(number, area);
-            area.each_variable(|variable, place| self.rows.push((variable, place)));
-        }
-        self.rows.sort_unstable_by_key(|row| row.0);
-        self.mask(task);
-    }
-
-    /// Makes the masks of a task's datagrams.
-    fn mask(&mut self, task: usize) {
-        for mask in &mut self.masks[16 * task..16 * task + self.tables[task].count] {
-            mask.fill(0);
-        }
-        for (rank, number) in &self.lists[task] {
-            let area = &self.slaves[usize::from(*rank)].areas[usize::from(*number)];
-            if area.is_out {
-                let mask = &mut self.masks[16 * task + usize::from(area.datagram)];
-                area.each_variable(|_, place| put_bits(mask, place.bit.into(), place.bits.into(), u64::MAX));
-            }
-        }
     }
 
     pub fn owed(&self) -> u32 {
@@ -222,11 +149,11 @@ impl Core {
     }
 
     pub fn epoch(&self) -> u32 {
-        self.epoch
+        self.plan.epoch()
     }
 
-    pub fn table(&self, task: usize) -> &Table {
-        &self.tables[task]
+    pub fn table(&self, task: u8) -> &Table {
+        self.plan.table(task)
     }
 
     #[inline(never)]
@@ -239,15 +166,15 @@ impl Core {
         if usize::from(task) >= TASKS {
             return Answer::Refused(8);
         }
-        if epoch != self.epoch {
+        if epoch != self.plan.epoch() {
             return Answer::Refused(15);
         }
-        let task = usize::from(task);
-        if bytes.len() != usize::from(self.tables[task].outputs) {
+        let table = self.plan.table(task);
+        if bytes.len() != usize::from(table.outputs) {
             return Answer::Refused(16);
         }
-        for (number, datagram) in self.tables[task].datagrams().iter().enumerate() {
-            let slot = 16 * task + number;
+        for (number, datagram) in table.datagrams().iter().enumerate() {
+            let slot = 16 * usize::from(task) + number;
             let (length, offset) = (usize::from(datagram.length), usize::from(datagram.offset));
             let (own, mask) = (&mut self.sent[slot][..length], &self.masks[slot][..length]);
             let bytes = bytes.get(offset..).unwrap_or(&[]);
@@ -274,7 +201,7 @@ impl Core {
         let before = self.frames.len();
         let mut last = 0;
         for task in tasks {
-            for (number, datagram) in self.tables[usize::from(*task)].datagrams().iter().enumerate() {
+            for (number, datagram) in self.plan.table(*task).datagrams().iter().enumerate() {
                 let (slot, length) = (16 * usize::from(*task) + number, usize::from(datagram.length));
                 if texts.last().is_none_or(|text| text.len() + 12 + length > 1514) {
                     let mut text = Vec::with_capacity(1514);
@@ -321,7 +248,7 @@ impl Core {
 
     #[inline(never)]
     pub fn preview_into(&self, task: u8, out: &mut [u8]) {
-        let datagram = &self.tables[usize::from(task)].datagrams()[0];
+        let datagram = &self.plan.table(task).datagrams()[0];
         let length = usize::from(datagram.length);
         let size = 12 + length;
         head(out, self.serial, size);
@@ -341,6 +268,11 @@ impl Core {
         self.owed_count += u32::from(owed);
     }
 
+    /// A block as the line has it.
+    fn block(&self, n: usize) -> Block {
+        self.plan.block(n / BLOCKS, (n % BLOCKS) as u8)
+    }
+
     #[inline(never)]
     pub fn send_write(&mut self) -> Answer {
         let Some(at) = self.owed.iter().position(|word| *word != 0) else {
@@ -350,13 +282,14 @@ impl Core {
             return Answer::Refused(19);
         }
         let n = 64 * at + self.owed[at].trailing_zeros() as usize;
-        let kept = &mut self.blocks[n];
-        let address = u32::from(kept.station) | u32::from(kept.block.register) << 16;
+        let block = self.block(n);
+        let (station, _) = self.plan.slave(n / BLOCKS);
+        let address = u32::from(station) | u32::from(block.register) << 16;
         let mut text = Vec::with_capacity(60);
         text.extend_from_slice(&[0; 16]);
-        add_datagram(&mut text, 5, self.serial, address, kept.block.bytes());
+        add_datagram(&mut text, 5, self.serial, address, block.bytes());
         finish(&mut text, self.serial);
-        kept.known = None;
+        self.known[n] = None;
         self.write = Some(Write { serial: self.serial, block: n, address });
         self.serial += 1;
         Answer::WriteSent(text)
@@ -366,16 +299,16 @@ impl Core {
         let Some((head, size, counter, behind)) = reader::part_of(region) else {
             return Answer::Stale;
         };
-        let kept = &mut self.blocks[block];
+        let written = self.block(block);
         let own = u32::from_le_bytes([head[2], head[3], head[4], head[5]]);
-        if !behind.is_empty() || head[0] != 5 || own != address || size != kept.block.bytes().len() {
+        if !behind.is_empty() || head[0] != 5 || own != address || size != written.bytes().len() {
             return Answer::Stale;
         }
         self.write = None;
         if counter != 1 {
             return Answer::WriteMissed;
         }
-        kept.known = Some(kept.block);
+        self.known[block] = Some(written);
         self.set_owed(block, false);
         Answer::WriteDone
     }
@@ -386,8 +319,8 @@ impl Core {
         let mut rest = region;
         for slot in &frame.datagrams[..frame.count] {
             let (head, size, counter, behind) = reader::part_of(rest)?;
-            let (task, number) = (usize::from(slot / 16), usize::from(slot % 16));
-            let datagram = &self.tables[task].all[number];
+            let (task, number) = (slot / 16, slot % 16);
+            let datagram = &self.plan.table(task).all[usize::from(number)];
             let address = u32::from_le_bytes([head[2], head[3], head[4], head[5]]);
             if head[0] != 12 || address != datagram.address || size != usize::from(datagram.length) {
                 return None;
@@ -397,7 +330,7 @@ impl Core {
             } else if counter != datagram.expected {
                 Outcome::WrongCount { expected: datagram.expected, got: counter }
             } else {
-                Outcome::Inputs { task: task as u8, datagram: number as u8 }
+                Outcome::Inputs { task, datagram: number }
             });
             rest = behind;
         }
@@ -453,12 +386,12 @@ impl Core {
             return Answer::Refused(8);
         }
         let first = 16 * usize::from(task);
-        let datagrams = self.tables[usize::from(task)].datagrams();
+        let datagrams = self.plan.table(task).datagrams();
         let mut slots = Vec::with_capacity(datagrams.len());
         for (number, datagram) in datagrams.iter().enumerate() {
             let slot = first + number;
             slots.push(self.fresh[slot].then(|| self.image[slot][..usize::from(datagram.length)].to_vec()));
         }
-        Answer::Image { epoch: self.epoch, slots }
+        Answer::Image { epoch: self.plan.epoch(), slots }
     }
 }

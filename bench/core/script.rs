@@ -1,7 +1,9 @@
 //! Events for both cores: each is played on the plain one when it is added, which tells what comes back of a frame.
 
 use crate::draws::Draws;
+use crate::line::PDO;
 use crate::plain::{Answer, Core};
+use crate::plan::asked::{self, Asked as EditAsked};
 use crate::told::told_by;
 
 pub const POST: u8 = 0;
@@ -9,7 +11,7 @@ pub const TASKS: u8 = 1;
 pub const WRITE: u8 = 2;
 pub const ARRIVE: u8 = 3;
 pub const READ: u8 = 4;
-pub const REMAP: u8 = 5;
+pub const EDIT: u8 = 5;
 
 /// The lists of tasks that are sent.
 pub const LISTS: [&[u8]; 5] = [&[0], &[1], &[2], &[3, 4, 5, 6, 7], &[7, 1, 0]];
@@ -20,9 +22,7 @@ pub const LISTS: [&[u8]; 5] = [&[0], &[1], &[2], &[3, 4, 5, 6, 7], &[7, 1, 0]];
 pub struct Asked {
     pub kind: u8,
     pub task: u8,
-    pub area: u8,
-    pub station: u16,
-    pub index: u16,
+    pub edit: EditAsked,
     pub epoch: u32,
     pub from: u32,
     pub size: u32,
@@ -57,7 +57,7 @@ pub fn returned(core: &Core, sent: &[u8], mut inputs: impl FnMut() -> u8) -> Vec
         let size = usize::from(u16::from_le_bytes([frame[at + 6], frame[at + 7]]) & 0x7ff);
         let mut counter = 1;
         if frame[at] == 12 {
-            let task = usize::from(frame[at + 5]) - 1;
+            let task = frame[at + 5] - 1;
             let number = usize::from(u16::from_le_bytes([frame[at + 2], frame[at + 3]])) / 2048;
             counter = core.table(task).all[number].expected;
             frame[at + 10..at + 10 + size].fill_with(&mut inputs);
@@ -65,6 +65,24 @@ pub fn returned(core: &Core, sent: &[u8], mut inputs: impl FnMut() -> u8) -> Vec
         frame[at + 10 + size..at + 12 + size].copy_from_slice(&counter.to_le_bytes());
     }
     frame
+}
+
+/// An edit of the line of 8 slaves in groups; some are refused.
+fn drawn_edit(mut draw: impl FnMut(usize) -> usize) -> EditAsked {
+    let none = EditAsked::default();
+    let (slave, area) = if draw(4) == 0 { (0, 3) } else { (draw(33) / 4, draw(33) / 4) };
+    let (name, area) = (1001 + slave as u16, area as u8);
+    let count = [1, 1, 1, 2, 0][draw(5)];
+    let first = draw(5).saturating_sub(2);
+    let second = first + draw(3);
+    let [first, second] = [first, second].map(|pdo| PDO + pdo as u16);
+    let task = if draw(4) == 0 { 1 } else { draw(17) as u8 / 2 };
+    match draw(8) {
+        0..2 => EditAsked { kind: asked::CONNECT, name: 1 + draw(13) as u16 / 4, ..none },
+        2..4 => EditAsked { kind: asked::DISCONNECT, name: draw(13) as u16 / 3, ..none },
+        4..6 => EditAsked { kind: asked::REMAP, name, area, count, first, second, ..none },
+        _ => EditAsked { kind: asked::MOVE, name, area, task, ..none },
+    }
 }
 
 impl Script {
@@ -80,7 +98,7 @@ impl Script {
             TASKS => core.send(LISTS[usize::from(asked.task)]),
             WRITE => core.send_write(),
             ARRIVE => core.arrive(bytes),
-            REMAP => core.remap(asked.station, asked.area, &[asked.index]),
+            EDIT => core.edit(&asked.edit.edit().expect("an edit")),
             _ => core.read(asked.task),
         };
         self.told.push(told_by(core, &answer));
@@ -110,12 +128,26 @@ impl Script {
         }
     }
 
+    /// Every task is posted, each byte unlike its neighbours.
+    pub fn post_all(&mut self) {
+        for task in 0..8 {
+            let bytes: Vec<u8> = (0..self.core.table(task).outputs).map(|n| (37 * u32::from(n) + 11) as u8).collect();
+            let epoch = self.core.epoch();
+            self.add(Asked { kind: POST, task, epoch, ..Asked::default() }, &bytes);
+        }
+    }
+
     /// A list of tasks is sent, and all its frames are answered.
     pub fn cycle(&mut self, list: u8) {
         self.add(Asked { kind: TASKS, task: list, ..Asked::default() }, &[]);
         for sent in std::mem::take(&mut self.sent) {
             self.answer(&sent);
         }
+    }
+
+    /// An edit comes.
+    pub fn edit(&mut self, edit: EditAsked) {
+        self.add(Asked { kind: EDIT, edit, ..Asked::default() }, &[]);
     }
 
     /// Plays drawn events: posts, sendings, writes, arrivals good, late, doubled, cut, changed or with another counter,
@@ -130,7 +162,7 @@ impl Script {
             match draw(100) {
                 0..20 => {
                     let task = draw(9) as u8;
-                    let size = if task < 8 { self.core.table(task.into()).outputs.into() } else { 3 };
+                    let size = if task < 8 { self.core.table(task).outputs.into() } else { 3 };
                     let size = if draw(10) == 0 { size + 1 } else { size };
                     let epoch = self.core.epoch().wrapping_sub(u32::from(draw(10) == 0));
                     let bytes: Vec<u8> = (0..size).map(|_| draw(256) as u8).collect();
@@ -162,10 +194,11 @@ impl Script {
                     self.add(Asked { kind: ARRIVE, ..none }, &frame);
                 }
                 90..96 => self.add(Asked { kind: READ, task: draw(9) as u8, ..none }, &[]),
-                96..100 if draw(3) == 0 => {
-                    let (slave, area) = if draw(2) == 0 { (0, 3) } else { (draw(9), draw(9)) };
-                    let (station, index) = (1001 + slave as u16, 0x1600 + draw(3) as u16);
-                    self.add(Asked { kind: REMAP, station, area: area as u8, index, ..none }, &[]);
+                96..99 => {
+                    self.edit(drawn_edit(&mut draw));
+                    if draw(2) == 0 {
+                        self.write_all();
+                    }
                 }
                 _ => self.add(Asked { kind: READ, task: draw(8) as u8, ..none }, &[]),
             }

@@ -1,6 +1,7 @@
 //! What a core tells, as one number, mixed as the library's exports mix it.
 
-use crate::plain::{Answer, Change, Core, Outcome, Place};
+use crate::plain::{Answer, Change, Core, Outcome};
+use crate::plan::plain::layout::Place;
 
 fn told_of(told: u64, number: u64) -> u64 {
     (told ^ number).wrapping_mul(0x9e37_79b9_7f4a_7c15).rotate_left(29)

@@ -1,8 +1,8 @@
 //! What is asked of a plan, as the library's exports take it, and what the plain one tells of it.
 
-use crate::line::{BARE, FIRST, LAST, NEAR, OTHER, OWN, Places, TWICE, WIDER, places, station};
-use crate::plain::{Edit, Group, Plan, Report};
-use crate::told::{told_of_answer, told_of_plan};
+use super::line::{BARE, FIRST, LAST, NEAR, OTHER, OWN, Places, TWICE, WIDER, places, station};
+use super::plain::{Edit, Group, Plan, Report};
+use super::told::{told_of_answer, told_of_plan};
 
 pub const CONNECT: u8 = 0;
 pub const DISCONNECT: u8 = 1;

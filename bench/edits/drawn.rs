@@ -1,9 +1,9 @@
 //! Drawn lines and edits, on which both plans are compared.
 
-use crate::asked::{Asked, CONNECT, DISCONNECT, MOVE, REMAP, WHOLE};
+use super::asked::{Asked, CONNECT, DISCONNECT, MOVE, REMAP, WHOLE};
+use super::plain::Group;
+use super::plain::layout::{Area, Pdo, Slave};
 use crate::draws::Draws;
-use crate::plain::Group;
-use crate::plain::layout::{Area, Pdo, Slave};
 
 struct Maker {
     draws: Draws,

@@ -2,8 +2,8 @@
 //! first four are outputs, the other inputs. So a task of 2,047 slaves has 22,517 bytes, which 16 datagrams of 135 areas
 //! hold, and an edit near the end of the line moves few areas.
 
-use crate::plain::Group;
-use crate::plain::layout::{Area, Pdo, Slave};
+use super::plain::Group;
+use super::plain::layout::{Area, Pdo, Slave};
 use crate::project_text::{add_area, add_group, add_slave};
 
 /// The PDO that each area has: 11 bytes in two variables.
@@ -14,7 +14,7 @@ pub const WIDER: u16 = 0x1602;
 pub const TWICE: u16 = 0x1603;
 
 /// The groups of one slave each: the first of the line, one with ten slaves behind it, and the last one with areas; and
-/// the ten's other nine, and a slave without areas at the end.
+/// the ten's other nine, and a slave without areas at the end. On a line of 8 the nine are two.
 pub const FIRST: u16 = 1;
 pub const NEAR: u16 = 2;
 const NINE: u16 = 3;
@@ -36,7 +36,7 @@ pub struct Places {
     pub middle: usize,
     /// Which has at most 100 areas behind it in its datagram, the middle one of its task.
     pub hundred: usize,
-    /// Which has 49 slaves with areas behind it.
+    /// Which has 49 slaves with areas behind it, on a short line all but the first.
     pub fifty: usize,
 }
 
@@ -44,7 +44,7 @@ pub fn places(slaves: usize) -> Places {
     let with_areas = slaves - 1;
     let datagram = with_areas / IN_DATAGRAM / 2;
     let hundred = if datagram == 0 { 1 } else { IN_DATAGRAM * datagram + IN_DATAGRAM - 101 };
-    Places { empty: 1, middle: with_areas / 2, hundred, fifty: with_areas - 50 }
+    Places { empty: 1, middle: with_areas / 2, hundred, fifty: with_areas.saturating_sub(50).max(1) }
 }
 
 /// The station address of the slave at a place.
@@ -95,14 +95,15 @@ impl Maker {
 pub fn line(slaves: usize) -> Vec<Group> {
     let mut maker = Maker { slaves, place: 0, variables: 0 };
     let mut groups = vec![maker.group(0, 0), maker.group(FIRST, 1)];
-    let behind = slaves - 12;
+    let nine = if slaves < 16 { 2 } else { 9 };
+    let behind = slaves - nine - 3;
     for alias in OTHERS.. {
         match behind - maker.place {
             0 => break,
             left => groups.push(maker.group(alias, left.min(TOGETHER))),
         }
     }
-    groups.extend([(NEAR, 1), (NINE, 9), (LAST, 1), (BARE, 1)].map(|(alias, count)| maker.group(alias, count)));
+    groups.extend([(NEAR, 1), (NINE, nine), (LAST, 1), (BARE, 1)].map(|(alias, count)| maker.group(alias, count)));
     groups
 }
 

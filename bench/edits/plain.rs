@@ -53,13 +53,13 @@ pub struct Report {
 /// An area: where it stands, and where its assigned entries do among those of all areas.
 #[derive(Clone, Copy, Default)]
 pub struct Spot {
-    width: u16,
-    bit: u16,
+    pub width: u16,
+    pub bit: u16,
     phys: u16,
-    datagram: u8,
-    task: u8,
+    pub datagram: u8,
+    pub task: u8,
     sm: u8,
-    is_input: bool,
+    pub is_input: bool,
     count: u16,
     first: u32,
 }
@@ -195,19 +195,51 @@ impl Plan {
         self.tasks[usize::from(task)].table()
     }
 
+    /// The block with a number of the slave at a place.
+    pub fn block(&self, place: usize, number: u8) -> Block {
+        let spot = self.spots[AREAS * place + usize::from(number / 2)];
+        let Spot { width, bit, phys, datagram, task, sm, is_input, .. } = spot;
+        let (offered, assigned) = (Vec::new(), Vec::new());
+        let area = Area { is_out: !is_input, sm, phys, task, offered, assigned, width, datagram, bit };
+        if number % 2 == 0 { sync_block(&area) } else { fmmu_block(number / 2, &area) }
+    }
+
     /// Tells of each block of the line: its slave's station address, its number and its bytes.
     pub fn each_block(&self, mut tell: impl FnMut(u16, u8, &Block)) {
         for (place, slave) in self.slaves.iter().enumerate() {
-            if !self.groups[usize::from(slave.group)].is_present {
-                continue;
-            }
-            for (number, spot) in (0..slave.areas).zip(&self.spots[AREAS * place..]) {
-                let Spot { width, bit, phys, datagram, task, sm, is_input, .. } = *spot;
-                let (offered, assigned) = (Vec::new(), Vec::new());
-                let area = Area { is_out: !is_input, sm, phys, task, offered, assigned, width, datagram, bit };
-                tell(slave.station, 2 * number, &sync_block(&area));
-                tell(slave.station, 2 * number + 1, &fmmu_block(number, &area));
+            if self.groups[usize::from(slave.group)].is_present {
+                (0..2 * slave.areas).for_each(|number| tell(slave.station, number, &self.block(place, number)));
             }
         }
+    }
+}
+
+/// What the plain core asks of its plan.
+#[allow(dead_code)]
+impl Plan {
+    /// The slave with a station address, which is declared, by its place among all.
+    pub fn place_of(&self, station: u16) -> usize {
+        usize::from(self.stations[usize::from(station)])
+    }
+
+    /// The station address of the slave at a place, and how many areas it has.
+    pub fn slave(&self, place: usize) -> (u16, u8) {
+        let Owner { station, areas, .. } = self.slaves[place];
+        (station, areas)
+    }
+
+    /// The places of the slaves of the group with an alias, which is declared.
+    pub fn slaves_of(&self, alias: u16) -> Range<usize> {
+        self.groups[usize::from(self.aliases[usize::from(alias)])].slaves.clone()
+    }
+
+    /// An area: eight times its slave's place and its number.
+    pub fn spot(&self, spot: usize) -> &Spot {
+        &self.spots[spot]
+    }
+
+    /// Tells of each variable of an area where it stands.
+    pub fn each_variable(&self, spot: usize, tell: impl FnMut(u32, Place)) {
+        each_row(&self.spots[spot], &self.entries, tell);
     }
 }

@@ -1,7 +1,7 @@
 //! What a plan tells, as one number, mixed as the library's exports mix it.
 
-use crate::plain::layout::{Block, Datagram, Place};
-use crate::plain::{Fault, Plan, Report};
+use super::plain::layout::{Block, Datagram, Place};
+use super::plain::{Fault, Plan, Report};
 
 fn told_of(told: u64, number: u64) -> u64 {
     (told ^ number).wrapping_mul(0x9e37_79b9_7f4a_7c15).rotate_left(29)

@@ -1,0 +1,348 @@
+#!/bin/sh
+# Writes the part of the library that plays events and times calls in rounds, into the folder that it is given.
+set -eu
+mkdir -p "$1/src" "$1/proofs"
+echo "mod Previews" > "$1/proofs/Lib.antt"
+# That the frame of a preview can be filled: `fill` asks for it.
+cat > "$1/proofs/Previews.antt" <<'END_OF_PROOF'
+use Rattle.std.proofs.Common.{◌≡◌, ℕ, ◌+◌, ◌<◌, ◌≤◌, nat_lt, not, Bool, true, false, cond, ◌&&◌, [], refl, sym, ◌∙◌, subst, arith, Some, None}
+use Rattle.std.proofs.lemmas.Bool.{and_parts, ltb-true, ltb-false}
+use Rattle.std.proofs.lemmas.List.Elements.{All-cons, All-nil}
+use Rattle.hc_records.specs.Image.{datagram_count, task_places}
+use Rattle.hc_frames.specs.declared.limits.TheConstants.{SETUP_SERIAL}
+use Rattle.hc_events.specs.Accepted.{StandsIn}
+use Rattle.hc_events.specs.Calls.{preview}
+use Rattle.hc_events.specs.Entries.{Record}
+use Rattle.hc_events.specs.Points.{line_of, next_serial}
+use Rattle.hc_events.specs.Sendings.{Frame, alone, length_of}
+use Rattle.hc_events.specs.Steps.{has_serials}
+use Rattle.hc_events.proofs.lemmas.Frames.{alone-counted}
+use Rattle.hc_core.specs.Filled.{CanBeFilled}
+
+not_true : (b : Bool) → not b ≡ true → b ≡ false
+not_true false e = refl
+not_true true e = cc
+
+is_filled : (past : Record) (task d : ℕ) (frame : Frame) (can : Bool) → can ≡ (nat_lt d (datagram_count (task_places task (line_of past))) && has_serials past 1)
+    → cond can (Some (alone (next_serial past) (task, d) (length_of (line_of past) (task, d)))) None ≡ Some frame → CanBeFilled past frame
+is_filled past task d frame false is e = cc
+is_filled past task d frame true is e =
+    let one = alone (next_serial past) (task, d) (length_of (line_of past) (task, d)) in
+    let same : one ≡ frame = cc in
+    let count = datagram_count (task_places task (line_of past)) in
+    let parts = and_parts (nat_lt d count) (has_serials past 1) (sym is) in
+    let inside : d < count = ltb-true d count parts.0 in
+    let left : next_serial past + 1 ≤ SETUP_SERIAL = ltb-false SETUP_SERIAL (next_serial past + 1) (not_true (nat_lt SETUP_SERIAL (next_serial past + 1)) parts.1) in
+    subst (CanBeFilled past) same
+    (record {
+      stands = All-cons (StandsIn (line_of past)) (task, d) [] inside (All-nil (StandsIn (line_of past)));
+      counted = alone-counted (line_of past) (next_serial past) (task, d);
+      serial = omega (arith, left);
+    })
+
+pub preview_filled : (past : Record) (task d : ℕ) (frame : Frame) → preview past task d ≡ Some frame → CanBeFilled past frame
+preview_filled past task d frame e = is_filled past task d frame (nat_lt d (datagram_count (task_places task (line_of past))) && has_serials past 1) refl e
+END_OF_PROOF
+cat > "$1/src/lib.rt" <<'END_OF_CODE'
+//! What the benchmark calls: each function opens a project's line and plays events in its core.
+#![tactic(auto)]
+
+mod clock;
+mod edits;
+mod telling;
+
+ghost use Rattle.std.specs.Prelude.{◌≡◌, length};
+ghost use Rattle.hc_events.specs.Sendings.{size_of};
+ghost use Rattle.hc_core.specs.Filled.{CanBeFilled};
+
+use crate::clock::nanoseconds;
+use crate::edits::{EditAsked, edit_of};
+use crate::telling::{told_of, told_of_answer, told_of_changes};
+use hc_core::keeping::Core;
+use hc_events::answer::Answer;
+use hc_events::event::Event;
+use hc_events::faults::CoreFault;
+use hc_events::sending::Sending;
+use hc_project::read_project;
+use std::alloc::Global;
+
+/// An event. Its bytes stand among those of all, from a place on.
+#[repr(C)]
+pub struct Asked {
+    pub kind: u8,
+    pub task: u8,
+    pub edit: EditAsked,
+    pub epoch: u32,
+    pub from: u32,
+    pub size: u32,
+}
+
+const POST: u8 = 0;
+
+const TASKS: u8 = 1;
+
+const WRITE: u8 = 2;
+
+const ARRIVE: u8 = 3;
+
+const READ: u8 = 4;
+
+const EDIT: u8 = 5;
+
+/// The core of a project's text at its opening.
+pub(crate) fn opened(alloc: Global, text: &[u8]) -> Option<Core> {
+    let Ok(project) = read_project(alloc, text) else {
+        return None;
+    };
+    let Ok(core) = Core::new(alloc, project) else {
+        return None;
+    };
+    Some(core)
+}
+
+/// The bytes of an event.
+fn bytes_of<'a>(asked: &Asked, bytes: &'a [u8]) -> &'a [u8] {
+    let Some(rest) = bytes.get(asked.from as usize..) else {
+        return &[];
+    };
+    match rest.get(..asked.size as usize) {
+        Some(own) => own,
+        None => &[],
+    }
+}
+
+/// One of the lists of tasks that the benchmark sends is sent.
+fn send(alloc: Global, core: &mut Core, list: u8) -> Answer {
+    match list {
+        0 => core.step(alloc, Event::SendTasks(&[0])),
+        1 => core.step(alloc, Event::SendTasks(&[1])),
+        2 => core.step(alloc, Event::SendTasks(&[2])),
+        3 => core.step(alloc, Event::SendTasks(&[3, 4, 5, 6, 7])),
+        _ => core.step(alloc, Event::SendTasks(&[7, 1, 0])),
+    }
+}
+
+/// An edit is carried out.
+fn edit(alloc: Global, core: &mut Core, asked: &EditAsked) -> Answer {
+    match edit_of(alloc, asked) {
+        Ok(edit) => core.step(alloc, Event::Edit(&edit)),
+        Err(_) => Answer::Refused(CoreFault::Memory),
+    }
+}
+
+fn post(alloc: Global, core: &mut Core, task: u8, epoch: u32, bytes: &[u8]) -> Answer {
+    core.step(alloc, Event::Post { task, epoch, bytes })
+}
+
+fn serve(alloc: Global, core: &mut Core, asked: &Asked, bytes: &[u8]) -> Answer {
+    match asked.kind {
+        POST => post(alloc, core, asked.task, asked.epoch, bytes_of(asked, bytes)),
+        TASKS => send(alloc, core, asked.task),
+        WRITE => core.step(alloc, Event::SendWrite),
+        ARRIVE => core.step(alloc, Event::Arrive(bytes_of(asked, bytes))),
+        EDIT => edit(alloc, core, &asked.edit),
+        _ => core.step(alloc, Event::Read(asked.task)),
+    }
+}
+
+/// Plays events in a core.
+fn play(alloc: Global, core: &mut Core, events: &[Asked], bytes: &[u8]) {
+    for asked in events {
+        let _ = serve(alloc, core, asked, bytes);
+    }
+}
+
+/// What a core tells of an event: its answer, the changes, how many blocks are owed, and the next serial.
+fn told_by(alloc: Global, core: &mut Core, asked: &Asked, bytes: &[u8]) -> u64 {
+    let answer = serve(alloc, core, asked, bytes);
+    let told = told_of_answer(0, &answer);
+    let told = told_of_changes(told, core.take_changes(alloc).as_slice());
+    told_of(told_of(told, u64::from(core.owed())), core.next_serial())
+}
+
+/// Plays events on a project's line, and tells of each. How many were played.
+#[unsafe(no_mangle)]
+pub extern "C" fn core_told(
+    alloc: Global,
+    text: &[u8],
+    events: &[Asked],
+    bytes: &[u8],
+    told: &mut [u64],
+) -> usize {
+    let Some(mut core) = opened(alloc, text) else {
+        return 0;
+    };
+    let mut count = 0;
+    for asked in events {
+        if count < told.len() {
+            told[count] = told_by(alloc, &mut core, asked, bytes);
+            count += 1;
+        }
+    }
+    count
+}
+
+/// What is timed, and the event's numbers.
+#[repr(C)]
+pub struct Timed {
+    pub kind: u8,
+    pub task: u8,
+    pub calls: u32,
+}
+
+const SEND: u8 = 0;
+
+const SEND_ALONE: u8 = 1;
+
+const SEND_AND_ARRIVE: u8 = 2;
+
+const ARRIVE_ALONE: u8 = 3;
+
+const READ_IMAGE: u8 = 4;
+
+const WRITE_AND_ARRIVE: u8 = 5;
+
+const POST_OUTPUTS: u8 = 6;
+
+const FILL: u8 = 7;
+
+/// Puts a byte at a place, where there is one.
+fn put(frame: &mut [u8], at: usize, byte: u8) {
+    if let Some(own) = frame.get_mut(at) {
+        *own = byte;
+    }
+}
+
+/// Puts a serial into a frame, and its lowest byte at the index of each datagram.
+fn put_serial(frame: &mut [u8], indexes: &[u32], serial: u64) {
+    let [_, _, _, s4, s3, s2, s1, s0] = serial.to_be_bytes();
+    put(frame, 7, s4);
+    put(frame, 8, s3);
+    put(frame, 9, s2);
+    put(frame, 10, s1);
+    put(frame, 11, s0);
+    for at in indexes {
+        put(frame, *at as usize, s0);
+    }
+}
+
+/// A sending, whose serial is put into the frame that will come back.
+fn send_and_put(
+    alloc: Global,
+    core: &mut Core,
+    list: u8,
+    frame: &mut [u8],
+    indexes: &[u32],
+) -> u64 {
+    let serial = core.next_serial();
+    let sent = matches!(send(alloc, core, list), Answer::Sent(_));
+    put_serial(frame, indexes, serial);
+    u64::from(sent)
+}
+
+/// An arrival that answers a sending of tasks, and the changes that it makes.
+fn take_answer(alloc: Global, core: &mut Core, frame: &[u8]) -> u64 {
+    let answered = matches!(core.step(alloc, Event::Arrive(frame)), Answer::Answered(_));
+    u64::from(answered & !core.take_changes(alloc).is_empty())
+}
+
+/// A register write, and the arrival that answers it.
+pub(crate) fn write_and_take(alloc: Global, core: &mut Core) -> u64 {
+    let Answer::WriteSent(text) = core.step(alloc, Event::SendWrite) else {
+        return 0;
+    };
+    let mut frame = text.into_vec();
+    let size = frame.get(22).copied().unwrap_or(0);
+    put(&mut frame, 26 + usize::from(size), 1);
+    u64::from(matches!(
+        core.step(alloc, Event::Arrive(frame.as_slice())),
+        Answer::WriteDone
+    ))
+}
+
+/// Writes a frame into a slice of its size, so many times.
+fn fill(core: &Core, frame: &Sending, calls: u32, out: &mut [u8])
+    requires frame { CanBeFilled core.now.past frame.now }
+    requires exact { length out.old ≡ size_of frame.now }
+    ensures { length out.new ≡ length out.old }
+{
+    for _ in 0..calls {
+        core.fill(frame, out);
+    }
+}
+
+/// Writes the frame of the first datagram of a task, so many times. How often it was written.
+#[tactic(auto, using(crate::proofs::Previews::preview_filled))]
+fn fill_first(core: &Core, task: u8, calls: u32, out: &mut [u8]) -> u64 {
+    let Some(frame) = core.preview(task, 0) else {
+        return 0;
+    };
+    if out.len() != frame.size() {
+        return 0;
+    }
+    fill(core, &frame, calls, out);
+    u64::from(calls)
+}
+
+/// What is timed, once. It tells 1 where the answer is the one that is looked for.
+fn once(alloc: Global, core: &mut Core, timed: &Timed, frame: &mut [u8], indexes: &[u32]) -> u64 {
+    match timed.kind {
+        SEND => u64::from(matches!(send(alloc, core, timed.task), Answer::Sent(_))),
+        SEND_ALONE => send_and_put(alloc, core, timed.task, frame, indexes),
+        SEND_AND_ARRIVE => {
+            let sent = send_and_put(alloc, core, timed.task, frame, indexes);
+            sent & take_answer(alloc, core, frame)
+        }
+        ARRIVE_ALONE => u64::from(matches!(core.step(alloc, Event::Arrive(frame)), Answer::Stale)),
+        READ_IMAGE => {
+            u64::from(matches!(
+                core.step(alloc, Event::Read(timed.task)),
+                Answer::Image { .. }
+            ))
+        }
+        WRITE_AND_ARRIVE => write_and_take(alloc, core),
+        POST_OUTPUTS => {
+            let epoch = core.plan().epoch();
+            u64::from(core.post(timed.task, epoch, frame).is_ok())
+        }
+        _ => 0,
+    }
+}
+
+fn repeat(alloc: Global, core: &mut Core, timed: &Timed, frame: &mut [u8], indexes: &[u32]) -> u64 {
+    if timed.kind == FILL {
+        return fill_first(core, timed.task, timed.calls, frame);
+    }
+    let mut count = 0_u64;
+    for _ in 0..timed.calls {
+        count = count.wrapping_add(once(alloc, core, timed, frame, indexes));
+    }
+    count
+}
+
+/// Plays events on a project's line, and then times calls, as many a round, in as many rounds as `times` has places,
+/// which get the nanoseconds of each round. How many calls were answered as they should be.
+#[unsafe(no_mangle)]
+pub extern "C" fn core_timed(
+    alloc: Global,
+    text: &[u8],
+    events: &[Asked],
+    bytes: &[u8],
+    timed: &Timed,
+    frame: &mut [u8],
+    indexes: &[u32],
+    times: &mut [u64],
+) -> u64 {
+    let Some(mut core) = opened(alloc, text) else {
+        return 0;
+    };
+    play(alloc, &mut core, events, bytes);
+    let mut count = 0_u64;
+    for time in times.iter_mut() {
+        let begun = nanoseconds();
+        count = count.wrapping_add(repeat(alloc, &mut core, timed, frame, indexes));
+        *time = nanoseconds().wrapping_sub(begun);
+    }
+    count
+}
+END_OF_CODE
