@@ -28,6 +28,18 @@ kept-added make test xs i x passes had has all within is passed adds so_far =
     ∙ ap (λ (zs : List _). had ++ map make (filter test zs)) (sym (drop_more xs i x within))
     ∙ so_far
 
+-- where each adds what it gives
+
+pub all-added : {X Y : Type 0} (f : X → List Y) (xs : List X) (i : ℕ) (x : X) (had has all : List Y) → i < length xs → x ≡ get_or xs i x → has ≡ had ++ f x
+    → had ++ flat_map f (drop i xs) ≡ all → has ++ flat_map f (drop (i + 1) xs) ≡ all
+all-added f xs i x had has all within is adds so_far =
+    let rest = flat_map f (drop (i + 1) xs) in
+    ap (λ (ys : List _). ys ++ rest) adds
+    ∙ append_assoc had (f x) rest
+    ∙ ap (λ (z : _). had ++ (f z ++ rest)) is
+    ∙ ap (λ (zs : List _). had ++ flat_map f zs) (sym (drop_more xs i x within))
+    ∙ so_far
+
 -- the variables of an area's PDOs
 
 pub names-added : {X : Type 0} (f : X → List Entry) (xs : List X) (i : ℕ) (d : X) (entries : List Entry) (had has all : List ℕ) → i < length xs → entries ≡ f (get_or xs i d)

@@ -14,7 +14,7 @@ pub mod Keeping
 pub mod KeptSpans
 pub mod Lists
 pub mod Moved
-pub mod MovedNames
+pub mod MovedBlocks
 pub mod Movers
 pub mod Names
 pub mod OneProject

@@ -1,12 +1,12 @@
 -- What an edit makes of a line, told before it is carried out.
-use Rattle.std.specs.Prelude.{◌≡◌, ℕ, ◌+◌, ◌&&◌, not, nat_lt, Bool, List, None, length, map}
+use Rattle.std.specs.Prelude.{◌≡◌, ℕ, ◌+◌, ◌≤◌, ◌&&◌, not, nat_lt, Bool, List, None, length, map}
 use Rattle.hc_records.specs.declared.records.Area.{Area}
 use Rattle.hc_records.specs.declared.records.Declared.{Declared}
 use Rattle.hc_records.specs.Line.{groups_of, line_from}
 use Rattle.hc_records.specs.Project.{lowest_fault}
 use Rattle.hc_edits.specs.declared.prepared.Prepared.{Prepared}
 use Rattle.hc_edits.specs.Changes.{carried}
-use Rattle.hc_edits.specs.Rows.{areas_in_line, first_of, row}
+use Rattle.hc_edits.specs.Rows.{areas_in_line, count_of, first_of, row}
 use Rattle.hc_tasks.specs.Areas.{areas_by_rank}
 use Rattle.hc_tasks.specs.Turn.{AreLines}
 use Rattle.hc_changes.specs.Candidates.{Candidate, DifferAt, candidate_of, candidates}
@@ -29,6 +29,16 @@ outlook_of change groups = record {
   before = map areas_in_line (row change groups);
   after = map areas_in_line (row change (carried change groups));
 }
+
+-- for how many slaves there is memory, before an edit and after it
+pub record Room : Type 0 where
+  pub before : ℕ
+  pub after : ℕ
+
+-- there is memory for the slaves that a change concerns
+pub record IsRoomFor (change : Prepared) (room : Room) : Type 0 where
+  pub before : count_of change ≤ room.before
+  pub after : count_of change ≤ room.after
 
 -- the slave with a rank is one of those that the edit concerns
 abbrev pub changes : Outlook → ℕ → Bool

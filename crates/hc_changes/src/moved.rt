@@ -1,17 +1,18 @@
 //! The register blocks that an edit moves, by the candidates that move: each block of one is compared with the
 //! block that its slave had with that number.
-ghost use Rattle.std.specs.Prelude.{◌≡◌, ◌++◌, ◌<◌, IfOk, OnOk, map};
+ghost use Rattle.std.specs.Prelude.{◌≡◌, ◌++◌, ◌<◌, IfOk, OnOk};
 ghost use Rattle.hc_records.specs.declared.limits.TheConstants.{MOST_AREAS, TASKS};
 ghost use Rattle.hc_records.specs.Line.{line_from};
-ghost use Rattle.hc_registers.specs.Blocks.{mapping_at, moved_blocks, same_bytes};
-ghost use Rattle.hc_changes.specs.Moved.{name_of};
-ghost use Rattle.hc_changes.specs.inner.Moved.{IsComparable, IsWritable, differ_from, moved_by, names_if, two_blocks};
+ghost use Rattle.hc_ranks.specs.Blocks.{moved_ranked};
+ghost use Rattle.hc_registers.specs.Blocks.{mapping_at, same_bytes};
+ghost use Rattle.hc_changes.specs.inner.Moved.{IsComparable, IsWritable, block_with, blocks_if, blocks_moved, differ_from, moved_by, two_blocks};
 ghost use Rattle.hc_changes.specs.Movers.{movers_of};
 
 use crate::candidates::Candidate;
 use crate::movers::{Mover, Stood};
 use crate::outlook::Outlook;
 use hc_cuts::packing::Placed;
+use hc_ranks::blocks::RankedBlock;
 use hc_records::records::Area;
 use hc_registers::blocks::Block;
 use hc_registers::fmmu::{Mapping, logical_address};
@@ -58,66 +59,90 @@ fn is_same(a: &Block, b: &Block) -> bool
     a.register() == b.register() && a.bytes() == b.bytes()
 }
 
-/// Of the two blocks of a candidate, whether each differs from the one that its slave had with its number.
-fn differing(found: &Candidate, stood: &Stood) -> (bool, bool)
-    requires new { IsWritable found.now.index found.now.area found.now.place }
-    requires old { IsWritable found.now.index stood.now.area stood.now.place }
-    ensures { result ≡ differ_from (two_blocks found.now.index found.now.area found.now.place) (two_blocks found.now.index stood.now.area stood.now.place) }
+/// Of two blocks of an area at an index of its slave's record, whether each differs from the one that the slave
+/// had with its number.
+fn differing(blocks: &(Block, Block), index: u8, stood: &Stood) -> (bool, bool)
+    requires { IsWritable index stood.now.area stood.now.place }
+    ensures { result ≡ differ_from blocks.now (two_blocks index stood.now.area stood.now.place) }
 {
-    let (manager, fmmu) = two_blocks(found.index, found.area, found.place);
-    let (old_manager, old_fmmu) = two_blocks(found.index, stood.area, stood.place);
-    (!is_same(&manager, &old_manager), !is_same(&fmmu, &old_fmmu))
+    let (manager, fmmu) = two_blocks(index, stood.area, stood.place);
+    (!is_same(&blocks.0, &manager), !is_same(&blocks.1, &fmmu))
 }
 
 /// Of the two blocks of a mover, whether each differs from the one that its slave had with its number: both do
 /// where it had no such area.
-fn moved_by(mover: &Mover) -> (bool, bool)
+fn moved_by(blocks: &(Block, Block), mover: &Mover) -> (bool, bool)
     requires { IsComparable mover.now }
-    ensures { result ≡ moved_by mover.now }
+    ensures { result ≡ moved_by blocks.now mover.now }
 {
+    let found = mover.found;
     match &mover.stood {
-        Some(stood) => differing(mover.found, stood),
+        Some(stood) => differing(blocks, found.index, stood),
         None => (true, true),
     }
 }
 
-/// Adds the names of those of the two blocks of a candidate that moved.
-fn add_names(
-    names: &mut Vec<(u16, u8)>,
+/// A block of a candidate, by its number in the slave's order, with the slave's rank.
+fn ranked(found: &Candidate, number: u8, block: Block) -> RankedBlock
+    ensures { result ≡ block_with found.now number block }
+{
+    RankedBlock {
+        rank: found.rank,
+        station: found.station,
+        number,
+        block,
+    }
+}
+
+/// Adds those of the two blocks of a candidate that moved.
+fn add_blocks(
+    blocks: &mut Vec<RankedBlock>,
     found: &Candidate,
+    two: (Block, Block),
     moved: (bool, bool),
 ) -> Result<(), AllocError>
     requires { found.now.index < MOST_AREAS }
-    ensures { OnOk result (names.new.items ≡ names.old.items ++ names_if found.now moved) }
+    ensures { OnOk result (blocks.new.items ≡ blocks.old.items ++ blocks_if found.now two moved) }
 {
-    let (manager, fmmu) = moved;
-    if manager {
-        names.push((found.station, 2 * found.index))?;
+    let (manager, fmmu) = two;
+    let (manager_moved, fmmu_moved) = moved;
+    if manager_moved {
+        blocks.push(ranked(found, 2 * found.index, manager))?;
     }
-    if fmmu {
-        names.push((found.station, 2 * found.index + 1))?;
+    if fmmu_moved {
+        blocks.push(ranked(found, 2 * found.index + 1, fmmu))?;
     }
     Ok(())
 }
 
-/// The names of the register blocks that an edit moves, by what it makes of a line and by the candidates that
-/// move, in line and block order: each by its slave's station address and its number, from 0, in the
-/// slave's order. A block of the line after the edit moved where it wasn't a block of the line before: no
-/// block of the slave with that station address had the same bytes at the same register.
+/// Adds the blocks of a mover that moved.
+fn add_moved(blocks: &mut Vec<RankedBlock>, mover: &Mover) -> Result<(), AllocError>
+    requires { IsComparable mover.now }
+    ensures { OnOk result (blocks.new.items ≡ blocks.old.items ++ blocks_moved mover.now) }
+{
+    let found = mover.found;
+    let two = two_blocks(found.index, found.area, found.place);
+    let moved = moved_by(&two, mover);
+    add_blocks(blocks, found, two, moved)
+}
+
+/// The register blocks that an edit moves, by what it makes of a line and by the candidates that move, with
+/// their new bytes, in line and block order. A block of the line after the edit moved where it wasn't a block of
+/// the line before: no block of the slave with that station address had the same bytes at the same register.
 /// `AllocError` where a growth was refused.
-pub fn moved_names(
+pub fn moved_blocks(
     alloc: Global,
     outlook: &Outlook,
     movers: &[Mover],
-) -> Result<Vec<(u16, u8)>, AllocError>
+) -> Result<Vec<RankedBlock>, AllocError>
     requires { movers.now ≡ movers_of outlook.now }
-    ensures { IfOk result (λ names. names.items ≡ map name_of (moved_blocks (line_from 1 outlook.now.old) (line_from 1 outlook.now.new))) }
+    ensures { IfOk result (λ blocks. blocks.items ≡ moved_ranked (line_from 1 outlook.now.old) (line_from 1 outlook.now.new)) }
 {
     // says that an edit leads from a project's groups to a project's
     let _ = outlook.groups();
-    let mut names = Vec::new(alloc);
+    let mut blocks = Vec::new(alloc);
     for mover in movers {
-        add_names(&mut names, mover.found, moved_by(mover))?;
+        add_moved(&mut blocks, mover)?;
     }
-    Ok(names)
+    Ok(blocks)
 }

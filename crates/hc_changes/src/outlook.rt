@@ -1,6 +1,6 @@
 //! What an edit makes of a line, before it is carried out: the slaves that it concerns, with their areas
 //! before and after.
-ghost use Rattle.std.specs.Prelude.{◌≡◌, [], IfOk, length, map, slice_index_or};
+ghost use Rattle.std.specs.Prelude.{◌≡◌, ◌≤◌, [], length, map, slice_index_or, vec_capacity};
 ghost use Rattle.hc_edits.specs.Changes.{carried};
 ghost use Rattle.hc_edits.specs.Rows.{areas_in_line, count_of, row};
 
@@ -10,38 +10,76 @@ use hc_tasks::areas::SlaveAreas;
 use std::alloc::{AllocError, Global};
 use std::marker::Model;
 
-/// The areas in the line of the slaves that a change concerns, before it is carried out.
+/// The areas in the line of the slaves that a change concerns, before it is carried out, in memory that has
+/// room for them.
 fn areas_before<'a>(
-    alloc: Global,
+    mut slaves: Vec<SlaveAreas<'a>>,
     groups: &'a [Declared],
     change: &Prepared,
-) -> Result<Vec<SlaveAreas<'a>>, AllocError>
-    requires { length (row change.now groups.now) ≡ count_of change.now }
-    ensures { IfOk result (λ slaves. slaves.items ≡ map areas_in_line (row change.now groups.now)) }
+) -> Vec<SlaveAreas<'a>>
+    requires row { length (row change.now groups.now) ≡ count_of change.now }
+    requires empty { slaves.items ≡ [] }
+    requires room { count_of change.now ≤ vec_capacity slaves }
+    ensures { result.items ≡ map areas_in_line (row change.now groups.now) }
 {
-    let mut slaves = Vec::with_capacity(alloc, usize::from(change.slaves()))?;
     for i in 0..change.slaves() {
         let areas = change.areas_before(groups, usize::from(i));
-        slaves.push(SlaveAreas::of(areas))?;
+        slaves.push_reserved(SlaveAreas::of(areas));
     }
-    Ok(slaves)
+    slaves
 }
 
 /// Those that they have once it is carried out.
 fn areas_after<'a>(
-    alloc: Global,
+    mut slaves: Vec<SlaveAreas<'a>>,
     groups: &'a [Declared],
     change: &'a Prepared,
-) -> Result<Vec<SlaveAreas<'a>>, AllocError>
-    requires { length (row change.now (carried change.now groups.now)) ≡ count_of change.now }
-    ensures { IfOk result (λ slaves. slaves.items ≡ map areas_in_line (row change.now (carried change.now groups.now))) }
+) -> Vec<SlaveAreas<'a>>
+    requires row { length (row change.now (carried change.now groups.now)) ≡ count_of change.now }
+    requires empty { slaves.items ≡ [] }
+    requires room { count_of change.now ≤ vec_capacity slaves }
+    ensures { result.items ≡ map areas_in_line (row change.now (carried change.now groups.now)) }
 {
-    let mut slaves = Vec::with_capacity(alloc, usize::from(change.slaves()))?;
     for i in 0..change.slaves() {
         let areas = change.areas_after(groups, usize::from(i));
-        slaves.push(SlaveAreas::of(areas))?;
+        slaves.push_reserved(SlaveAreas::of(areas));
     }
-    Ok(slaves)
+    slaves
+}
+
+/// The memory that an outlook needs: for the areas of each slave that an edit concerns, before it and after it.
+/// It outlives the groups that an outlook looks at.
+#[derive(Drop)]
+pub struct OutlookRoom {
+    before: Vec<SlaveAreas<'static>>,
+    after: Vec<SlaveAreas<'static>>,
+}
+
+impl Model for OutlookRoom {
+    ghost use Rattle.std.specs.Prelude.{◌≡◌, [], vec_capacity};
+    ghost use Rattle.hc_changes.specs.Outlook.{Room};
+
+    ghost Value = { Room };
+
+    ghost view = { λ room. record { before = vec_capacity room.before; after = vec_capacity room.after } };
+
+    ghost invariant = { λ room. (room.before.items ≡ []) × (room.after.items ≡ []) };
+}
+
+impl OutlookRoom {
+    ghost use Rattle.std.specs.Prelude.{IfOk};
+    ghost use Rattle.hc_changes.specs.Outlook.{IsRoomFor};
+
+    /// That for a change. `AllocError` where a growth was refused.
+    pub fn of(alloc: Global, change: &Prepared) -> Result<OutlookRoom, AllocError>
+        ensures { IfOk result (IsRoomFor change.now) }
+    {
+        let slaves = usize::from(change.slaves());
+        Ok(OutlookRoom {
+            before: Vec::with_capacity(alloc, slaves)?,
+            after: Vec::with_capacity(alloc, slaves)?,
+        })
+    }
 }
 
 /// The areas of the slave at an index of some, none where there is no such slave.
@@ -78,36 +116,32 @@ impl<'a> Model for Outlook<'a> {
 }
 
 impl<'a> Outlook<'a> {
-    ghost use Rattle.std.specs.Prelude.{◌≡◌, ◌+◌, ◌<◌, [], IfNone, IfOk, IfSome, MatchOption, None, Some, false, if◌then◌else◌, length, slice_get};
+    ghost use Rattle.std.specs.Prelude.{◌≡◌, ◌+◌, ◌<◌, [], IfNone, IfSome, MatchOption, None, Some, false, if◌then◌else◌, length, slice_get};
     ghost use Rattle.hc_records.specs.Line.{groups_of};
     ghost use Rattle.hc_records.specs.Project.{lowest_fault};
     ghost use Rattle.hc_edits.specs.Changes.{carried};
     ghost use Rattle.hc_edits.specs.Rows.{ChangesRow};
     ghost use Rattle.hc_tasks.specs.Areas.{areas_at, areas_by_rank};
     ghost use Rattle.hc_changes.specs.Edited.{HasEdit};
-    ghost use Rattle.hc_changes.specs.Outlook.{IsOutlook, changes, outlook_of};
+    ghost use Rattle.hc_changes.specs.Outlook.{IsOutlook, IsRoomFor, changes, outlook_of};
 
-    /// What a prepared edit makes of the line of the groups of a project, which it leaves a project's.
-    /// `AllocError` where a growth was refused.
-    pub fn of(
-        alloc: Global,
-        groups: &'a [Declared],
-        change: &'a Prepared,
-    ) -> Result<Outlook<'a>, AllocError>
+    /// What a prepared edit makes of the line of the groups of a project, which it leaves a project's, in memory
+    /// that was taken for it.
+    pub fn of(room: OutlookRoom, groups: &'a [Declared], change: &'a Prepared) -> Outlook<'a>
         requires edited { HasEdit groups.now (carried change.now groups.now) }
         requires was { lowest_fault (groups_of groups.now) ≡ None }
         requires is { lowest_fault (groups_of (carried change.now groups.now)) ≡ None }
         requires row { ChangesRow change.now groups.now }
-        ensures { IfOk result (λ outlook. outlook ≡ outlook_of change.now groups.now) }
+        requires room { IsRoomFor change.now room }
+        ensures { result ≡ outlook_of change.now groups.now }
     {
-        let before = areas_before(alloc, groups, change)?;
-        let after = areas_after(alloc, groups, change)?;
-        Ok(Outlook {
+        let OutlookRoom { before, after } = room;
+        Outlook {
             groups,
             change,
-            before,
-            after,
-        })
+            before: areas_before(before, groups, change),
+            after: areas_after(after, groups, change),
+        }
     }
 
     /// The declared groups before the edit.

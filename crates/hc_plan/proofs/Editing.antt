@@ -10,7 +10,6 @@ use Rattle.hc_records.specs.Edits.{changed, crowded_task, edited, groups_after, 
 use Rattle.hc_records.specs.Line.{State, line, line_from}
 use Rattle.hc_records.specs.Lists.{lowest}
 use Rattle.hc_edits.specs.declared.prepared.Prepared.{Prepared}
-use Rattle.hc_edits.specs.Changes.{carried}
 use Rattle.hc_edits.specs.Edits.{own_fault}
 use Rattle.hc_edits.proofs.lemmas.Refusals.{line-decides, line_faults}
 use Rattle.hc_changes.specs.Outlook.{Outlook, outlook_of}
@@ -78,13 +77,7 @@ pub made-spent : (groups new : List Declared) (epoch : ℕ) (edit : Edit) → ow
 made-spent groups new epoch edit none leads uncrowded last =
     spent-refused (record { groups = groups; epoch = epoch }) edit none (ap (λ (g : List Declared). crowded_task (line_from 1 g)) (sym leads) ∙ uncrowded) last
 
--- the groups before an edit and after it, as they are read
+-- the groups before an edit, as they are read
 
 pub old-groups : (it : Outlook) (change : Prepared) (slice groups : List Declared) → it ≡ outlook_of change slice → slice ≡ groups → it.old ≡ groups
 old-groups it change slice groups is same = ap (λ (o : Outlook). o.old) is ∙ same
-
-pub carried-groups : (it : Outlook) (change : Prepared) (slice groups new : List Declared) → it ≡ outlook_of change slice → slice ≡ groups → new ≡ carried change groups → it.new ≡ new
-carried-groups it change slice groups new is same made = ap (λ (o : Outlook). o.new) is ∙ ap (carried change) same ∙ sym made
-
-pub new-groups : (change : Prepared) (slice groups : List Declared) (edit : Edit) → carried change slice ≡ groups_after slice edit → slice ≡ groups → carried change groups ≡ groups_after groups edit
-new-groups change slice groups edit leads same = ap (carried change) (sym same) ∙ leads ∙ ap (λ (g : List Declared). groups_after g edit) same

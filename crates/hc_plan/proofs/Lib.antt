@@ -5,6 +5,7 @@ pub mod LineBlocks
 pub mod Mapped
 pub mod Numbered
 pub mod Opening
+pub mod Preparing
 pub mod Registers
 pub mod Telling
 pub mod Turned

@@ -2,12 +2,15 @@
 use Rattle.std.proofs.Common.{◌≡◌, ◌∙◌, ◌<◌, ℕ, List, None, length, map, refl, sym, ap, subst, arith}
 use Rattle.std.specs.Prelude.{All}
 use Rattle.std.proofs.lemmas.List.{length-map}
+use Rattle.std.proofs.lemmas.Simd.{map-map}
 use Rattle.hc_records.specs.declared.records.Area.{Area}
 use Rattle.hc_records.specs.declared.records.Declared.{Declared}
 use Rattle.hc_records.specs.Edits.{crowded_task}
 use Rattle.hc_records.specs.Line.{groups_of, line_from}
 use Rattle.hc_records.specs.Project.{lowest_fault}
 use Rattle.hc_registers.specs.Blocks.{moved_blocks}
+use Rattle.hc_ranks.specs.Blocks.{RankedBlock, moved_ranked}
+use Rattle.hc_ranks.proofs.lemmas.Moved.{ranked-are-moved}
 use Rattle.hc_places.specs.Layout.{layout_of}
 use Rattle.hc_places.specs.Swap.{AreOnce, ChangedRow, ChangedTask, Leads, LeadsAsSaid, Swap}
 use Rattle.hc_places.specs.Table.{IsTable, Table, table_of}
@@ -53,14 +56,23 @@ told-leads it found tasks rows swap is seen told leads =
     leads (table_of (line_from 1 it.old)) (table_of (line_from 1 it.new)) (is-table it.old is.was_project) (is-table it.new is.is_project)
     (swap-says it is (table_of (line_from 1 it.old)) refl tasks rows (movers_of it) refl told seen.differ).0
 
--- the moved blocks are as many as their names, and few
-pub named-count : (it : Outlook) (names : List (ℕ × ℕ)) → names ≡ map name_of (moved_blocks (line_from 1 it.old) (line_from 1 it.new))
-    → length names ≡ length (moved_blocks (line_from 1 it.old) (line_from 1 it.new))
-named-count it names is = ap length is ∙ length-map (moved_blocks (line_from 1 it.old) (line_from 1 it.new)) name_of
+-- the moved blocks, with the ranks of their slaves, have the names of the moved blocks, are as many, and few
 
-pub named-few : (it : Outlook) (names : List (ℕ × ℕ)) → IsOutlook it → crowded_task (line_from 1 it.new) ≡ None
-    → names ≡ map name_of (moved_blocks (line_from 1 it.old) (line_from 1 it.new)) → length names < 4294967296
-named-few it names is fits named =
+founds : (it : Outlook) (blocks : List RankedBlock) → blocks ≡ moved_ranked (line_from 1 it.old) (line_from 1 it.new)
+    → map (λ block. block.found) blocks ≡ moved_blocks (line_from 1 it.old) (line_from 1 it.new)
+founds it blocks is = ap (map (λ (block : RankedBlock). block.found)) is ∙ ranked-are-moved (line_from 1 it.old) (line_from 1 it.new)
+
+pub moved-named : (it : Outlook) (blocks : List RankedBlock) (names : List (ℕ × ℕ)) → blocks ≡ moved_ranked (line_from 1 it.old) (line_from 1 it.new)
+    → names ≡ map (λ block. name_of block.found) blocks → names ≡ map name_of (moved_blocks (line_from 1 it.old) (line_from 1 it.new))
+moved-named it blocks names is named = named ∙ sym (map-map name_of (λ (block : RankedBlock). block.found) blocks) ∙ ap (map name_of) (founds it blocks is)
+
+pub moved-count : (it : Outlook) (blocks : List RankedBlock) → blocks ≡ moved_ranked (line_from 1 it.old) (line_from 1 it.new)
+    → length blocks ≡ length (moved_blocks (line_from 1 it.old) (line_from 1 it.new))
+moved-count it blocks is = sym (length-map blocks (λ (block : RankedBlock). block.found)) ∙ ap length (founds it blocks is)
+
+pub moved-few : (it : Outlook) (blocks : List RankedBlock) → IsOutlook it → crowded_task (line_from 1 it.new) ≡ None
+    → blocks ≡ moved_ranked (line_from 1 it.old) (line_from 1 it.new) → length blocks < 4294967296
+moved-few it blocks is fits moved =
     let few = few-moved it.new (layout_of (line_from 1 it.new)) (line_from 1 it.old) (record { project = is.is_project; uncrowded = fits; stands = refl }) in
-    let count = named-count it names named in
+    let count = moved-count it blocks moved in
     omega (arith, few, count)

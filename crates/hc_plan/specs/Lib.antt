@@ -1,5 +1,6 @@
 pub mod Configuration
 pub mod Gone
 pub mod Laws
+pub mod Prepared
 pub mod Reports
 pub mod inner

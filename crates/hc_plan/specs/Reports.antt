@@ -1,5 +1,5 @@
 -- What edits of a plan answer, and the states that they leave.
-use Rattle.std.specs.Prelude.{◌≡◌, ◌≢◌, not, IfSome, Bool, true, false, List, [], ◌∷◌, filter, length, map, Result, Ok, Err}
+use Rattle.std.specs.Prelude.{◌≡◌, ◌≢◌, ℕ, not, IfSome, Bool, true, false, List, [], ◌∷◌, filter, length, map, Result, Ok, Err}
 use Rattle.hc_records.specs.declared.edit.Edit.{Edit}
 use Rattle.hc_records.specs.declared.faults.EditFault.{EditFault}
 use Rattle.hc_records.specs.declared.faults.EditFault.TheVariants.{Memory}
@@ -7,11 +7,14 @@ use Rattle.hc_records.specs.Boundaries.{recut}
 use Rattle.hc_records.specs.Edits.{edited}
 use Rattle.hc_records.specs.Line.{State, line}
 use Rattle.hc_edits.specs.Edits.{own_fault}
-use Rattle.hc_registers.specs.Blocks.{moved, moved_blocks}
-pub use Rattle.hc_changes.specs.Moved.{name_of}
+use Rattle.hc_registers.specs.Blocks.{LineBlock, moved, moved_blocks}
 use Rattle.hc_places.specs.Swap.{SaysWhatDiffers, changed_places, changed_variables, swapped}
 use Rattle.hc_places.specs.Table.{table_of}
 use Rattle.hc_plan.specs.declared.report.Report.{Report}
+
+-- a block of the line by its slave's station address and its number in the slave's order
+abbrev pub name_of : LineBlock → ℕ × ℕ
+name_of found = (found.station, found.number)
 
 -- a report tells the differences between the lines of two states, the second of which an edit made
 pub record Tells (old : State) (edit : Edit) (new : State) (report : Report) : Type 0 where

@@ -1,3 +1,4 @@
 -- Words that contracts of private functions alone use.
 pub mod Blocks
 pub mod Applied
+pub mod Prepared

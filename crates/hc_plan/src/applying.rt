@@ -1,27 +1,27 @@
 //! An edit worked out on a line whose tasks are kept in trees: what becomes different is found by turning
-//! the trees, and nothing else changes until nothing can be refused any more.
-ghost use Rattle.std.specs.Prelude.{◌≡◌, ◌≢◌, ◌+◌, ◌<◌, Err, IfErr, IfOk, None, Ok, OnErr, OnOk, map};
+//! the trees, which are put back.
+ghost use Rattle.std.specs.Prelude.{◌≡◌, ◌≢◌, ◌+◌, Err, IfErr, IfOk, None, Ok, OnOk, map};
 ghost use Rattle.hc_records.specs.declared.faults.EditFault.TheVariants.{Memory};
-ghost use Rattle.hc_records.specs.declared.limits.TheConstants.{LAST_EPOCH};
 ghost use Rattle.hc_records.specs.Edits.{crowded_task, edited};
 ghost use Rattle.hc_records.specs.Line.{line_from};
-ghost use Rattle.hc_registers.specs.Blocks.{moved_blocks};
+ghost use Rattle.hc_ranks.specs.Blocks.{moved_ranked};
 ghost use Rattle.hc_places.specs.Room.{IsRoomFor};
 ghost use Rattle.hc_places.specs.Swap.{Leads};
 ghost use Rattle.hc_places.specs.Table.{table_of};
 ghost use Rattle.hc_tasks.specs.Areas.{areas_by_rank};
 ghost use Rattle.hc_tasks.specs.Keeping.{StandsBefore};
 ghost use Rattle.hc_tasks.specs.Kept.{line_kept};
+ghost use Rattle.hc_tasks.specs.Turn.{AreStartsOf};
 ghost use Rattle.hc_changes.specs.Outlook.{IsOutlook};
 ghost use Rattle.hc_plan.specs.inner.Applied.{AreSeen, Makes};
 ghost use Rattle.hc_plan.specs.Reports.{Tells, name_of};
 
 use crate::report::Report;
-use crate::turning::{turn_back, turn_line, turn_on};
+use crate::turning::{turn_back, turn_line};
 use hc_bitsum::steps::Steps;
 use hc_changes::candidates::Candidate;
 use hc_changes::finding::candidates;
-use hc_changes::moved::moved_names;
+use hc_changes::moved::moved_blocks;
 use hc_changes::movers::movers;
 use hc_changes::outlook::Outlook;
 use hc_changes::rows::changed_rows;
@@ -29,19 +29,24 @@ use hc_changes::tables::changed_tasks;
 use hc_places::room::Room;
 use hc_places::swap::{ChangedTask, Swap};
 use hc_places::table::Places;
+use hc_ranks::blocks::RankedBlock;
 use hc_records::edit::Edit;
 use hc_records::faults::EditFault;
 use hc_records::items::Items;
 use hc_records::limits::LAST_EPOCH;
 use hc_tasks::keeping::Before;
+use hc_tasks::starts::LineStarts;
 use hc_tasks::tasks::LineCuts;
 use std::alloc::{AllocError, Global};
 use std::sync::ledger::{Blank, Ledger};
 
-/// What an accepted edit did, and the memory for carrying it out.
+/// What an accepted edit makes of a line: what is told of it, the boundaries of the new line's tasks, and the
+/// memory for the new table.
 #[derive(Drop)]
-pub(crate) struct Applied {
+pub(crate) struct WorkedOut {
     pub(crate) report: Report,
+    pub(crate) blocks: Vec<RankedBlock>,
+    pub(crate) starts: LineStarts,
     pub(crate) room: Room,
 }
 
@@ -55,7 +60,8 @@ struct Seen<'a> {
 /// What leads from the old line to the new one, and the memory for it.
 #[derive(Drop)]
 struct Told {
-    blocks: Vec<(u16, u8)>,
+    blocks: Vec<RankedBlock>,
+    names: Vec<(u16, u8)>,
     swap: Swap,
     room: Room,
 }
@@ -81,6 +87,17 @@ fn see_new_line<'a>(
     })
 }
 
+/// The names of blocks, in their order: each by its slave's station address and its number in the slave's order.
+fn names_of(alloc: Global, blocks: &[RankedBlock]) -> Result<Vec<(u16, u8)>, AllocError>
+    ensures { IfOk result (λ names. names.items ≡ map (λ block. name_of block.found) blocks.now) }
+{
+    let mut names = Vec::with_capacity(alloc, blocks.len())?;
+    for block in blocks {
+        names.push((block.station, block.number))?;
+    }
+    Ok(names)
+}
+
 /// What leads from a line, whose trees are those given, to the one that an edit makes of it and of which this
 /// was seen. The memory for it is the last that is taken. `AllocError` where a growth was refused.
 fn tell(
@@ -95,7 +112,8 @@ fn tell(
     requires accepted { crowded_task (line_from 1 outlook.now.new) ≡ None }
     requires trees { cuts.now ≡ line_kept (areas_by_rank outlook.now.old) }
     requires seen { AreSeen outlook.now seen.candidates.items seen.tasks.items }
-    ensures blocks { IfOk result (λ told. told.blocks.items ≡ map name_of (moved_blocks (line_from 1 outlook.now.old) (line_from 1 outlook.now.new))) }
+    ensures blocks { IfOk result (λ told. told.blocks.items ≡ moved_ranked (line_from 1 outlook.now.old) (line_from 1 outlook.now.new)) }
+    ensures names { IfOk result (λ told. told.names.items ≡ map (λ block. name_of block.found) told.blocks.items) }
     ensures edit { IfOk result (λ told. told.swap.edit ≡ edit.now) }
     ensures leads { IfOk result (λ told. Leads (table_of (line_from 1 outlook.now.old)) (table_of (line_from 1 outlook.now.new)) told.swap) }
     ensures room { IfOk result (λ told. IsRoomFor told.swap.change places.now told.room) }
@@ -103,16 +121,21 @@ fn tell(
     let Seen { candidates, tasks } = seen;
     let movers = movers(alloc, outlook, cuts, candidates.as_slice())?;
     let moving = movers.as_slice();
-    let blocks = moved_names(alloc, outlook, moving)?;
+    let blocks = moved_blocks(alloc, outlook, moving)?;
+    let names = names_of(alloc, blocks.as_slice())?;
     let rows = changed_rows(alloc, places, moving, outlook.before(), outlook.after())?;
     let swap = Swap::of(alloc, edit, tasks, rows)?;
     let room = places.room_for(alloc, &swap)?;
-    Ok(Told { blocks, swap, room })
+    Ok(Told {
+        blocks,
+        names,
+        swap,
+        room,
+    })
 }
 
-/// Works an edit without a fault of its own out on a line: the trees are then those of the new line, and all
-/// else is as it was. Otherwise the lowest fault whose condition holds, or `Memory` where a growth was refused;
-/// the trees are then as they were.
+/// Works an edit without a fault of its own out on a line, whose trees are then as they were. Otherwise the
+/// lowest fault whose condition holds, or `Memory` where a growth was refused.
 pub(crate) fn work_out<L: Ledger>(
     alloc: Global,
     edit: &Edit,
@@ -121,20 +144,20 @@ pub(crate) fn work_out<L: Ledger>(
     cuts: &mut LineCuts,
     places: &Places,
     blank: Blank,
-) -> Result<Applied, EditFault>
+) -> Result<WorkedOut, EditFault>
     requires name { blank.name ≡ L.name }
     requires parts { blank.parts ≡ L.parts }
     requires one { L.parts ≡ 1 }
     requires edit { Makes edit.now places.now outlook.now }
     requires trees { cuts.old ≡ line_kept (areas_by_rank outlook.now.old) }
-    ensures turned { OnOk result (cuts.new ≡ line_kept (areas_by_rank outlook.now.new)) }
     ensures fits { OnOk result (crowded_task (line_from 1 outlook.now.new) ≡ None) }
-    ensures more { OnOk result (epoch < LAST_EPOCH) }
-    ensures report { IfOk result (λ applied. Tells (record { groups = outlook.now.old; epoch = epoch }) edit.now (record { groups = outlook.now.new; epoch = epoch + 1 }) applied.report) }
-    ensures room { IfOk result (λ applied. IsRoomFor applied.report.swap.change places.now applied.room) }
+    ensures starts { IfOk result (λ worked. AreStartsOf (areas_by_rank outlook.now.new) worked.starts) }
+    ensures report { IfOk result (λ worked. Tells (record { groups = outlook.now.old; epoch = epoch }) edit.now (record { groups = outlook.now.new; epoch = epoch + 1 }) worked.report) }
+    ensures blocks { IfOk result (λ worked. worked.blocks.items ≡ moved_ranked (line_from 1 outlook.now.old) (line_from 1 outlook.now.new)) }
+    ensures room { IfOk result (λ worked. IsRoomFor worked.report.swap.change places.now worked.room) }
     ensures accepted { OnOk result (edited (record { groups = outlook.now.old; epoch = epoch }) edit.now ≡ Ok (record { groups = outlook.now.new; epoch = epoch + 1 })) }
     ensures refused { IfErr result (λ fault. fault ≢ Memory → edited (record { groups = outlook.now.old; epoch = epoch }) edit.now ≡ Err fault) }
-    ensures unchanged { OnErr result (cuts.new ≡ cuts.old) }
+    ensures unchanged { cuts.new ≡ cuts.old }
 {
     let mut steps: Steps<L> = Steps::start(blank);
     let known = Before::of(cuts, outlook.first(), outlook.before(), outlook.after());
@@ -148,14 +171,23 @@ pub(crate) fn work_out<L: Ledger>(
     if epoch == LAST_EPOCH {
         return Err(EditFault::EpochsSpent);
     }
-    let Told { blocks, swap, room } = tell(alloc, edit, outlook, cuts, places, seen?)?;
-    turn_on(cuts, outlook, &starts);
+    let Told {
+        blocks,
+        names,
+        swap,
+        room,
+    } = tell(alloc, edit, outlook, cuts, places, seen?)?;
     let report = Report {
         epoch: epoch + 1,
         recut: unsettled,
         moved: blocks.len() as u32,
         swap,
-        blocks: Items::of(blocks),
+        blocks: Items::of(names),
     };
-    Ok(Applied { report, room })
+    Ok(WorkedOut {
+        report,
+        blocks,
+        starts,
+        room,
+    })
 }

@@ -7,5 +7,6 @@ pub mod blocks;
 mod laid;
 pub mod laws;
 pub mod plan;
+pub mod prepared;
 pub mod report;
 mod turning;

@@ -4,11 +4,13 @@ ghost use Rattle.hc_records.specs.Line.{opened_group};
 ghost use Rattle.hc_index.specs.Index.{IsIndexOf};
 ghost use Rattle.hc_plan.specs.inner.Applied.{Follows};
 
-use crate::applying::{Applied, work_out};
+use crate::applying::work_out;
 use crate::blocks::{LineBlocks, block_at, line_blocks, nth_block};
 use crate::laid::Laid;
+use crate::prepared::PreparedEdit;
 use crate::report::Report;
-use hc_changes::outlook::Outlook;
+use crate::turning::turn_on;
+use hc_changes::outlook::{Outlook, OutlookRoom};
 use hc_edits::prepared::Prepared;
 use hc_index::index::{Index, Indexed};
 use hc_places::configure::{OpenedLine, open_line};
@@ -23,6 +25,7 @@ use hc_registers::blocks::Block;
 use hc_tasks::tasks::LineCuts;
 use std::alloc::{AllocError, Global};
 use std::marker::{Brand, Model};
+use std::snapshot::Snapshot;
 use std::sync::ledger::Blank;
 
 /// The declared groups at the opening: the mandatory one, which has alias 0, is present alone.
@@ -106,6 +109,7 @@ impl Plan {
     ghost use Rattle.hc_edits.specs.Edits.{own_fault};
     ghost use Rattle.hc_places.specs.Layout.{NamesCrowded};
     ghost use Rattle.hc_plan.specs.inner.Blocks.{IsLaidOut};
+    ghost use Rattle.hc_plan.specs.Prepared.{IsPrepared};
     ghost use Rattle.hc_plan.specs.Configuration.{block_at, config, line_block_at, position_of, station_at};
     ghost use Rattle.hc_plan.specs.Reports.{AreAnswers, Tells, carried};
 
@@ -236,6 +240,69 @@ impl Plan {
         Laid::of(self.groups.as_slice(), &self.cuts)
     }
 
+    /// Works out what an edit makes of the plan, and takes the memory for carrying it out; the plan is as it was.
+    /// Otherwise the lowest fault whose condition holds, or `Memory` where a growth was refused. A fault that the
+    /// edit has by itself, of the faults 1 to 11, is judged before the first growth.
+    pub fn prepare(&mut self, alloc: Global, edit: &Edit) -> Result<PreparedEdit, EditFault>
+        ensures made { IfOk result (λ prepared. prepared.old ≡ self.old) }
+        ensures edit { IfOk result (λ prepared. prepared.report.swap.edit ≡ edit.now) }
+        ensures accepted { IfOk result (λ prepared. edited self.old edit.now ≡ Ok prepared.new) }
+        ensures prepared { IfOk result IsPrepared }
+        ensures refused { IfErr result (λ fault. fault ≢ Memory → edited self.old edit.now ≡ Err fault) }
+        ensures own { IfSome (own_fault self.old.groups edit.now) (λ fault. result ≡ Err fault) }
+        ensures unchanged { self.new ≡ self.old }
+    {
+        let change = Prepared::of(alloc, self.groups.as_slice(), edit)?;
+        let slaves = OutlookRoom::of(alloc, &change)?;
+        let room = OutlookRoom::of(alloc, &change)?;
+        let outlook = Outlook::of(room, self.groups.as_slice(), &change);
+        let worked = work_out::<Brand>(
+            alloc,
+            edit,
+            &outlook,
+            self.epoch,
+            &mut self.cuts,
+            &self.places,
+            Blank::new(1),
+        )?;
+        drop(outlook);
+        Ok(PreparedEdit {
+            was: Snapshot::of(&*self),
+            change,
+            report: worked.report,
+            blocks: worked.blocks,
+            starts: worked.starts,
+            slaves,
+            rows: worked.room,
+        })
+    }
+
+    /// Carries a prepared edit out in the plan that it was worked out on, as it was then: the plan is that of the new
+    /// line, and the report tells what became different. It takes no memory, and nothing can be refused.
+    pub fn carry_out(&mut self, prepared: PreparedEdit) -> Report
+        requires { prepared.old ≡ self.old }
+        ensures plan { self.new ≡ prepared.new }
+        ensures report { result ≡ prepared.report }
+    {
+        let PreparedEdit {
+            was: _,
+            change,
+            report,
+            blocks: _,
+            starts,
+            slaves,
+            rows,
+        } = prepared;
+        let outlook = Outlook::of(slaves, self.groups.as_slice(), &change);
+        turn_on(&mut self.cuts, &outlook, &starts);
+        drop(outlook);
+        change.carry_out(&mut self.groups);
+        follow(&mut self.index, self.groups.as_slice(), report.swap.edit());
+        self.places.carry_out(&report.swap, rows);
+        self.epoch = report.epoch;
+        report
+    }
+
     /// Carries an edit out: the plan is then that of the new line, and the report tells what became
     /// different. Otherwise the lowest fault whose condition holds, or `Memory` where a growth was
     /// refused; the plan is then as it was. A fault that the edit has by itself, of the faults 1 to 11,
@@ -247,24 +314,8 @@ impl Plan {
         ensures own { IfSome (own_fault self.old.groups edit.now) (λ fault. result ≡ Err fault) }
         ensures unchanged { OnErr result (self.new ≡ self.old) }
     {
-        let change = Prepared::of(alloc, self.groups.as_slice(), edit)?;
-        let outlook = Outlook::of(alloc, self.groups.as_slice(), &change)?;
-        let applied = work_out::<Brand>(
-            alloc,
-            edit,
-            &outlook,
-            self.epoch,
-            &mut self.cuts,
-            &self.places,
-            Blank::new(1),
-        )?;
-        drop(outlook);
-        let Applied { report, room } = applied;
-        change.carry_out(&mut self.groups);
-        follow(&mut self.index, self.groups.as_slice(), edit);
-        self.places.carry_out(&report.swap, room);
-        self.epoch += 1;
-        Ok(report)
+        let prepared = self.prepare(alloc, edit)?;
+        Ok(self.carry_out(prepared))
     }
 
     /// Carries edits out in their order, as `apply` does each, and gives their answers. The room for the

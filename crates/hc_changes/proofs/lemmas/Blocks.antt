@@ -1,13 +1,14 @@
--- The blocks of a line are those of its areas.
-use Rattle.std.proofs.Common.{◌≡◌, ℕ, ◌+◌, ◌*◌, List, [], ◌∷◌, ◌++◌, refl, sym, ap, ◌∙◌, arith}
+-- The blocks of a line are those of its areas, and so are they with the ranks of their slaves.
+use Rattle.std.proofs.Common.{◌≡◌, ℕ, ◌+◌, ◌*◌, List, [], ◌∷◌, ◌++◌, map, refl, sym, ap, ◌∙◌, arith}
 use Rattle.std.specs.List.{enumerate_from, flat_map}
 use Rattle.std.proofs.lemmas.List.Folds.{flat_map-map}
 use Rattle.hc_records.specs.declared.records.Area.{Area}
 use Rattle.hc_records.specs.declared.keys.Key.{Key}
 use Rattle.hc_records.specs.Line.{Member}
 use Rattle.hc_registers.specs.Blocks.{LineBlock, RegisterBlock, fmmu_block, line_blocks, mapping_of, member_blocks, numbered, sync_manager_block}
-use Rattle.hc_changes.specs.Candidates.{areas_of, blocks_of, line_areas}
-use Rattle.hc_changes.proofs.lemmas.Lists.{flat_map-flat_map}
+use Rattle.hc_ranks.specs.Blocks.{RankedBlock, member_ranked, ranked, ranked_blocks}
+use Rattle.hc_changes.specs.Candidates.{LineArea, areas_of, blocks_of, line_areas}
+use Rattle.hc_changes.proofs.lemmas.Lists.{flat_map-flat_map, map-flat_map}
 
 -- of a slave whose areas from an index on give two blocks each
 pairs-numbered : (station index : ℕ) (first second : ℕ × Area → RegisterBlock) (areas : List Area)
@@ -20,7 +21,7 @@ pairs-numbered station index first second (area ∷ areas) =
     ap (λ (n : ℕ). own ++ numbered station n (flat_map (λ e. first e ∷ second e ∷ []) (enumerate_from (index + 1) areas))) next
     ∙ ap (λ (rest : List LineBlock). own ++ rest) (pairs-numbered station (index + 1) first second areas)
 
-flat_map-alike : {X Y : Type 0} (f g : X → List Y) → ((x : X) → f x ≡ g x) → (xs : List X) → flat_map f xs ≡ flat_map g xs
+pub flat_map-alike : {X Y : Type 0} (f g : X → List Y) → ((x : X) → f x ≡ g x) → (xs : List X) → flat_map f xs ≡ flat_map g xs
 flat_map-alike f g same [] = refl
 flat_map-alike f g same (x ∷ xs) = ap (λ (ys : List _). ys ++ flat_map f xs) (same x) ∙ ap (λ (ys : List _). g x ++ ys) (flat_map-alike f g same xs)
 
@@ -34,3 +35,21 @@ pub blocks-of-areas : (line : List Member) → line_blocks line ≡ flat_map (bl
 blocks-of-areas line =
     flat_map-alike (member_blocks line) (λ member. flat_map (blocks_of line) (areas_of member)) (member-blocks line) line
     ∙ sym (flat_map-flat_map (blocks_of line) areas_of line)
+
+-- what is told of the blocks of an area, with the rank of its slave
+abbrev pub ranked_by : (LineArea → List LineBlock) → LineArea → List RankedBlock
+ranked_by blocks found = map (ranked found.member.rank) (blocks found)
+
+member-ranked : (line : List Member) (member : Member) → member_ranked line member ≡ flat_map (ranked_by (blocks_of line)) (areas_of member)
+member-ranked line member =
+    let at : ℕ × Area → LineArea = λ e. record { member = member; index = e.0; area = e.1 } in
+    let areas = enumerate_from 0 member.slave.areas in
+    ap (map (ranked member.rank)) (member-blocks line member)
+    ∙ map-flat_map (ranked member.rank) (blocks_of line) (areas_of member)
+    ∙ flat_map-map (λ (found : LineArea). map (ranked member.rank) (blocks_of line found)) at areas
+    ∙ sym (flat_map-map (ranked_by (blocks_of line)) at areas)
+
+pub ranked-of-areas : (line : List Member) → ranked_blocks line ≡ flat_map (ranked_by (blocks_of line)) (line_areas line)
+ranked-of-areas line =
+    flat_map-alike (member_ranked line) (λ member. flat_map (ranked_by (blocks_of line)) (areas_of member)) (member-ranked line) line
+    ∙ sym (flat_map-flat_map (ranked_by (blocks_of line)) areas_of line)

@@ -19,11 +19,12 @@ use Rattle.hc_records.specs.Project.{lowest_fault}
 use Rattle.hc_records.proofs.lemmas.Finds.{mapped-some}
 use Rattle.hc_records.proofs.lemmas.Lines.{RanksBelow, line-ascends}
 use Rattle.hc_records.proofs.lemmas.Slaves.{line-inside}
-use Rattle.hc_registers.specs.Blocks.{LineBlock, fmmu_block, line_blocks, mapping_of, moved_blocks, same_block, same_bytes, sync_manager_block}
+use Rattle.hc_registers.specs.Blocks.{LineBlock, fmmu_block, line_blocks, mapping_of, same_block, same_bytes, sync_manager_block}
+use Rattle.hc_ranks.specs.Blocks.{moved_ranked, ranked}
 use Rattle.hc_changes.specs.Candidates.{DifferAt, LineArea, blocks_of, candidates, is_candidate, line_areas, moved_of}
 use Rattle.hc_changes.specs.Compared.{counterpart, differing_of, unlike}
 use Rattle.hc_changes.proofs.lemmas.Bare.{bare}
-use Rattle.hc_changes.proofs.lemmas.Blocks.{blocks-of-areas}
+use Rattle.hc_changes.proofs.lemmas.Blocks.{blocks-of-areas, ranked_by}
 use Rattle.hc_changes.proofs.lemmas.Lists.{contains-behind, contains-first, contains-flat_map, contains-unfiltered, flat_map-piece, found-among}
 use Rattle.hc_changes.proofs.lemmas.Moved.{moved-told}
 use Rattle.hc_changes.proofs.lemmas.OneProject.{AreOfOneProject, at-own, edit-one-project, one-index, own-at}
@@ -268,14 +269,14 @@ flat_map-among f g (x ∷ xs) all =
 
 pub all-compared : (changed : ℕ → Bool) (groups : List Declared) (edit : Edit) → lowest_fault (groups_of groups) ≡ None → lowest_fault (groups_of (groups_after groups edit)) ≡ None
     → DifferAt changed (line_from 1 groups) (line_from 1 (groups_after groups edit))
-    → moved_blocks (line_from 1 groups) (line_from 1 (groups_after groups edit))
-    ≡ flat_map (differing_of (line_from 1 groups) (line_from 1 (groups_after groups edit)))
+    → moved_ranked (line_from 1 groups) (line_from 1 (groups_after groups edit))
+    ≡ flat_map (ranked_by (differing_of (line_from 1 groups) (line_from 1 (groups_after groups edit))))
     (candidates changed (line_from 1 groups) (line_from 1 (groups_after groups edit)))
 all-compared changed groups edit none none' differ =
     let old = line_from 1 groups in
     let new = line_from 1 (groups_after groups edit) in
     moved-told changed (record { groups = groups; epoch = 0 }) (record { groups = groups_after groups edit; epoch = 0 }) none none' differ
-    ∙ flat_map-among (moved_of old new) (differing_of old new) (candidates changed old new)
-    (All-weaker (Contains (candidates changed old new)) (λ found. moved_of old new found ≡ differing_of old new found)
-    (λ found at. compared groups edit found none (contains-unfiltered (is_candidate changed old new) (line_areas new) found at))
+    ∙ flat_map-among (ranked_by (moved_of old new)) (ranked_by (differing_of old new)) (candidates changed old new)
+    (All-weaker (Contains (candidates changed old new)) (λ found. ranked_by (moved_of old new) found ≡ ranked_by (differing_of old new) found)
+    (λ found at. ap (map (ranked found.member.rank)) (compared groups edit found none (contains-unfiltered (is_candidate changed old new) (line_areas new) found at)))
     (candidates changed old new) (All-contains_itself (candidates changed old new)))

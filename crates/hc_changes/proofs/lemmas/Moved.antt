@@ -1,5 +1,5 @@
 -- The moved blocks are those of candidates.
-use Rattle.std.proofs.Common.{◌≡◌, ℕ, ◌*◌, ◌==◌, Bool, true, false, List, [], ◌∷◌, Contains, Option, Some, None, refl, sym, ap, subst, ◌∙◌}
+use Rattle.std.proofs.Common.{◌≡◌, ℕ, ◌*◌, ◌==◌, Bool, true, false, cond, List, [], ◌∷◌, Contains, Option, Some, None, refl, sym, ap, subst, ◌∙◌}
 use Rattle.std.specs.Prelude.{All, AllPairs, filter, map, not, option_map}
 use Rattle.std.specs.Option.{option_map_or}
 use Rattle.std.specs.List.{flat_map, list_any}
@@ -20,10 +20,11 @@ use Rattle.hc_records.proofs.lemmas.KeyOrder.{same_key-refl, same_key-same}
 use Rattle.hc_records.proofs.lemmas.Lines.{RanksBelow, line-ascends}
 use Rattle.hc_records.proofs.lemmas.Packed.{area_of, packed-areas}
 use Rattle.hc_records.proofs.lemmas.TaskLists.{project-list}
-use Rattle.hc_registers.specs.Blocks.{LineBlock, RegisterBlock, fmmu_block, line_blocks, mapping_at, moved_blocks, numbered, same_block, same_bytes, sync_manager_block}
+use Rattle.hc_registers.specs.Blocks.{LineBlock, RegisterBlock, fmmu_block, line_blocks, mapping_at, numbered, same_block, same_bytes, sync_manager_block}
 use Rattle.hc_cuts.specs.Keeping.{is_kept_up_to}
+use Rattle.hc_ranks.specs.Blocks.{RankedBlock, moved_ranked, ranked}
 use Rattle.hc_changes.specs.Candidates.{DifferAt, LineArea, blocks_of, candidates, is_candidate, is_recut, key_of, line_areas, moved_of, place_of}
-use Rattle.hc_changes.proofs.lemmas.Blocks.{blocks-of-areas}
+use Rattle.hc_changes.proofs.lemmas.Blocks.{blocks-of-areas, flat_map-alike, ranked-of-areas, ranked_by}
 use Rattle.hc_changes.proofs.lemmas.Lists.{contains-flat_map, filter-flat_map, flat_map-kept, found-among}
 use Rattle.hc_changes.proofs.lemmas.Others.{IsAreaOf, area-stands, contains-mapped, line-area, map-piece, others-stand}
 use Rattle.hc_changes.proofs.lemmas.Standing.{kept-place}
@@ -124,12 +125,26 @@ unmoved changed old new was is differ found at other =
     (subst (λ (blocks : List LineBlock). All (λ block. not (list_any (same_block block) (line_blocks (line old))) ≡ false) blocks)
     (same-blocks found (line old) (line new) stood.1) (stood-all found (line old) (area-stands (line old) found stood.0)))
 
+ranked-kept : (passes : Bool) (rank : ℕ) (block : LineBlock) (kept : List LineBlock) (rest : List RankedBlock) → rest ≡ map (ranked rank) kept
+    → cond passes (ranked rank block ∷ rest) rest ≡ map (ranked rank) (cond passes (block ∷ kept) kept)
+ranked-kept true rank block kept rest is = ap (λ (blocks : List RankedBlock). ranked rank block ∷ blocks) is
+ranked-kept false rank block kept rest is = is
+
+filter-ranked : (test : LineBlock → Bool) (rank : ℕ) (blocks : List LineBlock) → filter (λ block. test block.found) (map (ranked rank) blocks) ≡ map (ranked rank) (filter test blocks)
+filter-ranked test rank [] = refl
+filter-ranked test rank (block ∷ blocks) =
+    ranked-kept (test block) rank block (filter test blocks) (filter (λ block. test block.found) (map (ranked rank) blocks)) (filter-ranked test rank blocks)
+
 pub moved-told : (changed : ℕ → Bool) (old new : State) → lowest_fault (groups_of old.groups) ≡ None → lowest_fault (groups_of new.groups) ≡ None → DifferAt changed (line old) (line new)
-    → moved_blocks (line old) (line new) ≡ flat_map (moved_of (line old) (line new)) (candidates changed (line old) (line new))
+    → moved_ranked (line old) (line new) ≡ flat_map (ranked_by (moved_of (line old) (line new))) (candidates changed (line old) (line new))
 moved-told changed old new was is differ =
     let test : LineBlock → Bool = λ block. not (list_any (same_block block) (line_blocks (line old))) in
-    ap (filter test) (blocks-of-areas (line new))
-    ∙ filter-flat_map test (blocks_of (line new)) (line_areas (line new))
-    ∙ flat_map-kept (moved_of (line old) (line new)) (is_candidate changed (line old) (line new)) (line_areas (line new))
-    (All-weaker (Contains (line_areas (line new))) (λ found. is_candidate changed (line old) (line new) found ≡ false → moved_of (line old) (line new) found ≡ [])
-    (λ found at. unmoved changed old new was is differ found at) (line_areas (line new)) (All-contains_itself (line_areas (line new))))
+    let ranked_test : RankedBlock → Bool = λ block. test block.found in
+    let moved = ranked_by (moved_of (line old) (line new)) in
+    ap (filter ranked_test) (ranked-of-areas (line new))
+    ∙ filter-flat_map ranked_test (ranked_by (blocks_of (line new))) (line_areas (line new))
+    ∙ flat_map-alike (λ (found : LineArea). filter ranked_test (ranked_by (blocks_of (line new)) found)) moved
+    (λ found. filter-ranked test found.member.rank (blocks_of (line new) found)) (line_areas (line new))
+    ∙ flat_map-kept moved (is_candidate changed (line old) (line new)) (line_areas (line new))
+    (All-weaker (Contains (line_areas (line new))) (λ found. is_candidate changed (line old) (line new) found ≡ false → moved found ≡ [])
+    (λ found at other. ap (map (ranked found.member.rank)) (unmoved changed old new was is differ found at other)) (line_areas (line new)) (All-contains_itself (line_areas (line new))))

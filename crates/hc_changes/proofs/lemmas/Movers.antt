@@ -16,13 +16,14 @@ use Rattle.hc_records.specs.Packing.{Placed}
 use Rattle.hc_records.proofs.lemmas.Finds.{mapped-some}
 use Rattle.hc_records.proofs.lemmas.KeyOrder.{same_key-same}
 use Rattle.hc_records.proofs.lemmas.Lines.{line-ascends}
-use Rattle.hc_registers.specs.Blocks.{RegisterBlock, moved_blocks, same_bytes}
+use Rattle.hc_registers.specs.Blocks.{RegisterBlock, same_bytes}
+use Rattle.hc_ranks.specs.Blocks.{moved_ranked}
 use Rattle.hc_places.specs.Swap.{same_found}
 use Rattle.hc_places.specs.Table.{Row, place_in, table_of}
 use Rattle.hc_places.proofs.lemmas.Same.{found-same}
 use Rattle.hc_changes.specs.Candidates.{Candidate, LineArea, candidate_of, candidates, is_candidate, key_of, line_areas, place_of}
-use Rattle.hc_changes.specs.Moved.{bits_of, name_of}
-use Rattle.hc_changes.specs.inner.Moved.{IsComparable, IsWritable, differ_from, moved_by, names_if, names_moved, two_blocks}
+use Rattle.hc_changes.specs.Moved.{bits_of}
+use Rattle.hc_changes.specs.inner.Moved.{IsComparable, IsWritable, blocks_if, blocks_moved, differ_from, moved_by, two_blocks}
 use Rattle.hc_changes.specs.Movers.{Mover, Stood, area_before, mover_of, movers_of, moves, place_before, same_spot, stood_of}
 use Rattle.hc_changes.specs.Outlook.{IsOutlook, Outlook, candidates_of, changes}
 use Rattle.hc_changes.specs.Rows.{StandsInside, is_new_row, moved_rows, rows_of, rows_of_movers}
@@ -30,7 +31,7 @@ use Rattle.hc_changes.proofs.lemmas.ByRank.{area-named}
 use Rattle.hc_changes.proofs.lemmas.Inside.{candidates-inside}
 use Rattle.hc_changes.proofs.lemmas.Lists.{contains-unfiltered, filter-flat_map, flat_map-kept, found-among, map-flat_map}
 use Rattle.hc_changes.proofs.lemmas.Moved.{none-kept, same_bytes-refl}
-use Rattle.hc_changes.proofs.lemmas.MovedNames.{area-writable, before-writable, moved-named, place-by}
+use Rattle.hc_changes.proofs.lemmas.MovedBlocks.{area-writable, before-writable, moved-told, place-by}
 use Rattle.hc_changes.proofs.lemmas.Others.{IsAreaOf, area-stands, line-area, others-stand}
 use Rattle.hc_changes.proofs.lemmas.Outlooks.{other-at}
 use Rattle.hc_changes.proofs.lemmas.PlacedWidths.{placed-width}
@@ -118,18 +119,18 @@ module _ (it : Outlook) (is : IsOutlook it) where
 
   -- its blocks are those that it had
 
-  unmoved-names : (found : LineArea) → IsAreaOf new found → moves it (mover_of it (own found)) ≡ false → names_moved (mover_of it (own found)) ≡ []
-  unmoved-names found of still =
+  unmoved-blocks : (found : LineArea) → IsAreaOf new found → moves it (mover_of it (own found)) ≡ false → blocks_moved (mover_of it (own found)) ≡ []
+  unmoved-blocks found of still =
       let candidate = own found in
       let it-stays = stays found of still in
       let make : Area → Stood = λ area. record { area = area; place = place_before it candidate area } in
       let now = two_blocks found.index found.area candidate.place in
       let by : Option Stood → Bool × Bool = λ stood. option_map_or (λ (s : Stood). differ_from now (two_blocks found.index s.area s.place)) stood (true, true) in
-      let none : moved_by (mover_of it candidate) ≡ (false, false) =
+      let none : moved_by now (mover_of it candidate) ≡ (false, false) =
       ap (λ (a : Option Area). by (option_map make a)) it-stays.area
       ∙ ap (λ (p : Option Placed). differ_from now (two_blocks found.index found.area p)) (it-stays.stood ∙ sym it-stays.place)
       ∙ none-differ now in
-      ap (names_if candidate) none
+      ap (blocks_if candidate now) none
 
   -- and its variables stand where they stood
 
@@ -151,12 +152,12 @@ module _ (it : Outlook) (is : IsOutlook it) where
 
   -- so the movers tell the blocks and the variables that the candidates do
 
-  pub movers-named : flat_map names_moved (movers_of it) ≡ map name_of (moved_blocks old new)
-  movers-named =
-      sym (flat_map-kept names_moved (moves it) (map (mover_of it) (candidates_of it))
-      (each-mover (λ (m : Mover). moves it m ≡ false → names_moved m ≡ []) (λ found of. unmoved-names found of)))
-      ∙ flat_map-map names_moved (mover_of it) (candidates_of it)
-      ∙ moved-named it is
+  pub movers-moved : flat_map blocks_moved (movers_of it) ≡ moved_ranked old new
+  movers-moved =
+      sym (flat_map-kept blocks_moved (moves it) (map (mover_of it) (candidates_of it))
+      (each-mover (λ (m : Mover). moves it m ≡ false → blocks_moved m ≡ []) (λ found of. unmoved-blocks found of)))
+      ∙ flat_map-map blocks_moved (mover_of it) (candidates_of it)
+      ∙ moved-told it is
 
   pub movers-rows : moved_rows (table_of old) (rows_of_movers (movers_of it)) ≡ moved_rows (table_of old) (flat_map rows_of (candidates_of it))
   movers-rows =

@@ -8,6 +8,7 @@ use Rattle.hc_records.specs.Line.{Member}
 use Rattle.hc_records.specs.Packing.{Placed}
 use Rattle.hc_registers.specs.declared.fmmu.Mapping.{Mapping}
 use Rattle.hc_registers.specs.Blocks.{RegisterBlock, fmmu_block, mapping_at, same_bytes, sync_manager_block}
+use Rattle.hc_ranks.specs.Blocks.{RankedBlock, ranked}
 use Rattle.hc_changes.specs.Candidates.{Candidate, LineArea, candidate_of, line_areas}
 use Rattle.hc_changes.specs.Movers.{Mover}
 use Rattle.hc_changes.specs.Moved.{bits_of}
@@ -39,24 +40,25 @@ two_blocks index area place = (sync_manager_block area, fmmu_block index area (m
 abbrev pub differ_from : RegisterBlock × RegisterBlock → RegisterBlock × RegisterBlock → Bool × Bool
 differ_from blocks others = (not (same_bytes blocks.0 others.0), not (same_bytes blocks.1 others.1))
 
--- of the two blocks of a mover, whether each differs from the one that its slave had with its number: both do where it had no such area
-abbrev pub moved_by : Mover → Bool × Bool
-moved_by mover =
-    option_map_or
-    (λ stood. differ_from (two_blocks mover.found.index mover.found.area mover.found.place) (two_blocks mover.found.index stood.area stood.place))
-    mover.stood
-    (true, true)
+-- of two blocks of a mover, whether each differs from the one that its slave had with its number: both do where it had no such area
+abbrev pub moved_by : RegisterBlock × RegisterBlock → Mover → Bool × Bool
+moved_by blocks mover =
+    option_map_or (λ stood. differ_from blocks (two_blocks mover.found.index stood.area stood.place)) mover.stood (true, true)
 
 -- a mover whose blocks can be written, as those can that its slave had
 pub record IsComparable (mover : Mover) : Type 0 where
   pub new : IsWritable mover.found.index mover.found.area mover.found.place
   pub old : ForSome mover.stood (λ stood. IsWritable mover.found.index stood.area stood.place)
 
--- the names of those of the two blocks that differ
-abbrev pub names_if : Candidate → Bool × Bool → List (ℕ × ℕ)
-names_if found moved =
-    (if moved.0 then (found.station, 2 * found.index) ∷ [] else []) ++ (if moved.1 then (found.station, 2 * found.index + 1) ∷ [] else [])
+-- a block of a candidate, by its number in the slave's order, with the slave's rank
+abbrev pub block_with : Candidate → ℕ → RegisterBlock → RankedBlock
+block_with found number block = ranked found.rank (record { station = found.station; number = number; block = block })
 
--- the names of those blocks of a mover that the edit moved
-abbrev pub names_moved : Mover → List (ℕ × ℕ)
-names_moved mover = names_if mover.found (moved_by mover)
+-- those of a candidate's two blocks that differ
+abbrev pub blocks_if : Candidate → RegisterBlock × RegisterBlock → Bool × Bool → List RankedBlock
+blocks_if found blocks moved =
+    (if moved.0 then block_with found (2 * found.index) blocks.0 ∷ [] else []) ++ (if moved.1 then block_with found (2 * found.index + 1) blocks.1 ∷ [] else [])
+
+-- those blocks of a mover that the edit moved
+abbrev pub blocks_moved : Mover → List RankedBlock
+blocks_moved mover = let blocks = two_blocks mover.found.index mover.found.area mover.found.place in blocks_if mover.found blocks (moved_by blocks mover)

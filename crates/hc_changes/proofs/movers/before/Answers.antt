@@ -7,7 +7,7 @@ use Rattle.hc_changes.specs.Candidates.{Candidate}
 use Rattle.hc_changes.specs.inner.Moved.{IsOfLine, IsWritable}
 use Rattle.hc_changes.specs.Movers.{area_before, place_before}
 use Rattle.hc_changes.specs.Outlook.{IsOutlook, Outlook}
-use Rattle.hc_changes.proofs.lemmas.MovedNames.{before-writable, candidate-named}
+use Rattle.hc_changes.proofs.lemmas.MovedBlocks.{before-writable, candidate-named}
 use Rattle.hc_changes.proofs.movers.before.Goals as goal
 
 -- the blocks that a candidate's slave had, by the candidate's fields

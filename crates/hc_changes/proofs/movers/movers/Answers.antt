@@ -1,4 +1,4 @@
-use Rattle.hc_changes.proofs.lemmas.MovedNames.{candidate-stands}
+use Rattle.hc_changes.proofs.lemmas.MovedBlocks.{candidate-stands}
 use Rattle.hc_changes.proofs.movers.movers.Goals as goal
 
 pub before-requires-clause-stands : goal.before-requires-clause-stands

@@ -4,7 +4,7 @@ use Rattle.hc_records.specs.declared.limits.TheConstants.{LAST_EPOCH}
 use Rattle.hc_tasks.specs.Areas.{areas_by_rank}
 use Rattle.hc_plan.proofs.Turned.{outlook-lines}
 use Rattle.hc_plan.proofs.Editing.{made-accepted, made-crowded, made-spent}
-use Rattle.hc_plan.proofs.Telling.{named-count, named-few}
+use Rattle.hc_plan.proofs.Telling.{moved-count, moved-few, moved-named}
 use Rattle.hc_plan.proofs.applying.work_out.Goals as goal
 
 pub see_new_line-seen-requires-clause-known : goal.see_new_line-seen-requires-clause-known
@@ -19,9 +19,6 @@ turn_back-requires-clause-known g c =
     c.of-known.ensures (areas_by_rank it.old) (areas_by_rank it.new) (outlook-lines it c.first.result c.before-2.result.now c.after.result.now c.requires.edit.is c.first.ensures c.before-2.ensures c.after.ensures)
     c.requires.trees
 
-pub turn_on-requires-clause-starts : goal.turn_on-requires-clause-starts
-turn_on-requires-clause-starts g c = c.copied_starts-starts.ensures.starts (areas_by_rank c.args.outlook.now.new) c.in-Ok.ensures.turned
-
 pub returns-in-Err-clause-refused : goal.returns-in-Err-clause-refused
 returns-in-Err-clause-refused g c =
     let it = c.args.outlook.now in
@@ -34,23 +31,27 @@ returns-then-epoch-eq-LAST_EPOCH-clause-refused g c =
 
 pub overflow_cast-report : goal.overflow_cast-report
 overflow_cast-report g c =
-    let few = named-few c.args.outlook.now c.in_ok-blocks.field-0.blocks.items c.requires.edit.is c.in-Ok.ensures.accepted c.in_ok-blocks.ensures.blocks in
+    let few = moved-few c.args.outlook.now c.in_ok-blocks.field-0.blocks.items c.requires.edit.is c.in-Ok.ensures.accepted c.in_ok-blocks.ensures.blocks in
     omega (arith, few, c.len.ensures)
+
+pub returns-clause-starts : goal.returns-clause-starts
+returns-clause-starts g c = c.copied_starts-starts.ensures.starts (areas_by_rank c.args.outlook.now.new) c.in-Ok.ensures.turned
 
 pub returns-clause-report : goal.returns-clause-report
 returns-clause-report g c =
     let it = c.args.outlook.now in
-    let leads = c.in_ok-blocks.ensures.leads in
-    let many : c.len.result ≡ length c.in_ok-blocks.field-0.blocks.items = let len = c.len.ensures in omega (arith, c.in_ok-blocks.field-0.blocks.ok.0) in
+    let told = c.in_ok-blocks.ensures in
+    let blocks = c.in_ok-blocks.field-0.blocks.items in
+    let many : c.len.result ≡ length blocks = let len = c.len.ensures in omega (arith, c.in_ok-blocks.field-0.blocks.ok.0) in
     record {
       epoch = refl;
       recut = c.in-Ok.ensures.recut;
-      moved = many ∙ named-count it c.in_ok-blocks.field-0.blocks.items c.in_ok-blocks.ensures.blocks;
-      blocks = c.of.ensures ∙ c.in_ok-blocks.ensures.blocks;
-      named = c.in_ok-blocks.ensures.edit;
-      leads = leads.leads;
-      says = leads.says;
-      places = leads.count;
+      moved = many ∙ moved-count it blocks told.blocks;
+      blocks = c.of.ensures ∙ moved-named it blocks c.in_ok-blocks.field-0.names.items told.blocks told.names;
+      named = told.edit;
+      leads = told.leads.leads;
+      says = told.leads.says;
+      places = told.leads.count;
     }
 
 pub returns-clause-accepted : goal.returns-clause-accepted

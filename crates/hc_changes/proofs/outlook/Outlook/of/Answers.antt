@@ -7,6 +7,6 @@ use Rattle.hc_changes.proofs.outlook.Outlook.of.Goals as goal
 pub invariant_of-result : goal.invariant_of-result
 invariant_of-result c =
     let it = outlook_of c.args.change.now c.args.groups.now in
-    subst (λ (after : List (List Area)). IsOutlook (record it { before = c.in_ok-before.before.items; after = after })) (sym c.in_ok-after.ensures)
-    (subst (λ (before : List (List Area)). IsOutlook (record it { before = before })) (sym c.in_ok-before.ensures)
+    subst (λ (after : List (List Area)). IsOutlook (record it { before = c.areas_before.result.items; after = after })) (sym c.areas_after.ensures)
+    (subst (λ (before : List (List Area)). IsOutlook (record it { before = before })) (sym c.areas_before.ensures)
     (change-outlook c.args.groups.now c.args.change.now c.requires.edited c.requires.was c.requires.is c.requires.row))

@@ -1,4 +1,4 @@
--- The names of the blocks that an edit moves are those of the candidates that differ from the blocks with their numbers.
+-- The blocks that an edit moves are those of the candidates that differ from the blocks with their numbers.
 use Rattle.std.proofs.Common.{◌≡◌, ℕ, ◌+◌, ◌*◌, ◌<◌, ◌==◌, ◌&&◌, Bool, true, false, cond, List, [], ◌∷◌, ◌++◌, length, get_or, Contains, Option, Some, None, refl, sym, ap, subst, ◌∙◌, arith}
 use Rattle.std.specs.Prelude.{All, find, map, not, option_and_then, option_map, slice_get}
 use Rattle.std.specs.List.{flat_map}
@@ -24,19 +24,20 @@ use Rattle.hc_records.proofs.lemmas.Lists.{All-unmap}
 use Rattle.hc_records.proofs.lemmas.Packable.{project-packable}
 use Rattle.hc_records.proofs.lemmas.Packed.{area_of, packed-areas}
 use Rattle.hc_records.proofs.lemmas.Slaves.{line-inside}
-use Rattle.hc_registers.specs.Blocks.{LineBlock, RegisterBlock, fmmu_block, mapping_of, moved_blocks, same_block, same_bytes, sync_manager_block}
+use Rattle.hc_registers.specs.Blocks.{LineBlock, RegisterBlock, fmmu_block, mapping_of, same_block, same_bytes, sync_manager_block}
+use Rattle.hc_ranks.specs.Blocks.{RankedBlock, moved_ranked, ranked}
 use Rattle.hc_cuts.specs.Place.{place_of as place_by}
 use Rattle.hc_tasks.specs.Areas.{areas_at, areas_by_rank, list_by}
 use Rattle.hc_tasks.proofs.lemmas.Told.{place-told}
 use Rattle.hc_changes.specs.Candidates.{Candidate, DifferAt, LineArea, blocks_of, candidate_of, candidates, is_candidate, key_of, line_areas, place_of}
 use Rattle.hc_changes.specs.Compared.{counterpart, differing_of, unlike}
-use Rattle.hc_changes.specs.Moved.{name_of}
-use Rattle.hc_changes.specs.inner.Moved.{IsOfLine, IsWritable, differ_from, mapping_by, names_if, names_moved, two_blocks}
+use Rattle.hc_changes.specs.inner.Moved.{IsOfLine, IsWritable, blocks_if, blocks_moved, differ_from, mapping_by, two_blocks}
 use Rattle.hc_changes.specs.Movers.{Stood, area_before, mover_of, place_before}
 use Rattle.hc_changes.specs.Outlook.{IsOutlook, Outlook, changes}
+use Rattle.hc_changes.proofs.lemmas.Blocks.{ranked_by}
 use Rattle.hc_changes.proofs.lemmas.ByRank.{area-named, areas-of-rank}
 use Rattle.hc_changes.proofs.lemmas.Compared.{StoodAt, all-compared, area-stood, flat_map-among}
-use Rattle.hc_changes.proofs.lemmas.Lists.{contains-unfiltered, found-among, map-flat_map}
+use Rattle.hc_changes.proofs.lemmas.Lists.{contains-unfiltered, found-among}
 use Rattle.hc_changes.proofs.lemmas.OneProject.{AreOfOneProject, edit-one-project, own-at}
 use Rattle.hc_changes.proofs.lemmas.Others.{IsAreaOf, line-area}
 use Rattle.hc_changes.proofs.lemmas.PlacedWidths.{placed-width}
@@ -90,7 +91,7 @@ area-told groups found =
     ap (λ (areas : List Area). slice_get areas found.index) (areas-of-rank groups found.member.rank)
     ∙ area-by (line_from 1 groups) found (find (λ (m : Member). m.rank == found.member.rank) (line_from 1 groups)) refl
 
--- the names of those of two blocks that differ from two others
+-- those of two blocks that differ from two others, with a rank
 
 and-known : (a b : Bool) → a ≡ true → (a && b) ≡ b
 and-known true b is = refl
@@ -99,20 +100,21 @@ and-known false b is = cc
 same-station : (a b : LineBlock) → a.station ≡ b.station → same_block a b ≡ same_bytes a.block b.block
 same-station a b station = and-known (a.station == b.station) (same_bytes a.block b.block) (eq-eqb a.station b.station station)
 
-two-names : (x y : Bool) (a b : LineBlock)
-    → map name_of (cond x (cond y [] (b ∷ [])) (a ∷ cond y [] (b ∷ []))) ≡ cond (not x) (name_of a ∷ []) [] ++ cond (not y) (name_of b ∷ []) []
-two-names true true a b = refl
-two-names true false a b = refl
-two-names false true a b = refl
-two-names false false a b = refl
+abbrev those : ℕ → LineBlock → LineBlock → Bool → Bool → List RankedBlock
+those rank a b x y = cond (not x) (ranked rank a ∷ []) [] ++ cond (not y) (ranked rank b ∷ []) []
 
-unlike-names : (a b c d : LineBlock) → a.station ≡ c.station → b.station ≡ d.station
-    → map name_of (unlike (c ∷ d ∷ []) (a ∷ b ∷ []))
-    ≡ cond (not (same_bytes a.block c.block)) (name_of a ∷ []) [] ++ cond (not (same_bytes b.block d.block)) (name_of b ∷ []) []
-unlike-names a b c d first second =
-    two-names (same_block a c) (same_block b d) a b
-    ∙ ap (λ (x : Bool). cond (not x) (name_of a ∷ []) [] ++ cond (not (same_block b d)) (name_of b ∷ []) []) (same-station a c first)
-    ∙ ap (λ (y : Bool). cond (not (same_bytes a.block c.block)) (name_of a ∷ []) [] ++ cond (not y) (name_of b ∷ []) []) (same-station b d second)
+two-blocks : (rank : ℕ) (x y : Bool) (a b : LineBlock) → map (ranked rank) (cond x (cond y [] (b ∷ [])) (a ∷ cond y [] (b ∷ []))) ≡ those rank a b x y
+two-blocks rank true true a b = refl
+two-blocks rank true false a b = refl
+two-blocks rank false true a b = refl
+two-blocks rank false false a b = refl
+
+unlike-blocks : (rank : ℕ) (a b c d : LineBlock) → a.station ≡ c.station → b.station ≡ d.station
+    → map (ranked rank) (unlike (c ∷ d ∷ []) (a ∷ b ∷ [])) ≡ those rank a b (same_bytes a.block c.block) (same_bytes b.block d.block)
+unlike-blocks rank a b c d first second =
+    two-blocks rank (same_block a c) (same_block b d) a b
+    ∙ ap (λ (x : Bool). those rank a b x (same_block b d)) (same-station a c first)
+    ∙ ap (those rank a b (same_bytes a.block c.block)) (same-station b d second)
 
 -- where an area stood, by the areas of the old line, and the FMMU block that it was there
 
@@ -134,10 +136,10 @@ second-before groups found was rank index =
     ∙ ap (λ (i : ℕ). fmmu_block i was.area
     (mapping_by was.area (place_by (record { dir = was.area.dir; rank = found.member.rank; area = found.index }) (list_by was.area.task (areas_by_rank groups))))) index
 
--- so those of an area of the new line are those of its blocks that differ from the blocks with their numbers
+-- so a candidate tells those of its blocks that differ from the blocks with their numbers
 
-abbrev pub names_by : Outlook → Candidate → List (ℕ × ℕ)
-names_by it candidate = names_moved (mover_of it candidate)
+abbrev pub blocks_by : Outlook → Candidate → List RankedBlock
+blocks_by it candidate = blocks_moved (mover_of it candidate)
 
 module _ (it : Outlook) (one : AreOfOneProject (line_from 1 it.old) (line_from 1 it.new)) where
   abbrev old : List Member
@@ -146,44 +148,43 @@ module _ (it : Outlook) (one : AreOfOneProject (line_from 1 it.old) (line_from 1
   abbrev new : List Member
   new = line_from 1 it.new
 
-  names-by : (found : LineArea) → IsAreaOf new found → (was : Option LineArea) → counterpart old found ≡ was
-      → map name_of (unlike (option_map_or (blocks_of old) was []) (blocks_of new found)) ≡ names_by it (candidate_of new found)
-  names-by found of None is =
+  blocks-by : (found : LineArea) → IsAreaOf new found → (was : Option LineArea) → counterpart old found ≡ was
+      → map (ranked found.member.rank) (unlike (option_map_or (blocks_of old) was []) (blocks_of new found)) ≡ blocks_by it (candidate_of new found)
+  blocks-by found of None is =
       let none : area_before it (candidate_of new found) ≡ None = area-told it.old found ∙ ap (option_map (λ (f : LineArea). f.area)) is in
       rw none refl
-  names-by found of (Some was) is =
+  blocks-by found of (Some was) is =
       let stood : StoodAt old found was = area-stood old found was is in
       let candidate = candidate_of new found in
       let some : area_before it candidate ≡ Some was.area = area-told it.old found ∙ ap (option_map (λ (f : LineArea). f.area)) is in
       let station : found.member.slave.station ≡ was.member.slave.station =
       sym (ap (λ (p : ℕ × List Area). p.0) (one.alike was.member found.member stood.of.member of.member stood.rank)) in
-      let names : RegisterBlock → List (ℕ × ℕ) = λ second.
-      names_if candidate (differ_from (two_blocks found.index found.area candidate.place) (sync_manager_block was.area, second)) in
+      let two = two_blocks found.index found.area candidate.place in
+      let moved : RegisterBlock → List RankedBlock = λ second. blocks_if candidate two (differ_from two (sync_manager_block was.area, second)) in
       let had : LineBlock = record { station = was.member.slave.station; number = 2 * was.index; block = sync_manager_block was.area } in
       let second_had : LineBlock = record { station = was.member.slave.station; number = 2 * was.index + 1; block = fmmu_block was.index was.area (mapping_of old was.area.task (key_of was)) } in
       let has : LineBlock = record { station = found.member.slave.station; number = 2 * found.index; block = sync_manager_block found.area } in
       let second_has : LineBlock = record { station = found.member.slave.station; number = 2 * found.index + 1; block = fmmu_block found.index found.area (mapping_of new found.area.task (key_of found)) } in
-      unlike-names has second_has had second_had station station
-      ∙ ap names (second-before it.old found was stood.rank stood.index)
-      ∙ sym (ap (λ (area : Option Area). names_if candidate
-      (option_map_or (λ (s : Stood). differ_from (two_blocks found.index found.area candidate.place) (two_blocks found.index s.area s.place))
+      unlike-blocks found.member.rank has second_has had second_had station station
+      ∙ ap moved (second-before it.old found was stood.rank stood.index)
+      ∙ sym (ap (λ (area : Option Area). blocks_if candidate two
+      (option_map_or (λ (s : Stood). differ_from two (two_blocks found.index s.area s.place))
       (option_map (λ (a : Area). record { area = a; place = place_before it candidate a }) area) (true, true))) some)
 
-  names-told : (found : LineArea) → IsAreaOf new found → map name_of (differing_of old new found) ≡ names_by it (candidate_of new found)
-  names-told found of = names-by found of (counterpart old found) refl
+  blocks-told : (found : LineArea) → IsAreaOf new found → ranked_by (differing_of old new) found ≡ blocks_by it (candidate_of new found)
+  blocks-told found of = blocks-by found of (counterpart old found) refl
 
   -- and those of the candidates are all
-  all-names : (changed : ℕ → Bool) → moved_blocks old new ≡ flat_map (differing_of old new) (candidates changed old new)
-      → flat_map (names_by it) (map (candidate_of new) (candidates changed old new)) ≡ map name_of (moved_blocks old new)
-  all-names changed compared =
+  all-blocks : (changed : ℕ → Bool) → moved_ranked old new ≡ flat_map (ranked_by (differing_of old new)) (candidates changed old new)
+      → flat_map (blocks_by it) (map (candidate_of new) (candidates changed old new)) ≡ moved_ranked old new
+  all-blocks changed compared =
       let all = candidates changed old new in
-      flat_map-map (names_by it) (candidate_of new) all
-      ∙ sym (flat_map-among (λ found. map name_of (differing_of old new found)) (λ found. names_by it (candidate_of new found)) all
-      (All-weaker (Contains all) (λ found. map name_of (differing_of old new found) ≡ names_by it (candidate_of new found))
-      (λ found at. names-told found (line-area new found (contains-unfiltered (is_candidate changed old new) (line_areas new) found at)))
+      flat_map-map (blocks_by it) (candidate_of new) all
+      ∙ sym (flat_map-among (ranked_by (differing_of old new)) (λ found. blocks_by it (candidate_of new found)) all
+      (All-weaker (Contains all) (λ found. ranked_by (differing_of old new) found ≡ blocks_by it (candidate_of new found))
+      (λ found at. blocks-told found (line-area new found (contains-unfiltered (is_candidate changed old new) (line_areas new) found at)))
       all (All-contains_itself all)))
-      ∙ sym (map-flat_map name_of (differing_of old new) all)
-      ∙ sym (ap (map name_of) compared)
+      ∙ sym compared
 
 -- an edit leads from the one line to the other
 
@@ -191,18 +192,18 @@ pub edited-one-project : (it : Outlook) → IsOutlook it → AreOfOneProject (li
 edited-one-project it is =
     subst (λ (groups : List Declared). AreOfOneProject (line_from 1 it.old) (line_from 1 groups)) (sym is.edited.leads) (edit-one-project it.old is.edited.edit is.was_project)
 
-edited-compared : (it : Outlook) → IsOutlook it → moved_blocks (line_from 1 it.old) (line_from 1 it.new)
-    ≡ flat_map (differing_of (line_from 1 it.old) (line_from 1 it.new)) (candidates (changes it) (line_from 1 it.old) (line_from 1 it.new))
+edited-compared : (it : Outlook) → IsOutlook it → moved_ranked (line_from 1 it.old) (line_from 1 it.new)
+    ≡ flat_map (ranked_by (differing_of (line_from 1 it.old) (line_from 1 it.new))) (candidates (changes it) (line_from 1 it.old) (line_from 1 it.new))
 edited-compared it is =
     subst (λ (groups : List Declared). lowest_fault (groups_of groups) ≡ None → DifferAt (changes it) (line_from 1 it.old) (line_from 1 groups)
-    → moved_blocks (line_from 1 it.old) (line_from 1 groups)
-    ≡ flat_map (differing_of (line_from 1 it.old) (line_from 1 groups)) (candidates (changes it) (line_from 1 it.old) (line_from 1 groups)))
+    → moved_ranked (line_from 1 it.old) (line_from 1 groups)
+    ≡ flat_map (ranked_by (differing_of (line_from 1 it.old) (line_from 1 groups))) (candidates (changes it) (line_from 1 it.old) (line_from 1 groups)))
     (sym is.edited.leads) (all-compared (changes it) it.old is.edited.edit is.was_project) is.is_project is.slaves
 
-pub moved-named : (it : Outlook) → IsOutlook it
-    → flat_map (names_by it) (map (candidate_of (line_from 1 it.new)) (candidates (changes it) (line_from 1 it.old) (line_from 1 it.new)))
-    ≡ map name_of (moved_blocks (line_from 1 it.old) (line_from 1 it.new))
-moved-named it is = all-names it (edited-one-project it is) (changes it) (edited-compared it is)
+pub moved-told : (it : Outlook) → IsOutlook it
+    → flat_map (blocks_by it) (map (candidate_of (line_from 1 it.new)) (candidates (changes it) (line_from 1 it.old) (line_from 1 it.new)))
+    ≡ moved_ranked (line_from 1 it.old) (line_from 1 it.new)
+moved-told it is = all-blocks it (edited-one-project it is) (changes it) (edited-compared it is)
 
 -- each candidate is an area of the new line
 

@@ -1,0 +1,70 @@
+-- What is worked out of an edit makes it a prepared one.
+use Rattle.std.proofs.Common.{◌≡◌, ◌+◌, ℕ, List, None, sym, subst}
+use Rattle.std.specs.Prelude.{Ok, Option}
+use Rattle.hc_records.specs.declared.edit.Edit.{Edit}
+use Rattle.hc_records.specs.declared.keys.Key.{Key}
+use Rattle.hc_records.specs.declared.records.Declared.{Declared}
+use Rattle.hc_records.specs.Edits.{crowded_task, edited, groups_after}
+use Rattle.hc_records.specs.Line.{State, groups_of, line, line_from}
+use Rattle.hc_records.specs.Project.{lowest_fault}
+use Rattle.hc_ranks.specs.Blocks.{RankedBlock, moved_ranked}
+use Rattle.hc_tasks.specs.Areas.{areas_by_rank}
+use Rattle.hc_tasks.specs.Turn.{AreStartsOf}
+use Rattle.hc_edits.specs.declared.prepared.Prepared.{Prepared}
+use Rattle.hc_edits.specs.Changes.{carried}
+use Rattle.hc_edits.specs.Edits.{own_fault}
+use Rattle.hc_edits.specs.Rows.{ChangesRow}
+use Rattle.hc_places.specs.Room.{IsRoomFor}
+use Rattle.hc_places.specs.Table.{Table, table_of}
+use Rattle.hc_changes.specs.Outlook.{IsOutlook, Outlook, Room, outlook_of, IsRoomFor as HasRoomFor}
+use Rattle.hc_plan.specs.declared.report.Report.{Report}
+use Rattle.hc_plan.specs.inner.Applied.{Makes}
+use Rattle.hc_plan.specs.inner.Prepared.{IsReady, prepared_of}
+use Rattle.hc_plan.specs.Prepared.{IsPrepared}
+use Rattle.hc_plan.specs.Reports.{Tells}
+
+-- a change makes this of a plan's line
+pub makes : (it : Outlook) (change : Prepared) (edit : Edit) (table : Table) (groups : List Declared) → IsOutlook it → it ≡ outlook_of change groups
+    → own_fault groups edit ≡ None → carried change groups ≡ groups_after groups edit → crowded_task (line_from 1 groups) ≡ None → table ≡ table_of (line_from 1 groups)
+    → Makes edit table it
+makes it change edit table groups is same own leads fits stands =
+    subst (λ (o : Outlook). IsOutlook o → Makes edit table o) (sym same)
+    (λ there. record { is = there; own = own; leads = leads; fits = fits; stands = stands }) is
+
+-- what is told of it, by the states
+pub is-prepared : (old : State) (change : Prepared) (it : Outlook) (edit : Edit) (report : Report) (blocks : List RankedBlock)
+    → lowest_fault (groups_of old.groups) ≡ None → crowded_task (line old) ≡ None → it ≡ outlook_of change old.groups
+    → Tells (record { groups = it.old; epoch = old.epoch }) edit (record { groups = it.new; epoch = old.epoch + 1 }) report
+    → edited (record { groups = it.old; epoch = old.epoch }) edit ≡ Ok (record { groups = it.new; epoch = old.epoch + 1 })
+    → crowded_task (line_from 1 it.new) ≡ None → blocks ≡ moved_ranked (line_from 1 it.old) (line_from 1 it.new)
+    → IsPrepared (prepared_of old change report blocks)
+is-prepared old change it edit report blocks project fits same =
+    let new : State = record { groups = carried change old.groups; epoch = old.epoch + 1 } in
+    subst
+    (λ (o : Outlook).
+    Tells (record { groups = o.old; epoch = old.epoch }) edit (record { groups = o.new; epoch = old.epoch + 1 }) report
+    → edited (record { groups = o.old; epoch = old.epoch }) edit ≡ Ok (record { groups = o.new; epoch = old.epoch + 1 })
+    → crowded_task (line_from 1 o.new) ≡ None → blocks ≡ moved_ranked (line_from 1 o.old) (line_from 1 o.new)
+    → IsPrepared (prepared_of old change report blocks)) (sym same)
+    (λ told accepted uncrowded moved. record {
+      project = project;
+      accepted = subst (λ (e : Edit). edited old e ≡ Ok new) (sym told.named) accepted;
+      told = subst (λ (e : Edit). Tells old e new report) (sym told.named) told;
+      crowds = (fits, uncrowded);
+      blocks = moved;
+    })
+
+-- and what is kept for carrying it out
+pub is-ready : (old : State) (change : Prepared) (it : Outlook) (edit : Edit) (report : Report) (blocks : List RankedBlock) (starts : List (List Key)) (areas : Room) (table : Table) (rows : Option ℕ)
+    → report.swap.edit ≡ edit → carried change old.groups ≡ groups_after old.groups edit → lowest_fault (groups_of (carried change old.groups)) ≡ None → ChangesRow change old.groups
+    → it ≡ outlook_of change old.groups → AreStartsOf (areas_by_rank it.new) starts → HasRoomFor change areas
+    → table ≡ table_of (line old) → IsRoomFor report.swap.change table rows
+    → IsReady (prepared_of old change report blocks) change starts areas rows
+is-ready old change it edit report blocks starts areas table rows named leads project row same known room stands space = record {
+  leads = subst (λ (e : Edit). carried change old.groups ≡ groups_after old.groups e) (sym named) leads;
+  project = project;
+  row = row;
+  starts = subst (λ (o : Outlook). AreStartsOf (areas_by_rank o.new) starts) same known;
+  slaves = room;
+  rows = subst (λ (t : Table). IsRoomFor report.swap.change t rows) stands space;
+}

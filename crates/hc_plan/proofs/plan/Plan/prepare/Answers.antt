@@ -1,0 +1,86 @@
+use Rattle.std.proofs.Common.{◌≡◌, ◌∙◌, List, None, Some, ap, sym, subst}
+use Rattle.std.specs.Prelude.{Err}
+use Rattle.std.proofs.lemmas.Option.{MatchOption-from_none}
+use Rattle.std.proofs.lemmas.Result.{err_from_is_err_and}
+use Rattle.hc_records.specs.declared.records.Declared.{Declared}
+use Rattle.hc_records.specs.Edits.{edited, groups_after}
+use Rattle.hc_records.specs.Line.{State, groups_of}
+use Rattle.hc_records.specs.Project.{lowest_fault}
+use Rattle.hc_edits.specs.Changes.{carried}
+use Rattle.hc_edits.specs.Edits.{own_fault}
+use Rattle.hc_edits.specs.Rows.{ChangesRow}
+use Rattle.hc_edits.proofs.lemmas.Refusals.{own-refuses}
+use Rattle.hc_changes.specs.Outlook.{IsOutlook, outlook_of}
+use Rattle.hc_plan.specs.inner.Prepared.{IsReady, prepared_of}
+use Rattle.hc_plan.specs.Prepared.{IsPrepared}
+use Rattle.hc_plan.proofs.Editing.{judged, old-groups}
+use Rattle.hc_plan.proofs.Preparing.{is-prepared, is-ready, makes}
+use Rattle.hc_plan.proofs.plan.Plan.prepare.Goals as goal
+
+pub returns-in_err-change-clause-refused : goal.returns-in_err-change-clause-refused
+returns-in_err-change-clause-refused c =
+    let groups = c.self.inside.groups in
+    let edit = c.args.edit.now in
+    let fault = c.in_err-change.field-0.0 in
+    let p = err_from_is_err_and c.from_residual.result c.from_residual.ensures.1 in
+    rw (p.1, p.2) (λ other.
+    subst (λ (s : State). edited s edit ≡ Err fault) c.self.view_is
+    (own-refuses (record { groups = groups; epoch = c.self.inside.epoch }) edit fault
+    (judged c.as_slice.result.now groups edit (Some fault) c.as_slice.ensures (sym (c.in_err-change.ensures.refused other)))))
+
+pub returns-in_err-worked-clause-refused : goal.returns-in_err-worked-clause-refused
+returns-in_err-worked-clause-refused c =
+    let edit = c.args.edit.now in
+    let epoch = c.self.inside.epoch in
+    let fault = c.in_err-worked.field-0.0 in
+    let was = old-groups c.of-outlook.result c.in_ok-change.change c.as_slice-2.result.now c.self.inside.groups c.of-outlook.ensures c.as_slice-2.ensures in
+    let old = ap (λ (g : List Declared). record { groups = g; epoch = epoch }) was ∙ c.self.view_is in
+    let p = err_from_is_err_and c.from_residual-in_err-worked.result c.from_residual-in_err-worked.ensures.1 in
+    rw (p.1, p.2) (λ other. subst (λ (s : State). edited s edit ≡ Err fault) old (c.in_err-worked.ensures.refused other))
+
+pub returns-in_err-worked-clause-own : goal.returns-in_err-worked-clause-own
+returns-in_err-worked-clause-own c =
+    let edit = c.args.edit.now in
+    let none = judged c.as_slice.result.now c.self.inside.groups edit None c.as_slice.ensures (sym c.in_ok-change.ensures.accepted) in
+    MatchOption-from_none (own_fault c.args.self.now.groups edit) _ (ap (λ (s : State). own_fault s.groups edit) (sym c.self.view_is) ∙ none)
+
+pub returns-clause-own : goal.returns-clause-own
+returns-clause-own c =
+    let edit = c.args.edit.now in
+    let none = judged c.as_slice.result.now c.self.inside.groups edit None c.as_slice.ensures (sym c.in_ok-change.ensures.accepted) in
+    MatchOption-from_none (own_fault c.args.self.now.groups edit) _ (ap (λ (s : State). own_fault s.groups edit) (sym c.self.view_is) ∙ none)
+
+pub work_out-requires-clause-edit : goal.work_out-requires-clause-edit
+work_out-requires-clause-edit c =
+    let edit = c.args.edit.now in
+    let change = c.in_ok-change.change in
+    makes c.of-outlook.result change edit c.self.inside.places c.self.inside.groups
+    (subst IsOutlook c.outlook.view_is c.outlook.invariant)
+    (c.of-outlook.ensures ∙ ap (outlook_of change) c.as_slice-2.ensures)
+    (subst (λ (g : List Declared). own_fault g edit ≡ None) c.as_slice.ensures c.in_ok-change.ensures.accepted)
+    (subst (λ (g : List Declared). carried change g ≡ groups_after g edit) c.as_slice.ensures c.in_ok-change.ensures.groups)
+    c.self.invariant.1 c.self.invariant.2
+
+pub invariant_of-result : goal.invariant_of-result
+invariant_of-result c =
+    let old : State = record { groups = c.self.inside.groups; epoch = c.self.inside.epoch } in
+    let edit = c.args.edit.now in
+    let change = c.in_ok-change.change in
+    let worked = c.in_ok-worked.worked in
+    let told = c.in_ok-worked.ensures in
+    let outlook = c.of-outlook.ensures ∙ ap (outlook_of change) c.as_slice-2.ensures in
+    let slice = c.as_slice.ensures in
+    subst
+    (λ (s : State). IsPrepared (prepared_of s change worked.report worked.blocks.items)
+    × IsReady (prepared_of s change worked.report worked.blocks.items) change worked.starts c.in_ok-slaves.slaves worked.room)
+    (sym c.of-4.ensures) (
+      is-prepared old change c.of-outlook.result edit worked.report worked.blocks.items c.self.invariant.0 c.self.invariant.1 outlook told.report told.accepted told.fits told.blocks,
+      is-ready old change c.of-outlook.result edit worked.report worked.blocks.items worked.starts c.in_ok-slaves.slaves c.self.inside.places worked.room told.report.named
+          (subst (λ (g : List Declared). carried change g ≡ groups_after g edit) slice c.in_ok-change.ensures.groups)
+          (subst (λ (g : List Declared). lowest_fault (groups_of (carried change g)) ≡ None) slice c.in_ok-change.ensures.kept)
+          (subst (ChangesRow change) slice c.in_ok-change.ensures.row)
+          outlook told.starts c.in_ok-slaves.ensures c.self.invariant.2 told.room,
+    )
+
+pub returns-clause-prepared : goal.returns-clause-prepared
+returns-clause-prepared c = (invariant_of-result c).0

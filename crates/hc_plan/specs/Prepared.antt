@@ -1,0 +1,25 @@
+-- An edit of a plan that is worked out, before anything changes.
+use Rattle.std.specs.Prelude.{◌≡◌, List, None, Ok}
+use Rattle.hc_records.specs.Edits.{crowded_task, edited}
+use Rattle.hc_records.specs.Line.{State, groups_of, line}
+use Rattle.hc_records.specs.Project.{lowest_fault}
+use Rattle.hc_ranks.specs.declared.blocks.Gone.{Gone}
+use Rattle.hc_ranks.specs.Blocks.{RankedBlock, moved_ranked}
+use Rattle.hc_plan.specs.declared.report.Report.{Report}
+use Rattle.hc_plan.specs.Reports.{Tells}
+
+-- the state before an edit and the one that it makes, its report, the slaves that leave the line, and the blocks that move, with their ranks
+pub record PreparedEdit : Type 0 where
+  pub old : State
+  pub new : State
+  pub report : Report
+  pub gone : Gone
+  pub blocks : List RankedBlock
+
+-- an accepted edit of a project's line, and what is different in the line that it makes
+pub record IsPrepared (prepared : PreparedEdit) : Type 0 where
+  pub project : lowest_fault (groups_of prepared.old.groups) ≡ None
+  pub accepted : edited prepared.old prepared.report.swap.edit ≡ Ok prepared.new
+  pub told : Tells prepared.old prepared.report.swap.edit prepared.new prepared.report
+  pub crowds : (crowded_task (line prepared.old) ≡ None) × (crowded_task (line prepared.new) ≡ None)
+  pub blocks : prepared.blocks ≡ moved_ranked (line prepared.old) (line prepared.new)

@@ -1,0 +1,76 @@
+//! An edit of a plan that is worked out before anything changes. Whoever keeps more of a line than its plan asks it
+//! for the moved blocks, takes all memory that it needs, and then lets the plan carry the edit out.
+use crate::plan::Plan;
+use crate::report::Report;
+use hc_changes::outlook::OutlookRoom;
+use hc_edits::prepared::Prepared;
+use hc_places::room::Room;
+use hc_ranks::blocks::{Gone, RankedBlock};
+use hc_tasks::starts::LineStarts;
+use std::marker::Model;
+use std::snapshot::Snapshot;
+
+/// What an accepted edit makes of a plan, with the memory for carrying it out there. Contracts see the state
+/// before it and the one that it makes, its report, the slaves that leave the line, and the blocks that move.
+/// The plan is as it was until it carries the edit out.
+#[derive(Drop)]
+pub struct PreparedEdit {
+    // the plan that it was worked out on
+    pub(crate) was: Snapshot<Plan>,
+    pub(crate) change: Prepared,
+    pub(crate) report: Report,
+    pub(crate) blocks: Vec<RankedBlock>,
+    // the boundaries of the new line's tasks
+    pub(crate) starts: LineStarts,
+    // for the areas of the slaves that the edit concerns
+    pub(crate) slaves: OutlookRoom,
+    // for the new table's rows
+    pub(crate) rows: Room,
+}
+
+impl Model for PreparedEdit {
+    ghost use Rattle.hc_plan.specs.Prepared.{IsPrepared, PreparedEdit};
+    ghost use Rattle.hc_plan.specs.inner.Prepared.{IsReady, prepared_of};
+
+    ghost Value = { PreparedEdit };
+
+    ghost view = { λ it. prepared_of it.was.value it.change it.report it.blocks.items };
+
+    ghost invariant = { λ it. IsPrepared (prepared_of it.was.value it.change it.report it.blocks.items) × IsReady (prepared_of it.was.value it.change it.report it.blocks.items) it.change it.starts it.slaves it.rows };
+}
+
+impl PreparedEdit {
+    ghost use Rattle.std.specs.Prelude.{◌≡◌};
+    ghost use Rattle.hc_plan.specs.Prepared.{IsPrepared};
+
+    /// What the edit does to the line: the report that carrying it out gives. It takes no memory.
+    pub fn report(&self) -> &Report
+        ensures report { result.now ≡ self.now.report }
+        ensures prepared { IsPrepared self.now }
+    {
+        &self.report
+    }
+
+    /// The blocks that move, with their new bytes, in line and block order: those that the report names. It takes
+    /// no memory.
+    pub fn blocks(&self) -> &[RankedBlock]
+        ensures blocks { result.now ≡ self.now.blocks }
+        ensures prepared { IsPrepared self.now }
+    {
+        self.blocks.as_slice()
+    }
+
+    /// The slaves that leave the line: those of a group that goes. It takes no memory.
+    pub fn gone(&self) -> Gone
+        ensures gone { result ≡ self.now.gone }
+        ensures prepared { IsPrepared self.now }
+    {
+        match &self.change {
+            Prepared::Presence(change) if !change.present => Gone {
+                rank: change.first,
+                slaves: change.slaves,
+            },
+            _ => Gone { rank: 1, slaves: 0 },
+        }
+    }
+}
