@@ -1,6 +1,17 @@
+mod Counted
+mod Earlier
+mod Searched
+mod Flawless
+mod FlawlessLevels
+mod FlawlessDocument
+mod Names
+mod Duplicates
+mod Placed
+mod Judged
 mod Keys
 mod Numbers
 mod Inside
 mod ReadBack
 mod WholeProject
 mod Texts
+mod Told

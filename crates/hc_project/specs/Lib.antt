@@ -2,6 +2,10 @@ pub mod Reading
 pub mod Values
 pub mod Arrays
 pub mod Levels
+pub mod Places
+pub mod Flawed
+pub mod Repeated
 pub mod Text
+pub mod Located
 pub mod Laws
 pub mod WorkedTexts

@@ -23,7 +23,7 @@ pub trait Readable: Drop {
 }
 
 /// The array that a key holds, none where it is absent or holds another kind.
-fn array_in(found: Option<&Value>) -> Option<&Array>
+pub fn array_in(found: Option<&Value>) -> Option<&Array>
     ensures { option_map (λ v. array_view v.now) result
         ≡ option_and_then as_array (option_map (λ v. view v.now) found.entry) }
 {

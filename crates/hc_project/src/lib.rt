@@ -3,10 +3,17 @@
 #![tactic(auto)]
 
 mod arrays;
+mod flawed;
 pub mod laws;
 mod levels;
+mod located;
+mod places;
 mod reading;
+mod repeats;
+mod searches;
 mod text;
 mod values;
 
+pub use located::{Found, locate};
+pub use places::{Key, Place, Spot};
 pub use text::read_project;

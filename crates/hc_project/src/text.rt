@@ -14,7 +14,7 @@ use std::alloc::Global;
 use toml::Value;
 
 /// The project of what was read, or the lowest fault.
-fn settle(alloc: Global, groups: Reading<Items<Group>>) -> Result<Project, ProjectFault>
+pub fn settle(alloc: Global, groups: Reading<Items<Group>>) -> Result<Project, ProjectFault>
     ensures project { IfOk result (λ project. settled groups ≡ Ok project) }
     ensures refused { IfErr result (λ fault. fault ≢ Memory → settled groups ≡ Err fault) }
 {

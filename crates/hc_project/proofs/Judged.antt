@@ -1,0 +1,95 @@
+-- The lowest fault of what was read has a place in its document.
+use Rattle.std.proofs.Common.{◌≡◌, ◌||◌, Bool, true, false, if◌then◌else◌, List, [], ◌∷◌, Option, Some, None, Err, refl}
+use Rattle.toml.specs.Data.{Data}
+use Rattle.hc_records.specs.declared.records.Group.{Group}
+use Rattle.hc_records.specs.declared.faults.ProjectFault.{ProjectFault}
+use Rattle.hc_records.specs.declared.faults.ProjectFault.TheVariants as fault
+use Rattle.hc_records.specs.Lists.{lowest}
+use Rattle.hc_records.specs.Project.{has_outside, has_overlap, has_repeated_alias, has_repeated_station, has_repeated_variable, has_unknown_pdo, is_wide, repeats_sync_manager, some_area, some_slave}
+use Rattle.hc_project.specs.declared.reading.Reading.{Reading}
+use Rattle.hc_project.specs.Levels.{declared_groups}
+use Rattle.hc_project.specs.Located.{spot_of}
+use Rattle.hc_project.specs.Text.{reading_faults, settled, unless_refused}
+use Rattle.hc_project.proofs.FlawlessDocument.{document_missing, document_outside}
+use Rattle.hc_project.proofs.Placed.{aliases_none, managers_none, overlaps_none, stations_none, unknown_none, variables_none, wide_none}
+
+-- the condition of a fault, over what was read
+abbrev condition : Reading (List Group) → ProjectFault → Bool
+condition read fault.NotToml = false
+condition read fault.MissingField = read.flaws.missing
+condition read fault.OutOfRange = read.flaws.outside || has_outside read.value
+condition read fault.RepeatedAlias = has_repeated_alias read.value
+condition read fault.RepeatedStation = has_repeated_station read.value
+condition read fault.RepeatedSyncManager = some_slave repeats_sync_manager read.value
+condition read fault.OverlappingAreas = some_slave has_overlap read.value
+condition read fault.RepeatedVariable = has_repeated_variable read.value
+condition read fault.UnknownPdo = some_area has_unknown_pdo read.value
+condition read fault.AreaTooBig = some_area is_wide read.value
+condition read fault.Memory = false
+
+-- each of these faults whose test passes meets its condition
+abbrev Judges : (ProjectFault → Bool) → List (Bool × ProjectFault) → Type 0
+Judges meets [] = Unit {0}
+Judges meets (judged ∷ rest) = (judged.0 ≡ true → meets judged.1 ≡ true) × Judges meets rest
+
+same_meets : (meets : ProjectFault → Bool) (a b : ProjectFault) → meets a ≡ true → Some a ≡ Some b → meets b ≡ true
+same_meets meets a b met same = cc
+
+lowest_first : (meets : ProjectFault → Bool) (test : Bool) (first lowest_one : ProjectFault) (rest : Option ProjectFault)
+    → (test ≡ true → meets first ≡ true) → (rest ≡ Some lowest_one → meets lowest_one ≡ true)
+    → (if test then Some first else rest) ≡ Some lowest_one → meets lowest_one ≡ true
+lowest_first meets true first lowest_one rest here behind is = same_meets meets first lowest_one (here refl) is
+lowest_first meets false first lowest_one rest here behind is = behind is
+
+lowest_meets : (meets : ProjectFault → Bool) (list : List (Bool × ProjectFault)) (lowest_one : ProjectFault) → Judges meets list
+    → lowest list ≡ Some lowest_one → meets lowest_one ≡ true
+lowest_meets meets [] lowest_one judges is = cc
+lowest_meets meets (judged ∷ rest) lowest_one judges is =
+    lowest_first meets judged.0 judged.1 lowest_one (lowest rest) judges.0 (lowest_meets meets rest lowest_one judges.1) is
+
+or-first : (a b : Bool) → a ≡ true → (a || b) ≡ true
+or-first true b held = refl
+or-first false b held = cc
+
+or-second : (a b : Bool) → b ≡ true → (a || b) ≡ true
+or-second true b held = refl
+or-second false b held = held
+
+judges : (read : Reading (List Group)) → Judges (condition read) (reading_faults read)
+judges read = (
+  λ held. held,
+  (
+    or-first read.flaws.outside (has_outside read.value),
+    (
+      or-second read.flaws.outside (has_outside read.value),
+      (λ held. held, (λ held. held, (λ held. held, (λ held. held, (λ held. held, (λ held. held, (λ held. held, tt))))))),
+    ),
+  ),
+)
+
+refused : (found : Option ProjectFault) (groups : List Group) (lowest_one : ProjectFault) → unless_refused found groups ≡ Err lowest_one → found ≡ Some lowest_one
+refused None groups lowest_one is = cc
+refused (Some found) groups lowest_one is = cc
+
+unmet : (lowest_one : ProjectFault) (d : Data) → spot_of lowest_one d ≡ None → condition (declared_groups d) lowest_one ≡ false
+unmet fault.NotToml d none = refl
+unmet fault.MissingField d none = document_missing d none
+unmet fault.OutOfRange d none = let parts = document_outside d none in rw (parts.0, parts.1) refl
+unmet fault.RepeatedAlias d none = aliases_none (declared_groups d).value none
+unmet fault.RepeatedStation d none = stations_none (declared_groups d).value none
+unmet fault.RepeatedSyncManager d none = managers_none (declared_groups d).value none
+unmet fault.OverlappingAreas d none = overlaps_none (declared_groups d).value none
+unmet fault.RepeatedVariable d none = variables_none (declared_groups d).value none
+unmet fault.UnknownPdo d none = unknown_none (declared_groups d).value none
+unmet fault.AreaTooBig d none = wide_none (declared_groups d).value none
+unmet fault.Memory d none = refl
+
+both-ways : (b : Bool) → b ≡ true → b ≡ false → ⊥
+both-ways b held unheld = cc
+
+-- a fault that is the lowest has a place
+pub placed : (lowest_one : ProjectFault) (d : Data) → settled (declared_groups d) ≡ Err lowest_one → spot_of lowest_one d ≡ None → ⊥
+placed lowest_one d is none =
+    both-ways (condition (declared_groups d) lowest_one)
+    (lowest_meets (condition (declared_groups d)) (reading_faults (declared_groups d)) lowest_one (judges (declared_groups d)) (refused _ _ _ is))
+    (unmet lowest_one d none)

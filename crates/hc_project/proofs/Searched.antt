@@ -1,0 +1,38 @@
+-- Where a search finds nothing, none of its parts does.
+use Rattle.std.proofs.Common.{◌≡◌, ℕ, suc, Bool, true, false, List, [], ◌∷◌, Option, Some, None, refl}
+use Rattle.std.specs.Prelude.{if◌then◌else◌}
+use Rattle.std.specs.List.{list_any}
+use Rattle.hc_project.specs.declared.flawed.Flaw.{Flaw}
+use Rattle.hc_project.specs.declared.places.Place.{Place}
+use Rattle.hc_project.specs.declared.reading.Flaws.{Flaws}
+use Rattle.hc_project.specs.Places.{first_from, first_some, single}
+use Rattle.hc_project.specs.Flawed.{flaw_at, shows}
+
+pub none_left : {P : Type 0} (a b : Option P) → first_some a b ≡ None → a ≡ None
+unfolding first_some
+none_left None b none = refl
+none_left (Some x) b none = cc
+
+pub none_right : {P : Type 0} (a b : Option P) → first_some a b ≡ None → b ≡ None
+unfolding first_some
+none_right None b none = none
+none_right (Some x) b none = cc
+
+untested : {P : Type 0} (test : Bool) (x : P) (rest : Option P) → (if test then Some x else rest) ≡ None → test ≡ false
+untested true x rest none = cc
+untested false x rest none = refl
+
+pub untested_else : {P : Type 0} (test : Bool) (x : P) (rest : Option P) → (if test then Some x else rest) ≡ None → (test ≡ false) × (rest ≡ None)
+untested_else true x rest none = cc
+untested_else false x rest none = (refl, none)
+
+pub flawless : (which : Flaw) (place : Place) (flaws : Flaws) → flaw_at which place flaws ≡ None → shows which flaws ≡ false
+unfolding flaw_at
+flawless which place flaws none = untested (shows which flaws) (single place) None none
+
+-- a test that each item where nothing is found doesn't meet is met by none
+pub none_meets : {X P : Type 0} (find : ℕ → X → Option P) (test : X → Bool) (index : ℕ) (xs : List X)
+    → ((i : ℕ) (x : X) → find i x ≡ None → test x ≡ false) → first_from find index xs ≡ None → list_any test xs ≡ false
+none_meets find test index [] unmet none = refl
+none_meets find test index (x ∷ xs) unmet none =
+    rw (unmet index x (none_left _ _ none)) (none_meets find test (suc index) xs unmet (none_right _ _ none))

@@ -1,0 +1,65 @@
+-- Where a text is no project.
+use Rattle.std.specs.Prelude.{◌≡◌, ℕ, ◌+◌, ◌==◌, ◌≤◌, ◌&&◌, nat_le, nat_lt, if◌then◌else◌, List, [], ◌∷◌, length, take, Option, Some, None, Err, IsOk}
+use Rattle.toml.specs.Data.{Data, Members, table}
+use Rattle.toml.specs.Parse.{parse_document}
+use Rattle.hc_records.specs.declared.records.Group.{Group}
+use Rattle.hc_records.specs.declared.faults.ProjectFault.{ProjectFault}
+use Rattle.hc_records.specs.declared.faults.ProjectFault.TheVariants as fault
+use Rattle.hc_project.specs.declared.flawed.Flaw.TheVariants.{Missing, Outside}
+use Rattle.hc_project.specs.declared.located.Found.{Found}
+use Rattle.hc_project.specs.declared.located.Found.TheVariants.{InText, InProject}
+use Rattle.hc_project.specs.declared.places.Spot.{Spot}
+use Rattle.hc_project.specs.Places.{document, first_from}
+use Rattle.hc_project.specs.Flawed.{document_flaw}
+use Rattle.hc_project.specs.Repeated.{alias_at, area_unknown, area_wide, areas_overlapping, each_at, first_repeat, group_variables, in_areas, in_slaves, managers_repeated, stations_at}
+use Rattle.hc_project.specs.Levels.{declared_groups}
+use Rattle.hc_project.specs.Text.{project_in, settled}
+
+-- the first place in the groups that were read at which a fault's condition holds
+abbrev pub group_spot : ProjectFault → List Group → Option Spot
+group_spot fault.RepeatedAlias groups = first_repeat (each_at (alias_at document) 0 groups)
+group_spot fault.RepeatedStation groups = first_repeat (each_at (stations_at document) 0 groups)
+group_spot fault.RepeatedSyncManager groups = first_from (in_slaves managers_repeated document) 0 groups
+group_spot fault.OverlappingAreas groups = first_from (in_slaves areas_overlapping document) 0 groups
+group_spot fault.RepeatedVariable groups = first_repeat (each_at (group_variables document) 0 groups)
+group_spot fault.UnknownPdo groups = first_from (in_slaves (in_areas area_unknown) document) 0 groups
+group_spot fault.AreaTooBig groups = first_from (in_slaves (in_areas area_wide) document) 0 groups
+group_spot _ groups = None
+
+-- the first place in a document at which a fault's condition holds
+abbrev pub spot_of : ProjectFault → Data → Option Spot
+spot_of fault.MissingField d = document_flaw Missing d
+spot_of fault.OutOfRange d = document_flaw Outside d
+spot_of other d = group_spot other (declared_groups d).value
+
+-- the line and the column behind a text that begins at a line and a column, both counted from 1: a line feed ends a line,
+-- and a byte that continues a character is of the column of its first
+abbrev pub position_from : ℕ × ℕ → List ℕ → ℕ × ℕ
+position_from (line, column) [] = (line, column)
+position_from (line, column) (byte ∷ bytes) =
+    if byte == 10
+    then position_from (line + 1, 1) bytes
+    else (if nat_le 128 byte && nat_lt byte 192 then position_from (line, column) bytes else position_from (line, column + 1) bytes)
+
+-- a text is no TOML document, and a line and a column are those of one of its bytes or of its end
+pub record IsUnread (text : List ℕ) (line column : ℕ) : Type 0 where
+  pub refused : project_in text ≡ Err fault.NotToml
+  pub within : (front : ℕ) × (front ≤ length text) × ((line, column) ≡ position_from (1, 1) (take front text))
+
+-- a text has the fault, which is its lowest, and the place is the first in its document at which the fault's condition holds
+pub record IsFaulty (text : List ℕ) (lowest : ProjectFault) (spot : Spot) : Type 0 where
+  pub refused : project_in text ≡ Err lowest
+  pub placed : (members : Members) × (parse_document text ≡ Some members) × (spot_of lowest (table members) ≡ Some spot)
+
+-- what is told of a text: nothing of a project, else its lowest fault and where it is
+abbrev pub Tells : List ℕ → Option Found → Type 0
+Tells text None = IsOk (project_in text)
+Tells text (Some (InText line column)) = IsUnread text line column
+Tells text (Some (InProject lowest spot)) = IsFaulty text lowest spot
+
+-- the same of the document that a text is read as
+abbrev pub TellsOf : Data → Option Found → Type 0
+TellsOf d None = IsOk (settled (declared_groups d))
+TellsOf d (Some (InText line column)) = ⊥
+TellsOf d (Some (InProject lowest spot)) =
+    (settled (declared_groups d) ≡ Err lowest) × (spot_of lowest d ≡ Some spot)

@@ -1,0 +1,140 @@
+//! Where a text is no project: its lowest fault and the first place at which that fault's condition holds.
+ghost use Rattle.std.specs.Prelude.{◌≡◌, IfOk};
+ghost use Rattle.toml.specs.View.{view};
+ghost use Rattle.hc_project.specs.Located.{Tells, TellsOf, group_spot, position_from, spot_of};
+
+use crate::flawed::{Flaw, find_in_document};
+use crate::levels::read_groups;
+use crate::places::{Place, Spot};
+use crate::searches::{
+    Aliases, OverlappingAreas, RepeatedManagers, Stations, UnknownPdos, Variables, WideAreas,
+    find_repeat, first_in,
+};
+use crate::text::settle;
+use hc_records::faults::ProjectFault;
+use hc_records::records::Group;
+use std::alloc::{AllocError, Global};
+use toml::Value;
+
+/// Why a text is no project, and where.
+#[derive(Clone, Copy, Debug, PartialEq, Eq)]
+pub enum Found {
+    /// It is no TOML document (`NotToml`): the line and the column, both counted from 1, at which `toml` gave up. A
+    /// column counts characters.
+    InText {
+        /// The line.
+        line: usize,
+        /// The column.
+        column: usize,
+    },
+    /// Any other fault.
+    InProject {
+        /// The lowest fault, as `read_project` answers it.
+        fault: ProjectFault,
+        /// The first place at which its condition holds.
+        spot: Spot,
+    },
+}
+
+/// The place of a fault from `RepeatedAlias` to `AreaTooBig` in the groups that were read.
+fn find_in_project(
+    alloc: Global,
+    fault: ProjectFault,
+    groups: &[Group],
+) -> Result<Option<Spot>, AllocError>
+    ensures { IfOk result (λ found. found ≡ group_spot fault groups.now) }
+{
+    let document = Place::document();
+    match fault {
+        ProjectFault::RepeatedAlias => find_repeat::<Group, Aliases>(alloc, document, groups),
+        ProjectFault::RepeatedStation => find_repeat::<Group, Stations>(alloc, document, groups),
+        ProjectFault::RepeatedSyncManager => {
+            first_in::<Group, RepeatedManagers>(alloc, document, groups)
+        }
+        ProjectFault::OverlappingAreas => {
+            first_in::<Group, OverlappingAreas>(alloc, document, groups)
+        }
+        ProjectFault::RepeatedVariable => find_repeat::<Group, Variables>(alloc, document, groups),
+        ProjectFault::UnknownPdo => first_in::<Group, UnknownPdos>(alloc, document, groups),
+        ProjectFault::AreaTooBig => first_in::<Group, WideAreas>(alloc, document, groups),
+        _ => Ok(None),
+    }
+}
+
+/// The place of a fault in a document.
+fn find_fault(
+    alloc: Global,
+    fault: ProjectFault,
+    document: &Value,
+) -> Result<Option<Spot>, AllocError>
+    ensures { IfOk result (λ found. found ≡ spot_of fault (view document.now)) }
+{
+    match fault {
+        ProjectFault::MissingField => find_in_document(alloc, Flaw::Missing, document),
+        ProjectFault::OutOfRange => find_in_document(alloc, Flaw::Outside, document),
+        other => {
+            let groups = read_groups(alloc, document)?.value;
+            find_in_project(alloc, other, groups.as_slice())
+        }
+    }
+}
+
+/// The line and the column behind a text.
+fn position_behind(front: &[u8]) -> (usize, usize)
+    ensures { result ≡ position_from (1, 1) front.now }
+{
+    let mut line = 1usize;
+    let mut column = 1usize;
+    for byte in front {
+        if *byte == b'\n' {
+            line += 1;
+            column = 1;
+        } else if !(128 <= *byte && *byte < 192) {
+            column += 1;
+        }
+    }
+    (line, column)
+}
+
+/// The lowest fault of a document and its place, none where its groups are a project.
+fn find_lowest(alloc: Global, document: &Value) -> Result<Option<Found>, AllocError>
+    ensures { IfOk result (λ found. TellsOf (view document.now) found) }
+{
+    let groups = read_groups(alloc, document)?;
+    let Err(fault) = settle(alloc, groups) else {
+        return Ok(None);
+    };
+    if fault == ProjectFault::Memory {
+        return Err(AllocError);
+    }
+    match find_fault(alloc, fault, document)? {
+        Some(spot) => Ok(Some(Found::InProject { fault, spot })),
+        None => unreachable!(),
+    }
+}
+
+/// Where a text is no project: nothing where `read_project` accepts it, else the same fault as that answers, and the
+/// first place at which the fault's condition holds. `AllocError`, whatever the text, where a growth was refused.
+///
+/// Places are ordered as the text orders the items of its arrays, and the keys of a table as docs/PROJECT_TEXT.md names
+/// them: a table that is read doesn't know where in the text its keys stood. Of two things that may not stand together
+/// the later one's place counts, and the earliest is told that it can't stand with. Of too many of something the first
+/// over the limit is told.
+///
+/// A refused text is read twice, and what stands twice is found in n log n steps.
+#[tactic(auto, using(crate::proofs::Texts::unread))]
+pub fn locate(alloc: Global, text: &[u8]) -> Result<Option<Found>, AllocError>
+    ensures { IfOk result (λ found. Tells text.now found) }
+{
+    let table = match toml::table_from_slice(alloc, text) {
+        Ok(table) => table,
+        Err(error) => {
+            let Some(span) = error.span() else {
+                return Err(AllocError);
+            };
+            let (line, column) = position_behind(&text[..span.start]);
+            return Ok(Some(Found::InText { line, column }));
+        }
+    };
+    find_lowest(alloc, &Value::Table(table))
+}

@@ -1,0 +1,123 @@
+//! Which number stands twice in a list of numbers with their places, and which runs of memory meet.
+ghost use Rattle.std.specs.Prelude.{◌≡◌, ◌++◌, ◌==◌, ℕ, List, false, true, find, option_map, IfOk, OnOk};
+ghost use Rattle.std.specs.List.{list_any};
+ghost use Rattle.hc_project.specs.declared.places.Place.{Place};
+ghost use Rattle.hc_project.specs.Repeated.{each_at, first_related, first_repeat, meets};
+
+use crate::places::{Place, Spot};
+use std::alloc::{AllocError, Global};
+use std::collections::BTreeSet;
+
+/// A run of a slave's memory.
+#[derive(Clone, Copy, Debug, PartialEq, Eq)]
+pub struct Extent {
+    /// Its first byte.
+    pub start: u16,
+    /// How many bytes, at most those of the longest datagram.
+    pub bytes: u16,
+}
+
+/// What a record gives to a list of numbers with their places.
+pub trait Listed<T> {
+    /// Its numbers, by its index in the array that stands at a place.
+    ghost lists: { Place → ℕ → T → List (Place × ℕ) };
+
+    /// Adds them to a list, or answers `AllocError` where a growth was refused.
+    fn add(
+        list: &mut Vec<(Place, u32)>,
+        place: Place,
+        index: usize,
+        item: &T,
+    ) -> Result<(), AllocError>
+        ensures { OnOk result (list.new.items ≡ list.old.items ++ lists place index item.now) };
+}
+
+/// Adds the numbers of each item of an array.
+pub fn add_each<T, L: Listed<T>>(
+    list: &mut Vec<(Place, u32)>,
+    place: Place,
+    items: &[T],
+) -> Result<(), AllocError>
+    ensures { OnOk result (list.new.items ≡ list.old.items ++ each_at (L.lists place) 0 items.now) }
+{
+    for index in 0..items.len() {
+        L::add(list, place, index, &items[index])?;
+    }
+    Ok(())
+}
+
+/// The place of the first such number.
+fn place_of_number(list: &[(Place, u32)], number: u32) -> Option<Place>
+    ensures { result ≡ option_map (λ x. x.0) (find (λ x. number == x.1) list.now) }
+{
+    for (place, other) in list {
+        if number == *other {
+            return Some(*place);
+        }
+    }
+    None
+}
+
+/// The place of a number among those before it, which aren't gone through where it is new.
+#[tactic(auto, using(crate::proofs::Earlier::none_found))]
+fn earlier_place(is_new: bool, before: &[(Place, u32)], number: u32) -> Option<Place>
+    requires { is_new ≡ true → list_any (λ x. number == x.1) before.now ≡ false }
+    ensures { result ≡ option_map (λ x. x.0) (find (λ x. number == x.1) before.now) }
+{
+    if is_new {
+        None
+    } else {
+        place_of_number(before, number)
+    }
+}
+
+/// The first number that stood before, by a set of those seen.
+#[tactic(auto, unfolding(crate::specs::Places::first_some))]
+pub fn first_repeat(alloc: Global, list: &[(Place, u32)]) -> Result<Option<Spot>, AllocError>
+    ensures { IfOk result (λ found. found ≡ first_repeat list.now) }
+{
+    let mut seen = BTreeSet::new(alloc);
+    for index in 0..list.len() {
+        let (place, number) = list[index];
+        let is_new = seen.insert(number)?;
+        if let Some(first) = earlier_place(is_new, &list[..index], number) {
+            return Ok(Some(Spot::pair(first, place)));
+        }
+    }
+    Ok(None)
+}
+
+/// Whether two runs have a byte in common.
+fn do_meet(a: Extent, b: Extent) -> bool
+    ensures { result ≡ meets a b }
+{
+    let a_end = u32::from(a.start) + u32::from(a.bytes);
+    let b_end = u32::from(b.start) + u32::from(b.bytes);
+    0 < a.bytes && 0 < b.bytes && u32::from(a.start) < b_end && u32::from(b.start) < a_end
+}
+
+/// The place of the first run that meets another.
+fn place_of_meeting(list: &[(Place, Extent)], extent: Extent) -> Option<Place>
+    ensures { result ≡ option_map (λ x. x.0) (find (λ x. meets x.1 extent) list.now) }
+{
+    for (place, other) in list {
+        if do_meet(*other, extent) {
+            return Some(*place);
+        }
+    }
+    None
+}
+
+/// The first run that an earlier one meets.
+#[tactic(auto, unfolding(crate::specs::Places::first_some))]
+pub fn first_meeting(list: &[(Place, Extent)]) -> Option<Spot>
+    ensures { result ≡ first_related meets list.now }
+{
+    for index in 0..list.len() {
+        let (place, extent) = list[index];
+        if let Some(first) = place_of_meeting(&list[..index], extent) {
+            return Some(Spot::pair(first, place));
+        }
+    }
+    None
+}

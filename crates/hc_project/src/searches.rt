@@ -1,0 +1,469 @@
+//! Where the conditions of the faults from `RepeatedAlias` to `AreaTooBig` hold: the first place in the groups that
+//! were read.
+ghost use Rattle.std.specs.Prelude.{◌≡◌, ◌++◌, ◌<◌, ◌≤◌, ◌==◌, ℕ, Option, length, nat_lt, IfOk, OnOk, option_map};
+ghost use Rattle.hc_project.specs.declared.places.Place.{Place};
+ghost use Rattle.hc_project.specs.declared.places.Spot.{Spot};
+ghost use Rattle.hc_records.specs.Area.{width};
+ghost use Rattle.hc_project.specs.Places.{first_from};
+ghost use Rattle.hc_project.specs.Repeated.{alias_at, area_unknown, area_variables, area_wide, areas_overlapping, assigned_unknown, assigned_wide, each_at, entry_variable, extent, extent_at, first_repeat, group_at, group_variables, in_areas, in_slaves, index_of, manager_at, managers_repeated, offered_at, pdo_variables, slave_at, slave_variables, station_at, stations_at};
+
+use crate::places::{Key, Place, Spot, first_of};
+use crate::repeats::{Extent, Listed, add_each, first_meeting, first_repeat};
+use hc_records::limits::MOST_AREA_BITS;
+use hc_records::records::{Area, Entry, Group, Pdo, Slave};
+use std::alloc::{AllocError, Global};
+
+/// The place of a group, of which the mandatory one has number 0.
+fn group_at(index: usize, group: &Group) -> Place
+    ensures { result ≡ group_at index group.now }
+{
+    Place::document().in_group(index, group.alias)
+}
+
+/// The place of a slave.
+fn slave_at(place: Place, index: usize, slave: &Slave) -> Place
+    ensures { result ≡ slave_at place index slave.now }
+{
+    place.in_slave(index, slave.station)
+}
+
+/// The aliases of groups.
+pub struct Aliases;
+
+impl Listed<Group> for Aliases {
+    ghost lists = { alias_at };
+
+    fn add(
+        list: &mut Vec<(Place, u32)>,
+        _place: Place,
+        index: usize,
+        item: &Group,
+    ) -> Result<(), AllocError> {
+        let place = group_at(index, item).with_key(Key::Alias);
+        list.push((place, u32::from(item.alias)))?;
+        Ok(())
+    }
+}
+
+/// The station addresses of slaves.
+pub struct Stations;
+
+impl Listed<Slave> for Stations {
+    ghost lists = { station_at };
+
+    fn add(
+        list: &mut Vec<(Place, u32)>,
+        place: Place,
+        index: usize,
+        item: &Slave,
+    ) -> Result<(), AllocError> {
+        let here = slave_at(place, index, item).with_key(Key::Station);
+        list.push((here, u32::from(item.station)))?;
+        Ok(())
+    }
+}
+
+impl Listed<Group> for Stations {
+    ghost lists = { stations_at };
+
+    fn add(
+        list: &mut Vec<(Place, u32)>,
+        _place: Place,
+        index: usize,
+        item: &Group,
+    ) -> Result<(), AllocError> {
+        add_each::<Slave, Stations>(list, group_at(index, item), item.slaves.as_slice())
+    }
+}
+
+/// The variables of the entries that areas offer.
+pub struct Variables;
+
+impl Listed<Entry> for Variables {
+    ghost lists = { entry_variable };
+
+    fn add(
+        list: &mut Vec<(Place, u32)>,
+        place: Place,
+        index: usize,
+        item: &Entry,
+    ) -> Result<(), AllocError> {
+        if let Some(variable) = item.0 {
+            list.push((place.with_key(Key::Variable(index)), variable.number()))?;
+        }
+        Ok(())
+    }
+}
+
+impl Listed<Pdo> for Variables {
+    ghost lists = { pdo_variables };
+
+    fn add(
+        list: &mut Vec<(Place, u32)>,
+        place: Place,
+        index: usize,
+        item: &Pdo,
+    ) -> Result<(), AllocError> {
+        add_each::<Entry, Variables>(list, place.in_pdo(index), item.entries.as_slice())
+    }
+}
+
+impl Listed<Area> for Variables {
+    ghost lists = { area_variables };
+
+    fn add(
+        list: &mut Vec<(Place, u32)>,
+        place: Place,
+        index: usize,
+        item: &Area,
+    ) -> Result<(), AllocError> {
+        add_each::<Pdo, Variables>(list, place.in_area(index), item.offered.as_slice())
+    }
+}
+
+impl Listed<Slave> for Variables {
+    ghost lists = { slave_variables };
+
+    fn add(
+        list: &mut Vec<(Place, u32)>,
+        place: Place,
+        index: usize,
+        item: &Slave,
+    ) -> Result<(), AllocError> {
+        add_each::<Area, Variables>(list, slave_at(place, index, item), item.areas.as_slice())
+    }
+}
+
+impl Listed<Group> for Variables {
+    ghost lists = { group_variables };
+
+    fn add(
+        list: &mut Vec<(Place, u32)>,
+        _place: Place,
+        index: usize,
+        item: &Group,
+    ) -> Result<(), AllocError> {
+        add_each::<Slave, Variables>(list, group_at(index, item), item.slaves.as_slice())
+    }
+}
+
+/// The sync managers of areas.
+pub struct Managers;
+
+impl Listed<Area> for Managers {
+    ghost lists = { manager_at };
+
+    fn add(
+        list: &mut Vec<(Place, u32)>,
+        place: Place,
+        index: usize,
+        item: &Area,
+    ) -> Result<(), AllocError> {
+        list.push((place.in_area(index).with_key(Key::Sm), u32::from(item.sm)))?;
+        Ok(())
+    }
+}
+
+/// The indexes of offered PDOs.
+pub struct Offered;
+
+impl Listed<Pdo> for Offered {
+    ghost lists = { offered_at };
+
+    fn add(
+        list: &mut Vec<(Place, u32)>,
+        place: Place,
+        index: usize,
+        item: &Pdo,
+    ) -> Result<(), AllocError> {
+        list.push((
+            place.in_pdo(index).with_key(Key::Index),
+            u32::from(item.index),
+        ))?;
+        Ok(())
+    }
+}
+
+/// The first number that stood before, among those of an array's items.
+pub fn find_repeat<T, L: Listed<T>>(
+    alloc: Global,
+    place: Place,
+    items: &[T],
+) -> Result<Option<Spot>, AllocError>
+    ensures { IfOk result (λ found. found ≡ first_repeat (each_at (L.lists place) 0 items.now)) }
+{
+    let mut list = Vec::new(alloc);
+    add_each::<T, L>(&mut list, place, items)?;
+    first_repeat(alloc, &list)
+}
+
+/// What is looked for in a record.
+pub trait Sought<T> {
+    /// Where it is found first, by the record's index in the array that stands at a place.
+    ghost finds: { Place → ℕ → T → Option Spot };
+
+    /// Finds it, or answers `AllocError` where a growth was refused.
+    fn find(alloc: Global, place: Place, index: usize, item: &T) -> Result<Option<Spot>, AllocError>
+        ensures { IfOk result (λ found. found ≡ finds place index item.now) };
+}
+
+/// What is found in the first item in which it is found.
+#[tactic(auto, unfolding(crate::specs::Places::first_some))]
+pub fn first_in<T, S: Sought<T>>(
+    alloc: Global,
+    place: Place,
+    items: &[T],
+) -> Result<Option<Spot>, AllocError>
+    ensures { IfOk result (λ found. found ≡ first_from (S.finds place) 0 items.now) }
+{
+    for index in 0..items.len() {
+        let found = S::find(alloc, place, index, &items[index])?;
+        if found.is_some() {
+            return Ok(found);
+        }
+    }
+    Ok(None)
+}
+
+/// Two areas of a slave at one sync manager.
+pub struct RepeatedManagers;
+
+impl Sought<Slave> for RepeatedManagers {
+    ghost finds = { managers_repeated };
+
+    fn find(
+        alloc: Global,
+        place: Place,
+        index: usize,
+        item: &Slave,
+    ) -> Result<Option<Spot>, AllocError> {
+        find_repeat::<Area, Managers>(alloc, slave_at(place, index, item), item.areas.as_slice())
+    }
+}
+
+impl Sought<Group> for RepeatedManagers {
+    ghost finds = { in_slaves managers_repeated };
+
+    fn find(
+        alloc: Global,
+        _place: Place,
+        index: usize,
+        item: &Group,
+    ) -> Result<Option<Spot>, AllocError> {
+        first_in::<Slave, RepeatedManagers>(alloc, group_at(index, item), item.slaves.as_slice())
+    }
+}
+
+fn extent_of(area: &Area) -> Extent
+    ensures { result ≡ extent area.now }
+{
+    Extent {
+        start: area.phys,
+        bytes: area.reach() as u16,
+    }
+}
+
+/// The memory that each area may take.
+fn extents(alloc: Global, place: Place, areas: &[Area]) -> Result<Vec<(Place, Extent)>, AllocError>
+    ensures { IfOk result (λ list. list.items ≡ each_at (extent_at place) 0 areas.now) }
+{
+    let mut list = Vec::new(alloc);
+    for index in 0..areas.len() {
+        list.push((place.in_area(index), extent_of(&areas[index])))?;
+    }
+    Ok(list)
+}
+
+/// Two areas of a slave that overlap.
+pub struct OverlappingAreas;
+
+impl Sought<Slave> for OverlappingAreas {
+    ghost finds = { areas_overlapping };
+
+    fn find(
+        alloc: Global,
+        place: Place,
+        index: usize,
+        item: &Slave,
+    ) -> Result<Option<Spot>, AllocError> {
+        let list = extents(alloc, slave_at(place, index, item), item.areas.as_slice())?;
+        Ok(first_meeting(&list))
+    }
+}
+
+impl Sought<Group> for OverlappingAreas {
+    ghost finds = { in_slaves areas_overlapping };
+
+    fn find(
+        alloc: Global,
+        _place: Place,
+        index: usize,
+        item: &Group,
+    ) -> Result<Option<Spot>, AllocError> {
+        first_in::<Slave, OverlappingAreas>(alloc, group_at(index, item), item.slaves.as_slice())
+    }
+}
+
+/// Where a number stands first.
+#[tactic(auto, unfolding(crate::specs::Places::first_some))]
+fn index_of(numbers: &[u16], number: u16) -> Option<usize>
+    ensures { result ≡ index_of number numbers.now }
+{
+    for index in 0..numbers.len() {
+        if number == numbers[index] {
+            return Some(index);
+        }
+    }
+    None
+}
+
+/// Whether an assigned index isn't offered, or stood before.
+fn find_at_assigned(area: &Area, place: Place, index: usize, number: u16) -> Option<Spot>
+    requires { index ≤ length area.now.assigned }
+    ensures { result ≡ assigned_unknown area.now place index number }
+{
+    let here = place.with_key(Key::AssignedAt(index));
+    if !area.offers(number) {
+        return Some(Spot::single(here));
+    }
+    let before = &area.assigned.as_slice()[..index];
+    match index_of(before, number) {
+        Some(earlier) => Some(Spot::pair(place.with_key(Key::AssignedAt(earlier)), here)),
+        None => None,
+    }
+}
+
+/// The first assigned index that isn't offered or stood before.
+#[tactic(auto, unfolding(crate::specs::Places::first_some))]
+fn find_in_assigned(place: Place, area: &Area) -> Option<Spot>
+    ensures { result ≡ first_from (assigned_unknown area.now place) 0 area.now.assigned }
+{
+    let assigned = area.assigned.as_slice();
+    for index in 0..assigned.len() {
+        let found = find_at_assigned(area, place, index, assigned[index]);
+        if found.is_some() {
+            return found;
+        }
+    }
+    None
+}
+
+/// An area whose assigned PDOs aren't offered PDOs, each once.
+pub struct UnknownPdos;
+
+impl Sought<Area> for UnknownPdos {
+    ghost finds = { area_unknown };
+
+    fn find(
+        alloc: Global,
+        place: Place,
+        index: usize,
+        item: &Area,
+    ) -> Result<Option<Spot>, AllocError> {
+        let here = place.in_area(index);
+        let offered = find_repeat::<Pdo, Offered>(alloc, here, item.offered.as_slice())?;
+        Ok(first_of(&[find_in_assigned(here, item), offered]))
+    }
+}
+
+impl Sought<Slave> for UnknownPdos {
+    ghost finds = { in_areas area_unknown };
+
+    fn find(
+        alloc: Global,
+        place: Place,
+        index: usize,
+        item: &Slave,
+    ) -> Result<Option<Spot>, AllocError> {
+        first_in::<Area, UnknownPdos>(alloc, slave_at(place, index, item), item.areas.as_slice())
+    }
+}
+
+impl Sought<Group> for UnknownPdos {
+    ghost finds = { in_slaves (in_areas area_unknown) };
+
+    fn find(
+        alloc: Global,
+        _place: Place,
+        index: usize,
+        item: &Group,
+    ) -> Result<Option<Spot>, AllocError> {
+        first_in::<Slave, UnknownPdos>(alloc, group_at(index, item), item.slaves.as_slice())
+    }
+}
+
+/// Whether an area has more bits than a datagram with these PDOs assigned.
+fn is_wide_with(area: &Area, indexes: &[u16]) -> bool
+    ensures { result ≡ nat_lt MOST_AREA_BITS (width (record area.now { assigned = indexes.now })) }
+{
+    MOST_AREA_BITS < area.width_with(indexes)
+}
+
+/// The place of an assigned index, where the area has more bits than a datagram with it.
+fn find_at_wide(area: &Area, place: Place, index: usize, number: u16) -> Option<Spot>
+    requires { index < length area.now.assigned }
+    ensures { result ≡ assigned_wide area.now place index number }
+{
+    if is_wide_with(area, &area.assigned.as_slice()[..index + 1]) {
+        Some(Spot::single(place.with_key(Key::AssignedAt(index))))
+    } else {
+        None
+    }
+}
+
+/// The first assigned index with which an area has more bits than a datagram.
+#[tactic(auto, unfolding(crate::specs::Places::first_some))]
+fn find_wide(place: Place, area: &Area) -> Option<Spot>
+    ensures { result ≡ first_from (assigned_wide area.now place) 0 area.now.assigned }
+{
+    let assigned = area.assigned.as_slice();
+    for index in 0..assigned.len() {
+        let found = find_at_wide(area, place, index, assigned[index]);
+        if found.is_some() {
+            return found;
+        }
+    }
+    None
+}
+
+/// An area whose assigned PDOs have more bits than a datagram.
+pub struct WideAreas;
+
+impl Sought<Area> for WideAreas {
+    ghost finds = { area_wide };
+
+    fn find(
+        _alloc: Global,
+        place: Place,
+        index: usize,
+        item: &Area,
+    ) -> Result<Option<Spot>, AllocError> {
+        Ok(find_wide(place.in_area(index), item))
+    }
+}
+
+impl Sought<Slave> for WideAreas {
+    ghost finds = { in_areas area_wide };
+
+    fn find(
+        alloc: Global,
+        place: Place,
+        index: usize,
+        item: &Slave,
+    ) -> Result<Option<Spot>, AllocError> {
+        first_in::<Area, WideAreas>(alloc, slave_at(place, index, item), item.areas.as_slice())
+    }
+}
+
+impl Sought<Group> for WideAreas {
+    ghost finds = { in_slaves (in_areas area_wide) };
+
+    fn find(
+        alloc: Global,
+        _place: Place,
+        index: usize,
+        item: &Group,
+    ) -> Result<Option<Spot>, AllocError> {
+        first_in::<Slave, WideAreas>(alloc, group_at(index, item), item.slaves.as_slice())
+    }
+}
