@@ -38,10 +38,11 @@ impl Seat {
         Seat { slot: 16 * spot.task + spot.datagram, bit: spot.bit, width: spot.width }
     }
 
-    /// Where its whole bytes end, and how many bits are left behind them; an area of a byte or more begins with a byte.
+    /// Its first byte, how many bytes are whole, and how many bits are left behind them. An area of a byte or more begins
+    /// with a byte.
     fn parts(&self) -> (usize, usize, usize) {
-        let whole = if self.width < 8 { 0 } else { usize::from(self.width / 8) };
-        (usize::from(self.bit / 8), whole, usize::from(self.width) - 8 * whole)
+        let [first, whole, left] = [self.bit / 8, self.width / 8, self.width % 8];
+        (first.into(), whole.into(), left.into())
     }
 
     /// Takes its bits out of a row, which has zeros there then, and adds them to what is lifted.
