@@ -1,6 +1,6 @@
 -- What is worked out of an edit makes it a prepared one.
-use Rattle.std.proofs.Common.{◌≡◌, ◌+◌, ℕ, List, None, sym, subst}
-use Rattle.std.specs.Prelude.{Ok, Option}
+use Rattle.std.proofs.Common.{◌≡◌, ◌∙◌, ◌+◌, ℕ, List, None, ap, sym, subst}
+use Rattle.std.specs.Prelude.{Ok, Option, Some}
 use Rattle.hc_records.specs.declared.edit.Edit.{Edit}
 use Rattle.hc_records.specs.declared.keys.Key.{Key}
 use Rattle.hc_records.specs.declared.records.Declared.{Declared}
@@ -8,20 +8,25 @@ use Rattle.hc_records.specs.Edits.{crowded_task, edited, groups_after}
 use Rattle.hc_records.specs.Line.{State, groups_of, line, line_from}
 use Rattle.hc_records.specs.Project.{lowest_fault}
 use Rattle.hc_ranks.specs.Blocks.{RankedBlock, moved_ranked}
+use Rattle.hc_ranks.specs.Differences.{Differ}
+use Rattle.hc_ranks.specs.Places.{places}
 use Rattle.hc_tasks.specs.Areas.{areas_by_rank}
 use Rattle.hc_tasks.specs.Turn.{AreStartsOf}
 use Rattle.hc_edits.specs.declared.prepared.Prepared.{Prepared}
-use Rattle.hc_edits.specs.Changes.{carried}
+use Rattle.hc_edits.specs.Changes.{carried, change_by}
 use Rattle.hc_edits.specs.Edits.{own_fault}
 use Rattle.hc_edits.specs.Rows.{ChangesRow}
 use Rattle.hc_places.specs.Room.{IsRoomFor}
 use Rattle.hc_places.specs.Table.{Table, table_of}
 use Rattle.hc_changes.specs.Outlook.{IsOutlook, Outlook, Room, outlook_of, IsRoomFor as HasRoomFor}
+use Rattle.hc_changes.proofs.lemmas.Outlooks.{change-outlook}
 use Rattle.hc_plan.specs.declared.report.Report.{Report}
+use Rattle.hc_plan.specs.Gone.{gone_of}
 use Rattle.hc_plan.specs.inner.Applied.{Makes}
 use Rattle.hc_plan.specs.inner.Prepared.{IsReady, prepared_of}
-use Rattle.hc_plan.specs.Prepared.{IsPrepared}
+use Rattle.hc_plan.specs.Prepared.{IsPrepared, PreparedEdit}
 use Rattle.hc_plan.specs.Reports.{Tells}
+use Rattle.hc_plan.proofs.lemmas.Differing.{edits-differ}
 
 -- a change makes this of a plan's line
 pub makes : (it : Outlook) (change : Prepared) (edit : Edit) (table : Table) (groups : List Declared) → IsOutlook it → it ≡ outlook_of change groups
@@ -33,12 +38,12 @@ makes it change edit table groups is same own leads fits stands =
 
 -- what is told of it, by the states
 pub is-prepared : (old : State) (change : Prepared) (it : Outlook) (edit : Edit) (report : Report) (blocks : List RankedBlock)
-    → lowest_fault (groups_of old.groups) ≡ None → crowded_task (line old) ≡ None → it ≡ outlook_of change old.groups
+    → lowest_fault (groups_of old.groups) ≡ None → crowded_task (line old) ≡ None → change_by old.groups edit ≡ Some change → it ≡ outlook_of change old.groups
     → Tells (record { groups = it.old; epoch = old.epoch }) edit (record { groups = it.new; epoch = old.epoch + 1 }) report
     → edited (record { groups = it.old; epoch = old.epoch }) edit ≡ Ok (record { groups = it.new; epoch = old.epoch + 1 })
     → crowded_task (line_from 1 it.new) ≡ None → blocks ≡ moved_ranked (line_from 1 it.old) (line_from 1 it.new)
     → IsPrepared (prepared_of old change report blocks)
-is-prepared old change it edit report blocks project fits same =
+is-prepared old change it edit report blocks project fits changes same =
     let new : State = record { groups = carried change old.groups; epoch = old.epoch + 1 } in
     subst
     (λ (o : Outlook).
@@ -52,6 +57,7 @@ is-prepared old change it edit report blocks project fits same =
       told = subst (λ (e : Edit). Tells old e new report) (sym told.named) told;
       crowds = (fits, uncrowded);
       blocks = moved;
+      differ = subst (Differ (places old) (places new) (gone_of change)) (sym moved) (edits-differ old new edit change project accepted changes);
     })
 
 -- and what is kept for carrying it out
@@ -68,3 +74,14 @@ is-ready old change it edit report blocks starts areas table rows named leads pr
   slaves = room;
   rows = subst (λ (t : Table). IsRoomFor report.swap.change t rows) stands space;
 }
+
+-- which is in the groups of the plan that carries it out, whose line the change makes what it made then
+
+pub same-groups : (one other : PreparedEdit) (plan now : State) → one ≡ other → other.old ≡ now → plan ≡ now → one.old.groups ≡ plan.groups
+same-groups one other plan now first second third = ap (λ (s : State). s.groups) (ap (λ (p : PreparedEdit). p.old) first ∙ second ∙ sym third)
+
+pub ready-outlook : (old : State) (change : Prepared) (report : Report) (blocks : List RankedBlock) (starts : List (List Key)) (areas : Room) (rows : Option ℕ)
+    → IsPrepared (prepared_of old change report blocks) → IsReady (prepared_of old change report blocks) change starts areas rows
+    → IsOutlook (outlook_of change old.groups)
+ready-outlook old change report blocks starts areas rows is ready =
+    change-outlook old.groups change (record { edit = report.swap.edit; leads = ready.leads }) is.project ready.project ready.row

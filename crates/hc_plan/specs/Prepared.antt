@@ -5,6 +5,8 @@ use Rattle.hc_records.specs.Line.{State, groups_of, line}
 use Rattle.hc_records.specs.Project.{lowest_fault}
 use Rattle.hc_ranks.specs.declared.blocks.Gone.{Gone}
 use Rattle.hc_ranks.specs.Blocks.{RankedBlock, moved_ranked}
+use Rattle.hc_ranks.specs.Differences.{Differ}
+use Rattle.hc_ranks.specs.Places.{places}
 use Rattle.hc_plan.specs.declared.report.Report.{Report}
 use Rattle.hc_plan.specs.Reports.{Tells}
 
@@ -16,10 +18,11 @@ pub record PreparedEdit : Type 0 where
   pub gone : Gone
   pub blocks : List RankedBlock
 
--- an accepted edit of a project's line, and what is different in the line that it makes
+-- an accepted edit of a project's line, and how the line that it makes differs
 pub record IsPrepared (prepared : PreparedEdit) : Type 0 where
   pub project : lowest_fault (groups_of prepared.old.groups) ≡ None
   pub accepted : edited prepared.old prepared.report.swap.edit ≡ Ok prepared.new
   pub told : Tells prepared.old prepared.report.swap.edit prepared.new prepared.report
   pub crowds : (crowded_task (line prepared.old) ≡ None) × (crowded_task (line prepared.new) ≡ None)
   pub blocks : prepared.blocks ≡ moved_ranked (line prepared.old) (line prepared.new)
+  pub differ : Differ (places prepared.old) (places prepared.new) prepared.gone prepared.blocks

@@ -11,6 +11,8 @@ mod lines;
 #[cfg(test)]
 mod opened;
 #[cfg(test)]
+mod prepared;
+#[cfg(test)]
 mod steps;
 #[cfg(test)]
 mod widths;

@@ -1,20 +1,28 @@
 use Rattle.std.proofs.Common.{◌≡◌, ◌∙◌, ℕ, List, None, ap, subst, sym}
 use Rattle.hc_records.specs.declared.records.Declared.{Declared}
 use Rattle.hc_records.specs.Edits.{groups_after}
-use Rattle.hc_records.specs.Line.{State, groups_of}
+use Rattle.hc_records.specs.Line.{groups_of}
 use Rattle.hc_records.specs.Project.{lowest_fault}
 use Rattle.hc_tasks.specs.Areas.{areas_by_rank}
 use Rattle.hc_tasks.specs.Turn.{AreStartsOf}
 use Rattle.hc_edits.specs.Changes.{carried}
-use Rattle.hc_changes.specs.Outlook.{Outlook, outlook_of}
+use Rattle.hc_changes.specs.Outlook.{IsOutlook, Outlook, outlook_of}
 use Rattle.hc_plan.specs.Prepared.{PreparedEdit}
+use Rattle.hc_plan.proofs.Preparing.{ready-outlook, same-groups}
 use Rattle.hc_plan.proofs.plan.Plan.carry_out.Goals as goal
+
+pub turn_on-requires-clause-outlook : goal.turn_on-requires-clause-outlook
+turn_on-requires-clause-outlook c =
+    let kept = c.prepared.inside in
+    let was = same-groups _ c.args.prepared _ c.args.self.now c.prepared.view_is c.requires c.self.view_is in
+    let now = c.of-outlook.ensures ∙ ap (outlook_of kept.change) (c.as_slice.ensures ∙ sym was) in
+    subst IsOutlook (sym now)
+    (ready-outlook kept.was.value kept.change kept.report _ kept.starts kept.slaves kept.rows c.prepared.invariant.0 c.prepared.invariant.1)
 
 pub turn_on-requires-clause-starts : goal.turn_on-requires-clause-starts
 turn_on-requires-clause-starts c =
     let kept = c.prepared.inside in
-    let was : kept.was.value.groups ≡ c.self.inside.groups =
-    ap (λ (s : State). s.groups) (ap (λ (p : PreparedEdit). p.old) c.prepared.view_is ∙ c.requires ∙ sym c.self.view_is) in
+    let was = same-groups _ c.args.prepared _ c.args.self.now c.prepared.view_is c.requires c.self.view_is in
     let new = ap (λ (o : Outlook). o.new) (c.of-outlook.ensures ∙ ap (outlook_of kept.change) (c.as_slice.ensures ∙ sym was)) in
     subst (λ (g : List Declared). AreStartsOf (areas_by_rank g) kept.starts) (sym new) c.prepared.invariant.1.starts
 
@@ -23,8 +31,7 @@ follow-requires c =
     let kept = c.prepared.inside in
     let groups = c.self.inside.groups in
     let ready = c.prepared.invariant.1 in
-    let was : kept.was.value.groups ≡ groups =
-    ap (λ (s : State). s.groups) (ap (λ (p : PreparedEdit). p.old) c.prepared.view_is ∙ c.requires ∙ sym c.self.view_is) in
+    let was = same-groups _ c.args.prepared _ c.args.self.now c.prepared.view_is c.requires c.self.view_is in
     let new = c.as_slice-2.ensures ∙ c.carry_out.ensures.groups in
     record {
       before = groups;
@@ -36,8 +43,7 @@ follow-requires c =
 pub returns-clause-plan : goal.returns-clause-plan
 returns-clause-plan c =
     let kept = c.prepared.inside in
-    let was : kept.was.value.groups ≡ c.self.inside.groups =
-    ap (λ (s : State). s.groups) (ap (λ (p : PreparedEdit). p.old) c.prepared.view_is ∙ c.requires ∙ sym c.self.view_is) in
+    let was = same-groups _ c.args.prepared _ c.args.self.now c.prepared.view_is c.requires c.self.view_is in
     ap (λ (g : List Declared). record { groups = g; epoch = kept.report.epoch }) (c.carry_out.ensures.groups ∙ ap (carried kept.change) (sym was))
     ∙ ap (λ (n : ℕ). record { groups = carried kept.change kept.was.value.groups; epoch = n }) c.prepared.invariant.0.told.epoch
     ∙ ap (λ (p : PreparedEdit). p.new) c.prepared.view_is

@@ -6,7 +6,7 @@ use Rattle.hc_records.specs.declared.records.Declared.{Declared}
 use Rattle.hc_records.specs.Edits.{edited, groups_after}
 use Rattle.hc_records.specs.Line.{State, groups_of}
 use Rattle.hc_records.specs.Project.{lowest_fault}
-use Rattle.hc_edits.specs.Changes.{carried}
+use Rattle.hc_edits.specs.Changes.{carried, change_by}
 use Rattle.hc_edits.specs.Edits.{own_fault}
 use Rattle.hc_edits.specs.Rows.{ChangesRow}
 use Rattle.hc_edits.proofs.lemmas.Refusals.{own-refuses}
@@ -74,7 +74,8 @@ invariant_of-result c =
     (λ (s : State). IsPrepared (prepared_of s change worked.report worked.blocks.items)
     × IsReady (prepared_of s change worked.report worked.blocks.items) change worked.starts c.in_ok-slaves.slaves worked.room)
     (sym c.of-4.ensures) (
-      is-prepared old change c.of-outlook.result edit worked.report worked.blocks.items c.self.invariant.0 c.self.invariant.1 outlook told.report told.accepted told.fits told.blocks,
+      is-prepared old change c.of-outlook.result edit worked.report worked.blocks.items c.self.invariant.0 c.self.invariant.1
+          (subst (λ (g : List Declared). change_by g edit ≡ Some change) slice c.in_ok-change.ensures.change) outlook told.report told.accepted told.fits told.blocks,
       is-ready old change c.of-outlook.result edit worked.report worked.blocks.items worked.starts c.in_ok-slaves.slaves c.self.inside.places worked.room told.report.named
           (subst (λ (g : List Declared). carried change g ≡ groups_after g edit) slice c.in_ok-change.ensures.groups)
           (subst (λ (g : List Declared). lowest_fault (groups_of (carried change g)) ≡ None) slice c.in_ok-change.ensures.kept)
