@@ -1,134 +1,162 @@
--- The two walks of an edit are what the definition makes of what was kept.
-use Rattle.std.proofs.Common.{◌≡◌, ℕ, Bool, true, false, cond, List, [], ◌∷◌, map, refl, sym, ap, subst, ◌∙◌}
-use Rattle.std.specs.Prelude.{◌||◌, All, AllPairs, None, filter, not}
-use Rattle.std.specs.List.{list_any}
-use Rattle.std.proofs.lemmas.List.Elements.{All-nil, All-cons, All-head, All-tail, All-weaker}
-use Rattle.hc_records.proofs.lemmas.Lists.{AllPairs-head, AllPairs-tail, AllPairs-unmap}
-use Rattle.hc_records.proofs.lemmas.Limits.{project-inside}
-use Rattle.hc_records.specs.declared.records.Declared.{Declared}
-use Rattle.hc_records.specs.Line.{State, groups_of, line, line_from}
-use Rattle.hc_records.specs.declared.edit.Edit.{Edit}
-use Rattle.hc_records.specs.Project.{lowest_fault}
-use Rattle.hc_registers.specs.Blocks.{LineBlock, line_blocks, same_block}
-use Rattle.hc_plan.specs.declared.report.Report.{Report}
-use Rattle.hc_plan.specs.Reports.{name_of}
-use Rattle.hc_owed.specs.Kept.{Kept, name_kept}
-use Rattle.hc_owed.specs.Edits.{IsEdited, carried, changed, compared, is_moved, kept_after, same_name}
-use Rattle.hc_owed.specs.Walk.{groups_kept, walked}
-use Rattle.hc_owed.proofs.Named.{Apart, judged-by, names, same-itself, same-not, walked-judges}
-use Rattle.hc_owed.proofs.Steps.{OtherStation, Unlike, carried_name, map-same, named-carried, new-apart, new_names, steps-carried}
-use Rattle.hc_owed.proofs.Shapes.{accepted-groups, change-keeps, change_of, new-steps, old-steps, steps-apart, steps_of, walk-steps}
+-- Behind an accepted edit what is kept is right for the new line.
+use Rattle.std.proofs.Common.{◌≡◌, ℕ, ◌*◌, ◌==◌, ◌<◌, Bool, true, false, cond, List, [], ◌∷◌, length, map, ◌⊎◌, inl, inr, refl, sym, ap, ◌∙◌, arith}
+use Rattle.std.specs.Prelude.{◌≢◌, All, None, Some, Option, option_map, slice_get, slice_index_or, unwrap_or}
+use Rattle.std.proofs.lemmas.Bool.{eqb-false, eqb-true}
+use Rattle.std.proofs.lemmas.List.{length-map}
+use Rattle.std.proofs.lemmas.List.Elements.{All-cons, All-head, All-nil, All-tail, All-weaker}
+use Rattle.std.proofs.lemmas.Option.{same_Some, slice_get-get_or, slice_get-map, slice_get_within}
+use Rattle.hc_registers.specs.Blocks.{LineBlock}
+use Rattle.hc_ranks.specs.declared.blocks.Gone.{Gone}
+use Rattle.hc_ranks.specs.Blocks.{RankedBlock}
+use Rattle.hc_ranks.specs.Differences.{IsGone, StandsIn, first_gone, place_of}
+use Rattle.hc_ranks.specs.Places.{places}
+use Rattle.hc_plan.proofs.lemmas.PlaceNames.{came, same-name, same-stations, stands-on}
+use Rattle.hc_owed.specs.Board.{Board, Knowledge, differs, kept_of, known_in, owed_in}
+use Rattle.hc_owed.specs.Laws.{IsEdited, known_over}
+use Rattle.hc_owed.specs.Steps.{cleared, compared, compared_all, filled}
+use Rattle.hc_owed.proofs.Lists.{get-changed, get-filled, get-other, get-unfilled, in-or-out, is-map, length-changed, length-filled}
+use Rattle.hc_owed.proofs.Opened.{board_of}
 
--- among blocks with distinct names, a block has the name of one that passes a test if it passes it
+-- the comparing of moved blocks
 
-pub apart-names : (a b : LineBlock) → Apart a b → same_name (name_of a) (name_of b) ≡ false
-apart-names a b apart = same-not a.station a.number b.station b.number apart
+abbrev RightUnless : Knowledge → List (Option LineBlock) → List RankedBlock → List Bool → Type 0
+RightUnless known all moved owed = (n : ℕ) (z : Option LineBlock) → slice_get all n ≡ Some z → All (λ m. place_of m ≢ n) moved → slice_get owed n ≡ Some (owed_in known z)
 
-not-among : (test : LineBlock → Bool) (block : LineBlock) (blocks : List LineBlock) → All (Apart block) blocks → is_moved (names test blocks) block ≡ false
-not-among test block [] apart = refl
-not-among test block (b ∷ blocks) apart = by (test b) (not-among test block blocks (All-tail (Apart block) b blocks apart))
+compared-right : (known : Knowledge) (all : List (Option LineBlock)) (m : RankedBlock) (rest : List RankedBlock) (board : Board) → board.known ≡ map (known_in known) all → length board.owed ≡ length all → StandsIn all m
+    → RightUnless known all (m ∷ rest) board.owed → RightUnless known all rest (compared m board).owed
+compared-right known all m rest board is size stands right n z at others = by (place_of m == n) refl
   where
-    by : (t : Bool) → is_moved (names test blocks) block ≡ false → is_moved (map name_of (cond t (b ∷ filter test blocks) (filter test blocks))) block ≡ false
-    by true rest = ap (λ (here : Bool). here || is_moved (names test blocks) block) (apart-names block b (All-head (Apart block) b blocks apart)) ∙ rest
-    by false rest = rest
+    flag : Bool
+    flag = differs m.found.block.bytes (unwrap_or (slice_get board.known (place_of m)) None)
 
-abbrev IsJudged : (LineBlock → Bool) → List (ℕ × ℕ) → LineBlock → Type 0
-IsJudged test moved block = is_moved moved block ≡ test block
+    told : slice_get board.known (place_of m) ≡ Some (known_in known (Some m.found))
+    told = ap (λ (list : List (Option (List ℕ))). slice_get list (place_of m)) is ∙ slice_get-map (known_in known) all (place_of m) ∙ ap (option_map (known_in known)) stands
 
-one-more : (test : LineBlock → Bool) (block : LineBlock) (moved : List (ℕ × ℕ)) (blocks : List LineBlock) → All (Apart block) blocks → All (IsJudged test moved) blocks → All (IsJudged test (name_of block ∷ moved)) blocks
-one-more test block moved [] apart judged = All-nil (IsJudged test (name_of block ∷ moved))
-one-more test block moved (b ∷ blocks) apart judged =
-    All-cons (IsJudged test (name_of block ∷ moved)) b blocks
-    (ap (λ (here : Bool). here || is_moved moved b) (apart-names b block (λ same. All-head (Apart block) b blocks apart (sym same))) ∙ All-head (IsJudged test moved) b blocks judged)
-    (one-more test block moved blocks (All-tail (Apart block) b blocks apart) (All-tail (IsJudged test moved) b blocks judged))
+    by : (t : Bool) → (place_of m == n) ≡ t → slice_get (compared m board).owed n ≡ Some (owed_in known z)
+    by true same =
+        let place = eqb-true (place_of m) n same in
+        let low = slice_get_within all n z at in
+        let found : Some (Some m.found) ≡ Some z = sym stands ∙ ap (slice_get all) place ∙ at in
+        ap (slice_get (compared m board).owed) (sym place)
+        ∙ get-changed (place_of m) flag board.owed (omega (arith, low, place, size))
+        ∙ ap (λ (o : Option (Option (List ℕ))). Some (differs m.found.block.bytes (unwrap_or o None))) told
+        ∙ ap (λ (o : Option LineBlock). Some (owed_in known o)) (same_Some (Some m.found) z found)
+    by false other =
+        let apart = eqb-false (place_of m) n other in
+        get-other (place_of m) n flag board.owed apart ∙ right n z at (All-cons (λ m. place_of m ≢ n) m rest apart others)
 
-all-judged : (test : LineBlock → Bool) (blocks : List LineBlock) → AllPairs Apart blocks → All (IsJudged test (names test blocks)) blocks
-all-judged test [] apart = All-nil (IsJudged test [])
-all-judged test (b ∷ blocks) apart = by (test b) refl (all-judged test blocks (AllPairs-tail Apart b blocks apart))
-  where
-    others : All (Apart b) blocks
-    others = AllPairs-head Apart b blocks apart
+compared-known : (moved : List RankedBlock) (board : Board) → (compared_all moved board).known ≡ board.known
+compared-known [] board = refl
+compared-known (m ∷ moved) board = compared-known moved (compared m board)
 
-    by : (t : Bool) → test b ≡ t → All (IsJudged test (names test blocks)) blocks
-        → All (IsJudged test (map name_of (cond t (b ∷ filter test blocks) (filter test blocks)))) (b ∷ blocks)
-    by true is rest =
-        All-cons (IsJudged test (name_of b ∷ names test blocks)) b blocks
-        (ap (λ (here : Bool). here || is_moved (names test blocks) b) (same-itself (name_of b)) ∙ sym is) (one-more test b (names test blocks) blocks others rest)
-    by false is rest = All-cons (IsJudged test (names test blocks)) b blocks (not-among test b blocks others ∙ sym is) rest
+compared-stations : (moved : List RankedBlock) (board : Board) → (compared_all moved board).stations ≡ board.stations
+compared-stations [] board = refl
+compared-stations (m ∷ moved) board = compared-stations moved (compared m board)
 
--- both walks, over the groups that a change of each group made
+compared-one : (m : RankedBlock) (board : Board) → length (compared m board).owed ≡ length board.owed
+compared-one m board = length-changed (place_of m) (λ _. differs m.found.block.bytes (unwrap_or (slice_get board.known (place_of m)) None)) board.owed
 
-abbrev test_of : List LineBlock → LineBlock → Bool
-test_of old block = not (list_any (same_block block) old)
+compared-size : (moved : List RankedBlock) (board : Board) → length (compared_all moved board).owed ≡ length board.owed
+compared-size [] board = refl
+compared-size (m ∷ moved) board = compared-size moved (compared m board) ∙ compared-one m board
 
-abbrev new_line : (Declared → Declared) → List Declared → List LineBlock
-new_line change groups = line_blocks (line_from 1 (map change groups))
+all-compared : (known : Knowledge) (all : List (Option LineBlock)) (moved : List RankedBlock) (board : Board) → board.known ≡ map (known_in known) all → length board.owed ≡ length all → All (StandsIn all) moved
+    → RightUnless known all moved board.owed → RightUnless known all [] (compared_all moved board).owed
+all-compared known all [] board is size stand right = right
+all-compared known all (m ∷ moved) board is size stand right =
+    all-compared known all moved (compared m board) is (compared-one m board ∙ size) (All-tail (StandsIn all) m moved stand)
+    (compared-right known all m moved board is size (All-head (StandsIn all) m moved stand) right)
 
-map-map-names : (old : List Kept) (blocks : List LineBlock) → map (carried_name old) (map name_of blocks) ≡ map (carried old) blocks
-map-map-names old [] = refl
-map-map-names old (b ∷ blocks) = ap (λ (more : List Kept). carried old b ∷ more) (map-map-names old blocks)
+-- before the moved blocks are compared, what is known is right, and every other flag
 
--- the blocks of a project's line have distinct names
+module _ (board : Board) (gone : Gone) (moved : List RankedBlock) (is : IsEdited board gone moved) where
+  abbrev pub olds : List (Option LineBlock)
+  olds = places is.old
 
-groups-apart : (change : Declared → Declared) (groups : List Declared) → lowest_fault (groups_of (map change groups)) ≡ None → AllPairs OtherStation (steps_of change groups)
-groups-apart change groups none = steps-apart change groups (project-inside (groups_of (map change groups)) none).stations
+  abbrev pub news : List (Option LineBlock)
+  news = places is.new
 
-changed-names : (change : Declared → Declared) (groups : List Declared) → map name_of (new_line change groups) ≡ new_names (steps_of change groups)
-changed-names change groups = new-steps change (line_from 1 (map change groups)) 1 groups
+  abbrev pub over : Knowledge
+  over = known_over is.old is.known
 
-changed-apart : (change : Declared → Declared) (groups : List Declared) → lowest_fault (groups_of (map change groups)) ≡ None → AllPairs Apart (new_line change groups)
-changed-apart change groups none =
-    AllPairs-unmap Unlike name_of (new_line change groups)
-    (subst (λ (list : List (ℕ × ℕ)). AllPairs Unlike list) (sym (changed-names change groups)) (new-apart (steps_of change groups) (groups-apart change groups none)))
+  abbrev pub from : ℕ
+  from = first_gone gone
 
-pub line-apart : (groups : List Declared) → lowest_fault (groups_of groups) ≡ None → AllPairs Apart (line_blocks (line_from 1 groups))
-line-apart groups none =
-    subst (λ (list : List Declared). AllPairs Apart (line_blocks (line_from 1 list))) (unchanged groups)
-    (changed-apart (λ d. d) groups (subst (λ (list : List Declared). lowest_fault (groups_of list) ≡ None) (sym (unchanged groups)) none))
-  where
-    unchanged : (groups : List Declared) → map (λ (d : Declared). d) groups ≡ groups
-    unchanged [] = refl
-    unchanged (d ∷ groups) = ap (λ (rest : List Declared). d ∷ rest) (unchanged groups)
+  abbrev pub count : ℕ
+  count = 16 * gone.slaves
 
-walks : (edit : Edit) (groups : List Declared) (blocks : List Kept) (moved : List (ℕ × ℕ)) → map name_kept blocks ≡ map name_of (line_blocks (line_from 1 groups))
-    → lowest_fault (groups_of (map (change_of edit) groups)) ≡ None
-    → moved ≡ names (test_of (line_blocks (line_from 1 groups))) (new_line (change_of edit) groups)
-    → walked moved (new_line (change_of edit) groups) (groups_kept (map (change_of edit) groups) blocks) ≡ changed blocks moved (new_line (change_of edit) groups)
-walks edit groups blocks moved named none is =
-    ap (λ (kept : List Kept). walked moved new kept) kept
-    ∙ ap (λ (list : List (ℕ × ℕ)). walked list new (map (carried blocks) new)) is
-    ∙ walked-judges test (carried blocks) new (λ b. named-carried blocks (name_of b)) distinct
-    ∙ map-same (judged-by test (carried blocks)) (kept_after blocks (names test new)) new judged
-    ∙ ap (λ (list : List (ℕ × ℕ)). changed blocks list new) (sym is)
-  where
-    new : List LineBlock
-    new = new_line (change_of edit) groups
+  -- a block that stayed has its name, and its slave was known
+  stayed-known : (n : ℕ) (before block : LineBlock) → slice_get olds n ≡ Some (Some before) → slice_get news n ≡ Some (Some block) → is.known before.station before.number ≡ over block.station block.number
+  stayed-known n before block stood at =
+      let name = same-name is.old is.new is.edit n before block is.accepted stood at in
+      ap (λ (b : Bool). cond b (is.known before.station before.number) None) (sym (stands-on is.old n before stood))
+      ∙ ap (λ (s : ℕ). over s before.number) name.0 ∙ ap (λ (k : ℕ). over block.station k) name.1
 
-    test : LineBlock → Bool
-    test = test_of (line_blocks (line_from 1 groups))
+  known-stays : (n : ℕ) (w z : Option LineBlock) → slice_get olds n ≡ Some w → slice_get news n ≡ Some z → (IsGone gone n → ⊥) → known_in is.known w ≡ known_in over z
+  known-stays n None None stood at out = refl
+  known-stays n None (Some block) stood at out =
+      ap (λ (b : Bool). cond b (is.known block.station block.number) None) (sym (came is.old is.new is.edit n block is.project is.accepted stood at))
+  known-stays n (Some before) None stood at out = absurd (out (is.differ.stays n before stood at))
+  known-stays n (Some before) (Some block) stood at out = stayed-known n before block stood at
 
-    kept : groups_kept (map (change_of edit) groups) blocks ≡ map (carried blocks) (new_line (change_of edit) groups)
-    kept =
-        walk-steps (change_of edit) groups blocks
-        ∙ steps-carried (steps_of (change_of edit) groups) blocks (groups-apart (change_of edit) groups none) (named ∙ old-steps (change_of edit) (change-keeps edit) (line_from 1 groups) 1 groups)
-        ∙ ap (λ (list : List (ℕ × ℕ)). map (carried_name blocks) list) (sym (changed-names (change_of edit) groups))
-        ∙ map-map-names blocks (new_line (change_of edit) groups)
+  owed-stays : (n : ℕ) (w z : Option LineBlock) → slice_get olds n ≡ Some w → slice_get news n ≡ Some z → (IsGone gone n → ⊥) → All (λ m. place_of m ≢ n) moved → owed_in is.known w ≡ owed_in over z
+  owed-stays n None None stood at out others = refl
+  owed-stays n None (Some block) stood at out others =
+      let was = is.differ.names.others n block at others in
+      let no : Some None ≡ Some (Some was.before) = sym stood ∙ was.stood in
+      let never : None ≡ Some was.before = same_Some None (Some was.before) no in cc
+  owed-stays n (Some before) None stood at out others = absurd (out (is.differ.stays n before stood at))
+  owed-stays n (Some before) (Some block) stood at out others =
+      let was = is.differ.names.others n block at others in
+      let one : Some was.before ≡ Some before = same_Some (Some was.before) (Some before) (sym was.stood ∙ stood) in
+      let bytes : before.block.bytes ≡ block.block.bytes = ap (λ (b : LineBlock). b.block.bytes) (sym (same_Some was.before before one)) ∙ was.same in
+      ap (λ (list : List ℕ). differs list (is.known before.station before.number)) bytes ∙ ap (differs block.block.bytes) (stayed-known n before block stood at)
 
-    distinct : AllPairs Apart (new_line (change_of edit) groups)
-    distinct = changed-apart (change_of edit) groups none
+  -- a list over the places, with those of the slaves that left filled
+  step : {Y : Type 0} (f g : Option LineBlock → Y) (none : Y) (n : ℕ) (z : Option LineBlock) → g None ≡ none → slice_get news n ≡ Some z
+      → ((w : Option LineBlock) → slice_get olds n ≡ Some w → (IsGone gone n → ⊥) → f w ≡ g z) → slice_get (filled from count none (map f olds)) n ≡ Some (g z)
+  step {Y} f g none n z empty at stays = by (in-or-out from count n)
+    where
+      low : n < length olds
+      low = let within = slice_get_within news n z at in let size = is.differ.size in omega (arith, within, size)
 
-    judged : All (λ b. judged-by test (carried blocks) b ≡ kept_after blocks (names test new) b) new
-    judged =
-        All-weaker (IsJudged test (names test new)) (λ b. judged-by test (carried blocks) b ≡ kept_after blocks (names test new) b)
-        (λ b same. ap (λ (t : Bool). cond t (compared b.block.bytes (carried blocks b)) (carried blocks b)) (sym same)) new (all-judged test new distinct)
+      by : (IsGone gone n ⊎ (IsGone gone n → ⊥)) → slice_get (filled from count none (map f olds)) n ≡ Some (g z)
+      by (inl inside) =
+          let size = length-map olds f in
+          get-filled from count none (map f olds) n inside.0 inside.1 (omega (arith, low, size))
+          ∙ ap (λ (y : Y). Some y) (sym empty ∙ ap g (same_Some None z (sym (is.differ.went n inside) ∙ at)))
+      by (inr out) =
+          let w = slice_index_or olds n None in
+          let stood = slice_get-get_or olds n None low in
+          get-unfilled from count none (map f olds) n out ∙ slice_get-map f olds n ∙ ap (option_map f) stood ∙ ap (λ (y : Y). Some y) (stays w stood out)
 
-pub walks-change : (blocks : List Kept) (new : State) (report : Report) → IsEdited blocks new report → lowest_fault (groups_of new.groups) ≡ None
-    → walked report.blocks (line_blocks (line new)) (groups_kept new.groups blocks) ≡ changed blocks report.blocks (line_blocks (line new))
-walks-change blocks new report edited none = by new.groups (accepted-groups edited.old new edited.edit edited.accepted) none edited.told.blocks
-  where
-    Made : List Declared → Type 0
-    Made groups = lowest_fault (groups_of groups) ≡ None → report.blocks ≡ names (test_of (line_blocks (line edited.old))) (line_blocks (line_from 1 groups))
-        → walked report.blocks (line_blocks (line_from 1 groups)) (groups_kept groups blocks) ≡ changed blocks report.blocks (line_blocks (line_from 1 groups))
+  cleared-known : filled from count None (map (known_in is.known) olds) ≡ map (known_in over) news
+  cleared-known =
+      is-map (filled from count None (map (known_in is.known) olds)) (known_in over) news
+      (length-filled from count None (map (known_in is.known) olds) ∙ length-map olds (known_in is.known) ∙ is.differ.size)
+      (λ n z at. step (known_in is.known) (known_in over) None n z refl at (λ w stood out. known-stays n w z stood at out))
 
-    by : (groups : List Declared) → groups ≡ map (change_of edited.edit) edited.old.groups → Made groups
-    by groups same = subst Made (sym same) (λ kept is. walks edited.edit edited.old.groups blocks report.blocks edited.named kept is)
+  cleared-owed : RightUnless over news moved (filled from count false (map (owed_in is.known) olds))
+  cleared-owed n z at others = step (owed_in is.known) (owed_in over) false n z refl at (λ w stood out. owed-stays n w z stood at out others)
+
+  owed-size : length (filled from count false (map (owed_in is.known) olds)) ≡ length news
+  owed-size = length-filled from count false (map (owed_in is.known) olds) ∙ length-map olds (owed_in is.known) ∙ is.differ.size
+
+  pub change-right : compared_all moved (cleared gone (kept_of is.known is.old)) ≡ kept_of over is.new
+  change-right =
+      let mid = cleared gone (kept_of is.known is.old) in
+      let after = compared_all moved mid in
+      let right = all-compared over news moved mid cleared-known owed-size is.differ.names.stand cleared-owed in
+      let owed = is-map after.owed (owed_in over) news (compared-size moved mid ∙ owed-size) (λ n z at. right n z at (All-nil (λ m. place_of m ≢ n))) in
+      ap (λ (k : List (Option (List ℕ))). board_of k after.owed after.stations) (compared-known moved mid ∙ cleared-known)
+      ∙ ap (λ (o : List Bool). board_of (map (known_in over) news) o after.stations) owed
+      ∙ ap (λ (s : List ℕ). board_of (map (known_in over) news) (map (owed_in over) news) s) (compared-stations moved mid ∙ same-stations is.old is.new is.edit is.accepted)
+
+  -- the places of the moved blocks, and of the slaves that left, are places
+  pub known-size : length board.known ≡ length news
+  known-size = ap (λ (b : Board). length b.known) is.right ∙ length-map olds (known_in is.known) ∙ is.differ.size
+
+  pub moved-inside : All (λ m. place_of m < length board.known) moved
+  moved-inside =
+      All-weaker (StandsIn news) (λ m. place_of m < length board.known)
+      (λ m stands. let low = slice_get_within news (place_of m) (Some m.found) stands in let size = known-size in omega (arith, low, size)) moved is.differ.names.stand

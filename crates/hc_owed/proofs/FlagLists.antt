@@ -6,10 +6,10 @@ use Rattle.std.proofs.lemmas.Iterator.Adapters.{position_from-zero}
 use Rattle.std.proofs.lemmas.Nat.Bits.{bit_at-zero}
 use Rattle.std.proofs.Math.Seq.{take-length}
 use Rattle.std.specs.Int.{bit_at}
-use Rattle.std.specs.Prelude.{slice_get, slice_index, ◌/◌, ◌%◌, position, Some, None, Option}
+use Rattle.std.specs.Prelude.{slice_get, slice_index, unwrap_or, ◌/◌, ◌%◌, position, Some, None, Option}
 use Rattle.std.specs.List.{position_from}
 use Rattle.hc_records.specs.Lists.{changed_at}
-use Rattle.hc_owed.specs.Flags.{Flags, IsLowestIn, SetsFlag, flag, flags_from}
+use Rattle.hc_owed.specs.Flags.{Flags, IsLowestIn, SetsFlag, flag, flags_from, one, set_count}
 
 abbrev pub flags_of : List Bool → ℕ → Flags
 flags_of list room = record { list = list; room = room }
@@ -170,3 +170,28 @@ are-flags words len capacity flags same = record {
   length = ap (λ (f : Flags). length f.list) (sym same) ∙ length-flags words 0 len;
   room = ap (λ (f : Flags). f.room) (sym same);
 }
+
+-- how many are set
+
+pub count-pushed : (flags : List Bool) (flag : Bool) → set_count (flags ++ flag ∷ []) ≡ set_count flags + one flag
+count-pushed [] flag = omega arith
+count-pushed (f ∷ flags) flag = let rest = count-pushed flags flag in omega (arith, rest)
+
+-- one of them is set, and what it was is taken off
+pub count-set : (flags : List Bool) (n : ℕ) (was flag : Bool) → slice_get flags n ≡ Some was → set_count (changed_at n (λ b. flag) flags) + one was ≡ set_count flags + one flag
+count-set [] n was flag is = cc
+count-set (f ∷ flags) zero was flag is =
+    let same : one f ≡ one was = ap (λ (x : Option Bool). one (unwrap_or x false)) is in
+    omega (arith, same)
+count-set (f ∷ flags) (suc n) was flag is = let rest = count-set flags n was flag is in omega (arith, rest)
+
+pub one-le : (flag : Bool) → one flag ≤ 1
+one-le true = omega arith
+one-le false = omega arith
+
+pub count-le : (flags : List Bool) → set_count flags ≤ length flags
+count-le [] = omega arith
+count-le (f ∷ flags) =
+    let rest = count-le flags in
+    let here = one-le f in
+    omega (arith, rest, here)

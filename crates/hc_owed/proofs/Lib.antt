@@ -1,13 +1,6 @@
-mod Named
-mod Steps
-mod Shapes
 mod Changing
-mod Declaring
-mod Editing
 mod FlagLists
-mod KeptLists
-mod Names
-mod Staying
-mod Walks
+mod Lists
+mod Opened
+mod Telling
 mod Writing
-pub mod lemmas

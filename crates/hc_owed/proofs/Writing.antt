@@ -1,68 +1,99 @@
 -- What is kept stays right behind the sending of a write, and behind a good answer to it.
-use Rattle.std.proofs.Common.{◌≡◌, ℕ, zero, suc, Bool, true, false, cond, List, [], ◌∷◌, map, refl, sym, ap, subst, ◌∙◌}
-use Rattle.std.specs.Prelude.{AllPairs, Option, Some, None, not, slice_get}
+use Rattle.std.proofs.Common.{◌≡◌, ℕ, ◌==◌, ◌&&◌, Bool, true, false, cond, List, map, refl, sym, ap, ◌∙◌, arith}
+use Rattle.std.specs.Prelude.{◌≢◌, None, Some, Option, not, option_map, slice_get}
 use Rattle.std.specs.Str.{bytes_eq}
-use Rattle.std.proofs.lemmas.List.Elements.{All-contains, All-weaker}
-use Rattle.std.proofs.lemmas.Option.{same_Some}
+use Rattle.std.proofs.lemmas.Bool.{and_parts, eq-eqb, eqb-false, eqb-true}
+use Rattle.std.proofs.lemmas.List.{length-map}
+use Rattle.std.proofs.lemmas.Option.{same_Some, slice_get-map, slice_get_within}
 use Rattle.std.proofs.lemmas.Slice.Eq.{bytes_eq-Decides}
 use Rattle.hc_records.specs.Lists.{changed_at}
-use Rattle.hc_records.specs.Line.{State, line}
-use Rattle.hc_records.proofs.lemmas.Lists.{AllPairs-head, AllPairs-tail}
-use Rattle.hc_registers.specs.Blocks.{LineBlock, line_blocks}
+use Rattle.hc_records.specs.Line.{State, groups_of}
+use Rattle.hc_records.specs.Project.{lowest_fault}
+use Rattle.hc_registers.specs.Blocks.{LineBlock}
+use Rattle.hc_ranks.specs.Places.{places, stations}
 use Rattle.hc_plan.specs.Reports.{name_of}
-use Rattle.hc_plan.proofs.lemmas.Configured.{at-contained}
-use Rattle.hc_owed.specs.Kept.{Kept, differs}
-use Rattle.hc_owed.specs.Edits.{same_name}
-use Rattle.hc_owed.specs.Writes.{forgotten, written}
-use Rattle.hc_owed.specs.Laws.{IsBlockAt, Knowledge, WritesKeepRight, kept_by, known_with}
-use Rattle.hc_owed.proofs.Changing.{apart-names, line-apart}
-use Rattle.hc_owed.proofs.Named.{Apart, same-itself}
-use Rattle.hc_owed.proofs.Steps.{map-same}
+use Rattle.hc_plan.proofs.lemmas.PlaceNames.{one-place}
+use Rattle.hc_owed.specs.Board.{Knowledge, differs, kept_of, known_in, lacks, owed_in}
+use Rattle.hc_owed.specs.Laws.{known_with, same_name}
+use Rattle.hc_owed.specs.Steps.{judged, learnt}
+use Rattle.hc_owed.proofs.Lists.{changed-same, get-changed, get-other, is-map, length-changed}
+use Rattle.hc_owed.proofs.Opened.{board_of}
 
--- a block as it's kept where these bytes are known of it
-abbrev pub kept_with : LineBlock → Option (List ℕ) → Kept
-kept_with block known = record { station = block.station; number = block.number; known = known; owed = differs block.block.bytes known }
+-- a block has its own name, and no block at another place has
 
--- among blocks with distinct names just the one at a position is kept otherwise
+same-itself : (m n : ℕ) → same_name (m, n) (m, n) ≡ true
+same-itself m n = ap (λ (b : Bool). b && (n == n)) (eq-eqb m m refl) ∙ eq-eqb n n refl
 
-changed-named : (n : ℕ) (f : Kept → Kept) (g h : LineBlock → Kept) (block : LineBlock) (blocks : List LineBlock) → AllPairs Apart blocks → slice_get blocks n ≡ Some block → f (g block) ≡ h block
-    → ((b : LineBlock) → same_name (name_of block) (name_of b) ≡ false → g b ≡ h b) → changed_at n f (map g blocks) ≡ map h blocks
-changed-named n f g h block [] apart at here others = refl
-changed-named zero f g h block (b ∷ blocks) apart at here others =
-    let same : b ≡ block = same_Some b block at in
-    ap (λ (k : Kept). k ∷ map g blocks) (subst (λ (x : LineBlock). f (g x) ≡ h x) (sym same) here)
-    ∙ ap (λ (rest : List Kept). h b ∷ rest)
-    (map-same g h blocks
-    (All-weaker (Apart b) (λ x. g x ≡ h x) (λ x other. others x (ap (λ (y : LineBlock). same_name (name_of y) (name_of x)) (sym same) ∙ apart-names b x other)) blocks (AllPairs-head Apart b blocks apart)))
-changed-named (suc n) f g h block (b ∷ blocks) apart at here others =
-    let other : Apart b block = All-contains (Apart b) blocks block (AllPairs-head Apart b blocks apart) (at-contained blocks n block at) in
-    ap (λ (k : Kept). k ∷ changed_at n f (map g blocks)) (others b (apart-names block b (λ same. other (sym same))))
-    ∙ ap (λ (rest : List Kept). h b ∷ rest) (changed-named n f g h block blocks (AllPairs-tail Apart b blocks apart) at here others)
+other-name : (state : State) (n i : ℕ) (block b : LineBlock) → lowest_fault (groups_of state.groups) ≡ None → slice_get (places state) n ≡ Some (Some block) → slice_get (places state) i ≡ Some (Some b)
+    → n ≢ i → same_name (name_of block) (name_of b) ≡ false
+other-name state n i block b project at other apart = by (same_name (name_of block) (name_of b)) refl
+  where
+    by : (same : Bool) → same_name (name_of block) (name_of b) ≡ same → same ≡ false
+    by true is =
+        let parts = and_parts (block.station == b.station) (block.number == b.number) is in
+        absurd (apart (one-place state n i block b project at other (eqb-true block.station b.station parts.0) (eqb-true block.number b.number parts.1)))
+    by false is = refl
 
--- other bytes known of one block, and of the others the same
+-- with other bytes known of one block, what is kept is changed at its place alone
+written : {Y : Type 0} (f g : Option LineBlock → Y) (state : State) (n : ℕ) (block : LineBlock) (y : Y) → slice_get (places state) n ≡ Some (Some block) → g (Some block) ≡ y
+    → ((i : ℕ) (z : Option LineBlock) → n ≢ i → slice_get (places state) i ≡ Some z → f z ≡ g z) → changed_at n (λ _. y) (map f (places state)) ≡ map g (places state)
+written {Y} f g state n block y at here others =
+    let all = places state in
+    let size = length-changed n (λ _. y) (map f all) ∙ length-map all f in
+    is-map (changed_at n (λ _. y) (map f all)) g all size (λ i z stands. by i z stands (n == i) refl)
+  where
+    by : (i : ℕ) (z : Option LineBlock) → slice_get (places state) i ≡ Some z → (same : Bool) → (n == i) ≡ same → slice_get (changed_at n (λ _. y) (map f (places state))) i ≡ Some (g z)
+    by i z stands true is =
+        let same = eqb-true n i is in
+        let low = slice_get_within (places state) n (Some block) at in
+        let size = length-map (places state) f in
+        let found : Some (Some block) ≡ Some z = sym at ∙ ap (slice_get (places state)) same ∙ stands in
+        ap (slice_get (changed_at n (λ _. y) (map f (places state)))) (sym same)
+        ∙ get-changed n y (map f (places state)) (omega (arith, low, size))
+        ∙ ap (λ (x : Y). Some x) (sym here ∙ ap g (same_Some (Some block) z found))
+    by i z stands false is =
+        let apart = eqb-false n i is in
+        get-other n i y (map f (places state)) apart ∙ slice_get-map f (places state) i ∙ ap (option_map f) stands ∙ ap (λ (x : Y). Some x) (others i z apart stands)
 
-known-here : (known : Knowledge) (block : LineBlock) (bytes : Option (List ℕ)) → kept_with block bytes ≡ kept_by (known_with (name_of block) bytes known) block
-known-here known block bytes = ap (λ (b : Bool). kept_with block (cond b bytes (known block.station block.number))) (sym (same-itself (name_of block)))
+module _ (known : Knowledge) (state : State) (n : ℕ) (block : LineBlock) (bytes : Option (List ℕ)) (project : lowest_fault (groups_of state.groups) ≡ None) (at : slice_get (places state) n ≡ Some (Some block)) where
+  abbrev pub after : Knowledge
+  after = known_with (name_of block) bytes known
 
-known-others : (known : Knowledge) (block : LineBlock) (bytes : Option (List ℕ)) (b : LineBlock) → same_name (name_of block) (name_of b) ≡ false
-    → kept_by known b ≡ kept_by (known_with (name_of block) bytes known) b
-known-others known block bytes b other = ap (λ (t : Bool). kept_with b (cond t bytes (known b.station b.number))) (sym other)
+  here : after block.station block.number ≡ bytes
+  here = ap (λ (b : Bool). cond b bytes (known block.station block.number)) (same-itself block.station block.number)
 
-writes-right : (known : Knowledge) (blocks : List LineBlock) (n : ℕ) (block : LineBlock) (f : Kept → Kept) (bytes : Option (List ℕ)) → AllPairs Apart blocks → slice_get blocks n ≡ Some block
-    → f (kept_by known block) ≡ kept_with block bytes → changed_at n f (map (kept_by known) blocks) ≡ map (kept_by (known_with (name_of block) bytes known)) blocks
-writes-right known blocks n block f bytes apart at here =
-    changed-named n f (kept_by known) (kept_by (known_with (name_of block) bytes known)) block blocks apart at (here ∙ known-here known block bytes) (known-others known block bytes)
+  elsewhere : (i : ℕ) (b : LineBlock) → n ≢ i → slice_get (places state) i ≡ Some (Some b) → known b.station b.number ≡ after b.station b.number
+  elsewhere i b apart stands = ap (λ (t : Bool). cond t bytes (known b.station b.number)) (sym (other-name state n i block b project at stands apart))
 
-pub writes-keep : (known : Knowledge) (state : State) (n : ℕ) (block : LineBlock) → IsBlockAt state n block → WritesKeepRight known state n block
-writes-keep known state n block at =
-    let blocks = line_blocks (line state) in
-    let apart = line-apart state.groups at.project in
-    let bytes = block.block.bytes in
-    let same : bytes_eq bytes bytes ≡ true = (bytes_eq-Decides bytes bytes).1 refl in
-    let found = known block.station block.number in
-    record {
-      when_sent = λ owed. writes-right known blocks n block forgotten None apart at.stands
-          (ap (λ (b : Bool). record { station = block.station; number = block.number; known = None; owed = b }) owed);
-      when_confirmed = writes-right known blocks n block (written bytes) (Some bytes) apart at.stands
-          (ap (λ (b : Bool). record { station = block.station; number = block.number; known = Some bytes; owed = not b }) (sym same));
-    }
+  pub write-known : changed_at n (λ _. bytes) (map (known_in known) (places state)) ≡ map (known_in after) (places state)
+  write-known = written (known_in known) (known_in after) state n block bytes at here others
+    where
+      others : (i : ℕ) (z : Option LineBlock) → n ≢ i → slice_get (places state) i ≡ Some z → known_in known z ≡ known_in after z
+      others i None apart stands = refl
+      others i (Some b) apart stands = elsewhere i b apart stands
+
+  pub write-owed : changed_at n (λ _. differs block.block.bytes bytes) (map (owed_in known) (places state)) ≡ map (owed_in after) (places state)
+  write-owed = written (owed_in known) (owed_in after) state n block (differs block.block.bytes bytes) at (ap (differs block.block.bytes) here) others
+    where
+      others : (i : ℕ) (z : Option LineBlock) → n ≢ i → slice_get (places state) i ≡ Some z → owed_in known z ≡ owed_in after z
+      others i None apart stands = refl
+      others i (Some b) apart stands = ap (differs b.block.bytes) (elsewhere i b apart stands)
+
+pub sent-right : (known : Knowledge) (state : State) (n : ℕ) (block : LineBlock) → lowest_fault (groups_of state.groups) ≡ None → slice_get (places state) n ≡ Some (Some block) → lacks known block ≡ true
+    → learnt n None (kept_of known state) ≡ kept_of (known_with (name_of block) None known) state
+sent-right known state n block project at lacking =
+    let owed = map (owed_in known) (places state) in
+    let after = known_with (name_of block) None known in
+    let was : slice_get owed n ≡ Some true = slice_get-map (owed_in known) (places state) n ∙ ap (option_map (owed_in known)) at ∙ ap Some lacking in
+    ap (λ (k : List (Option (List ℕ))). board_of k owed (stations state)) (write-known known state n block None project at)
+    ∙ ap (λ (o : List Bool). board_of (map (known_in after) (places state)) o (stations state)) (sym (changed-same n true owed was) ∙ write-owed known state n block None project at)
+
+pub confirmed-right : (known : Knowledge) (state : State) (n : ℕ) (block : LineBlock) (bytes : List ℕ) → lowest_fault (groups_of state.groups) ≡ None → slice_get (places state) n ≡ Some (Some block) → bytes ≡ block.block.bytes
+    → judged n false (learnt n (Some bytes) (kept_of known state)) ≡ kept_of (known_with (name_of block) (Some bytes) known) state
+confirmed-right known state n block bytes project at same =
+    let owed = map (owed_in known) (places state) in
+    let after = known_with (name_of block) (Some bytes) known in
+    let equal : bytes_eq block.block.bytes bytes ≡ true = (bytes_eq-Decides block.block.bytes bytes).1 (sym same) in
+    ap (λ (k : List (Option (List ℕ))). board_of k (changed_at n (λ _. false) owed) (stations state)) (write-known known state n block (Some bytes) project at)
+    ∙ ap (λ (o : List Bool). board_of (map (known_in after) (places state)) o (stations state))
+    (ap (λ (t : Bool). changed_at n (λ _. not t) owed) (sym equal) ∙ write-owed known state n block (Some bytes) project at)

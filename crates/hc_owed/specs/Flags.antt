@@ -1,11 +1,20 @@
--- Bits in words of 64, the lowest bit of a word first.
-use Rattle.std.specs.Prelude.{◌≡◌, ℕ, zero, suc, ◌+◌, ◌<◌, ◌/◌, ◌%◌, ◌==◌, ◌≢◌, Bool, List, [], ◌∷◌, length, slice_index}
+-- Bits in words of 64, the lowest bit of a word first, and their count.
+use Rattle.std.specs.Prelude.{◌≡◌, ℕ, zero, suc, ◌+◌, ◌<◌, ◌/◌, ◌%◌, ◌==◌, ◌≢◌, Bool, if◌then◌else◌, List, [], ◌∷◌, length, slice_index}
 use Rattle.std.specs.Int.{bit_at}
 
 -- flags, and for how many there's room
 pub record Flags : Type 0 where
   pub list : List Bool
   pub room : ℕ
+
+-- what a flag counts, and how many of them are set
+abbrev pub one : Bool → ℕ
+one flag = if flag then 1 else 0
+
+-- how many of the flags are set
+abbrev pub set_count : List Bool → ℕ
+set_count [] = 0
+set_count (flag ∷ flags) = one flag + set_count flags
 
 -- the bit with a number
 abbrev pub flag : List ℕ → ℕ → Bool

@@ -1,7 +1,5 @@
-pub mod Kept
-pub mod Writes
-pub mod Edits
+pub mod Board
 pub mod Laws
 pub mod Flags
-pub mod Entries
-pub mod Walk
+pub mod Steps
+pub mod Opening

@@ -1,13 +1,20 @@
-//! A list of bits in words of 64, whose first set one is found by words.
+//! A list of bits in words of 64, whose first set one is found by words, and which are counted.
 ghost use Rattle.std.specs.Prelude.{◌≡◌, ℕ, ◌*◌, ◌<◌, ◌==◌, ◌≢◌, length, MatchOption};
 ghost use Rattle.std.specs.Int.{bit_at};
-ghost use Rattle.hc_owed.specs.Flags.{IsLowestIn, SetsFlag};
+ghost use Rattle.hc_owed.specs.Flags.{IsLowestIn, SetsFlag, one};
 
 use std::alloc::{AllocError, Global};
 use std::marker::Model;
 
 /// The bits of a word.
 const WORD_BITS: usize = 64;
+
+/// 1 for a flag that is set.
+fn one(flag: bool) -> usize
+    ensures { result ≡ one flag }
+{
+    if flag { 1 } else { 0 }
+}
 
 /// The word with the bit at a place, counted from the lowest, set or cleared.
 fn with_bit(word: u64, place: usize, set: bool) -> u64
@@ -43,22 +50,25 @@ fn lowest_place(word: u64) -> Option<usize>
 pub(crate) struct Flags {
     words: Vec<u64>,
     len: usize,
+    // how many are set
+    count: usize,
 }
 
 impl Model for Flags {
-    ghost use Rattle.std.specs.Prelude.{◌*◌, ◌^◌, ◌<◌, ◌≤◌, vec_len};
-    ghost use Rattle.hc_owed.specs.Flags.{Flags, flags_from};
+    ghost use Rattle.std.specs.Prelude.{◌≡◌, ◌*◌, ◌^◌, ◌<◌, ◌≤◌, vec_len};
+    ghost use Rattle.hc_owed.specs.Flags.{Flags, flags_from, set_count};
 
     ghost Value = { Flags };
 
     ghost view = { λ flags. record { list = flags_from flags.words.items flags.len 0; room = 64 * vec_len flags.words } };
 
-    ghost invariant = { λ flags. (flags.len ≤ 64 * vec_len flags.words) × (vec_len flags.words < 2 ^ 32) };
+    ghost invariant = { λ flags. (flags.len ≤ 64 * vec_len flags.words) × (vec_len flags.words < 2 ^ 32) × (flags.count ≡ set_count (flags_from flags.words.items flags.len 0)) };
 }
 
 impl Flags {
     ghost use Rattle.std.specs.Prelude.{◌≡◌, ◌≤◌, ◌<◌, ◌^◌, [], ◌∷◌, ◌++◌, length, position, slice_get, IfOk, IfSome, Some};
     ghost use Rattle.hc_records.specs.Lists.{changed_at};
+    ghost use Rattle.hc_owed.specs.Flags.{set_count};
 
     /// No flag, with room for so many, fewer than 2^32. `AllocError` where a growth was refused.
     pub(crate) fn with_room(alloc: Global, room: usize) -> Result<Flags, AllocError>
@@ -71,14 +81,18 @@ impl Flags {
         for _ in 0..count {
             words.push(0)?;
         }
-        Ok(Flags { words, len: 0 })
+        Ok(Flags {
+            words,
+            len: 0,
+            count: 0,
+        })
     }
 
-    /// Leaves no flag.
-    pub(crate) fn clear(&mut self)
-        ensures { self.new ≡ record self.old { list = [] } }
+    /// How many flags are set.
+    pub(crate) fn count(&self) -> usize
+        ensures { result ≡ set_count self.now.list }
     {
-        self.len = 0;
+        self.count
     }
 
     /// Adds a flag behind the others.
@@ -88,6 +102,7 @@ impl Flags {
     {
         set_bit(&mut self.words, self.len, flag);
         self.len += 1;
+        self.count += one(flag);
     }
 
     /// Sets the flag at an index.
@@ -95,7 +110,9 @@ impl Flags {
         requires { n < length self.old.list }
         ensures { self.new ≡ record self.old { list = changed_at n (λ _. flag) self.old.list } }
     {
+        let was = self.get(n);
         set_bit(&mut self.words, n, flag);
+        self.count = self.count - one(was) + one(flag);
     }
 
     /// The flag at an index.

@@ -1,12 +1,8 @@
-//! What the slaves' registers are known to hold, and which register blocks they still lack: of each block
-//! of the line its known bytes, and a bit for each with their count. The core asks for the first owed block,
-//! and tells of writes, of their good answers, and of edits.
+//! What the slaves' registers are known to hold, and which register blocks they still lack: an entry and a bit
+//! at each place of a declared slave's blocks, by rank, and the count of the bits. The core asks for the first
+//! owed block, and tells of writes, of their good answers, and of edits. An edit costs what it changes.
 #![tactic(auto)]
 
-mod blocks;
-mod carrying;
-mod comparing;
-mod entries;
 mod flags;
+mod opening;
 pub mod owed;
-mod room;

@@ -1,120 +1,182 @@
 //! Which register blocks the slaves of the present line still lack.
-ghost use Rattle.std.specs.Prelude.{◌≡◌};
+ghost use Rattle.std.specs.Prelude.{◌≡◌, option_map};
+ghost use Rattle.hc_owed.specs.Board.{differs};
 
-use crate::blocks::Blocks;
-use crate::carrying::carry;
-use crate::comparing::compare;
-use crate::entries::unknown;
-use crate::room::declared_blocks;
+use crate::flags::Flags;
+use crate::opening::{declared_flags, declared_stations, nothing_known};
 use hc_plan::plan::Plan;
-use hc_plan::report::Report;
+use hc_ranks::blocks::{Gone, RankedBlock};
 use hc_registers::blocks::Block;
 use std::alloc::{AllocError, Global};
 use std::marker::Model;
-use std::mem;
 
-/// Of each block of the line, in line and block order: its known bytes, and whether it's owed. Contracts see it
-/// as an `Owed`, which also has the number of blocks for which there's room.
-#[derive(Debug)]
-pub struct Owed {
-    kept: Blocks,
-    // where an edit puts what is kept of the new line
-    next: Blocks,
+/// A block that its slave lacks.
+#[derive(Clone, Copy, Debug, PartialEq, Eq)]
+pub struct OwedBlock {
+    /// Its place: sixteen for each declared slave by rank, present or not, one for each block number.
+    pub place: u32,
+    /// The station address of its slave.
+    pub station: u16,
+    /// Its number in the slave's order, from 0.
+    pub number: u8,
 }
 
-impl Drop for Owed {
-    fn drop(self) {
-        let Owed { kept: _, next: _ } = self;
+/// Whether the known bytes of a block aren't those that the line configures, or there are none.
+fn differs(known: &Option<Block>, block: &Block) -> bool
+    ensures { result ≡ differs block.now.bytes (option_map (λ known. known.bytes) known.now) }
+{
+    match known {
+        Some(known) => block.bytes() != known.bytes(),
+        None => true,
     }
+}
+
+/// At each place of a declared slave's blocks, present or not: the bytes that the slave is known to have, and
+/// whether the line's block is owed. Contracts see it as a `Board`, which also has the station addresses.
+#[derive(Debug, Drop)]
+pub struct Owed {
+    known: Vec<Option<Block>>,
+    owed: Flags,
+    // the station addresses of the declared slaves, by rank
+    stations: Vec<u16>,
 }
 
 impl Model for Owed {
-    ghost use Rattle.std.specs.Prelude.{◌≡◌};
-    ghost use Rattle.hc_owed.specs.Kept.{Owed};
+    ghost use Rattle.std.specs.Prelude.{◌≡◌, ◌*◌, ◌<◌, length, map, option_map};
+    ghost use Rattle.hc_owed.specs.Board.{Board};
 
-    ghost Value = { Owed };
+    ghost Value = { Board };
 
-    ghost view = { λ owed. owed.kept };
+    ghost view = { λ o. record { known = map (λ known. option_map (λ block. block.bytes) known) o.known.items; owed = o.owed.list; stations = o.stations.items } };
 
-    ghost invariant = { λ owed. owed.next.room ≡ owed.kept.room };
+    ghost invariant = { λ o. (length o.known.items ≡ 16 * length o.stations.items) × (length o.owed.list ≡ 16 * length o.stations.items) × (length o.stations.items < 65536) };
 }
 
 impl Owed {
-    ghost use Rattle.std.specs.Prelude.{◌≡◌, ◌<◌, ◌≤◌, length, map, IfOk};
-    ghost use Rattle.hc_records.specs.Line.{line};
-    ghost use Rattle.hc_registers.specs.Blocks.{line_blocks};
-    ghost use Rattle.hc_owed.specs.Kept.{declared_blocks, first_owed, name_at, owed_count, unknown};
-    ghost use Rattle.hc_owed.specs.Writes.{confirmed, sent};
-    ghost use Rattle.hc_owed.specs.Edits.{IsEdited, changed};
+    ghost use Rattle.std.specs.Prelude.{◌≡◌, ◌+◌, ◌*◌, ◌<◌, ◌≤◌, All, IfOk, MatchOption, None, Some, [], length, option_map, true};
+    ghost use Rattle.hc_records.specs.Line.{State, groups_of};
+    ghost use Rattle.hc_records.specs.Project.{lowest_fault};
+    ghost use Rattle.hc_registers.specs.Blocks.{LineBlock};
+    ghost use Rattle.hc_ranks.specs.Differences.{first_gone, place_of};
+    ghost use Rattle.hc_plan.specs.Reports.{name_of};
+    ghost use Rattle.hc_owed.specs.Board.{Knowledge, kept_of, lacks, nothing_known};
+    ghost use Rattle.hc_owed.specs.Laws.{IsEdited, IsFirstOwed, IsKeptAt, known_over, known_with, owed_blocks};
+    ghost use Rattle.hc_owed.specs.Steps.{cleared, compared, compared_all, emptied, judged, learnt};
 
-    /// What is kept of a line whose slaves were just connected: nothing is known of any block, and every one is
-    /// owed. There's room for all blocks of all declared slaves. `AllocError` where a growth was refused.
+    /// What is kept of a line whose slaves were just connected: nothing is known of any block, and every block is
+    /// owed. `AllocError` where a growth was refused; later calls take no memory.
     pub fn new(alloc: Global, plan: &Plan) -> Result<Owed, AllocError>
-        ensures { IfOk result (λ owed. owed ≡ record { blocks = map unknown (line_blocks (line plan.now)); room = declared_blocks plan.now.groups }) }
+        ensures { IfOk result (λ owed. owed ≡ kept_of nothing_known plan.now) }
     {
-        let room = declared_blocks(plan.groups());
-        let mut kept = Blocks::with_room(alloc, room)?;
-        let next = Blocks::with_room(alloc, room)?;
-        for found in plan.line_blocks() {
-            kept.push(unknown(found.station, found.number), true);
-        }
-        Ok(Owed { kept, next })
+        let stations = declared_stations(alloc, plan.groups())?;
+        let places = 16 * stations.len();
+        let known = nothing_known(alloc, places)?;
+        let owed = declared_flags(alloc, plan.groups(), places)?;
+        Ok(Owed {
+            known,
+            owed,
+            stations,
+        })
     }
 
-    /// How many blocks are owed. It takes no memory, and no time.
+    /// How many blocks of the line are owed. It takes no time.
     pub fn count(&self) -> u32
-        ensures { result ≡ owed_count self.now.blocks }
+        ensures { (known : Knowledge) (state : State) → lowest_fault (groups_of state.groups) ≡ None → self.now ≡ kept_of known state → result ≡ length (owed_blocks known state) }
     {
-        self.kept.count()
+        self.owed.count() as u32
     }
 
-    /// The position, in line and block order from 0, of the first owed block; none where nothing is owed. It
-    /// takes no memory, and looks at 64 blocks at a time.
-    pub fn first(&self) -> Option<u32>
-        ensures { result ≡ first_owed self.now.blocks }
+    /// The first owed block in line and block order; none where nothing is owed. It looks at 64 places at a time.
+    pub fn first(&self) -> Option<OwedBlock>
+        ensures { (known : Knowledge) (state : State) → lowest_fault (groups_of state.groups) ≡ None → self.now ≡ kept_of known state → MatchOption result (owed_blocks known state ≡ []) (IsFirstOwed known state) }
     {
-        let n = self.kept.first()?;
-        Some(n as u32)
+        let place = self.owed.first()?;
+        Some(OwedBlock {
+            place: place as u32,
+            station: self.stations[place / 16],
+            number: (place % 16) as u8,
+        })
     }
 
-    /// The station address of the slave of the block at a position, and its number in that slave's order; none
-    /// where the line has fewer blocks. It takes no memory.
-    pub fn name(&self, n: u32) -> Option<(u16, u8)>
-        ensures { result ≡ name_at self.now.blocks n }
+    /// Sets what is known of the block at a place.
+    fn learn(&mut self, place: usize, known: Option<Block>)
+        requires { place < length self.old.known }
+        ensures { self.new ≡ learnt place (option_map (λ block. block.bytes) known) self.old }
     {
-        self.kept.name(n as usize)
+        self.known[place] = known;
     }
 
-    /// The write of the block at a position was sent: until it is answered well, nothing is known of the block.
-    /// Whether it is owed stays. It takes no memory.
-    pub fn sent(&mut self, n: u32)
-        requires { n < length self.old.blocks }
-        ensures { self.new ≡ record self.old { blocks = sent n self.old.blocks } }
+    /// Sets whether the block at a place is owed.
+    fn judge(&mut self, place: usize, owed: bool)
+        requires { place < length self.old.known }
+        ensures { self.new ≡ judged place owed self.old }
     {
-        self.kept.forget(n as usize);
+        self.owed.set(place, owed);
     }
 
-    /// The write of the block at a position, with the bytes that the present line configures, was answered well:
-    /// its slave has them, and the block isn't owed. It takes no memory.
-    pub fn confirmed(&mut self, n: u32, block: Block)
-        requires { n < length self.old.blocks }
-        ensures { self.new ≡ record self.old { blocks = confirmed n block.bytes self.old.blocks } }
+    /// The write of an owed block at a place was sent: until it is answered well, nothing is known of the block,
+    /// and it is owed as before.
+    pub fn sent(&mut self, place: u32)
+        requires { place < length self.old.known }
+        ensures { (known : Knowledge) (state : State) (block : LineBlock) → IsKeptAt self.old place known state block → lacks known block ≡ true → self.new ≡ kept_of (known_with (name_of block) None known) state }
     {
-        self.kept.confirm(n as usize, block);
+        self.learn(place as usize, None);
     }
 
-    /// An edit was accepted that led to this plan, and this is its report: what is kept is then that of the new
-    /// line. Blocks of slaves that went are no longer kept, of blocks of slaves that came nothing is known, and
-    /// they are owed; of the others the known bytes stay, and the moved ones, which the report names, are compared
-    /// with what the line now configures. It takes no memory: the room that was made first suffices, since an
-    /// edit declares no slave.
-    pub fn change(&mut self, plan: &Plan, report: &Report)
-        requires room { declared_blocks plan.now.groups ≤ self.old.room }
-        requires edited { IsEdited self.old.blocks plan.now report.now }
-        ensures { self.new ≡ record self.old { blocks = changed self.old.blocks report.now.blocks (line_blocks (line plan.now)) } }
+    /// The write of the block at a place was answered well, with the bytes that the present line configures: its
+    /// slave has them, and the block isn't owed.
+    pub fn confirmed(&mut self, place: u32, block: Block)
+        requires { place < length self.old.known }
+        ensures { (known : Knowledge) (state : State) (found : LineBlock) → IsKeptAt self.old place known state found → block.bytes ≡ found.block.bytes → self.new ≡ kept_of (known_with (name_of found) (Some block.bytes) known) state }
     {
-        carry(&mut self.kept, &mut self.next, plan.groups());
-        mem::swap(&mut self.kept, &mut self.next);
-        compare(&mut self.kept, plan, report.blocks.as_slice());
+        self.learn(place as usize, Some(block));
+        self.judge(place as usize, false);
+    }
+
+    /// Empties the places of the slaves that left.
+    fn clear(&mut self, gone: Gone)
+        requires rank { 1 ≤ gone.rank }
+        requires inside { first_gone gone + 16 * gone.slaves ≤ length self.old.known }
+        ensures { self.new ≡ cleared gone self.old }
+    {
+        let from = gone.first_place();
+        for i in 0..16 * usize::from(gone.slaves) {
+            self.learn(from + i, None);
+            self.judge(from + i, false);
+        }
+    }
+
+    /// Compares a moved block with what is known of it.
+    fn compare(&mut self, moved: &RankedBlock)
+        requires rank { 1 ≤ moved.now.rank }
+        requires inside { place_of moved.now < length self.old.known }
+        ensures { self.new ≡ compared moved.now self.old }
+    {
+        let place = moved.place();
+        let owed = differs(&self.known[place], &moved.block);
+        self.judge(place, owed);
+    }
+
+    /// Compares moved blocks with what is known of them.
+    fn compare_all(&mut self, moved: &[RankedBlock])
+        requires ranks { All (λ block. 1 ≤ block.rank) moved.now }
+        requires inside { All (λ block. place_of block < length self.old.known) moved.now }
+        ensures { self.new ≡ compared_all moved.now self.old }
+    {
+        for block in moved {
+            self.compare(block);
+        }
+    }
+
+    /// An edit was accepted: these slaves left the line, and these are its moved blocks, as the line now configures
+    /// them. Of the blocks of slaves that left nothing is kept; of those that came nothing is known, and they are
+    /// owed; of the others the known bytes stay, and the moved ones are compared with them. It takes the time of
+    /// the blocks that left and moved.
+    pub fn change(&mut self, gone: Gone, moved: &[RankedBlock])
+        requires edited { IsEdited self.old gone moved.now }
+        ensures { (is : IsEdited self.old gone moved.now) → self.new ≡ kept_of (known_over is.old is.known) is.new }
+    {
+        self.clear(gone);
+        self.compare_all(moved);
     }
 }

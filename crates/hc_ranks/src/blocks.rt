@@ -1,6 +1,17 @@
 //! What is told by rank of the blocks of a line and of the slaves that leave it.
+ghost use Rattle.std.specs.Prelude.{◌≡◌, ◌≤◌};
+ghost use Rattle.hc_ranks.specs.Places.{place};
+
 use hc_registers::blocks::Block;
 use std::marker::Model;
+
+/// The place of the block with a number of the slave with a rank.
+fn place(rank: u16, number: u8) -> usize
+    requires { 1 ≤ rank }
+    ensures { result ≡ place rank number }
+{
+    16 * (usize::from(rank) - 1) + usize::from(number)
+}
 
 /// A block of a line, with the rank of its slave.
 #[derive(Debug, Drop)]
@@ -30,4 +41,30 @@ pub struct Gone {
     pub rank: u16,
     /// How many they are; 0 where none leaves.
     pub slaves: u16,
+}
+
+impl RankedBlock {
+    ghost use Rattle.std.specs.Prelude.{◌≡◌, ◌≤◌};
+    ghost use Rattle.hc_ranks.specs.Differences.{place_of};
+
+    /// The block's place, from 0.
+    pub fn place(&self) -> usize
+        requires { 1 ≤ self.now.rank }
+        ensures { result ≡ place_of self.now }
+    {
+        place(self.rank, self.number)
+    }
+}
+
+impl Gone {
+    ghost use Rattle.std.specs.Prelude.{◌≡◌, ◌≤◌};
+    ghost use Rattle.hc_ranks.specs.Differences.{first_gone};
+
+    /// The first of the places of the slaves that leave, from 0.
+    pub fn first_place(&self) -> usize
+        requires { 1 ≤ self.now.rank }
+        ensures { result ≡ first_gone self.now }
+    {
+        16 * (usize::from(self.rank) - 1)
+    }
 }

@@ -41,6 +41,6 @@ returns c =
     let are = are-flags words.items len words.len c.args.self.now c.self.view_is in
     record {
       value = sym (ap (λ (list : List Bool). position (λ (flag : Bool). flag) list) are.list
-          ∙ first-none words.items len (λ k low. c.loop-i.invariant k (omega (arith, low, c.loop-i-test.false, c.len-i-end.ensures, words.ok.0))) (omega (arith, c.self.invariant, words.ok.0)));
+          ∙ first-none words.items len (λ k low. c.loop-i.invariant k (omega (arith, low, c.loop-i-test.false, c.len-i-end.ensures, words.ok.0))) (omega (arith, c.self.invariant.0, words.ok.0)));
       low = tt;
     }

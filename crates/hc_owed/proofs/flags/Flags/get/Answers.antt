@@ -10,14 +10,14 @@ pub index-word-requires : goal.index-word-requires
 index-word-requires c =
     let words = c.self.inside.words in
     let are = are-flags words.items c.self.inside.len words.len c.args.self.now c.self.view_is in
-    omega (arith, c.requires, are.length, c.self.invariant)
+    omega (arith, c.requires, are.length, c.self.invariant.0)
 
 pub returns : goal.returns
 returns c =
     let words = c.self.inside.words in
     let len = c.self.inside.len in
     let are = are-flags words.items len words.len c.args.self.now c.self.view_is in
-    let read = get_or_read words.items (c.args.n / 64) c.index-word.result.now (omega (arith, c.requires, are.length, c.self.invariant, words.ok.0)) c.index-word.ensures 0 in
+    let read = get_or_read words.items (c.args.n / 64) c.index-word.result.now (omega (arith, c.requires, are.length, c.self.invariant.0, words.ok.0)) c.index-word.ensures 0 in
     ap (λ (list : List Bool). slice_get list c.args.n) are.list
     ∙ flags-get words.items len c.args.n (omega (arith, c.requires, are.length))
     ∙ ap (λ (b : ℕ). Some (b == 1)) (ap (λ (w : ℕ). bit_at w (c.args.n % 64)) (sym read) ∙ sym (shr_and_one c.index-word.result.now (c.args.n % 64)))

@@ -1,28 +1,23 @@
-use Rattle.std.proofs.Common.{ℕ, List, ap, subst, sym, ◌∙◌}
-use Rattle.hc_records.specs.declared.records.Declared.{Declared}
-use Rattle.hc_records.specs.Line.{line}
-use Rattle.hc_registers.specs.Blocks.{line_blocks}
-use Rattle.hc_owed.specs.Kept.{Kept, Owed}
-use Rattle.hc_owed.specs.Walk.{groups_kept, walked}
-use Rattle.hc_owed.proofs.Changing.{walks-change}
-use Rattle.hc_owed.proofs.Declaring.{HaveFewAreas, few-areas}
-use Rattle.hc_owed.proofs.KeptLists.{owed_of}
+use Rattle.std.proofs.Common.{ℕ, ◌*◌, ◌<◌, length, sym, ap, subst, ◌∙◌, arith}
+use Rattle.std.specs.Prelude.{All, None}
+use Rattle.hc_ranks.specs.Differences.{first_gone, place_of}
+use Rattle.hc_owed.specs.Board.{Board}
+use Rattle.hc_owed.specs.Steps.{cleared, compared_all}
+use Rattle.hc_owed.proofs.Changing.{change-right, known-size, moved-inside}
+use Rattle.hc_owed.proofs.Lists.{length-filled}
 use Rattle.hc_owed.proofs.owed.Owed.change.Goals as goal
 
-pub carry-requires-clause-few : goal.carry-requires-clause-few
-carry-requires-clause-few c =
-    subst HaveFewAreas (sym c.groups.ensures.value) (few-areas c.args.plan.now.groups c.groups.ensures.kept)
+pub clear-requires-clause-inside : goal.clear-requires-clause-inside
+clear-requires-clause-inside c =
+    let size = known-size c.args.self.now c.args.gone c.args.moved.now c.requires.edited in
+    omega (arith, size, c.requires.edited.differ.inside)
+
+pub compare_all-requires-clause-inside : goal.compare_all-requires-clause-inside
+compare_all-requires-clause-inside c =
+    let size = ap (λ (b : Board). length b.known) c.clear.ensures ∙ length-filled (first_gone c.args.gone) (16 * c.args.gone.slaves) None c.args.self.now.known in
+    subst (λ (n : ℕ). All (λ m. place_of m < n) c.args.moved.now) (sym size) (moved-inside c.args.self.now c.args.gone c.args.moved.now c.requires.edited)
 
 pub returns : goal.returns
-returns c =
-    let plan = c.args.plan.now in
-    let moved = c.args.report.now.blocks in
-    let new = line_blocks (line plan) in
-    let inside = c.self.inside in
-    c.compare.ensures
-    ∙ ap (λ (names : List (ℕ × ℕ)). owed_of (walked names new c.swap.new.x.blocks) c.swap.new.x.room) c.as_slice.ensures
-    ∙ ap (λ (o : Owed). owed_of (walked moved new o.blocks) o.room) (c.swap.ensures.x_after ∙ c.carry.ensures.kept)
-    ∙ ap (λ (groups : List Declared). owed_of (walked moved new (groups_kept groups inside.kept.blocks)) inside.next.room) c.groups.ensures.value
-    ∙ ap (λ (room : ℕ). owed_of (walked moved new (groups_kept plan.groups inside.kept.blocks)) room) c.self.invariant
-    ∙ ap (λ (o : Owed). owed_of (walked moved new (groups_kept plan.groups o.blocks)) o.room) c.self.view_is
-    ∙ ap (λ (blocks : List Kept). owed_of blocks c.args.self.now.room) (walks-change c.args.self.now.blocks plan c.args.report.now c.requires.edited c.groups.ensures.kept)
+returns c = λ is.
+    c.compare_all.ensures ∙ ap (compared_all c.args.moved.now) c.clear.ensures
+    ∙ ap (λ (b : Board). compared_all c.args.moved.now (cleared c.args.gone b)) is.right ∙ change-right c.args.self.now c.args.gone c.args.moved.now is

@@ -1,28 +1,43 @@
-use Rattle.std.proofs.Common.{◌++◌, List, ap, arith, length, map, subst, sym, ◌∙◌}
-use Rattle.hc_registers.specs.Blocks.{LineBlock}
-use Rattle.hc_owed.specs.Kept.{Owed, declared_blocks, unknown}
-use Rattle.hc_records.specs.Line.{IsCounted}
-use Rattle.hc_records.proofs.lemmas.Slaves.{project-counted}
-use Rattle.hc_owed.proofs.Declaring.{HaveFewAreas, few-areas, line-fits}
+use Rattle.std.proofs.Common.{◌≡◌, ℕ, ◌*◌, List, Bool, length, map, ap, ◌∙◌, arith}
+use Rattle.std.specs.Prelude.{None, Option, option_map, replicate}
+use Rattle.std.proofs.lemmas.List.{length-map}
+use Rattle.hc_records.specs.declared.records.Declared.{Declared}
+use Rattle.hc_records.specs.Line.{groups_of}
+use Rattle.hc_records.specs.Project.{slaves_of}
+use Rattle.hc_records.proofs.lemmas.Projects.{project-few}
+use Rattle.hc_registers.specs.Blocks.{RegisterBlock}
+use Rattle.hc_ranks.specs.Places.{stations}
+use Rattle.hc_ranks.proofs.lemmas.Standing.{length-places}
+use Rattle.hc_owed.specs.Opening.{declared_flags}
+use Rattle.hc_owed.proofs.Opened.{board_of, length-copies, length-declared, none-bytes, opened-right}
 use Rattle.hc_owed.proofs.owed.Owed.new.Goals as goal
 
-pub declared_blocks-room-requires-clause-few : goal.declared_blocks-room-requires-clause-few
-declared_blocks-room-requires-clause-few c =
-    subst HaveFewAreas (sym c.groups.ensures.value) (few-areas c.args.plan.now.groups c.groups.ensures.kept)
+named : (c : goal.In_ok-owed) → c.in_ok-stations.stations.items ≡ stations c.args.plan.now
+named c = c.in_ok-stations.ensures ∙ ap (λ (groups : List Declared). map (λ slave. slave.station) (slaves_of (groups_of groups))) c.groups.ensures.value
 
-pub declared_blocks-room-requires-clause-counted : goal.declared_blocks-room-requires-clause-counted
-declared_blocks-room-requires-clause-counted c =
-    subst IsCounted (sym c.groups.ensures.value) (project-counted c.args.plan.now.groups c.groups.ensures.kept)
+counted : (c : goal.In_ok-owed) → length c.in_ok-stations.stations.items ≡ length (slaves_of (groups_of c.args.plan.now.groups))
+counted c = ap (λ (list : List ℕ). length list) (named c) ∙ length-map (slaves_of (groups_of c.args.plan.now.groups)) (λ slave. slave.station)
 
-pub loop-found-init : goal.loop-found-init
-loop-found-init c =
-    let found = c.into_iter-found-iterator.ensures.into_iter_gives ∙ c.line_blocks-found-items.ensures in
-    let made = c.in_ok-kept.ensures in
-    let none = ap (λ (o : Owed). length o.blocks) made in
-    let size = ap (λ (blocks : List LineBlock). length blocks) found in
-    let fits = line-fits c.args.plan.now.groups in
-    let room = c.declared_blocks-room.ensures.value ∙ ap declared_blocks c.groups.ensures.value in (
-      ap (λ (o : Owed). o.blocks ++ map unknown c.into_iter-found-iterator.result) made ∙ ap (λ (blocks : List LineBlock). map unknown blocks) found,
-      ap (λ (o : Owed). o.room) made,
-      omega (arith, none, size, fits, room),
-    )
+flagged : (c : goal.In_ok-owed) → c.in_ok-owed.owed.list ≡ declared_flags c.args.plan.now.groups
+flagged c = c.in_ok-owed.ensures ∙ ap declared_flags c.groups-2.ensures.value
+
+pub invariant_of-result : goal.invariant_of-result
+invariant_of-result c =
+    let groups = c.args.plan.now.groups in
+    let count = counted c in
+    let known = ap (λ (list : List (Option RegisterBlock)). length list) c.in_ok-known.ensures ∙ length-copies (16 * c.len-places.result) None in
+    let flags = ap (λ (list : List Bool). length list) (flagged c) ∙ length-declared groups in
+    let few = project-few (groups_of groups) c.groups.ensures.kept in
+    (omega (arith, known, c.len-places.ensures), omega (arith, flags, count), omega (arith, count, few))
+
+pub returns : goal.returns
+returns c =
+    let plan = c.args.plan.now in
+    let bytes : List (Option RegisterBlock) → List (Option (List ℕ)) = λ known. map (λ one. option_map (λ block. block.bytes) one) known in
+    let n = 16 * c.len-places.result in
+    let count = counted c in
+    let size = length-places plan in
+    ap (λ (k : List (Option (List ℕ))). board_of k c.in_ok-owed.owed.list c.in_ok-stations.stations.items) (ap bytes c.in_ok-known.ensures ∙ none-bytes n)
+    ∙ ap (λ (o : List Bool). board_of (replicate n None) o c.in_ok-stations.stations.items) (flagged c)
+    ∙ ap (board_of (replicate n None) (declared_flags plan.groups)) (named c)
+    ∙ opened-right plan n (omega (arith, count, size, c.len-places.ensures))

@@ -1,0 +1,79 @@
+-- The set flags tell the owed blocks of the line: their number, and the first one.
+use Rattle.std.proofs.Common.{◌≡◌, ℕ, suc, ◌+◌, Bool, true, false, cond, List, [], ◌∷◌, length, map, refl, sym, ap, ◌∙◌, arith}
+use Rattle.std.specs.Prelude.{MatchOption, None, Some, Option, filter, position, slice_get}
+use Rattle.std.specs.List.{position_from}
+use Rattle.std.proofs.lemmas.Iterator.Adapters.{position_from-zero}
+use Rattle.hc_registers.specs.Blocks.{LineBlock}
+use Rattle.hc_records.specs.Line.{State, groups_of}
+use Rattle.hc_records.specs.Project.{lowest_fault}
+use Rattle.hc_ranks.specs.Laws.{standing}
+use Rattle.hc_ranks.specs.Places.{places}
+use Rattle.hc_ranks.proofs.lemmas.Gapless.{places-hold}
+use Rattle.hc_owed.specs.Board.{Knowledge, lacks, owed_in}
+use Rattle.hc_owed.specs.Flags.{one, set_count}
+use Rattle.hc_owed.specs.Laws.{owed_blocks}
+
+abbrev lacking : Knowledge → List (Option LineBlock) → List LineBlock
+lacking known all = filter (lacks known) (standing all)
+
+then-count : (t : Bool) (block : LineBlock) (n : ℕ) (xs : List LineBlock) → n ≡ length xs → one t + n ≡ length (cond t (block ∷ xs) xs)
+then-count true block n xs same = omega (arith, same)
+then-count false block n xs same = omega (arith, same)
+
+counts : (known : Knowledge) (all : List (Option LineBlock)) → set_count (map (owed_in known) all) ≡ length (lacking known all)
+counts known [] = refl
+counts known (None ∷ all) = let rest = counts known all in omega (arith, rest)
+counts known (Some block ∷ all) = then-count (lacks known block) block (set_count (map (owed_in known) all)) (lacking known all) (counts known all)
+
+pub counts-owed : (known : Knowledge) (state : State) → lowest_fault (groups_of state.groups) ≡ None → set_count (map (owed_in known) (places state)) ≡ length (owed_blocks known state)
+counts-owed known state project = counts known (places state) ∙ ap (λ (blocks : List LineBlock). length (filter (lacks known) blocks)) (places-hold state project)
+
+-- the first set flag, counted from a number on
+record FirstFrom (known : Knowledge) (all : List (Option LineBlock)) (at n : ℕ) : Type 0 where
+  index : ℕ
+  is : n ≡ at + index
+  block : LineBlock
+  rest : List LineBlock
+  stands : slice_get all index ≡ Some (Some block)
+  first : lacking known all ≡ block ∷ rest
+
+abbrev Firsts : Knowledge → List (Option LineBlock) → ℕ → Option ℕ → Type 0
+Firsts known all at found = MatchOption found (lacking known all ≡ []) (FirstFrom known all at)
+
+later : (known : Knowledge) (slot : Option LineBlock) (all : List (Option LineBlock)) (at : ℕ) (found : Option ℕ) → lacking known (slot ∷ all) ≡ lacking known all → Firsts known all (at + 1) found → Firsts known (slot ∷ all) at found
+later known slot all at None same none = same ∙ none
+later known slot all at (Some n) same found =
+    let is = found.is in
+    record { index = suc found.index; is = omega (arith, is); block = found.block; rest = found.rest; stands = found.stands; first = same ∙ found.first }
+
+by-test : (known : Knowledge) (block : LineBlock) (all : List (Option LineBlock)) (at : ℕ) (found : Option ℕ) (t : Bool) → lacks known block ≡ t → Firsts known all (at + 1) found
+    → Firsts known (Some block ∷ all) at (cond t (Some at) found)
+by-test known block all at found true is behind =
+    record { index = 0; is = omega arith; block = block; rest = lacking known all; stands = refl; first = ap (λ (t : Bool). cond t (block ∷ lacking known all) (lacking known all)) is }
+by-test known block all at found false is behind = later known (Some block) all at found (ap (λ (t : Bool). cond t (block ∷ lacking known all) (lacking known all)) is) behind
+
+firsts : (known : Knowledge) (all : List (Option LineBlock)) (at : ℕ) → Firsts known all at (position_from (λ (flag : Bool). flag) at (map (owed_in known) all))
+firsts known [] at = refl
+firsts known (None ∷ all) at = later known None all at (position_from (λ (flag : Bool). flag) (at + 1) (map (owed_in known) all)) refl (firsts known all (at + 1))
+firsts known (Some block ∷ all) at =
+    by-test known block all at (position_from (λ (flag : Bool). flag) (at + 1) (map (owed_in known) all)) (lacks known block) refl (firsts known all (at + 1))
+
+-- the block at the first set place is the first owed one
+pub record IsFirstAt (known : Knowledge) (state : State) (n : ℕ) : Type 0 where
+  pub block : LineBlock
+  pub rest : List LineBlock
+  pub stands : slice_get (places state) n ≡ Some (Some block)
+  pub first : owed_blocks known state ≡ block ∷ rest
+
+pub first-owed : (known : Knowledge) (state : State) (found : Option ℕ) → lowest_fault (groups_of state.groups) ≡ None → found ≡ position (λ flag. flag) (map (owed_in known) (places state))
+    → MatchOption found (owed_blocks known state ≡ []) (IsFirstAt known state)
+first-owed known state found project is = from-line found (rw is (rw (position_from-zero (λ (flag : Bool). flag) (map (owed_in known) (places state))) (firsts known (places state) 0)))
+  where
+    from-line : (found : Option ℕ) → Firsts known (places state) 0 found → MatchOption found (owed_blocks known state ≡ []) (IsFirstAt known state)
+    from-line None none = ap (filter (lacks known)) (sym (places-hold state project)) ∙ none
+    from-line (Some n) found = record {
+      block = found.block;
+      rest = found.rest;
+      stands = ap (slice_get (places state)) (let is = found.is in omega (arith, is)) ∙ found.stands;
+      first = ap (filter (lacks known)) (sym (places-hold state project)) ∙ found.first;
+    }

@@ -1,2 +1,0 @@
--- What the crates above cite.
-pub mod Laws

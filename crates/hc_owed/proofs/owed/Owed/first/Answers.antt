@@ -1,0 +1,28 @@
+use Rattle.std.proofs.Common.{◌/◌, ◌<◌, Some, None, length, refl, sym, ap, ◌∙◌, arith}
+use Rattle.std.specs.Prelude.{position, slice_get}
+use Rattle.std.proofs.lemmas.Option.{same_Some, slice_get_read}
+use Rattle.hc_plan.proofs.lemmas.PlaceNames.{name-at}
+use Rattle.hc_owed.specs.Board.{Board}
+use Rattle.hc_owed.proofs.Telling.{first-owed}
+use Rattle.hc_owed.proofs.owed.Owed.first.Goals as goal
+
+pub returns-in_err-place : goal.returns-in_err-place
+returns-in_err-place c = λ known state project right.
+    rw c.from_residual.ensures (first-owed known state None project (c.in_err-place.ensures.value ∙ ap (λ (b : Board). position (λ flag. flag) b.owed) (c.self.view_is ∙ right)))
+
+pub returns : goal.returns
+returns c = λ known state project right.
+    let place = c.in_ok-place.place in
+    let same = c.self.view_is ∙ right in
+    let found = first-owed known state (Some place) project (c.in_ok-place.ensures.value ∙ ap (λ (b : Board). position (λ flag. flag) b.owed) same) in
+    let name = name-at state place found.block found.stands in
+    let low : place / 16 < length c.self.inside.stations.items = omega (arith, c.in_ok-place.ensures.low, c.self.invariant.1) in
+    let read = slice_get_read c.self.inside.stations.items (length c.self.inside.stations.items) (place / 16) c.index.result.now refl low c.index.ensures in
+    record {
+      block = found.block;
+      rest = found.rest;
+      stands = found.stands;
+      station = same_Some c.index.result.now found.block.station (sym read ∙ ap (λ (b : Board). slice_get b.stations (place / 16)) same ∙ name.station);
+      number = sym name.number;
+      first = found.first;
+    }

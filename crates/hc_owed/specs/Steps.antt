@@ -1,0 +1,37 @@
+-- The steps of what is kept, place by place.
+use Rattle.std.specs.Prelude.{ℕ, zero, suc, ◌+◌, ◌*◌, Bool, false, List, [], ◌∷◌, slice_get, unwrap_or, Option, None}
+use Rattle.hc_records.specs.Lists.{changed_at}
+use Rattle.hc_ranks.specs.declared.blocks.Gone.{Gone}
+use Rattle.hc_ranks.specs.Blocks.{RankedBlock}
+use Rattle.hc_ranks.specs.Differences.{first_gone, place_of}
+use Rattle.hc_owed.specs.Board.{Board, differs}
+
+-- what is known at a place, and whether it's owed there
+abbrev pub learnt : ℕ → Option (List ℕ) → Board → Board
+learnt n known board = record board { known = changed_at n (λ _. known) board.known }
+
+-- a place that is owed or not as told
+abbrev pub judged : ℕ → Bool → Board → Board
+judged n owed board = record board { owed = changed_at n (λ _. owed) board.owed }
+
+-- so many elements from an index on are replaced
+abbrev pub filled : {X : Type 0} → ℕ → ℕ → X → List X → List X
+filled from zero x xs = xs
+filled from (suc count) x xs = changed_at (from + count) (λ _. x) (filled from count x xs)
+
+-- so many places from one on are emptied
+abbrev pub emptied : ℕ → ℕ → Board → Board
+emptied from count board = record board { known = filled from count None board.known; owed = filled from count false board.owed }
+
+-- the places of the slaves that leave are emptied
+abbrev pub cleared : Gone → Board → Board
+cleared gone board = emptied (first_gone gone) (16 * gone.slaves) board
+
+-- a moved block is compared with what is known at its place
+abbrev pub compared : RankedBlock → Board → Board
+compared moved board = judged (place_of moved) (differs moved.found.block.bytes (unwrap_or (slice_get board.known (place_of moved)) None)) board
+
+-- moved blocks, one after another
+abbrev pub compared_all : List RankedBlock → Board → Board
+compared_all [] board = board
+compared_all (moved ∷ rest) board = compared_all rest (compared moved board)
