@@ -1,0 +1,195 @@
+"""The picture: heading, legend, groups, and task by task the rows of the line, before and after an edit in pairs."""
+
+from math import ceil
+
+from pictures.bars import BARS
+from pictures.elements import element, label, opened, plural, spelt, text, void
+from pictures.heading import footing, heading
+from pictures.row_drawing import RowDrawer, badge_at
+from pictures.rows import Row, Rows, scale_of
+from pictures.style import PICTURE
+from pictures.views import Mark, Marks
+
+MARGIN = 16
+CAPTIONS = BARS - 8
+PAIR_GAP, ROW_GAP, TASK_GAP = 24, 16, 14
+LEAST_WIDTH = BARS + 832 + MARGIN
+STATE_WORDS = {"before": "before", "after": "after", "both": "as before"}
+
+
+class Picture:
+    """Draws the rows of a view from some height on, and keeps how far it has come."""
+
+    def __init__(self, view, top):
+        self.view, self.y, self.content = view, top, []
+        self.drawer = RowDrawer(view.project)
+        rows = Rows(view.project, Marks(view))
+        self.after = rows.of_state(view.after, True)
+        self.before = rows.of_state(view.before, False) if view.before else {}
+
+    def add_tasks(self):
+        """Each task that has a datagram in one of the states."""
+        names = sorted(self.before.keys() | self.after.keys())
+        for task in sorted({task for task, _ in names}):
+            self.add_task_heading(task)
+            for name in names:
+                if name[0] == task:
+                    self.add_datagram(name)
+            self.y += TASK_GAP
+
+    def add_task_heading(self, task):
+        """The task with the bytes of its outputs and inputs."""
+        told = self.parts_of(task)
+        self.y += 16
+        content = [label(MARGIN, self.y, f"Task {task}", "task")]
+        for row, (name, (outputs, inputs)) in enumerate(told):
+            said = f"{plural(outputs, 'byte')} of outputs, {plural(inputs, 'byte')} of inputs"
+            said = said if self.view.before is None else f"{STATE_WORDS[name]}: {said}"
+            words = label(BARS, self.y + 14 * row, said, "words")
+            content.append(element("g", words, kind="parts", data_state=name, data_outputs=outputs, data_inputs=inputs))
+        self.content.append(element("g", *content, kind="task-heading", data_task=task))
+        self.y += 14 * (len(told) - 1) + 8
+
+    def parts_of(self, task):
+        """The bytes of a task's outputs and inputs by state, those that an edit left as they were once."""
+        after = self.view.after.parts.get(task)
+        before = self.view.before.parts.get(task) if self.view.before else None
+        if before == after:
+            return [("both", after)]
+        return [(name, parts) for name, parts in (("before", before), ("after", after)) if parts]
+
+    def add_datagram(self, name):
+        """The rows of a datagram: one where nothing changed, else what there is of before and after."""
+        before, after = self.before.get(name), self.after.get(name)
+        if before and after and before.mark is after.mark is Mark.KEPT:
+            self.add_row(Row("both", after.datagram, Mark.KEPT, after.fields), after.datagram.length)
+        else:
+            rows = [row for row in (before, after) if row]
+            length = max(row.datagram.length for row in rows)
+            drawn = []
+            for row in rows:
+                drawn.append(self.add_row(row, length))
+                self.y += PAIR_GAP - ROW_GAP
+            if len(drawn) == 2:
+                self.add_ways(*drawn)
+            self.y += ROW_GAP - PAIR_GAP
+
+    def add_row(self, row, length):
+        """A row with its numbers at the left: where its areas stand."""
+        content, bar, runs = self.drawer.drawn(row, self.y, length)
+        datagram = row.datagram
+        told = {
+            "data_state": row.state,
+            "data_task": datagram.task,
+            "data_datagram": datagram.number,
+            "data_address": f"0x{datagram.address:08x}",
+            "data_length": datagram.length,
+            "data_expected": datagram.expected,
+            "data_mark": row.mark.value,
+            "data_left": BARS,
+            "data_scale": bar.scale,
+        }
+        numbers = self.row_numbers(row) + self.captions(bar)
+        self.content.append(element("g", numbers, content, kind="datagram", **told))
+        self.y = bar.bottom() + ROW_GAP
+        return bar, runs
+
+    def row_numbers(self, row):
+        """What `layout` says of the datagram, and of which state."""
+        datagram, y = row.datagram, self.y + 12
+        content = [label(MARGIN, y, f"datagram {datagram.number}", "name")]
+        if row.mark in (Mark.NEW, Mark.GONE):
+            content.append(badge_at(MARGIN + 90, y - 10, row.mark))
+        lines = [f"0x{datagram.address:08x}", plural(datagram.length, "byte"), f"working counter {datagram.expected}"]
+        if self.view.before is not None:
+            lines.insert(0, STATE_WORDS[row.state])
+        content += [label(MARGIN, y + 14 * (line + 1), words) for line, words in enumerate(lines)]
+        return "".join(content)
+
+    def captions(self, bar):
+        """What the bands of a row are, at their left."""
+        heights = {
+            "byte": self.y + 11,
+            "areas": bar.band_top() + bar.band / 2 + 4,
+            "variables": bar.cell_top() + bar.cell / 2 + 4,
+            "bits": bar.foot() - 3,
+        }
+        return "".join(label(CAPTIONS, y, words, "quiet", text_anchor="end") for words, y in heights.items())
+
+    def add_ways(self, before, after):
+        """From each moved area of a row to the place that it has in the row below: the way that it went."""
+        (old_bar, old_runs), (new_bar, new_runs) = before, after
+        old = {name_of(run): run for run in old_runs if is_moved(run)}
+        for run in new_runs:
+            if is_moved(run) and name_of(run) in old:
+                self.content.append(way(old_bar, old[name_of(run)], new_bar, run))
+
+
+def is_moved(run):
+    """Whether a run is one area that moved."""
+    return len(run.items) == 1 and run.mark is Mark.MOVED
+
+
+def name_of(run):
+    """The first area of a run, by slave and place in its record."""
+    return run.items[0].place.station, run.items[0].place.area
+
+
+def way(old_bar, old, new_bar, new):
+    """The band between two places of an area; it ends above the ruler's numbers."""
+    foot, top = old_bar.foot(), new_bar.top + 1
+    station, area = name_of(new)
+    points = [
+        (old_bar.x(old.bit), foot),
+        (old_bar.x(old.bit) + old_bar.width(old.bits), foot),
+        (new_bar.x(new.bit) + new_bar.width(new.bits), top),
+        (new_bar.x(new.bit), top),
+    ]
+    told = {"data_station": station, "data_area": area, "data_left": BARS, "data_scale": new_bar.scale}
+    return void("polygon", kind="way", points=" ".join(f"{spelt(x)},{spelt(y)}" for x, y in points), **told)
+
+
+def width_of(view):
+    """The width of a picture, by its longest row."""
+    states = [state for state in (view.before, view.after) if state]
+    lengths = [datagram.length for state in states for datagram in state.datagrams.values()]
+    return max([LEAST_WIDTH, *(BARS + length * scale_of(length) + MARGIN + 24 for length in lengths)])
+
+
+def told_of(view):
+    """What the picture as a whole stands for: the epochs, and the edit with its answer."""
+    told = {"data_epoch": view.after.epoch}
+    if view.edit:
+        told |= {"data_epoch_before": view.before.epoch, "data_edit": view.edit.words}
+        told |= {"data_recut": view.edit.recut, "data_moved": view.edit.moved}
+    return told
+
+
+def hatch():
+    """The pattern of gaps."""
+    lines = void("path", kind="hatch", d="M-1 7L7 -1M-1 1L1 -1M5 7L7 5")
+    return element("pattern", lines, id="gap-hatch", width=6, height=6, patternUnits="userSpaceOnUse")
+
+
+def picture(view, style=PICTURE):
+    """The SVG document of a view. A page that has the style by itself asks for the picture without it."""
+    width = width_of(view)
+    head, top = heading(view, MARGIN, width)
+    drawn = Picture(view, top)
+    drawn.add_tasks()
+    foot, bottom = footing(view, MARGIN, width, drawn.y)
+    height = ceil(bottom)
+    frame = {"xmlns": "http://www.w3.org/2000/svg", "kind": "picture", "role": "img"}
+    frame |= {"viewBox": f"0 0 {width} {height}", "width": width, "height": height}
+    parts = [
+        opened("svg", **frame, **told_of(view)),
+        element("title", f"The line of {text(view.name)}, epoch {view.after.epoch}"),
+        element("style", style) if style else "",
+        element("defs", hatch()),
+        void("rect", kind="paper", width="100%", height="100%"),
+        head,
+        *drawn.content,
+        foot,
+        "</svg>",
+    ]
+    return "\n".join(parts) + "\n"

@@ -1,0 +1,141 @@
+"""What stands above and below the rows: the line and its edit, groups, legend, and what no datagram carries."""
+
+from pictures.elements import element, label, plural, void
+from pictures.row_drawing import badge_at
+from pictures.style import MARK_WORDS
+
+LINE = 17
+# A character of the running words is about so wide.
+CHARACTER = 6.1
+CHIP = 36
+MORE = "; and {} more"
+
+
+def listed(phrases, width, most):
+    """Phrases in lines that a width has room for, at most so many; the last one counts what was left out."""
+    room, lines = int(width / CHARACTER), [""]
+    for row, phrase in enumerate(phrases):
+        joined = f"{lines[-1]}; {phrase}" if lines[-1] else phrase
+        is_last = len(lines) == most and row + 1 < len(phrases)
+        if len(joined) + (len(MORE.format(len(phrases))) if is_last else 0) <= room or not lines[-1]:
+            lines[-1] = joined
+        elif len(lines) < most:
+            lines.append(phrase)
+        else:
+            lines[-1] += MORE.format(len(phrases) - row)
+            break
+    return lines
+
+
+class Words:
+    """Lines of running words, one below the other."""
+
+    def __init__(self, left, top, width):
+        self.left, self.y, self.width, self.content = left, top, width - 2 * left, []
+
+    def add(self, words, kind="words"):
+        """A line."""
+        self.y += LINE
+        self.content.append(label(self.left, self.y, words, kind))
+
+    def add_list(self, name, phrases, most=2):
+        """A name and the phrases behind it, where there are any."""
+        if not phrases:
+            return
+        indent = 118
+        lines = listed(phrases, self.width - indent, most)
+        self.y += LINE
+        self.content.append(label(self.left, self.y, name, "words name"))
+        for row, line in enumerate(lines):
+            self.y += LINE if row else 0
+            self.content.append(label(self.left + indent, self.y, line, "words"))
+
+
+def group_words(group):
+    """A group with its slaves."""
+    return f"{group.title()}, {plural(len(group.slaves), 'slave')}"
+
+
+def is_present(group, state):
+    """Whether a group is in the line; the mandatory one always is."""
+    return group.alias == 0 or group.slaves[0].station in state.blocks
+
+
+def heading(view, left, width):
+    """The markup above the rows, and where it ends."""
+    words = Words(left, 10, width)
+    words.add(f"{view.name}: the line in epoch {view.after.epoch}", "heading")
+    if view.edit:
+        said = f"recut {view.edit.recut}, moved {view.edit.moved}"
+        words.add(f"{view.edit.words}: from epoch {view.before.epoch} to epoch {view.edit.epoch}, {said}")
+    refused = [f"{asked}: {said}" for asked, said in view.answers if said.startswith("refused")]
+    words.add_list("Refused", refused)
+    groups = view.project.groups
+    words.add_list("Present", [group_words(group) for group in groups if is_present(group, view.after)])
+    words.add_list("Absent", [group_words(group) for group in groups if not is_present(group, view.after)])
+    written = view.blocks_to_write()
+    words.add_list("Blocks to write", block_phrases(written), 3)
+    told = " ".join(f"{station}/0x{block.register:04x}" for station, _, block in written)
+    chips, bottom = legend(view, left, words.y + 10, width)
+    return "\n".join([element("g", *words.content, kind="head", data_written=told), chips]), bottom
+
+
+def block_phrases(written):
+    """The blocks that have to be written, slave by slave."""
+    slaves = {}
+    for station, _, block in written:
+        slaves.setdefault(station, []).append(block.short())
+    return [f"{station}: {', '.join(rows)}" for station, rows in slaves.items()]
+
+
+def chip(kind, box, letter, x, y):
+    """A sample of a box with its letter."""
+    sample = void("rect", kind=box, x=float(x), y=float(y), width=float(CHIP), height=14.0)
+    return element("g", sample, label(x + CHIP / 2, y + 11, letter, text_anchor="middle"), kind=f"legend {kind}")
+
+
+def legend(view, left, top, width):
+    """What colours, letters and lines mean, and where it ends."""
+    samples = [
+        ("out", "band", "O", "output area, master to slave"),
+        ("in", "band", "I", "input area, slave to master"),
+        ("out", "cell", "7", "variable, its number over its bits"),
+        ("gap", "cell", "–", "gap in an area"),
+        ("unused", None, "", "bits of no area"),
+        ("out", "band", "O ×9", "areas folded for want of room, their count"),
+    ]
+    content, x, y = [], left, top
+    entries = [(chip(*sample[:3], 0, 0), sample[3]) for sample in samples]
+    if view.edit:
+        entries += [(badge_at(CHIP - 12, 1, mark), words) for mark, words in MARK_WORDS.items()]
+    for drawn, words in entries:
+        broad = CHIP + 8 + len(words) * CHARACTER + 18
+        if x + broad > width - left and x > left:
+            x, y = left, y + 20
+        entry = [drawn, label(CHIP + 6, 11, words, "words")]
+        content.append(element("g", *entry, transform=f"translate({x:.0f} {y:.0f})"))
+        x += broad
+    note = "Each datagram has a scale of its own, its bytes counted above it; bit 0 of a byte is at its left."
+    content.append(label(left, y + 34, note, "quiet"))
+    return element("g", *content, kind="legends"), y + 44
+
+
+def footing(view, left, width, top):
+    """What is present and in no datagram, so that no slave is left out; and where the picture ends."""
+    present = [slave for slave, _ in view.project.slaves() if slave.station in view.after.blocks]
+    bare = [slave for slave in present if not slave.areas]
+    empty = [
+        (slave.station, area)
+        for slave in present
+        for area, fmmu in zip(slave.areas, view.after.blocks[slave.station][1::2])
+        if not fmmu.is_active()
+    ]
+    words = Words(left, top - 8, width)
+    words.add_list("No process data", [f"{slave.station} {slave.name}".strip() for slave in bare])
+    unmapped = [f"{station} SM {area.sync_manager} ({area.direction})" for station, area in empty]
+    words.add_list("Areas of 0 bits", unmapped)
+    told = {
+        "data_bare": " ".join(str(slave.station) for slave in bare),
+        "data_empty": " ".join(f"{station}/{area.number}" for station, area in empty),
+    }
+    return element("g", *words.content, kind="foot", **told), words.y + 18

@@ -1,0 +1,61 @@
+"""The report: the picture, the line's datagrams, the register blocks of each slave, and all variables, in one page."""
+
+from pictures.drawing import picture
+from pictures.elements import element, plural, text
+from pictures.page import SCRIPT, STYLE
+from pictures.style import MARK_LETTERS, PICTURE
+from pictures.tables import Tables
+
+# More edits than these are shown only where they are asked for.
+FEW = 12
+
+
+def answers(view):
+    """The edits that were asked for, each with what the program answered."""
+    if not view.answers:
+        return ""
+    rows = [element("tr", element("td", text(asked)), element("td", text(said))) for asked, said in view.answers]
+    head = element("tr", element("th", "edit"), element("th", "answer"))
+    table = element("table", element("thead", head), element("tbody", *rows))
+    title = element("summary", element("b", plural(len(rows), "edit")))
+    return element("details", title, table, open="open" if len(rows) <= FEW else None)
+
+
+def summary(view):
+    """The line in a sentence."""
+    state = view.after
+    total = sum(datagram.length for datagram in state.datagrams.values())
+    counts = [
+        plural(len(state.blocks), "slave"),
+        plural(len(state.datagrams), "datagram"),
+        plural(total, "byte"),
+        plural(len(state.variables), "variable"),
+    ]
+    said = f"Epoch {state.epoch}: {', '.join(counts)}."
+    if view.edit:
+        marks = ", ".join(f"{letter} {mark.value}" for mark, letter in MARK_LETTERS.items())
+        said += f" The picture and the tables show the edit {view.edit.words}, before and after: {marks}."
+    return element("p", text(said))
+
+
+def report(view):
+    """The HTML document of a view; nothing in it is taken from elsewhere."""
+    title, tables = f"{view.name}: the line in epoch {view.after.epoch}", Tables(view)
+    head = [
+        '<meta charset="utf-8">',
+        '<meta name="viewport" content="width=device-width, initial-scale=1">',
+        element("title", text(title)),
+        element("style", STYLE + PICTURE),
+    ]
+    body = [
+        element("h1", text(title)),
+        summary(view),
+        answers(view),
+        element("section", element("h2", "Picture"), element("div", picture(view, ""), kind="scrolled", tabindex=0)),
+        tables.datagrams(),
+        tables.variables(),
+        tables.blocks(),
+        element("script", SCRIPT),
+    ]
+    page = element("html", element("head", *head), "\n", element("body", "\n".join(body)), lang="en")
+    return f"<!DOCTYPE html>\n{page}\n"

@@ -1,0 +1,197 @@
+"""Draws a row: a ruler of bytes, the areas, and below them their variables and gaps, all to the row's scale."""
+
+from pictures.bars import AREA_NAMES, BADGES, BAND, BITS_NAMES, CELL, RULER, SMALL, VARIABLE_NAMES, Bar
+from pictures.elements import element, label, plural, spelt, text, void
+from pictures.rows import Run, cell_runs, field_runs, scale_of, unused_of
+from pictures.style import DIRECTION_LETTERS, DIRECTION_WORDS, MARK_LETTERS, MARK_WORDS
+from pictures.views import Mark
+
+RULER_STEPS = (1, 2, 4, 8, 16, 32, 64, 128, 256)
+BADGE = 12
+
+
+def area_words(run, slaves):
+    """What an area, or a run of them, may be called: the longest name first, and the shortest one last."""
+    place = run.items[0].place
+    letter = DIRECTION_LETTERS[place.direction]
+    if len(run.items) > 1:
+        count = plural(len(run.items), "area")
+        stations = f"{place.station}…{run.items[-1].place.station}"
+        return [f"{letter} {stations}, {count}", f"{letter} {count}", f"{letter} ×{len(run.items)}"]
+    short = f"{letter} {place.station}"
+    manager = f"{short} SM {place.sync_manager}"
+    name = slaves[place.station].name
+    return [f"{manager} {name}", manager, short] if name else [manager, short]
+
+
+def cell_words(run):
+    """What a variable, a gap or a run of cells may be called: the longest name first, and the shortest one last."""
+    numbers = [cell.number for cell in run.items if cell.number is not None]
+    if not numbers:
+        return ["gap", "–"]
+    if len(run.items) == 1:
+        return [str(numbers[0])]
+    count = plural(len(numbers), "variable")
+    ends = [f"{numbers[0]}…{numbers[-1]}, {count}"] if len(numbers) > 1 else []
+    return [*ends, count, f"×{len(numbers)}"]
+
+
+def bits_words(run, area_mark):
+    """The bits of a cell, behind the letter of its mark where that isn't its area's."""
+    if run.mark in (area_mark, Mark.KEPT):
+        return [str(run.bits)]
+    return [f"{MARK_LETTERS[run.mark]} {run.bits}", MARK_LETTERS[run.mark]]
+
+
+def cells_below(run, scale):
+    """The runs of cells below a run of areas; below a folded one all cells are one run."""
+    if len(run.items) == 1:
+        return cell_runs(run.items[0].cells, scale)
+    return [Run([cell for field in run.items for cell in field.cells], run.bit, run.bits, run.mark)]
+
+
+def place_words(bit, bits):
+    """Where bits of a datagram stand, for a reader who counts bytes."""
+    return f"bit {bit} (byte {bit // 8}, bit {bit % 8}), {plural(bits, 'bit')}"
+
+
+def ruler(bar, length):
+    """Ticks at the bytes of a datagram, and their numbers where there is room."""
+    step = next(step for step in RULER_STEPS if step * bar.scale >= 32)
+    fine = next(step for step in RULER_STEPS if step * bar.scale >= 4)
+    foot = bar.top + RULER - 1
+    ticks = [f"M{spelt(bar.x(byte * 8))} {spelt(foot)}v-4" for byte in [*range(0, length, fine), length]]
+    ticks += [f"M{spelt(bar.x(byte * 8))} {spelt(foot)}v-11" for byte in range(0, length, step)]
+    numbers = [
+        label(bar.x(byte * 8) + 3, foot - 5, byte, "small")
+        for byte in range(0, length, step)
+        if 3 + len(str(byte)) * SMALL <= max(bar.width((length - byte) * 8), 12)
+    ]
+    return element("g", void("path", kind="ticks", d="".join(ticks)), *numbers, kind="ruler")
+
+
+def unused(bar, bit, bits):
+    """Bits of a datagram that no area has."""
+    box = void("rect", x=bar.x(bit), y=bar.band_top(), width=bar.width(bits), height=float(bar.band))
+    title = element("title", text(f"unused: {place_words(bit, bits)}"))
+    return element("g", title, box, kind="unused", data_bit=bit, data_bits=bits)
+
+
+def badge(bar, run):
+    """The letter of a run's mark above it, and where a moved area was or will be, if there is room for these words."""
+    if run.mark is Mark.KEPT:
+        return ""
+    left, width, y = bar.x(run.bit), bar.width(run.bits), bar.band_top() - BADGE - 2
+    way = way_of(run)
+    if way and BITS_NAMES.fitting([way], width - BADGE - 4):
+        return badge_at(left, y, run.mark) + label(left + BADGE + 4, y + 10, way, "small whence")
+    return badge_at(left + (width - BADGE) / 2, y, run.mark)
+
+
+def way_of(run):
+    """Where a moved area was or will be; nothing of a folded run."""
+    return run.items[0].way if len(run.items) == 1 else ""
+
+
+def badge_at(x, y, mark):
+    """The letter of a mark in a small square of its colour."""
+    square = void("rect", x=float(x), y=float(y), width=float(BADGE), height=float(BADGE))
+    letter = label(x + BADGE / 2, y + 10, MARK_LETTERS[mark], text_anchor="middle")
+    return element("g", square, letter, kind=f"badge {mark.value}")
+
+
+class RowDrawer:
+    """Draws the rows of a project's line."""
+
+    def __init__(self, project):
+        self.slaves = {slave.station: slave for slave, _ in project.slaves()}
+        self.homes = project.homes
+
+    def drawn(self, row, top, length):
+        """A row, to the scale of a row with some length in bytes: its markup, its bar, and its runs of areas."""
+        scale = scale_of(length)
+        runs = field_runs(row.fields, scale)
+        cells = [(run, cells_below(run, scale)) for run in runs]
+        bar = self.bar(row, top, scale, cells)
+        content = [ruler(bar, row.datagram.length), *(unused(bar, *span) for span in unused_of(row, runs))]
+        for run, below in cells:
+            content.append(self.areas(run, bar))
+            content += [self.cells(cell, run, bar) for cell in below]
+        return "".join(content), bar, runs
+
+    def bar(self, row, top, scale, cells):
+        """The bar of a row, with bands that are high enough for upright names."""
+        names = [AREA_NAMES.upright_height(area_words(run, self.slaves), run.bits * scale / 8) for run, _ in cells]
+        numbers = [
+            VARIABLE_NAMES.upright_height(cell_words(cell), cell.bits * scale / 8)
+            for _, below in cells
+            for cell in below
+        ]
+        badges = 0 if row.mark is Mark.KEPT else BADGES
+        return Bar(scale, top, badges, max([BAND, *names]), max([CELL, *numbers]))
+
+    def areas(self, run, bar):
+        """An area, or a run of areas that are too narrow for names of their own."""
+        place, y = run.items[0].place, bar.band_top()
+        box = void("rect", kind="band", x=bar.x(run.bit), y=y, width=bar.width(run.bits), height=float(bar.band))
+        name = bar.name(AREA_NAMES, area_words(run, self.slaves), run, y, bar.band)
+        content = [element("title", text(self.area_title(run))), box, name, badge(bar, run)]
+        kind = f"{place.direction} {run.mark.value}"
+        told = {"data_direction": place.direction, "data_mark": run.mark.value}
+        told |= {"data_bit": run.bit, "data_bits": run.bits}
+        if len(run.items) == 1:
+            told |= {"data_station": place.station, "data_area": place.area, "data_sync_manager": place.sync_manager}
+            return element("g", *content, kind=f"area {kind}", **told)
+        places = [field.place for field in run.items]
+        folded = " ".join(f"{own.station}/{own.area}:{own.sync_manager}:{own.bit}:{own.bits}" for own in places)
+        return element("g", *content, kind=f"areas {kind}", data_areas=folded, **told)
+
+    def area_title(self, run):
+        """What is said where a pointer rests on an area."""
+        place = run.items[0].place
+        words = DIRECTION_WORDS[place.direction]
+        where = place_words(run.bit, run.bits)
+        said = "" if run.mark is Mark.KEPT else f"; {MARK_WORDS[run.mark]} {way_of(run)}".rstrip()
+        if len(run.items) > 1:
+            last = run.items[-1].place.station
+            return f"{len(run.items)} {words} areas of slaves {place.station} to {last}: {where}{said}"
+        name = self.slaves[place.station].name
+        called = f" {name}" if name else ""
+        manager = f"area {place.area}, sync manager {place.sync_manager}"
+        return f"slave {place.station}{called}, {manager}, {words}: {where}{said}"
+
+    def cells(self, run, areas, bar):
+        """A variable or a gap below its area, or a run of those that are too narrow for numbers of their own."""
+        y, direction = bar.cell_top(), areas.items[0].place.direction
+        x, width, height = bar.x(run.bit), bar.width(run.bits), float(bar.cell_height())
+        box = void("rect", kind="cell", x=x, y=y, width=width, height=height)
+        bits = BITS_NAMES.fitting(bits_words(run, areas.mark), width)
+        size = label(x + width / 2, y + height - 4, bits, "small", text_anchor="middle") if bits else ""
+        name = bar.name(VARIABLE_NAMES, cell_words(run), run, y, bar.cell)
+        content = [element("title", text(self.cell_title(run))), box, name, size]
+        kind, told = self.told(run)
+        kind = f"{kind} {direction} {run.mark.value}{'' if run.mark is areas.mark else ' own'}"
+        return element("g", *content, kind=kind, data_bit=run.bit, data_bits=run.bits, data_mark=run.mark.value, **told)
+
+    @staticmethod
+    def told(run):
+        """What kind of cells a run has, and what it says of them beside its own bits."""
+        variables = [cell for cell in run.items if cell.number is not None]
+        if not variables:
+            return "gap", {}
+        if len(run.items) == 1:
+            return "variable", {"data_variable": variables[0].number}
+        folded = " ".join(f"{cell.number}:{cell.bit}:{cell.bits}:{cell.mark.value}" for cell in variables)
+        return "variables", {"data_variables": folded}
+
+    def cell_title(self, run):
+        """What is said where a pointer rests on a variable or a gap."""
+        numbers = [cell.number for cell in run.items if cell.number is not None]
+        where = place_words(run.bit, run.bits)
+        said = "" if run.mark is Mark.KEPT else f"; {run.mark.value}"
+        if not numbers:
+            return f"gap: {where}{said}"
+        if len(run.items) > 1:
+            return f"{plural(len(numbers), 'variable')}, {numbers[0]} to {numbers[-1]}: {where}{said}"
+        station, _, pdo = self.homes[numbers[0]]
+        return f"variable {numbers[0]} of slave {station}, PDO 0x{pdo:04x}: {where}{said}"

@@ -1,0 +1,163 @@
+"""What a row of the picture holds: a datagram's areas, variables, gaps and unused bits, and what of it is folded."""
+
+from dataclasses import dataclass
+
+from pictures.states import AreaPlace, Datagram
+from pictures.views import Mark
+
+# A row is as wide as this where its bytes are then broad enough, else as a datagram of 1,486 bytes asks for.
+ROOM, LONG_ROOM = 832, 1486
+SCALES = (96, 80, 64, 56, 48, 40, 32, 28, 24, 20, 16, 14, 12, 10, 8, 7, 6, 5, 4, 3, 2, 1)
+LEAST_SCALE = 4
+# Below these widths, in pixels, not even an upright name has room.
+NARROW_AREA, NARROW_VARIABLE = 12, 10
+
+
+@dataclass(frozen=True)
+class Cell:
+    """Bits of an area: a variable's, or a gap's where the number is None. The bits count in the datagram."""
+
+    number: int | None
+    bit: int
+    bits: int
+    mark: Mark
+
+
+@dataclass(frozen=True)
+class Field:
+    """An area with what it is made of; `way` tells where it stands in the other state, if it moved."""
+
+    place: AreaPlace
+    mark: Mark
+    way: str
+    cells: list
+
+
+@dataclass(frozen=True)
+class Run:
+    """Fields, or cells of one field, that stand in a row; one that is alone is drawn as itself, more are folded."""
+
+    items: list
+    bit: int
+    bits: int
+    mark: Mark
+
+
+@dataclass(frozen=True)
+class Row:
+    """A datagram of one of the states `before`, `after` or, where nothing in it changed, `both`."""
+
+    state: str
+    datagram: Datagram
+    mark: Mark
+    fields: list
+
+
+def scale_of(length):
+    """Pixels for a byte of a row with so many bytes."""
+    room = ROOM if length * LEAST_SCALE <= ROOM else LONG_ROOM
+    return next(scale for scale in SCALES if scale * length <= room)
+
+
+def cells_of(place, variables, marked, gap_mark):
+    """The bits of an area from its first to its last: the variables in it, and gaps between them."""
+    cells, bit = [], place.bit
+    for variable in variables:
+        if variable.bit > bit:
+            cells.append(Cell(None, bit, variable.bit - bit, gap_mark))
+        cells.append(Cell(variable.number, variable.bit, variable.bits, marked(variable)))
+        bit = variable.bit + variable.bits
+    if place.end() > bit:
+        cells.append(Cell(None, bit, place.end() - bit, gap_mark))
+    return cells
+
+
+def way_words(other, is_after):
+    """Where a moved area was, or where it will be."""
+    return f"{'from' if is_after else 'to'} task {other.task} datagram {other.datagram} bit {other.bit}"
+
+
+class Rows:
+    """Makes the rows of a view's states."""
+
+    def __init__(self, project, marks):
+        self.project, self.marks = project, marks
+
+    def variables_by_area(self, state):
+        """The variables of each area, in the order of their bits."""
+        found = {}
+        for place in sorted(state.variables.values(), key=lambda place: place.bit):
+            found.setdefault(self.project.homes[place.number][:2], []).append(place)
+        return found
+
+    def of_state(self, state, is_after):
+        """The rows of a state by task and datagram."""
+        variables = self.variables_by_area(state)
+        return {name: self.row(state, datagram, variables, is_after) for name, datagram in state.datagrams.items()}
+
+    def row(self, state, datagram, variables, is_after):
+        """The row of a datagram."""
+        fields = []
+        for place in state.areas_in(datagram):
+            mark = self.marks.of_area(place, is_after)
+            own = variables.get((place.station, place.area), [])
+            cells = cells_of(place, own, lambda found: self.marks.of_variable(found, is_after), mark)
+            way = way_words(self.marks.other_place(place, is_after), is_after) if mark is Mark.MOVED else ""
+            fields.append(Field(place, mark, way, cells))
+        other = self.marks.before if is_after else self.marks.after
+        mark = self.row_mark(datagram, fields, other, is_after)
+        return Row("after" if is_after else "before", datagram, mark, fields)
+
+    @staticmethod
+    def row_mark(datagram, fields, other, is_after):
+        """Of a datagram: new, gone, moved where anything in it is another, or kept."""
+        if other is None:
+            return Mark.KEPT
+        found = other.datagrams.get((datagram.task, datagram.number))
+        if found is None:
+            return Mark.NEW if is_after else Mark.GONE
+        marks = {field.mark for field in fields} | {cell.mark for field in fields for cell in field.cells}
+        return Mark.KEPT if found == datagram and marks <= {Mark.KEPT} else Mark.MOVED
+
+
+def runs_of(items, is_narrow, bounds, joins):
+    """The items in runs: narrow ones beside each other that `joins` lets stand together are in one."""
+    runs = []
+    for item in items:
+        last = runs[-1] if runs else None
+        if last and is_narrow(item) and is_narrow(last[-1]) and joins(last[-1], item):
+            last.append(item)
+        else:
+            runs.append([item])
+    return [Run(run, bounds(run[0])[0], bounds(run[-1])[1] - bounds(run[0])[0], run[0].mark) for run in runs]
+
+
+def field_runs(fields, scale):
+    """The areas of a row in runs of one direction and one mark."""
+    return runs_of(
+        fields,
+        lambda field: field.place.bits * scale < NARROW_AREA * 8,
+        lambda field: (field.place.bit, field.place.end()),
+        lambda one, next_one: one.place.direction == next_one.place.direction and one.mark == next_one.mark,
+    )
+
+
+def cell_runs(cells, scale):
+    """The bits of an area in runs of variables, or of gaps, with one mark."""
+    return runs_of(
+        cells,
+        lambda cell: cell.bits * scale < NARROW_VARIABLE * 8,
+        lambda cell: (cell.bit, cell.bit + cell.bits),
+        lambda one, next_one: (one.number is None) == (next_one.number is None) and one.mark == next_one.mark,
+    )
+
+
+def unused_of(row, runs):
+    """The bits of a row between its runs and behind the last one, as (bit, bits): no area has them."""
+    unused, bit = [], 0
+    for run in [*runs, None]:
+        begin = row.datagram.length * 8 if run is None else run.bit
+        if begin > bit:
+            unused.append((bit, begin - bit))
+        bit = 0 if run is None else run.bit + run.bits
+    return unused

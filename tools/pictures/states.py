@@ -1,0 +1,159 @@
+"""The state of a line in the program's words: datagrams, register blocks, and where areas and variables stand."""
+
+import re
+from bisect import bisect_right
+from dataclasses import dataclass
+
+PARTS = re.compile(r"task (\d+) parts (\d+) (\d+)")
+DATAGRAM = re.compile(r"datagram (\d+) address 0x([0-9a-f]{8}) length (\d+) expected (\d+)")
+BLOCK = re.compile(r"(sm|fmmu) (\d+) at 0x([0-9a-f]{4}): ([0-9a-f ]+)")
+PLACE = re.compile(r"var (\d+) task (\d+) datagram (\d+) bit (\d+) bits (\d+) dir (out|in)")
+ABSENT = "refused 6 Absent"
+
+
+@dataclass(frozen=True)
+class Datagram:
+    """A datagram: its logical address, bytes of data and expected working counter."""
+
+    task: int
+    number: int
+    address: int
+    length: int
+    expected: int
+
+
+@dataclass(frozen=True)
+class Block:
+    """A register block, with the sync manager's or the FMMU's number."""
+
+    kind: str
+    number: int
+    register: int
+    data: bytes
+
+    def title(self):
+        """The block's name in the field."""
+        return f"sync manager {self.number}" if self.kind == "sm" else f"FMMU {self.number}"
+
+    def short(self):
+        """The block's name where there is little room."""
+        return f"SM {self.number}" if self.kind == "sm" else f"FMMU {self.number}"
+
+    def is_active(self):
+        """Whether the slave uses it: byte 6 of a sync manager, byte 12 of an FMMU."""
+        return self.data[6 if self.kind == "sm" else 12] == 1
+
+    def word(self, at, size=2):
+        """The number in some bytes of the block, the least significant first."""
+        return int.from_bytes(self.data[at : at + size], "little")
+
+
+@dataclass(frozen=True)
+class AreaPlace:
+    """Where an area of some bits stands: its datagram, and its first bit in the datagram's data."""
+
+    station: int
+    area: int
+    sync_manager: int
+    direction: str
+    task: int
+    datagram: int
+    bit: int
+    bits: int
+
+    def end(self):
+        """The first bit behind it."""
+        return self.bit + self.bits
+
+
+@dataclass(frozen=True)
+class VariablePlace:
+    """Where a variable stands: its datagram, its first bit there, and its bits."""
+
+    number: int
+    task: int
+    datagram: int
+    bit: int
+    bits: int
+    direction: str
+
+
+@dataclass(frozen=True)
+class State:
+    """A line behind some edits. `blocks` has the present slaves alone, by station address in declared order."""
+
+    epoch: int
+    parts: dict
+    datagrams: dict
+    blocks: dict
+    areas: dict
+    variables: dict
+
+    def areas_in(self, datagram):
+        """The areas that a datagram carries, in the order of their bits."""
+        return self.areas.get((datagram.task, datagram.number), [])
+
+
+def datagrams_of(lines):
+    """Of the lines of `layout` the parts of each task, and the datagrams by task and number."""
+    parts, datagrams, task = {}, {}, None
+    for line in lines:
+        if found := PARTS.fullmatch(line):
+            task, outputs, inputs = map(int, found.groups())
+            parts[task] = (outputs, inputs)
+        elif found := DATAGRAM.fullmatch(line):
+            number, length, expected = (int(found[row]) for row in (1, 3, 4))
+            datagrams[task, number] = Datagram(task, number, int(found[2], 16), length, expected)
+    return parts, datagrams
+
+
+def blocks_of(lines):
+    """The register blocks in the lines of `regs`; none where the slave is absent."""
+    if lines == [ABSENT]:
+        return None
+    found = [BLOCK.fullmatch(line) for line in lines]
+    return [Block(row[1], int(row[2]), int(row[3], 16), bytes.fromhex(row[4])) for row in found]
+
+
+def area_place(slave, area, fmmu, datagrams, addresses):
+    """Where an active FMMU maps an area: logical start address, length, start and stop bit tell its bits."""
+    logical, length = fmmu.word(0, 4), fmmu.word(4)
+    datagram = datagrams[bisect_right(addresses, logical) - 1]
+    bit = (logical - datagram.address) * 8 + fmmu.data[6]
+    bits = (length - 1) * 8 + fmmu.data[7] - fmmu.data[6] + 1
+    where = (datagram.task, datagram.number, bit, bits)
+    return AreaPlace(slave.station, area.number, area.sync_manager, area.direction, *where)
+
+
+def areas_of(project, blocks, datagrams):
+    """The areas with bits by their task and datagram, in the order of their bits."""
+    ordered = sorted(datagrams.values(), key=lambda datagram: datagram.address)
+    addresses = [datagram.address for datagram in ordered]
+    places = [
+        area_place(slave, area, fmmu, ordered, addresses)
+        for slave, _ in project.slaves()
+        for area, fmmu in zip(slave.areas, blocks.get(slave.station, [])[1::2])
+        if fmmu.is_active()
+    ]
+    areas = {}
+    for place in sorted(places, key=lambda place: place.bit):
+        areas.setdefault((place.task, place.datagram), []).append(place)
+    return areas
+
+
+def variables_of(lines):
+    """The places in answers to `place`, by the variables' numbers."""
+    found = [PLACE.fullmatch(line) for line in lines if line != "none"]
+    return {int(row[1]): VariablePlace(*map(int, row.groups()[:5]), row[6]) for row in found}
+
+
+def state_of(session, project):
+    """The state that the program tells when it is asked for everything."""
+    slaves = [slave for slave, _ in project.slaves()]
+    longer = [b"layout\n", *(b"regs %d\n" % slave.station for slave in slaves)]
+    (layout, *printed), places = session.answers(longer, [b"place %d\n" % variable for variable in sorted(project.homes)])
+    parts, datagrams = datagrams_of(layout[1:])
+    told = [(slave.station, blocks_of(lines)) for slave, lines in zip(slaves, printed)]
+    blocks = {station: rows for station, rows in told if rows is not None}
+    epoch = int(layout[0].split()[1])
+    return State(epoch, parts, datagrams, blocks, areas_of(project, blocks, datagrams), variables_of(places))

@@ -1,0 +1,238 @@
+"""Reads a picture: the numbers that its elements carry, those that are written, and where boxes stand."""
+
+import re
+
+LETTERS = {"out": "O", "in": "I"}
+# From these widths on, in pixels, an area and a variable must be named.
+NAMED_AREA, NAMED_VARIABLE = 60, 70
+NEAR = 0.02
+
+
+class PictureReader:
+    """Compares a picture with what is told of its input."""
+
+    def __init__(self, told, root):
+        self.told, self.root, self.said = told, root, []
+        self.found = {name: {"datagrams": {}, "areas": {}, "variables": {}, "parts": {}} for name in told.states()}
+        self.tops = {}
+        self.covered = {name: covered(state) for name, state in told.states().items()}
+
+    def expect(self, what, wanted, found):
+        """Says where something else is found than is wanted."""
+        if wanted != found:
+            self.said.append(f"{what}: {wanted!r} is wanted, {found!r} is found")
+
+    def differences(self):
+        """Everything in which the picture differs."""
+        self.read_whole()
+        for node in self.root.all(lambda node: "task-heading" in node.kinds()):
+            self.read_parts(node)
+        for node in self.root.all(lambda node: "datagram" in node.kinds()):
+            self.read_datagram(node)
+        for node in self.root.tagged("polygon"):
+            self.read_way(node)
+        for name, state in self.told.states().items():
+            self.compare(name, state)
+        for datagram, tops in self.tops.items():
+            if len(tops) == 2 and tops["after"] < tops["before"]:
+                self.said.append(f"datagram {datagram}: after stands above before")
+        return self.said
+
+    def read_whole(self):
+        """Epochs, the edit and its answer, blocks to write, and slaves and areas that no datagram carries."""
+        told, after = self.told, self.told.after
+        self.expect("epoch", str(after.epoch), self.root.data("epoch"))
+        before = str(told.before.epoch) if told.before else None
+        self.expect("epoch before", before, self.root.data("epoch-before"))
+        words = told.edit[1].split() if told.edit else [None] * 6
+        self.expect("edit", told.edit[0] if told.edit else None, self.root.data("edit"))
+        self.expect("recut", words[3], self.root.data("recut"))
+        self.expect("moved", words[5], self.root.data("moved"))
+        head, foot = (self.root.all(lambda node: kind in node.kinds())[0] for kind in ("head", "foot"))
+        written = {tuple(row.split("/")) for row in (head.data("written") or "").split()}
+        self.expect("blocks to write", {(str(station), at) for station, at in told.written}, written)
+        if told.edit:
+            self.expect("their count", int(words[5]), len(written))
+            line = f"{told.edit[0]}: from epoch {before} to epoch {after.epoch}, recut {words[3]}, moved {words[5]}"
+            self.expect("the edit's line", True, line in head.words())
+        bare = {str(station) for station in after.present if not told.records.areas[station]}
+        self.expect("slaves without process data", bare, set(foot.data("bare").split()))
+        empty = {f"{station}/{area}" for station, area in after.pairs if (station, area) not in after.areas}
+        self.expect("areas of 0 bits", empty, set(foot.data("empty").split()))
+
+    def states_of(self, node):
+        """The states that an element stands for."""
+        name = node.data("state")
+        return list(self.told.states()) if name == "both" else [name]
+
+    def read_parts(self, heading):
+        """The bytes of a task's outputs and inputs, as they are carried and as they are written."""
+        for node in heading.all(lambda node: "parts" in node.kinds()):
+            parts = node.number("outputs"), node.number("inputs")
+            self.expect("parts", list(map(str, parts)), re.findall(r"\d+", node.words()[0]))
+            for state in self.states_of(node):
+                self.found[state]["parts"][heading.number("task")] = parts
+
+    def read_datagram(self, node):
+        """A row: its numbers, and all that stands in it."""
+        name = node.number("task"), node.number("datagram")
+        address, length, expected = node.data("address"), node.number("length"), node.number("expected")
+        written = [f"datagram {name[1]}", address, f"{length} byte{'' if length == 1 else 's'}"]
+        written.append(f"working counter {expected}")
+        if self.told.before:
+            written.append({"both": "as before"}.get(node.data("state"), node.data("state")))
+        for words in written:
+            self.expect(f"written of datagram {name}", words, words if words in node.words() else node.words())
+        for state in self.states_of(node):
+            self.found[state]["datagrams"][name] = (int(address, 16), length, expected)
+            self.tops.setdefault(name, {})[state] = min(float(rect.attributes["y"]) for rect in node.tagged("rect"))
+        self.read_boxes(node, name, length)
+
+    def read_boxes(self, row, name, length):
+        """The boxes of a row: each to scale, areas and unused bits side by side, and so variables and gaps in areas."""
+        upper, lower, areas = [], [], []
+        for node in row.nodes:
+            kind = node.kinds()[:1]
+            if kind == ["area"] or kind == ["areas"] or kind == ["unused"]:
+                upper.append(self.box(row, node))
+            elif kind == ["variable"] or kind == ["variables"] or kind == ["gap"]:
+                lower.append(self.box(row, node))
+            if kind == ["area"] or kind == ["areas"]:
+                areas.append(self.box(row, node))
+                self.read_area(row, name, node)
+            elif kind == ["variable"] or kind == ["variables"]:
+                self.read_variable(row, name, node)
+            elif kind == ["gap"]:
+                self.read_gap(row, name, node)
+        self.expect(f"bits of datagram {name}", [(0, length * 8)], joined(upper))
+        self.expect(f"bits below the areas of datagram {name}", joined(areas), joined(lower))
+
+    def box(self, row, node):
+        """The bits of an element, whose box must stand where they are."""
+        bit, bits = node.number("bit"), node.number("bits")
+        rect = next(child for child in node.nodes if child.tag == "rect")
+        scale = row.number("scale") / 8
+        x, width = float(rect.attributes["x"]), float(rect.attributes["width"])
+        wanted = row.number("left") + bit * scale, bits * scale
+        if abs(x - wanted[0]) > NEAR or abs(width - wanted[1]) > NEAR:
+            self.said.append(f"box of bits {bit} to {bit + bits}: {wanted} is wanted, {(x, width)} is found")
+        return bit, bit + bits
+
+    def read_area(self, row, name, node):
+        """An area, or a folded run of areas."""
+        direction, mark = node.data("direction"), node.data("mark")
+        self.expect("class of an area", [direction, mark], node.kinds()[1:])
+        letters = [badge.text() for badge in node.nodes if "badge" in badge.kinds()]
+        self.expect("letter of an area's mark", [] if mark == "kept" else [mark[0].upper()], letters)
+        if folded := node.data("areas"):
+            rows = [list(map(int, re.split("[/:]", words))) for words in folded.split()]
+            ends = min(row[3] for row in rows), max(row[3] + row[4] for row in rows)
+            self.expect("ends of areas", ends, (node.number("bit"), node.number("bit") + node.number("bits")))
+            wanted = [LETTERS[direction], f"{rows[0][0]}…{rows[-1][0]}", len(rows)]
+        else:
+            rows = [[node.number(word) for word in ("station", "area", "sync-manager", "bit", "bits")]]
+            wanted = [LETTERS[direction], str(rows[0][0]), None]
+        self.read_area_words(row, node, wanted)
+        for station, area, manager, bit, bits in rows:
+            for state in self.states_of(row):
+                self.read_whence(node, (station, area), state)
+                self.found[state]["areas"][station, area] = (manager, direction, *name, bit, bits, mark)
+
+    def read_whence(self, node, area, state):
+        """Where a moved area was or will be, if that is written."""
+        for text in (child for child in node.nodes if "whence" in child.kinds()):
+            other = (self.told.before if state == "after" else self.told.after).areas[area]
+            word = "from" if state == "after" else "to"
+            wanted = f"{word} task {other[2]} datagram {other[3]} bit {other[4]}"
+            self.expect(f"whence or whither of area {area}", wanted, text.text())
+
+    def read_area_words(self, row, node, wanted):
+        """What is written in an area: its letter and station, or how many areas are folded."""
+        letter, station, count = wanted
+        words = [child.text() for child in node.nodes if child.tag == "text" and "whence" not in child.kinds()]
+        if words:
+            found = words[0].split(",")[0].split()
+            counts = [int(number) for pair in re.findall(r"×(\d+)|(\d+) areas", words[0]) for number in pair if number]
+            self.expect("letter of an area", letter, found[0])
+            if count is None or "…" in words[0]:
+                self.expect("station of an area", station, found[1])
+            self.expect("count of areas", [] if count is None else [count], counts)
+        elif node.number("bits") * row.number("scale") >= NAMED_AREA * 8:
+            self.said.append(f"area of station {station} isn't named")
+
+    def read_variable(self, row, name, node):
+        """A variable, or a folded run of them."""
+        if folded := node.data("variables"):
+            rows = [words.split(":") for words in folded.split()]
+            rows = [[*map(int, words[:3]), words[3]] for words in rows]
+        else:
+            rows = [[node.number(word) for word in ("variable", "bit", "bits")] + [node.data("mark")]]
+            self.read_variable_words(row, node, *rows[0])
+        for variable, bit, bits, mark in rows:
+            inside = node.number("bit") <= bit and bit + bits <= node.number("bit") + node.number("bits")
+            self.expect(f"variable {variable} inside its box", True, inside)
+            for state in self.states_of(row):
+                self.found[state]["variables"][variable] = (*name, bit, bits, node.kinds()[1], mark)
+
+    def read_variable_words(self, row, node, variable, _, bits, mark):
+        """What is written in a variable's box: its number and its bits."""
+        self.expect(f"class of variable {variable}", mark, node.kinds()[2])
+        number, letter = str(variable), mark[0].upper()
+        widths = [str(bits), f"{letter} {bits}", letter]
+        allowed = [[number, width] for width in widths]
+        if bits * row.number("scale") < NAMED_VARIABLE * 8:
+            allowed += [[], [number], *([width] for width in widths)]
+        self.expect(f"what is written of variable {variable} stands in {allowed}", True, node.words() in allowed)
+
+    def read_gap(self, row, name, node):
+        """A gap: no variable has a bit of it."""
+        bit, bits = node.number("bit"), node.number("bits")
+        for words in node.words():
+            self.expect("written of a gap", True, words in ("gap", "–", str(bits)))
+        for state in self.states_of(row):
+            if not self.covered[state].isdisjoint((*name, own) for own in range(bit, bit + bits)):
+                self.said.append(f"a variable stands in the gap at bit {bit} of datagram {name}")
+
+    def read_way(self, node):
+        """The band between two places of a moved area."""
+        area = node.number("station"), node.number("area")
+        xs = [float(point.split(",")[0]) for point in node.attributes["points"].split()]
+        scale, left = node.number("scale") / 8, node.number("left")
+        ends = []
+        for state in (self.told.before, self.told.after):
+            *_, bit, bits = state.areas[area]
+            ends.append([left + bit * scale, left + (bit + bits) * scale])
+        wanted = [*ends[0], *reversed(ends[1])]
+        if any(abs(one - other) > NEAR for one, other in zip(wanted, xs)):
+            self.said.append(f"way of area {area}: {wanted} is wanted, {xs} is found")
+
+    def compare(self, name, state):
+        """All of a state: nothing may lack, and nothing may stand there besides."""
+        told = self.told
+        wanted = {
+            "datagrams": state.datagrams,
+            "parts": state.parts,
+            "areas": {area: (*place, told.area_mark(area, name)) for area, place in state.areas.items()},
+            "variables": {own: (*place, told.variable_mark(own, name)) for own, place in state.variables.items()},
+        }
+        for kind, rows in wanted.items():
+            found = self.found[name][kind]
+            for key in sorted(rows.keys() | found.keys()):
+                self.expect(f"{name}, {kind}, {key}", rows.get(key), found.get(key))
+
+
+def covered(state):
+    """The bits that variables have, each with its task and datagram."""
+    places = state.variables.values()
+    return {(task, number, own) for task, number, bit, bits, _ in places for own in range(bit, bit + bits)}
+
+
+def joined(intervals):
+    """Intervals that stand side by side joined; where two overlap both stay."""
+    ends = []
+    for begin, end in sorted(intervals):
+        if ends and ends[-1][1] == begin:
+            ends[-1] = (ends[-1][0], end)
+        else:
+            ends.append((begin, end))
+    return ends

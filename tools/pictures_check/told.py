@@ -1,0 +1,131 @@
+"""What a picture of an input must tell, worked out of what `hotline` prints; nothing is shared with who draws it."""
+
+import re
+import subprocess
+import tomllib
+
+# A question whose answer, which no other question has here, parts the answers about slaves.
+MARK, MARKED = "show 8 0", "refused 8 NoSuchTask"
+QUESTIONS = ("layout", "regs", "show", "place", "write", "send", "arrive", "read")
+
+
+def run(program, text, commands):
+    """The lines that the program prints."""
+    given = text + "\n%%\n" + "\n".join(commands) + "\n"
+    ran = subprocess.run([program], input=given.encode(), capture_output=True, timeout=60, check=True)
+    return ran.stdout.decode().splitlines()
+
+
+def opened(path):
+    """The text and the edits of an input."""
+    text, _, commands = path.read_text().partition("\n%%\n")
+    asked = [line.strip() for line in commands.splitlines()]
+    return text, [line for line in asked if line and line.split()[0] not in QUESTIONS]
+
+
+class Records:
+    """Of the project text what a state is asked by: stations with their areas' variables, in declared order."""
+
+    def __init__(self, text):
+        document = tomllib.loads(text)
+        self.areas, self.homes = {}, {}
+        groups = [document, *document.get("group", [])]
+        for slave in (slave for group in groups for slave in group.get("slave", [])):
+            self.areas[slave["station"]] = slave.get("area", [])
+        for station, areas in self.areas.items():
+            for row, area in enumerate(areas):
+                self.homes |= {entry[0]: (station, row) for pdo in area.get("pdo", []) for entry in pdo["entries"]}
+        self.homes.pop(0, None)
+
+
+class State:
+    """A state in the program's words: each thing's name with what the program says of it."""
+
+    def __init__(self, program, text, records, edits):
+        questions = ["layout", *(f"regs {station}\n{MARK}" for station in records.areas)]
+        questions += [f"place {variable}" for variable in records.homes]
+        lines = run(program, text, [*edits, *questions])[len(edits) :]
+        told = len(lines) - len(records.homes)
+        self.read_layout([line for line in lines[:told] if re.match("epoch|task|datagram", line)])
+        self.read_blocks(records, "\n".join(lines[:told]).split(MARKED))
+        self.read_places([line.split() for line in lines[told:] if line != "none"])
+
+    def read_layout(self, lines):
+        """Epoch, parts of the tasks, and datagrams."""
+        self.epoch, self.parts, self.datagrams, task = int(lines[0].split()[1]), {}, {}, None
+        for words in map(str.split, lines[1:]):
+            if words[0] == "task":
+                task = int(words[1])
+                self.parts[task] = (int(words[3]), int(words[4]))
+            else:
+                self.datagrams[task, int(words[1])] = (int(words[3], 16), int(words[5]), int(words[7]))
+
+    def read_blocks(self, records, printed):
+        """Each present slave's blocks by register, and where the FMMUs map its areas."""
+        self.blocks, self.areas, self.pairs, self.present = {}, {}, {}, set()
+        for station, lines in zip(records.areas, printed):
+            rows = [line for line in lines.splitlines() if re.match("sm|fmmu|refused", line)]
+            if rows[:1] == ["refused 6 Absent"]:
+                continue
+            self.present.add(station)
+            for at, line in enumerate(rows):
+                name, register, data = re.fullmatch("(.*) at (.*): (.*)", line).groups()
+                self.blocks[station, register] = (name, data)
+                self.pairs.setdefault((station, at // 2), []).append((station, register))
+                if name.startswith("fmmu"):
+                    self.read_fmmu((station, at // 2), rows[at - 1].split()[1], bytes.fromhex(data))
+
+    def read_places(self, lines):
+        """Of each variable task, datagram, first bit, bits and direction."""
+        self.variables = {int(words[1]): (*(int(words[at]) for at in (3, 5, 7, 9)), words[11]) for words in lines}
+
+    def read_fmmu(self, area, manager, data):
+        """Where an FMMU maps an area, if it does: sync manager, direction, task, datagram, first bit and bits."""
+        if data[12] == 0:
+            return
+        logical = int.from_bytes(data[0:4], "little")
+        for (task, number), (address, length, _) in self.datagrams.items():
+            if address <= logical < address + length:
+                first = (logical - address) * 8 + data[6]
+                behind = (logical - address + int.from_bytes(data[4:6], "little") - 1) * 8 + data[7] + 1
+                direction = "out" if data[11] == 2 else "in"
+                self.areas[area] = (int(manager), direction, task, number, first, behind - first)
+
+
+class Told:
+    """The state behind the last accepted edit, and the one before it where there is one."""
+
+    def __init__(self, program, path):
+        text, edits = opened(path)
+        self.records = Records(text)
+        self.answers = list(zip(edits, run(program, text, edits)))
+        accepted = [row for row, (_, said) in enumerate(self.answers) if said.startswith("epoch")]
+        self.after = State(program, text, self.records, edits)
+        self.before, self.edit, self.written = None, None, set()
+        if accepted:
+            self.before = State(program, text, self.records, edits[: accepted[-1]])
+            self.edit = self.answers[accepted[-1]]
+            old = self.before.blocks
+            self.written = {name for name, block in self.after.blocks.items() if old.get(name) != block}
+
+    def states(self):
+        """The states by name."""
+        return {"after": self.after} if self.before is None else {"before": self.before, "after": self.after}
+
+    def area_mark(self, area, state):
+        """The mark of an area that stands in a state: new, gone, moved where a block of it is written, or kept."""
+        if self.before is None:
+            return "kept"
+        other = self.before if state == "after" else self.after
+        if area not in other.areas:
+            return "new" if state == "after" else "gone"
+        return "moved" if self.written.intersection(self.after.pairs[area]) else "kept"
+
+    def variable_mark(self, variable, state):
+        """The mark of a variable that stands in a state: new, gone, moved where its place is another, or kept."""
+        if self.before is None:
+            return "kept"
+        places = [found.variables.get(variable) for found in (self.before, self.after)]
+        if None in places:
+            return "new" if state == "after" else "gone"
+        return "kept" if places[0] == places[1] else "moved"
