@@ -1,5 +1,8 @@
-pub mod Laying
+pub mod Carrying
 pub mod Masks
-pub mod Outcomes
 pub mod Numbered
+pub mod Outcomes
+pub mod Resizing
+pub mod Standing
+pub mod Writing
 pub mod lemmas

@@ -1,12 +1,12 @@
 -- Ones in a run, and bytes under a mask.
-use Rattle.std.proofs.Common.{◌≡◌, inl, inr, ℕ, ◌+◌, ◌-◌, ◌/◌, ◌%◌, ◌^◌, ◌<◌, ◌≤◌, List, ◌++◌, length, get_or, min, replicate, sym, ap, ◌∙◌, arith, bit_and, pow_pos}
+use Rattle.std.proofs.Common.{◌≡◌, inl, inr, ℕ, ◌+◌, ◌-◌, ◌/◌, ◌%◌, ◌^◌, ◌<◌, ◌≤◌, List, ◌++◌, length, get_or, min, replicate, sym, subst, ap, ◌∙◌, arith, bit_and, pow_pos}
 use Rattle.std.proofs.lemmas.Bool.{cases_lt}
 use Rattle.std.proofs.lemmas.List.{get_or_append_left, get_or_past, get_or-replicate, length-replicate}
 use Rattle.std.proofs.Math.Seq.{get_or-append_right}
-use Rattle.std.proofs.lemmas.Nat.Bits.{bit_at_and, bit_at_ones, ones_shr}
+use Rattle.std.proofs.lemmas.Nat.Bits.{bit_at-lt, bit_at_and, bit_at_ones, ones_shr}
 use Rattle.std.specs.Int.{bit_at}
 use Rattle.std.specs.Int.Bits.{and_zero_l, and_zero_r}
-use Rattle.hc_bits.specs.Bits.{bit_of, ReplacesRun}
+use Rattle.hc_bits.specs.Bits.{AreBytes, bit_of, ReplacesRun}
 
 -- the n lowest ones of a word
 ones_are : (n : ℕ) → n ≤ 64 → 18446744073709551615 / 2 ^ (64 - n) ≡ 2 ^ n - 1
@@ -21,6 +21,10 @@ less_one x y some e = omega arith
 pub ones-below : (n : ℕ) → n ≤ 64 → 18446744073709551615 / 2 ^ (64 - n) < 2 ^ n
 ones-below n h = less_one (18446744073709551615 / 2 ^ (64 - n)) (2 ^ n) (pow_pos n) (ones_are n h)
 
+-- the lowest bits of a value under ones
+pub lowest-bit : (value mask k : ℕ) → bit_at mask k ≡ 1 → bit_at (bit_and value mask) k ≡ bit_at value k
+lowest-bit value mask k one = let small = bit_at-lt value k in bit_at_and value mask k ∙ omega arith
+
 -- a run that is told by a number whose bits are those of another
 pub run-told : (old new : List ℕ) (at n : ℕ) (run told : ℕ → ℕ) → ((k : ℕ) → k < n → run k ≡ told k) → ReplacesRun old new at n run → ReplacesRun old new at n told
 run-told old new at n run told same replaced =
@@ -33,11 +37,21 @@ unfolding bit_of
 masked_bit new bytes mask each k =
     ap (λ b. bit_at b (k % 8)) (each (k / 8)) ∙ bit_at_and (get_or bytes (k / 8) 0) (get_or mask (k / 8) 0) (k % 8)
 
-same_at : (n i z : ℕ) → get_or (replicate n z) i z ≡ z
-same_at n i z = elim (cases_lt i n) [
+pub same-at : (n i z : ℕ) → get_or (replicate n z) i z ≡ z
+same-at n i z = elim (cases_lt i n) [
   | inl low ↦ get_or-replicate n i z z low
   | inr past ↦ get_or_past (replicate n z) i z (omega (arith, length-replicate n z))
 ]
+
+-- zeros are bytes
+
+zero_small : 0 < 256
+zero_small = omega arith
+
+pub zero-bytes : (n : ℕ) → AreBytes (replicate n 0)
+zero-bytes n i low =
+    let there : get_or (replicate n 0) i 0 ≡ 0 = get_or-replicate n i 0 0 (omega (arith, length-replicate {A = ℕ} n 0)) in
+    subst (λ (b : ℕ). b < 256) (sym there) zero_small
 
 -- behind the front either the post or the mask has ended
 ended : (front bytes mask : List ℕ) (rest i : ℕ) → length mask ≡ length front + rest → length front ≡ min (length front + rest) (length bytes) → length front ≤ i
@@ -52,7 +66,7 @@ masked_parts : (front bytes mask : List ℕ) (rest : ℕ) → length mask ≡ le
     → (i : ℕ) → get_or (front ++ replicate rest 0) i 0 ≡ bit_and (get_or bytes i 0) (get_or mask i 0)
 masked_parts front bytes mask rest whole count own i = elim (cases_lt i (length front)) [
   | inl low ↦ get_or_append_left front (replicate rest 0) 0 i low ∙ own i low
-  | inr behind ↦ get_or-append_right front (replicate rest 0) i 0 behind ∙ same_at rest (i - length front) 0 ∙ ended front bytes mask rest i whole count behind
+  | inr behind ↦ get_or-append_right front (replicate rest 0) i 0 behind ∙ same-at rest (i - length front) 0 ∙ ended front bytes mask rest i whole count behind
 ]
 
 pub masked-copy : (front bytes mask back : List ℕ) (rest : ℕ) → back ≡ replicate rest 0 → length mask ≡ length front + rest → length front ≡ min (length front + rest) (length bytes)

@@ -1,8 +1,10 @@
 -- Numbered rows, each number once: a row is found by its number.
-use Rattle.std.proofs.Common.{◌≡◌, ◌≢◌, ℕ, ◌==◌, Bool, true, false, cond, List, [], ◌∷◌, get_or, ap, arith, Option, Some}
-use Rattle.std.specs.Prelude.{All, AllPairs, find}
+use Rattle.std.proofs.Common.{◌≡◌, ◌≢◌, ◌⊎◌, inl, inr, ℕ, zero, suc, ◌<◌, ◌==◌, Bool, true, false, cond, List, [], ◌∷◌, get_or, refl, sym, ap, ◌∙◌, subst, arith, Option, Some, None}
+use Rattle.std.specs.Prelude.{All, AllPairs, find, slice_get}
+use Rattle.std.proofs.lemmas.Bool.{cases_eq}
 use Rattle.std.proofs.lemmas.Bool.Decides.{nat_tests}
 use Rattle.std.proofs.lemmas.List.Elements.{All-nil, All-cons}
+use Rattle.std.proofs.lemmas.Option.{get_or_from_slice_get, slice_get_within}
 use Rattle.hc_records.proofs.lemmas.Lists.{AllPairs-head, AllPairs-tail}
 
 is_itself : (n : ℕ) → (n == n) ≡ true
@@ -27,3 +29,65 @@ each-found (row ∷ rows) once =
     passed (row.0 == own.0) row (find (λ other. other.0 == own.0) rows) own
     (is_another row.0 own.0 (AllPairs-head (λ a b. a.0 ≢ b.0) row rows once i e inside))
     (each-found rows (AllPairs-tail (λ a b. a.0 ≢ b.0) row rows once) i e inside))
+
+-- rows in the order of their numbers
+
+abbrev pub Ascend : {Y : Type 0} → List (ℕ × Y) → Type 0
+Ascend rows = AllPairs (λ a b. a.0 < b.0) rows
+
+less_differs : (m n : ℕ) → m < n → m ≢ n
+less_differs m n less same = omega arith
+
+pub ascend-once : {Y : Type 0} (rows : List (ℕ × Y)) → Ascend rows → AllPairs (λ a b. a.0 ≢ b.0) rows
+ascend-once rows ascend = λ i j e less low. less_differs (get_or rows i e).0 (get_or rows j e).0 (ascend i j e less low)
+
+pub ascend-differ : {Y : Type 0} (rows : List (ℕ × Y)) (i j : ℕ) (row other : ℕ × Y) → Ascend rows → i < j → slice_get rows i ≡ Some row → slice_get rows j ≡ Some other → row.0 ≢ other.0
+ascend-differ rows i j row other ascend less there there' same =
+    ascend-once rows ascend i j row less (slice_get_within rows j other there')
+    (ap (λ (r : ℕ × _). r.0) (get_or_from_slice_get rows i row row there) ∙ same ∙ sym (ap (λ (r : ℕ × _). r.0) (get_or_from_slice_get rows j other row there')))
+
+-- each is found by its number
+pub found-at : {Y : Type 0} (rows : List (ℕ × Y)) (i : ℕ) (row : ℕ × Y) → Ascend rows → slice_get rows i ≡ Some row → IsFoundIn rows row
+found-at rows i row ascend there =
+    subst (IsFoundIn rows) (get_or_from_slice_get rows i row row there)
+    (each-found rows (ascend-once rows ascend) i row (slice_get_within rows i row there))
+
+-- a number is that of a row, or of none
+
+pub record HasNumber {Y : Type 0} (rows : List (ℕ × Y)) (number : ℕ) : Type 0 where
+  pub index : ℕ
+  pub row : ℕ × Y
+  pub there : slice_get rows index ≡ Some row
+  pub is : row.0 ≡ number
+
+abbrev pub HasNone : {Y : Type 0} → List (ℕ × Y) → ℕ → Type 0
+HasNone rows number = (i : ℕ) (row : ℕ × _) → slice_get rows i ≡ Some row → row.0 ≢ number
+
+same_some : {X : Type 0} (a b : X) → Some a ≡ Some b → a ≡ b
+same_some a b e = cc
+
+none_behind : {Y : Type 0} (row : ℕ × Y) (rows : List (ℕ × Y)) (number : ℕ) → row.0 ≢ number → HasNone rows number → HasNone (row ∷ rows) number
+none_behind row rows number other none zero own there is = other (ap (λ (r : ℕ × _). r.0) (same_some row own there) ∙ is)
+none_behind row rows number other none (suc i) own there is = none i own there is
+
+behind : {Y : Type 0} (row : ℕ × Y) (rows : List (ℕ × Y)) (number : ℕ) → row.0 ≢ number → HasNumber rows number ⊎ HasNone rows number → HasNumber (row ∷ rows) number ⊎ HasNone (row ∷ rows) number
+behind row rows number other (inl has) = inl (record { index = suc has.index; row = has.row; there = has.there; is = has.is })
+behind row rows number other (inr none) = inr (λ i. none_behind row rows number other none i)
+
+nothing : {Y : Type 0} (number : ℕ) → HasNone {Y = Y} [] number
+nothing number zero row there = cc
+nothing number (suc i) row there = cc
+
+pub by-number : {Y : Type 0} (rows : List (ℕ × Y)) (number : ℕ) → HasNumber rows number ⊎ HasNone rows number
+by-number [] number = inr (nothing number)
+by-number (row ∷ rows) number = elim (cases_eq row.0 number) [
+  | inl same ↦ inl (record { index = 0; row = row; there = refl; is = same })
+  | inr other ↦ behind row rows number other (by-number rows number)
+]
+
+-- and where none has it, none is found
+pub none-found : {Y : Type 0} (rows : List (ℕ × Y)) (number : ℕ) → HasNone rows number → find (λ r. r.0 == number) rows ≡ None
+none-found [] number none = refl
+none-found (row ∷ rows) number none =
+    ap (λ b. cond b (Some row) (find (λ r. r.0 == number) rows)) (is_another row.0 number (none 0 row refl))
+    ∙ none-found rows number (λ i. none (suc i))

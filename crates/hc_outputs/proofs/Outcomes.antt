@@ -1,6 +1,6 @@
 -- What the bytes carry after each call, by what they carried before.
 use Rattle.std.proofs.Common.{◌≡◌, ◌≢◌, inl, inr, ℕ, ◌+◌, ◌*◌, ◌/◌, ◌%◌, ◌<◌, ◌≤◌, ◌==◌, Bool, true, false, cond, get_or, List, [], drop, length, min, refl, sym, ap, ◌∙◌, subst, arith, Option, Some, None}
-use Rattle.std.specs.Prelude.{is_some, slice_get}
+use Rattle.std.specs.Prelude.{slice_get}
 use Rattle.std.specs.Option.{option_and_then, option_map_or}
 use Rattle.std.proofs.lemmas.Bool.{cases_eq, cases_lt, eq-eqb}
 use Rattle.std.proofs.lemmas.Bool.Decides.{nat_tests}
@@ -14,9 +14,9 @@ use Rattle.hc_records.specs.Image.{VariablePlace}
 use Rattle.hc_places.specs.declared.table.Datagram.{Datagram}
 use Rattle.hc_places.specs.Table.{Table, TaskTable, datagrams_in, place_in}
 use Rattle.hc_outputs.specs.Packed.{Bytes, Carries, HasSizes, IsLaidOut, IsOutput, IsWhole, bytes_of, length_in, offset_in}
-use Rattle.hc_outputs.specs.Moves.{AreBlank, Posts, moved}
-use Rattle.hc_outputs.specs.Values.{KeepEntries, image_bit, kept, posted}
-use Rattle.hc_outputs.proofs.Laying.{moved-nowhere, moved-there, zero-bytes}
+use Rattle.hc_outputs.specs.Pieces.{AreBlank, Posts}
+use Rattle.hc_outputs.specs.Values.{image_bit, posted}
+use Rattle.hc_outputs.proofs.Masks.{zero-bytes}
 
 -- each place below 128 is that of a datagram
 
@@ -46,8 +46,8 @@ are-whole table sent masks all all' sizes sizes' = record {
 
 -- zeros carry zeros
 
-blank_bit : (table : Table) (bytes : Bytes) (k n : ℕ) → AreBlank table bytes → bit_of (get_or bytes n []) k ≡ 0
-blank_bit table bytes k n blank = elim (cases_lt n (MOST_DATAGRAMS * TASKS)) [
+pub blank-bit : (table : Table) (bytes : Bytes) (k n : ℕ) → AreBlank table bytes → bit_of (get_or bytes n []) k ≡ 0
+blank-bit table bytes k n blank = elim (cases_lt n (MOST_DATAGRAMS * TASKS)) [
   | inl low ↦
       at_datagram (λ m. bit_of (get_or bytes m []) k ≡ 0)
       (λ task d t e. ap (λ own. bit_of own k) (blank.zeros task d t e) ∙ bit_of-zeros (length_in table task d) k) n low
@@ -63,28 +63,8 @@ pub blank-carries : (table : Table) (bytes : Bytes) → AreBlank table bytes →
 blank-carries table bytes blank = record {
   sizes = blank-sizes table bytes blank;
   all_bytes = λ task d t e. subst AreBytes (sym (blank.zeros task d t e)) (zero-bytes (length_in table task d));
-  values = λ variable k place is low. blank_bit table bytes (place.bit + k) (MOST_DATAGRAMS * place.task + place.datagram) blank;
-  others = λ task d k t e misses. blank_bit table bytes k (MOST_DATAGRAMS * task + d) blank;
-}
-
--- over an edit
-
-kept_from : (old new : Table) (value : ℕ → ℕ → ℕ) (sent : Bytes) (variable k : ℕ) (place : VariablePlace) (found : Option VariablePlace) → place_in old variable ≡ found
-    → KeepEntries old new → Carries old value sent → IsOutput new variable place → k < place.bits
-    → moved old sent variable k ≡ cond (is_some found) (value variable k) 0
-kept_from old new value sent variable k place None there entries carries is low = moved-nowhere old sent variable k there
-kept_from old new value sent variable k place (Some before) there entries carries is low =
-    let entry = entries variable before place there is.there in
-    let bits = entry.bits in
-    moved-there old sent variable k before there
-    ∙ carries.values variable k before (record { there = there; output = sym entry.dir ∙ is.output }) (omega arith)
-
-pub kept-carries : (old new : Table) (value : ℕ → ℕ → ℕ) (sent next : Bytes) → KeepEntries old new → Carries old value sent → Carries new (moved old sent) next → Carries new (kept old value) next
-kept-carries old new value sent next entries carries made = record {
-  sizes = made.sizes;
-  all_bytes = made.all_bytes;
-  values = λ variable k place is low. made.values variable k place is low ∙ kept_from old new value sent variable k place (place_in old variable) refl entries carries is low;
-  others = made.others;
+  values = λ variable k place is low. blank-bit table bytes (place.bit + k) (MOST_DATAGRAMS * place.task + place.datagram) blank;
+  others = λ task d k t e misses. blank-bit table bytes k (MOST_DATAGRAMS * task + d) blank;
 }
 
 -- after a post

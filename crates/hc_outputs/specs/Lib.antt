@@ -1,3 +1,4 @@
 pub mod Moves
 pub mod Packed
+pub mod Pieces
 pub mod Values

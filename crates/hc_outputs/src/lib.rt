@@ -3,6 +3,7 @@
 //! moves the values to their new places when the line changes.
 #![tactic(auto)]
 
+pub mod moves;
 pub mod outputs;
 mod row;
 mod rows;

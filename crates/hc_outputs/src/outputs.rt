@@ -1,47 +1,41 @@
 //! The output values of a line, packed as they are sent.
 ghost use Rattle.std.specs.Prelude.{◌≡◌, ◌<◌, drop};
 ghost use Rattle.hc_records.specs.declared.limits.TheConstants.{TASKS};
-ghost use Rattle.hc_outputs.specs.Moves.{Posts};
 ghost use Rattle.hc_outputs.specs.Packed.{IsWhole};
+ghost use Rattle.hc_outputs.specs.Pieces.{Posts};
 
+use crate::moves::Moves;
 use crate::row::Row;
-use crate::rows::{blank_rows, make_masks, move_values, slot_number};
+use crate::rows::{blank_rows, make_masks, slot_number};
+use hc_places::swap::Swap;
 use hc_places::table::Places;
 use hc_records::limits::{MOST_DATAGRAMS, TASKS};
 use std::alloc::{AllocError, Global};
 use std::marker::Model;
 
 /// The bytes of each datagram as they are sent, and masks of the bits of output variables. It has room for
-/// the longest data of every datagram that a line can have, three times about 190,000 bytes, from the start:
-/// so no post and no edit takes memory.
+/// the longest data of every datagram that a line can have, twice about 190,000 bytes, from the start: so no
+/// post takes memory, and an edit for the moved values alone.
 #[derive(Debug)]
 pub struct Outputs {
     sent: Vec<Row>,
     masks: Vec<Row>,
-    // where an edit puts the bytes together that are then sent
-    next: Vec<Row>,
 }
 
 impl Drop for Outputs {
     fn drop(self) {
-        let Outputs {
-            sent: _,
-            masks: _,
-            next: _,
-        } = self;
+        let Outputs { sent: _, masks: _ } = self;
     }
 }
 
 impl Model for Outputs {
-    ghost use Rattle.std.specs.Prelude.{◌≡◌, ◌*◌, length};
-    ghost use Rattle.hc_records.specs.declared.limits.TheConstants.{MOST_DATAGRAMS, TASKS};
     ghost use Rattle.hc_outputs.specs.Packed.{IsWhole, Packed};
 
     ghost Value = { Packed };
 
     ghost view = { λ outputs. record { sent = outputs.sent.items; masks = outputs.masks.items } };
 
-    ghost invariant = { λ outputs. IsWhole (record { sent = outputs.sent.items; masks = outputs.masks.items }) × (length outputs.next.items ≡ MOST_DATAGRAMS * TASKS) };
+    ghost invariant = { λ outputs. IsWhole (record { sent = outputs.sent.items; masks = outputs.masks.items }) };
 }
 
 /// The bytes from one on; none where there are fewer.
@@ -79,6 +73,7 @@ fn post_all(sent: &mut Vec<Row>, masks: &Vec<Row>, places: &Places, task: u8, by
 impl Outputs {
     ghost use Rattle.std.specs.Prelude.{◌≡◌, ◌<◌, ℕ, IfOk};
     ghost use Rattle.hc_records.specs.declared.limits.TheConstants.{TASKS};
+    ghost use Rattle.hc_outputs.specs.Moves.{table_after};
     ghost use Rattle.hc_outputs.specs.Packed.{HasSizes, Holds, IsLaidOut, sent_bytes};
     ghost use Rattle.hc_outputs.specs.Values.{KeepEntries, kept, posted};
 
@@ -91,8 +86,7 @@ impl Outputs {
         let sent = blank_rows(alloc, places)?;
         let mut masks = blank_rows(alloc, places)?;
         make_masks(&mut masks, places);
-        let next = blank_rows(alloc, places)?;
-        Ok(Outputs { sent, masks, next })
+        Ok(Outputs { sent, masks })
     }
 
     /// A post of a task, 0 to 7, by the table of the present line: the task's output variables have their
@@ -118,16 +112,19 @@ impl Outputs {
         }
     }
 
-    /// The line changed from one table to another: a variable with a place in the old one keeps its value,
-    /// and the value of any other is 0. It takes no memory.
-    pub fn change(&mut self, old: &Places, new: &Places)
-        requires laid { IsLaidOut old.now }
-        requires laid_out { IsLaidOut new.now }
-        requires entries { KeepEntries old.now new.now }
-        requires sizes { HasSizes old.now self.old.sent }
-        ensures { (value : ℕ → ℕ → ℕ) → Holds old.now value self.old → Holds new.now (kept old.now value) self.new }
+    /// The line changed from one table to another, by a swap: a variable with a place in the old one keeps
+    /// its value, and the value of any other is 0. Only the bytes of changed variables and of changed tasks
+    /// are touched. It takes no memory.
+    pub fn change(&mut self, moves: Moves, swap: &Swap)
+        requires swap { swap.now.change ≡ moves.change }
+        requires laid { IsLaidOut moves.before }
+        requires laid_out { IsLaidOut (table_after moves) }
+        requires entries { KeepEntries moves.before (table_after moves) }
+        requires sizes { HasSizes moves.before self.old.sent }
+        ensures { (value : ℕ → ℕ → ℕ) → Holds moves.before value self.old → Holds (table_after moves) (kept moves.before value) self.new }
     {
-        move_values(&mut self.sent, &mut self.next, old, new);
-        make_masks(&mut self.masks, new);
+        let mut moves = moves;
+        moves.carry(&mut self.sent, swap, false);
+        moves.carry(&mut self.masks, swap, true);
     }
 }

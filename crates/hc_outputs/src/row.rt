@@ -4,7 +4,7 @@ ghost use Rattle.std.specs.Int.{bit_at};
 ghost use Rattle.hc_bits.specs.Bits.{AreBytes, bit_of, ReplacesRun};
 
 use arrayvec::ArrayVec;
-use hc_bits::{copy_bits, put_bits};
+use hc_bits::{get_bits, put_bits};
 use std::marker::Model;
 
 /// The bytes of a datagram, at most 1,486, with room for so many.
@@ -45,40 +45,44 @@ fn ones(bits: u8) -> u64
     u64::MAX >> (64 - bits)
 }
 
-/// Makes ones of 1 to 64 bits from one on.
-fn put_run(bytes: &mut [u8], at: usize, bits: u8)
+/// The lowest bits of a value, so many, from 1 to 64.
+fn lowest(value: u64, bits: u8) -> u64
+    requires some { 1 ≤ bits }
+    requires most { bits ≤ 64 }
+    ensures below { result < 2 ^ bits }
+    ensures bits { (k : ℕ) → k < bits → bit_at result k ≡ bit_at value k }
+{
+    value & ones(bits)
+}
+
+/// Puts the lowest bits of a value, 1 to 64, from one on.
+fn put_run(bytes: &mut [u8], at: usize, bits: u8, value: u64)
     requires some { 1 ≤ bits }
     requires most { bits ≤ 64 }
     requires within { at + bits ≤ 8 * length bytes.old }
-    ensures ones { ReplacesRun bytes.old bytes.new at bits (λ k. 1) }
+    ensures put { ReplacesRun bytes.old bytes.new at bits (bit_at value) }
     ensures bytes { AreBytes bytes.new }
 {
-    put_bits(bytes, at, usize::from(bits), ones(bits));
-}
-
-/// Copies bits, from one on, to those of other bytes from another one on.
-fn take_run(own: &mut [u8], at: usize, from: &[u8], from_at: usize, bits: usize)
-    requires from_within { from_at + bits ≤ 8 * length from.now }
-    requires within { at + bits ≤ 8 * length own.old }
-    ensures copied { ReplacesRun own.old own.new at bits (λ k. bit_of from.now (from_at + k)) }
-    ensures size { length own.new ≡ length own.old }
-    ensures bytes { AreBytes own.new }
-{
-    copy_bits(from, from_at, own, at, bits);
+    put_bits(bytes, at, usize::from(bits), lowest(value, bits));
 }
 
 impl Row {
-    ghost use Rattle.std.specs.Prelude.{◌≡◌, ◌+◌, ◌*◌, ◌≤◌, [], ℕ, length, min, replicate};
+    ghost use Rattle.std.specs.Prelude.{◌≡◌, ◌+◌, ◌*◌, ◌<◌, ◌≤◌, ℕ, length, min, replicate};
+    ghost use Rattle.std.specs.Int.{bit_at};
     ghost use Rattle.hc_bits.specs.Bits.{AreBytes, bit_of, ReplacesRun};
     ghost use Rattle.hc_records.specs.declared.limits.TheConstants.{MOST_DATAGRAM_BYTES, MOST_ENTRY_BITS};
+    ghost use Rattle.hc_outputs.specs.Pieces.{resized};
 
-    /// No bytes.
-    pub(crate) fn new() -> Row
-        ensures { result ≡ [] }
+    /// So many zeros.
+    pub(crate) fn zeros(length: u16) -> Row
+        requires { length ≤ MOST_DATAGRAM_BYTES }
+        ensures { result ≡ replicate length 0 }
     {
-        Row {
-            bytes: ArrayVec::new(),
+        let mut bytes = ArrayVec::new();
+        for _ in 0..length {
+            bytes.push(0);
         }
+        Row { bytes }
     }
 
     /// The bytes.
@@ -88,45 +92,38 @@ impl Row {
         self.bytes.as_slice()
     }
 
-    /// So many zeros in place of what was there.
-    pub(crate) fn reset(&mut self, length: u16)
+    /// Gets another length: bytes behind it go, and those that come are zeros.
+    pub(crate) fn resize(&mut self, length: u16)
         requires { length ≤ MOST_DATAGRAM_BYTES }
-        ensures { self.new ≡ replicate length 0 }
+        ensures { self.new ≡ resized length self.old }
     {
-        self.bytes.clear();
-        for _ in 0..length {
+        let length = usize::from(length);
+        let missing = length.saturating_sub(self.bytes.len());
+        self.bytes.truncate(length);
+        for _ in 0..missing {
             self.bytes.push(0);
         }
     }
 
-    /// Makes ones of 1 to 64 bits from one on.
-    pub(crate) fn put_ones(&mut self, at: u16, bits: u8)
+    /// The 1 to 64 bits from one on, as a number.
+    pub(crate) fn value(&self, at: u16, bits: u8) -> u64
+        requires most { bits ≤ MOST_ENTRY_BITS }
+        requires within { at + bits ≤ 8 * length self.now }
+        ensures { (k : ℕ) → k < bits → bit_at result k ≡ bit_of self.now (at + k) }
+    {
+        get_bits(self.bytes.as_slice(), usize::from(at), usize::from(bits))
+    }
+
+    /// Puts the lowest bits of a value, 1 to 64, from one on.
+    pub(crate) fn put(&mut self, at: u16, bits: u8, value: u64)
         requires some { 1 ≤ bits }
         requires most { bits ≤ MOST_ENTRY_BITS }
         requires within { at + bits ≤ 8 * length self.old }
-        ensures ones { ReplacesRun self.old self.new at bits (λ k. 1) }
+        ensures put { ReplacesRun self.old self.new at bits (bit_at value) }
         ensures size { length self.new ≡ length self.old }
         ensures bytes { AreBytes self.new }
     {
-        put_run(self.bytes.as_mut_slice(), usize::from(at), bits);
-    }
-
-    /// Copies bits of another row, from one on, to those from another one on.
-    pub(crate) fn copy_run(&mut self, at: u16, from: &Row, from_at: u16, bits: u8)
-        requires from_within { from_at + bits ≤ 8 * length from.now }
-        requires within { at + bits ≤ 8 * length self.old }
-        ensures copied { ReplacesRun self.old self.new at bits (λ k. bit_of from.now (from_at + k)) }
-        ensures size { length self.new ≡ length self.old }
-        ensures bytes { AreBytes self.new }
-    {
-        let own = self.bytes.as_mut_slice();
-        take_run(
-            own,
-            usize::from(at),
-            from.as_slice(),
-            usize::from(from_at),
-            usize::from(bits),
-        );
+        put_run(self.bytes.as_mut_slice(), usize::from(at), bits, value);
     }
 
     /// Takes the bits of the mask from bytes, from their first on; every other bit becomes 0.

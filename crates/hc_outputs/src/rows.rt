@@ -1,15 +1,16 @@
-//! The bytes of all datagrams that a line can have: made anew for a table, with its output variables' bits
-//! at their places.
-ghost use Rattle.std.specs.Prelude.{◌≡◌, ◌+◌, ◌*◌, ◌≤◌, ◌↔◌, IfOk, IsTrue, length};
+//! The bytes of all datagrams that a line can have: made for a table, and what an edit does to them.
+ghost use Rattle.std.specs.Prelude.{◌≡◌, ◌+◌, ◌*◌, ◌<◌, ◌≤◌, ℕ, All, IfOk, IfSome, Some, length, option_and_then, slice_index_or};
+ghost use Rattle.std.specs.Int.{bit_at};
+ghost use Rattle.std.specs.Option.{MatchOption};
 ghost use Rattle.hc_bits.specs.Bits.{bit_of};
 ghost use Rattle.hc_records.specs.declared.limits.TheConstants.{MOST_DATAGRAMS, TASKS};
-ghost use Rattle.hc_records.specs.declared.records.Dir.TheVariants.{Out};
-ghost use Rattle.hc_outputs.specs.Packed.{Carries, HasSizes, IsLaidOut, bytes_of, length_in, slot_number};
-ghost use Rattle.hc_outputs.specs.Values.{KeepEntries};
-ghost use Rattle.hc_outputs.specs.Moves.{AreBlank, Writes, moved};
+ghost use Rattle.hc_places.specs.Swap.{ChangesAscend};
+ghost use Rattle.hc_outputs.specs.Packed.{Carries, IsLaidOut, bytes_of, length_in, slot_number};
+ghost use Rattle.hc_outputs.specs.Pieces.{AreApart, AreBlank, Fit, ReadsEach, Resizes, ResizesEach, WritesAt, WritesEach, length_of, of_changed, of_list, output_of};
 
 use crate::row::Row;
-use hc_places::table::{Place, Places};
+use hc_places::swap::{ChangedRow, ChangedTask};
+use hc_places::table::{Place, Places, TaskTable};
 use hc_records::limits::{MOST_DATAGRAMS, TASKS};
 use hc_records::records::Dir;
 use std::alloc::{AllocError, Global};
@@ -35,128 +36,159 @@ fn length_in(places: &Places, task: u8, number: u8) -> u16
     }
 }
 
-/// Makes zeros for each datagram of a table, and no bytes for any other.
-fn blank(rows: &mut [Row], places: &Places)
-    requires { length rows.old ≡ MOST_DATAGRAMS * TASKS }
-    ensures { AreBlank places.now rows.new }
+/// Rows for the datagrams of a table, all 0. `AllocError` where the growth was refused.
+pub(crate) fn blank_rows(alloc: Global, places: &Places) -> Result<Vec<Row>, AllocError>
+    ensures { IfOk result (λ rows. AreBlank places.now rows.items) }
 {
+    let mut rows = Vec::with_capacity(alloc, SLOTS)?;
     for slot in 0..SLOTS {
         let length = length_in(
             places,
             (slot / MOST_DATAGRAMS) as u8,
             (slot % MOST_DATAGRAMS) as u8,
         );
-        rows[slot].reset(length);
+        rows.push(Row::zeros(length))?;
+    }
+    Ok(rows)
+}
+
+/// A place, if there is one and it is that of an output variable.
+pub(crate) fn output(place: Option<Place>) -> Option<Place>
+    ensures { result ≡ option_and_then output_of place }
+{
+    let place = place?;
+    if place.dir == Dir::Out {
+        Some(place)
+    } else {
+        None
     }
 }
 
-/// Whether a place is that of an output variable.
-fn is_output(place: Place) -> bool
-    ensures { IsTrue result ↔ (place.dir ≡ Out) }
-{
-    place.dir == Dir::Out
-}
-
-/// Makes ones at a place.
-fn put_ones(rows: &mut [Row], place: Place)
+/// Puts the lowest bits of a value at a place.
+fn put_at(rows: &mut [Row], place: Place, value: u64)
     requires all { length rows.old ≡ MOST_DATAGRAMS * TASKS }
     requires within { place.bit + place.bits ≤ 8 * length (bytes_of rows.old place.task place.datagram) }
-    ensures { Writes rows.old rows.new place (λ k. 1) }
+    ensures { WritesAt (Some place) (bit_at value) rows.old rows.new }
 {
-    rows[slot_number(place.task, place.datagram)].put_ones(place.bit, place.bits);
+    rows[slot_number(place.task, place.datagram)].put(place.bit, place.bits, value);
 }
 
-/// The bytes of the datagram in which a place lies.
-fn row_of(rows: &[Row], place: Place) -> &Row
-    requires { length rows.now ≡ MOST_DATAGRAMS * TASKS }
-    ensures { result.now ≡ bytes_of rows.now place.task place.datagram }
+/// The bits at a place, as a number.
+fn value_at(rows: &[Row], place: Place) -> u64
+    requires all { length rows.now ≡ MOST_DATAGRAMS * TASKS }
+    requires within { place.bit + place.bits ≤ 8 * length (bytes_of rows.now place.task place.datagram) }
+    ensures { (k : ℕ) → k < place.bits → bit_at result k ≡ bit_of (bytes_of rows.now place.task place.datagram) (place.bit + k) }
 {
-    &rows[slot_number(place.task, place.datagram)]
+    rows[slot_number(place.task, place.datagram)].value(place.bit, place.bits)
 }
 
-/// Copies the bits that a variable had at its place before, in that datagram's bytes, to its place.
-fn copy_value(rows: &mut [Row], place: Place, source: &Row, before: Place)
+/// Puts the lowest bits of a value at a place, if there is one.
+fn put(rows: &mut [Row], place: Option<Place>, value: u64)
     requires all { length rows.old ≡ MOST_DATAGRAMS * TASKS }
-    requires within { place.bit + place.bits ≤ 8 * length (bytes_of rows.old place.task place.datagram) }
-    requires within_before { before.bit + place.bits ≤ 8 * length source.now }
-    ensures { Writes rows.old rows.new place (λ k. bit_of source.now (before.bit + k)) }
+    requires within { IfSome place (λ place. place.bit + place.bits ≤ 8 * length (bytes_of rows.old place.task place.datagram)) }
+    ensures { WritesAt place (bit_at value) rows.old rows.new }
 {
-    let own = &mut rows[slot_number(place.task, place.datagram)];
-    own.copy_run(place.bit, source, before.bit, place.bits);
+    if let Some(place) = place {
+        put_at(rows, place, value);
+    }
+}
+
+/// Takes the bits at a place up, which are 0 from then on; if there is none, the value that is given.
+fn take(rows: &mut [Row], place: Option<Place>, lacking: u64) -> u64
+    requires all { length rows.old ≡ MOST_DATAGRAMS * TASKS }
+    requires within { IfSome place (λ place. place.bit + place.bits ≤ 8 * length (bytes_of rows.old place.task place.datagram)) }
+    ensures writes { WritesAt place (bit_at 0) rows.old rows.new }
+    ensures value { MatchOption place (result ≡ lacking) (λ place. (k : ℕ) → k < place.bits → bit_at result k ≡ bit_of (bytes_of rows.old place.task place.datagram) (place.bit + k)) }
+{
+    let Some(place) = place else {
+        return lacking;
+    };
+    let value = value_at(rows, place);
+    put_at(rows, place, 0);
+    value
 }
 
 /// Makes ones of the bits of a table's output variables, in bytes that are all 0.
 fn mark(rows: &mut [Row], places: &Places)
-    requires all { length rows.old ≡ MOST_DATAGRAMS * TASKS }
     requires laid { IsLaidOut places.now }
     requires blank { AreBlank places.now rows.old }
-    ensures { Carries places.now (λ variable k. 1) rows.new }
+    ensures carries { Carries places.now (λ variable k. 1) rows.new }
+    ensures all { length rows.new ≡ MOST_DATAGRAMS * TASKS }
 {
     for (_, place) in places.variables() {
-        if is_output(*place) {
-            put_ones(rows, *place);
-        }
+        put(rows, output(Some(*place)), u64::MAX);
     }
 }
 
-/// Copies the bits of output variables from their places in the old table to those in the new one, into
-/// bytes that are all 0.
-fn carry(rows: &mut [Row], new: &Places, from: &[Row], old: &Places)
-    requires all { length rows.old ≡ MOST_DATAGRAMS * TASKS }
-    requires all_before { length from.now ≡ MOST_DATAGRAMS * TASKS }
-    requires laid { IsLaidOut new.now }
-    requires laid_before { IsLaidOut old.now }
-    requires entries { KeepEntries old.now new.now }
-    requires blank { AreBlank new.now rows.old }
-    requires sizes { HasSizes old.now from.now }
-    ensures { Carries new.now (moved old.now from.now) rows.new }
-{
-    for (variable, place) in new.variables() {
-        if is_output(*place) {
-            if let Some(before) = old.place(*variable) {
-                copy_value(rows, *place, row_of(from, before), before);
-            }
-        }
-    }
-}
-
-/// Rows for the datagrams of a table, all 0. `AllocError` where the growth was refused.
-pub(crate) fn blank_rows(alloc: Global, places: &Places) -> Result<Vec<Row>, AllocError>
-    ensures { IfOk result (λ rows. AreBlank places.now rows.items) }
-{
-    let mut rows = Vec::with_capacity(alloc, SLOTS)?;
-    for _ in 0..SLOTS {
-        rows.push(Row::new())?;
-    }
-    blank(rows.as_mut_slice(), places);
-    Ok(rows)
-}
-
-/// Makes the masks of a table.
+/// Makes the masks of a table of bytes that are all 0.
 pub(crate) fn make_masks(rows: &mut Vec<Row>, places: &Places)
-    requires all { length rows.old.items ≡ MOST_DATAGRAMS * TASKS }
     requires laid { IsLaidOut places.now }
-    ensures masks { Carries places.now (λ variable k. 1) rows.new.items }
+    requires blank { AreBlank places.now rows.old.items }
+    ensures carries { Carries places.now (λ variable k. 1) rows.new.items }
     ensures all { length rows.new.items ≡ MOST_DATAGRAMS * TASKS }
 {
-    blank(rows.as_mut_slice(), places);
     mark(rows.as_mut_slice(), places);
 }
 
-/// Makes the bytes of the new table in `next`, in which each output variable has the bits that it had in
-/// those of the old one, and exchanges the two.
-pub(crate) fn move_values(sent: &mut Vec<Row>, next: &mut Vec<Row>, old: &Places, new: &Places)
-    requires all { length sent.old.items ≡ MOST_DATAGRAMS * TASKS }
-    requires all_next { length next.old.items ≡ MOST_DATAGRAMS * TASKS }
-    requires laid { IsLaidOut new.now }
-    requires laid_before { IsLaidOut old.now }
-    requires entries { KeepEntries old.now new.now }
-    requires sizes { HasSizes old.now sent.old.items }
-    ensures moved { Carries new.now (moved old.now sent.old.items) sent.new.items }
-    ensures all { length sent.new.items ≡ MOST_DATAGRAMS * TASKS }
-    ensures all_next { length next.new.items ≡ MOST_DATAGRAMS * TASKS }
+/// Takes the values at places up; the value of one that is lacking is given.
+pub(crate) fn take_up(rows: &mut [Row], places: &[Option<Place>], lacking: u64, values: &mut [u64])
+    requires all { length rows.old ≡ MOST_DATAGRAMS * TASKS }
+    requires values { length values.old ≡ length places.now }
+    requires fit { Fit (length places.now) (of_list places.now) rows.old }
+    requires apart { AreApart (length places.now) (of_list places.now) }
+    ensures writes { WritesEach (length places.now) (of_list places.now) (λ i. bit_at 0) rows.old rows.new }
+    ensures reads { ReadsEach (length places.now) (of_list places.now) rows.old lacking values.new }
+    ensures values { length values.new ≡ length places.now }
 {
-    blank(next.as_mut_slice(), new);
-    carry(next.as_mut_slice(), new, sent.as_slice(), old);
-    std::mem::swap(sent, next);
+    for i in 0..places.len() {
+        values[i] = take(rows, places[i], lacking);
+    }
+}
+
+/// Puts the values of changed variables down at the new places of the outputs among them.
+pub(crate) fn put_down(rows: &mut [Row], changed: &[ChangedRow], values: &[u64])
+    requires all { length rows.old ≡ MOST_DATAGRAMS * TASKS }
+    requires values { length values.now ≡ length changed.now }
+    requires fit { Fit (length changed.now) (of_changed changed.now) rows.old }
+    requires apart { AreApart (length changed.now) (of_changed changed.now) }
+    ensures { WritesEach (length changed.now) (of_changed changed.now) (λ i. bit_at (slice_index_or values.now i 0)) rows.old rows.new }
+{
+    for i in 0..changed.len() {
+        put(rows, output(changed[i].1), values[i]);
+    }
+}
+
+/// The bytes of a datagram in the table of its task; 0 where the task has no such datagram.
+fn length_of(table: &TaskTable, number: usize) -> u16
+    ensures length { result ≡ length_of table.now number }
+    ensures most { result ≤ 1486 }
+{
+    match table.datagrams().get(number) {
+        Some(datagram) => datagram.length,
+        None => 0,
+    }
+}
+
+/// Gives the datagrams of a task, 0 to 7, the lengths of its table.
+fn resize_task(rows: &mut [Row], task: u8, table: &TaskTable)
+    requires all { length rows.old ≡ MOST_DATAGRAMS * TASKS }
+    requires task { task < TASKS }
+    ensures { Resizes task table.now rows.old rows.new }
+{
+    for number in 0..MOST_DATAGRAMS {
+        let length = length_of(table, number);
+        rows[slot_number(task, number as u8)].resize(length);
+    }
+}
+
+/// Gives the datagrams of changed tasks the lengths of their new tables.
+pub(crate) fn resize(rows: &mut [Row], changed: &[ChangedTask])
+    requires all { length rows.old ≡ MOST_DATAGRAMS * TASKS }
+    requires eight { All (λ changed. changed.0 < TASKS) changed.now }
+    requires ascends { ChangesAscend changed.now }
+    ensures { ResizesEach (length changed.now) changed.now rows.old rows.new }
+{
+    for (task, table) in changed {
+        resize_task(rows, *task, table);
+    }
 }

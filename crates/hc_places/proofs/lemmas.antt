@@ -9,4 +9,5 @@ pub mod Ranks
 pub mod Rows
 pub mod Same
 pub mod Sorted
+pub mod Swaps
 pub mod Totals

@@ -91,6 +91,16 @@ impl Swap {
         &self.edit
     }
 
+    /// The tasks whose tables differ, 0 to 7, each once, in the order of their numbers, with their new
+    /// tables.
+    pub fn tasks(&self) -> &[(u8, TaskTable)]
+        ensures tasks { result.now ≡ self.now.change.tasks }
+        ensures eight { All (λ changed. changed.0 < TASKS) self.now.change.tasks }
+        ensures ascends { ChangesAscend self.now.change.tasks }
+    {
+        self.tasks.as_slice()
+    }
+
     /// The variables that stand elsewhere, appear or go, each once, in the order of their numbers, with
     /// their new places; none for one that goes.
     pub fn changes(&self) -> &[(VarId, Option<Place>)]

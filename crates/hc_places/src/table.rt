@@ -125,7 +125,18 @@ fn same_datagrams(these: &[Datagram], those: &[Datagram]) -> bool
 }
 
 impl TaskTable {
-    ghost use Rattle.std.specs.Prelude.{◌≡◌, ◌↔◌, IsTrue};
+    ghost use Rattle.std.specs.Prelude.{◌≡◌, ◌≤◌, ◌↔◌, All, IsTrue, length};
+    ghost use Rattle.hc_records.specs.declared.limits.TheConstants.{MOST_DATAGRAMS};
+    ghost use Rattle.hc_places.specs.Ranges.{IsDatagram};
+
+    /// The task's datagrams in the order of their numbers, at most 16.
+    pub fn datagrams(&self) -> &[Datagram]
+        ensures datagrams { result.now ≡ self.now.datagrams }
+        ensures few { length result.now ≤ MOST_DATAGRAMS }
+        ensures ranges { All IsDatagram result.now }
+    {
+        self.datagrams.as_slice()
+    }
 
     /// Whether two tables are the same.
     pub(crate) fn is_same(&self, other: &TaskTable) -> bool
@@ -198,7 +209,7 @@ impl Places {
     ghost use Rattle.std.specs.Prelude.{◌≡◌, ◌<◌, ◌≤◌, All, IfOk, IfSome, Some, length, slice_get};
     ghost use Rattle.hc_records.specs.declared.limits.TheConstants.{MOST_DATAGRAMS, TASKS};
     ghost use Rattle.hc_places.specs.Ranges.{IsDatagram};
-    ghost use Rattle.hc_places.specs.Table.{RowsAscend, by_number, datagram_in, datagrams_in, part_in, place_in};
+    ghost use Rattle.hc_places.specs.Table.{IsTable, RowsAscend, by_number, datagram_in, datagrams_in, part_in, place_in};
 
     /// The table of tasks and of rows in any order, which are sorted; no variable has two. `AllocError` where the sort's
     /// memory was refused.
@@ -213,6 +224,14 @@ impl Places {
             tasks: Items::of(tasks),
             variables,
         })
+    }
+
+    /// Every table has eight tasks, and each variable once, in the order of their numbers. The call does
+    /// nothing: its contract tells so.
+    pub fn is_table(&self)
+        ensures { IsTable self.now }
+    {
+        let _ = &self.variables;
     }
 
     /// Where a variable stands; none where the table has no row of it.

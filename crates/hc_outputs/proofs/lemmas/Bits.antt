@@ -14,7 +14,7 @@ use Rattle.hc_places.specs.Table.{Row, RowsAscend, Table, place_in, stands_in_da
 use Rattle.hc_places.proofs.lemmas.Found.{find-holds}
 use Rattle.hc_places.proofs.lemmas.Same.{same-dirs}
 use Rattle.hc_outputs.specs.Packed.{Bytes, Carries, Holds, IsOutput, LiesIn, Packed, bytes_of, sent_bytes}
-use Rattle.hc_outputs.proofs.Laying.{rows-placed}
+use Rattle.hc_outputs.proofs.Standing.{rows-placed}
 
 -- a bit lies in the place of an output's row
 

@@ -4,10 +4,10 @@ use Rattle.hc_bits.specs.Bits.{ReplacesRun}
 use Rattle.hc_outputs.proofs.Masks.{run-told}
 use Rattle.hc_outputs.proofs.row.put_run.Goals as goal
 
-pub returns-clause-ones : goal.returns-clause-ones
-returns-clause-ones c =
-    run-told c.args.bytes.now c.put_bits.new.bytes c.args.at c.args.bits (bit_at c.ones.result) (λ k. 1) c.ones.ensures.ones
-    (subst (λ (n : ℕ). ReplacesRun c.args.bytes.now c.put_bits.new.bytes c.args.at n (bit_at c.ones.result)) c.from.ensures c.put_bits.ensures)
+pub returns-clause-put : goal.returns-clause-put
+returns-clause-put c =
+    run-told c.args.bytes.now c.put_bits.new.bytes c.args.at c.args.bits (bit_at c.lowest.result) (bit_at c.args.value) c.lowest.ensures.bits
+    (subst (λ (n : ℕ). ReplacesRun c.args.bytes.now c.put_bits.new.bytes c.args.at n (bit_at c.lowest.result)) c.from.ensures c.put_bits.ensures)
 
 pub returns-clause-bytes : goal.returns-clause-bytes
 returns-clause-bytes c = λ i low. (c.type_inv.bytes i).fits

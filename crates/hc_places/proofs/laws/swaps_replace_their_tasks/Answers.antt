@@ -1,5 +1,5 @@
-use Rattle.hc_places.proofs.Leading.{task-replaced}
+use Rattle.hc_places.proofs.lemmas.Swaps.{swaps-replace}
 use Rattle.hc_places.proofs.laws.swaps_replace_their_tasks.Goals as goal
 
 pub returns : goal.returns
-returns c change table ascends task = task-replaced change.tasks table.tasks task ascends
+returns c change table ascends task = swaps-replace change table ascends task

@@ -1,18 +1,24 @@
-use Rattle.std.proofs.Common.{subst, sym}
-use Rattle.hc_outputs.specs.Packed.{Carries, Packed}
-use Rattle.hc_outputs.proofs.Outcomes.{are-whole, kept-carries}
+use Rattle.std.proofs.Common.{subst, sym, true}
+use Rattle.hc_outputs.specs.Moves.{Moves, table_after}
+use Rattle.hc_outputs.specs.Packed.{Carries, HasSizes, Packed}
+use Rattle.hc_outputs.specs.Pieces.{carried}
+use Rattle.hc_outputs.proofs.Carrying.{carried-ones}
+use Rattle.hc_outputs.proofs.Outcomes.{are-whole}
 use Rattle.hc_outputs.proofs.outputs.Outputs.change.Goals as goal
 
 pub invariant_of-self : goal.invariant_of-self
-invariant_of-self c = (
-  are-whole c.args.new.now c.move_values.new.sent.items c.make_masks.new.rows.items c.move_values.ensures.all c.make_masks.ensures.all c.move_values.ensures.moved.sizes c.make_masks.ensures.masks.sizes,
-  c.move_values.ensures.all_next,
-)
+invariant_of-self c =
+    are-whole (table_after c.args.moves) c.carry.new.rows.items c.carry-2.new.rows.items c.carry.ensures.all c.carry-2.ensures.all c.carry.ensures.sizes
+    (subst (λ (m : Moves). HasSizes (table_after m) c.carry-2.new.rows.items) c.carry.ensures.same c.carry-2.ensures.sizes)
 
 pub returns : goal.returns
 returns c = λ value before.
-    let sent = subst (λ (p : Packed). Carries c.args.old.now value p.sent) (sym c.self.view_is) before.sent in
+    let moves = c.args.moves in
+    let sent = subst (λ (p : Packed). Carries moves.before value p.sent) (sym c.self.view_is) before.sent in
+    let masks = subst (λ (p : Packed). Carries moves.before (λ variable k. 1) p.masks) (sym c.self.view_is) before.masks in
+    let last = subst (λ (m : Moves). Carries m.before (λ variable k. 1) c.self.inside.masks.items → Carries (table_after m) (carried m.before (λ variable k. 1) true) c.carry-2.new.rows.items)
+    c.carry.ensures.same (c.carry-2.ensures.carried (λ variable k. 1)) masks in
     record {
-      sent = kept-carries c.args.old.now c.args.new.now value c.self.inside.sent.items c.move_values.new.sent.items c.requires.entries sent c.move_values.ensures.moved;
-      masks = c.make_masks.ensures.masks;
+      sent = c.carry.ensures.carried value sent;
+      masks = carried-ones moves.before (table_after moves) c.carry-2.new.rows.items last;
     }

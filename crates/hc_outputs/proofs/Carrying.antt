@@ -1,0 +1,229 @@
+-- What the bytes carry once their values are taken up, their lengths are changed, and the values are put down.
+use Rattle.std.proofs.Common.{◌≡◌, ◌≢◌, ◌⊎◌, inl, inr, ℕ, ◌+◌, ◌-◌, ◌*◌, ◌<◌, ◌≤◌, Bool, true, false, cond, List, ◌++◌, length, take, refl, sym, ap, ◌∙◌, subst, arith, Option, Some, None}
+use Rattle.std.specs.Prelude.{is_some, option_and_then, slice_get, slice_index_or}
+use Rattle.std.specs.Int.{bit_at}
+use Rattle.std.proofs.lemmas.Bool.{cases_lt}
+use Rattle.std.proofs.lemmas.Nat.Bits.{bit_at-zero, bit_at_ones}
+use Rattle.std.proofs.lemmas.Option.{slice_get_within}
+use Rattle.std.proofs.Math.Seq.{take-append_seam}
+use Rattle.hc_bits.specs.Bits.{AreBytes, bit_of}
+use Rattle.hc_records.specs.declared.limits.TheConstants.{MOST_DATAGRAMS, TASKS}
+use Rattle.hc_records.specs.Image.{VariablePlace}
+use Rattle.hc_places.specs.Swap.{Change, ChangedRow, ChangesAscend, swapped}
+use Rattle.hc_places.specs.Table.{IsTable, RowsAscend, Table, place_in}
+use Rattle.hc_outputs.specs.Packed.{Bytes, Carries, HasSizes, IsLaidOut, IsOutput, LiesIn, bytes_of, length_in}
+use Rattle.hc_outputs.specs.Pieces.{AreBlank, ReadsEach, ResizesEach, Stand, WritesEach, carried, of_changed, of_list, of_rows, output_of, word_of}
+use Rattle.hc_outputs.specs.Values.{KeepEntries}
+use Rattle.hc_outputs.proofs.Numbered.{HasNone, by-number}
+use Rattle.hc_outputs.proofs.Outcomes.{blank-bit, blank-carries, blank-sizes}
+use Rattle.hc_outputs.proofs.Resizing.{lengths-changed, resized-bit, resized-bytes, resized-past, resized-size}
+use Rattle.hc_outputs.proofs.Standing.{found-output, has-row, new-are, of-new, old-are, row-at, rows-are, same-place}
+use Rattle.hc_outputs.proofs.Writing.{not-two}
+use Rattle.hc_outputs.proofs.lemmas.Bits.{HasBit, HasNoBit, bit-lies, carries-alike}
+
+-- the bits of a word of ones and of one of zeros
+
+pub word-bit : (ones : Bool) (k : ℕ) → k < 64 → bit_at (word_of ones) k ≡ cond ones 1 0
+word-bit true k low = bit_at_ones 64 k low
+word-bit false k low = bit_at-zero k
+
+-- ones at the places of a table's outputs, in bytes that were zeros
+pub marked-carries : (table : Table) (old new : Bytes) → IsLaidOut table → RowsAscend table.variables → AreBlank table old
+    → WritesEach (length table.variables) (of_rows table.variables) (λ i. bit_at 18446744073709551615) old new → Carries table (λ variable k. 1) new
+marked-carries table old new laid ascends blank each = record {
+  sizes = λ task d low few. each.sizes (MOST_DATAGRAMS * task + d) ∙ blank-sizes table old blank task d low few;
+  all_bytes = λ task d low few. each.bytes task d few ((blank-carries table old blank).all_bytes task d low few);
+  values = λ variable k place output below.
+      let row = has-row table variable place ascends output in
+      let most = (each.ranges row.index place row.low row.there).most in
+      each.own row.index k place row.low row.there below ∙ word-bit true k (omega arith);
+  others = λ task d k low few misses.
+      each.rest task d k few
+      (λ i place inside there.
+      let own = row-at table.variables i inside in
+      misses own.row.0 place (rows-are table ascends i own.row place own.there there))
+      ∙ blank-bit table old k (MOST_DATAGRAMS * task + d) blank;
+}
+
+-- what was done to the bytes: from `first` the values are taken up, the lengths change behind `taken`, and behind `cut` the values are put down
+pub record AreMoved (old : Table) (change : Change) (ones : Bool) (places : List (Option VariablePlace)) (values : List ℕ) (first taken cut last : Bytes) : Type 0 where
+  pub table : IsTable old
+  pub laid : IsLaidOut old
+  pub laid_out : IsLaidOut (swapped change old)
+  pub entries : KeepEntries old (swapped change old)
+  pub rows : ChangesAscend change.rows
+  pub tasks : ChangesAscend change.tasks
+  pub stand : Stand old change.rows places
+  pub sizes : HasSizes old first
+  pub takes : WritesEach (length places) (of_list places) (λ i. bit_at 0) first taken
+  pub reads : ReadsEach (length places) (of_list places) first (word_of ones) values
+  pub cuts : ResizesEach (length change.tasks) change.tasks taken cut
+  pub puts : WritesEach (length change.rows) (of_changed change.rows) (λ i. bit_at (slice_index_or values i 0)) cut last
+
+taken_sizes : (old : Table) (change : Change) (ones : Bool) (places : List (Option VariablePlace)) (values : List ℕ) (first taken cut last : Bytes) → AreMoved old change ones places values first taken cut last → HasSizes old taken
+taken_sizes old change ones places values first taken cut last moved = λ task d low few. moved.takes.sizes (MOST_DATAGRAMS * task + d) ∙ moved.sizes task d low few
+
+pub cut-sizes : (old : Table) (change : Change) (taken cut : Bytes) → IsTable old → ChangesAscend change.tasks → HasSizes old taken → ResizesEach (length change.tasks) change.tasks taken cut → HasSizes (swapped change old) cut
+cut-sizes old change taken cut is ascend sizes cuts task d low few =
+    ap (λ own. length own) (lengths-changed change old taken cut is ascend sizes cuts task d low few)
+    ∙ resized-size (length_in (swapped change old) task d) (bytes_of taken task d)
+
+-- a bit that no changed output takes is what it was behind the taking up, as far as the new length goes
+cut_bit : (old : Table) (change : Change) (ones : Bool) (places : List (Option VariablePlace)) (values : List ℕ) (first taken cut last : Bytes) (task d k : ℕ) → AreMoved old change ones places values first taken cut last
+    → task < TASKS → d < MOST_DATAGRAMS → k < 8 * length_in (swapped change old) task d → bit_of (bytes_of cut task d) k ≡ bit_of (bytes_of taken task d) k
+cut_bit old change ones places values first taken cut last task d k moved low few below =
+    ap (λ own. bit_of own k) (lengths-changed change old taken cut moved.table moved.tasks (taken_sizes old change ones places values first taken cut last moved) moved.cuts task d low few)
+    ∙ resized-bit (length_in (swapped change old) task d) (bytes_of taken task d) k below
+
+cut_past : (old : Table) (change : Change) (ones : Bool) (places : List (Option VariablePlace)) (values : List ℕ) (first taken cut last : Bytes) (task d k : ℕ) → AreMoved old change ones places values first taken cut last
+    → task < TASKS → d < MOST_DATAGRAMS → 8 * length_in (swapped change old) task d ≤ k → bit_of (bytes_of cut task d) k ≡ 0
+cut_past old change ones places values first taken cut last task d k moved low few past =
+    ap (λ own. bit_of own k) (lengths-changed change old taken cut moved.table moved.tasks (taken_sizes old change ones places values first taken cut last moved) moved.cuts task d low few)
+    ∙ resized-past (length_in (swapped change old) task d) (bytes_of taken task d) k past
+
+-- the value of a variable that had no place, and of one that had one
+
+kept_some : (old : Table) (value : ℕ → ℕ → ℕ) (ones : Bool) (variable k : ℕ) (before : VariablePlace) → place_in old variable ≡ Some before → value variable k ≡ carried old value ones variable k
+kept_some old value ones variable k before there = sym (ap (λ found. cond (is_some found) (value variable k) (cond ones 1 0)) there)
+
+kept_none : (old : Table) (value : ℕ → ℕ → ℕ) (ones : Bool) (variable k : ℕ) → place_in old variable ≡ None → cond ones 1 0 ≡ carried old value ones variable k
+kept_none old value ones variable k none = sym (ap (λ found. cond (is_some found) (value variable k) (cond ones 1 0)) none)
+
+-- the value of a changed variable is put down
+
+put_by : (old : Table) (change : Change) (ones : Bool) (places : List (Option VariablePlace)) (values : List ℕ) (first taken cut last : Bytes) (value : ℕ → ℕ → ℕ) (i k : ℕ) (row : ChangedRow) (place : VariablePlace) (found : Option VariablePlace)
+    → AreMoved old change ones places values first taken cut last → Carries old value first → slice_get change.rows i ≡ Some row → IsOutput (swapped change old) row.0 place → k < place.bits → k < 64
+    → place_in old row.0 ≡ found → bit_at (slice_index_or values i 0) k ≡ carried old value ones row.0 k
+put_by old change ones places values first taken cut last value i k row place None moved carries there is below word none =
+    let count = moved.stand.count in
+    let inside = slice_get_within change.rows i row there in
+    let low : i < length places = omega arith in
+    let lacks : of_list places i ≡ None = moved.stand.each i row there ∙ ap (λ f. option_and_then output_of f) none in
+    ap (λ n. bit_at n k) (moved.reads.given i low lacks) ∙ word-bit ones k word ∙ kept_none old value ones row.0 k none
+put_by old change ones places values first taken cut last value i k row place (Some before) moved carries there is below word some =
+    let count = moved.stand.count in
+    let inside = slice_get_within change.rows i row there in
+    let low : i < length places = omega arith in
+    let entry = moved.entries row.0 before place some is.there in
+    let same = entry.bits in
+    let was : IsOutput old row.0 before = record { there = some; output = sym entry.dir ∙ is.output } in
+    let stood : of_list places i ≡ Some before = moved.stand.each i row there ∙ found-output old row.0 before was in
+    moved.reads.read i k before low stood (omega arith) ∙ carries.values row.0 k before was (omega arith) ∙ kept_some old value ones row.0 k before some
+
+put_value : (old : Table) (change : Change) (ones : Bool) (places : List (Option VariablePlace)) (values : List ℕ) (first taken cut last : Bytes) (value : ℕ → ℕ → ℕ) (i k : ℕ) (row : ChangedRow) (place : VariablePlace)
+    → AreMoved old change ones places values first taken cut last → Carries old value first → slice_get change.rows i ≡ Some row → IsOutput (swapped change old) row.0 place → k < place.bits
+    → bit_of (bytes_of last place.task place.datagram) (place.bit + k) ≡ carried old value ones row.0 k
+put_value old change ones places values first taken cut last value i k row place moved carries there is below =
+    let low = slice_get_within change.rows i row there in
+    let new : of_changed change.rows i ≡ Some place = of-new change old i row moved.table.ascends moved.rows there ∙ found-output (swapped change old) row.0 place is in
+    let most = (moved.puts.ranges i place low new).most in
+    moved.puts.own i k place low new below
+    ∙ put_by old change ones places values first taken cut last value i k row place (place_in old row.0) moved carries there is below (omega arith) refl
+
+-- the value of any other stays where it is
+
+apart_from : (table : Table) (variable other : ℕ) (place another : VariablePlace) (k : ℕ) → IsLaidOut table → other ≢ variable → place_in table variable ≡ Some place → place_in table other ≡ Some another → k < place.bits
+    → ¬ (LiesIn another place.task place.datagram (place.bit + k))
+apart_from table variable other place another k laid differ there there' below lies =
+    not-two place another k (laid.apart variable other place another (λ same. differ (sym same)) there there') below lies
+
+stayed : (old : Table) (change : Change) (ones : Bool) (places : List (Option VariablePlace)) (values : List ℕ) (first taken cut last : Bytes) (value : ℕ → ℕ → ℕ) (variable k : ℕ) (place : VariablePlace)
+    → AreMoved old change ones places values first taken cut last → Carries old value first → HasNone change.rows variable → IsOutput (swapped change old) variable place → k < place.bits
+    → bit_of (bytes_of last place.task place.datagram) (place.bit + k) ≡ carried old value ones variable k
+stayed old change ones places values first taken cut last value variable k place moved carries none is below =
+    let there : place_in old variable ≡ Some place = sym (same-place change old variable moved.table.ascends none) ∙ is.there in
+    let lies = moved.laid_out.inside variable place is.there in
+    let within = lies.within in
+    let count = moved.stand.count in
+    moved.puts.rest place.task place.datagram (place.bit + k) lies.datagram
+    (λ i other low at. let own = row-at change.rows i low in
+    apart_from (swapped change old) variable own.row.0 place other k moved.laid_out (none i own.row own.there) is.there
+    (new-are change old moved.table.ascends moved.rows i own.row other own.there at).there below)
+    ∙ cut_bit old change ones places values first taken cut last place.task place.datagram (place.bit + k) moved lies.task lies.datagram (omega arith)
+    ∙ moved.takes.rest place.task place.datagram (place.bit + k) lies.datagram
+    (λ i other low at. let own = row-at change.rows i (omega arith) in
+    apart_from old variable own.row.0 place other k moved.laid (none i own.row own.there) there
+    (old-are change old places moved.stand i own.row other own.there at).there below)
+    ∙ carries.values variable k place (record { there = there; output = is.output }) below
+    ∙ kept_some old value ones variable k place there
+
+-- a bit that lies in no output's new place
+
+taken_zero : (old : Table) (change : Change) (ones : Bool) (places : List (Option VariablePlace)) (values : List ℕ) (first taken cut last : Bytes) (i task d k : ℕ) (row : ChangedRow) (place : VariablePlace)
+    → AreMoved old change ones places values first taken cut last → slice_get change.rows i ≡ Some row → IsOutput old row.0 place → LiesIn place task d k → bit_of (bytes_of taken task d) k ≡ 0
+taken_zero old change ones places values first taken cut last i task d k row place moved there is lies =
+    let from = lies.from in
+    let below = lies.below in
+    let count = moved.stand.count in
+    let inside = slice_get_within change.rows i row there in
+    let low : i < length places = omega arith in
+    let whole : place.bit + (k - place.bit) ≡ k = omega arith in
+    let stood : of_list places i ≡ Some place = moved.stand.each i row there ∙ found-output old row.0 place is in
+    subst (λ t. bit_of (bytes_of taken t d) k ≡ 0) lies.task_is
+    (subst (λ e. bit_of (bytes_of taken place.task e) k ≡ 0) lies.datagram
+    (subst (λ n. bit_of (bytes_of taken place.task place.datagram) n ≡ 0) whole
+    (moved.takes.own i (k - place.bit) place low stood (omega arith) ∙ bit_at-zero (k - place.bit))))
+
+free_bit : (old : Table) (change : Change) (ones : Bool) (places : List (Option VariablePlace)) (values : List ℕ) (first taken cut last : Bytes) (value : ℕ → ℕ → ℕ) (task d k : ℕ)
+    → AreMoved old change ones places values first taken cut last → Carries old value first → task < TASKS → d < MOST_DATAGRAMS → HasNoBit (swapped change old) task d k
+    → HasBit old task d k ⊎ HasNoBit old task d k → bit_of (bytes_of taken task d) k ≡ 0
+free_bit old change ones places values first taken cut last value task d k moved carries low few misses (inl has) = elim (by-number change.rows has.variable) [
+  | inl changed ↦
+      taken_zero old change ones places values first taken cut last changed.index task d k changed.row has.place moved changed.there
+      (subst (λ n. IsOutput old n has.place) (sym changed.is) has.is) has.lies
+  | inr none ↦
+      absurd (misses has.variable has.place
+      (record { there = same-place change old has.variable moved.table.ascends none ∙ has.is.there; output = has.is.output }) has.lies)
+]
+free_bit old change ones places values first taken cut last value task d k moved carries low few misses (inr none) =
+    let count = moved.stand.count in
+    moved.takes.rest task d k few
+    (λ i other inside at lies. let own = row-at change.rows i (omega arith) in
+    none own.row.0 other (old-are change old places moved.stand i own.row other own.there at) lies)
+    ∙ carries.others task d k low few none
+
+pub moved-sizes : (old : Table) (change : Change) (ones : Bool) (places : List (Option VariablePlace)) (values : List ℕ) (first taken cut last : Bytes) → AreMoved old change ones places values first taken cut last
+    → HasSizes (swapped change old) last
+moved-sizes old change ones places values first taken cut last moved task d low few =
+    moved.puts.sizes (MOST_DATAGRAMS * task + d)
+    ∙ cut-sizes old change taken cut moved.table moved.tasks (taken_sizes old change ones places values first taken cut last moved) moved.cuts task d low few
+
+pub moved-carries : (old : Table) (change : Change) (ones : Bool) (places : List (Option VariablePlace)) (values : List ℕ) (first taken cut last : Bytes) (value : ℕ → ℕ → ℕ) → AreMoved old change ones places values first taken cut last
+    → Carries old value first → Carries (swapped change old) (carried old value ones) last
+moved-carries old change ones places values first taken cut last value moved carries = record {
+  sizes = moved-sizes old change ones places values first taken cut last moved;
+  all_bytes = λ task d low few.
+      moved.puts.bytes task d few
+      (subst AreBytes (sym (lengths-changed change old taken cut moved.table moved.tasks (taken_sizes old change ones places values first taken cut last moved) moved.cuts task d low few))
+      (resized-bytes (length_in (swapped change old) task d) (bytes_of taken task d) (moved.takes.bytes task d few (carries.all_bytes task d low few))));
+  values = λ variable k place is below. elim (by-number change.rows variable) [
+    | inl has ↦
+        subst (λ n. bit_of (bytes_of last place.task place.datagram) (place.bit + k) ≡ carried old value ones n k) has.is
+        (put_value old change ones places values first taken cut last value has.index k has.row place moved carries has.there
+        (subst (λ n. IsOutput (swapped change old) n place) (sym has.is) is) below)
+    | inr none ↦ stayed old change ones places values first taken cut last value variable k place moved carries none is below
+  ];
+  others = λ task d k low few misses.
+      moved.puts.rest task d k few
+      (λ i place inside at. let own = row-at change.rows i inside in
+      misses own.row.0 place (new-are change old moved.table.ascends moved.rows i own.row place own.there at))
+      ∙ elim (cases_lt k (8 * length_in (swapped change old) task d)) [
+        | inl below ↦
+            cut_bit old change ones places values first taken cut last task d k moved low few below
+            ∙ free_bit old change ones places values first taken cut last value task d k moved carries low few misses (bit-lies old task d k moved.table.ascends)
+        | inr past ↦ cut_past old change ones places values first taken cut last task d k moved low few past
+      ];
+}
+
+-- ones stay ones, and those of variables that appear are ones
+both_one : (found : Bool) → cond {A = ℕ} found 1 1 ≡ 1
+both_one true = refl
+both_one false = refl
+
+pub carried-ones : (old new : Table) (bytes : Bytes) → Carries new (carried old (λ variable k. 1) true) bytes → Carries new (λ variable k. 1) bytes
+carried-ones old new bytes carries =
+    carries-alike new (carried old (λ variable k. 1) true) (λ variable k. 1) bytes (λ variable k place is low. both_one (is_some (place_in old variable))) carries
+
+-- what a list is once all of it was lent
+pub all-lent : (size : ℕ) (new rest : Bytes) → length new ≡ size → take size (new ++ rest) ≡ new
+all-lent size new rest all = ap (λ n. take n (new ++ rest)) (sym all) ∙ take-append_seam new rest

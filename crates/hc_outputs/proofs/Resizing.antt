@@ -1,0 +1,153 @@
+-- Bytes of another length, and the lengths of the table to which a change leads.
+use Rattle.std.proofs.Common.{◌≡◌, inl, inr, ℕ, ◌+◌, ◌-◌, ◌*◌, ◌/◌, ◌%◌, ◌<◌, ◌≤◌, get_or, List, [], ◌++◌, length, replicate, take, sym, ap, ◌∙◌, subst, arith, Option, Some, None}
+use Rattle.std.specs.Prelude.{option_and_then, option_map, slice_get, unwrap_or}
+use Rattle.std.specs.Int.{bit_at}
+use Rattle.std.specs.Option.{option_map_or}
+use Rattle.std.proofs.lemmas.Bool.{cases_lt}
+use Rattle.std.proofs.lemmas.List.{append-nil, get_or_append_left, get_or_past, get_or-take, length-append, length-replicate, length-take}
+use Rattle.std.proofs.lemmas.Nat.Bits.{bit_at-zero}
+use Rattle.std.proofs.lemmas.Option.{slice_get-get_or, slice_get_within}
+use Rattle.std.proofs.Math.Seq.{get_or-append_right, take-length}
+use Rattle.hc_bits.specs.Bits.{AreBytes, bit_of}
+use Rattle.hc_bits.proofs.lemmas.Places.{bit_of-append_left, bit_of-append_right, bit_of-take, bit_of-zeros}
+use Rattle.hc_records.specs.declared.limits.TheConstants.{MOST_DATAGRAMS, TASKS}
+use Rattle.hc_places.specs.declared.table.Datagram.{Datagram}
+use Rattle.hc_places.specs.Swap.{Change, ChangedTask, ChangesAscend, swapped, table_said_of}
+use Rattle.hc_places.specs.Table.{IsTable, Table, TaskTable}
+use Rattle.hc_places.proofs.lemmas.Swaps.{swaps-replace}
+use Rattle.hc_outputs.specs.Packed.{Bytes, HasSizes, bytes_of, length_in}
+use Rattle.hc_outputs.specs.Pieces.{Resizes, ResizesEach, length_of, resized}
+use Rattle.hc_outputs.proofs.Masks.{same-at}
+use Rattle.hc_outputs.proofs.Numbered.{ascend-differ, HasNone, HasNumber, by-number, found-at, none-found}
+
+-- the bits of bytes that are cut, or have zeros behind
+
+pub bit-past : (xs : List ℕ) (k : ℕ) → 8 * length xs ≤ k → bit_of xs k ≡ 0
+unfolding bit_of
+bit-past xs k past = ap (λ b. bit_at b (k % 8)) (get_or_past xs (k / 8) 0 (omega arith)) ∙ bit_at-zero (k % 8)
+
+zeros_behind : (xs : List ℕ) (n k : ℕ) → 8 * length xs ≤ k → bit_of (xs ++ replicate n 0) k ≡ 0
+zeros_behind xs n k past =
+    let whole : 8 * length xs + (k - 8 * length xs) ≡ k = omega arith in
+    subst (λ j. bit_of (xs ++ replicate n 0) j ≡ 0) whole
+    (bit_of-append_right xs (replicate n 0) (k - 8 * length xs) ∙ bit_of-zeros n (k - 8 * length xs))
+
+pub resized-size : (size : ℕ) (xs : List ℕ) → length (resized size xs) ≡ size
+resized-size size xs =
+    let all = length-append (take size xs) (replicate (size - length xs) 0) in
+    let front = length-take size xs in
+    let rest = length-replicate {A = ℕ} (size - length xs) 0 in
+    omega arith
+
+pub resized-bit : (size : ℕ) (xs : List ℕ) (k : ℕ) → k < 8 * size → bit_of (resized size xs) k ≡ bit_of xs k
+resized-bit size xs k low = elim (cases_lt k (8 * length (take size xs))) [
+  | inl inside ↦ bit_of-append_left (take size xs) (replicate (size - length xs) 0) k inside ∙ bit_of-take xs size k low
+  | inr past ↦
+      let front = length-take size xs in
+      zeros_behind (take size xs) (size - length xs) k past ∙ sym (bit-past xs k (omega arith))
+]
+
+pub resized-past : (size : ℕ) (xs : List ℕ) (k : ℕ) → 8 * size ≤ k → bit_of (resized size xs) k ≡ 0
+resized-past size xs k past = bit-past (resized size xs) k (let all = resized-size size xs in omega arith)
+
+zero_small : 0 < 256
+zero_small = omega arith
+
+pub resized-bytes : (size : ℕ) (xs : List ℕ) → AreBytes xs → AreBytes (resized size xs)
+resized-bytes size xs bytes i low =
+    let front = length-take size xs in
+    elim (cases_lt i (length (take size xs))) [
+      | inl inside ↦
+          let below : i < length xs = omega arith in
+          let cut : i < size = omega arith in
+          subst (λ (b : ℕ). b < 256) (sym (get_or_append_left (take size xs) (replicate (size - length xs) 0) 0 i inside ∙ get_or-take size xs i 0 cut)) (bytes i below)
+      | inr past ↦
+          subst (λ (b : ℕ). b < 256) (sym (get_or-append_right (take size xs) (replicate (size - length xs) 0) i 0 past ∙ same-at (size - length xs) (i - length (take size xs)) 0)) zero_small
+    ]
+
+none_missing : (n : ℕ) → replicate {A = ℕ} (n - n) 0 ≡ []
+none_missing n = let e : n - n ≡ 0 = omega arith in ap (λ m. replicate m 0) e
+
+resized-same : (xs : List ℕ) → resized (length xs) xs ≡ xs
+resized-same xs = ap (λ front. front ++ replicate (length xs - length xs) 0) (take-length xs) ∙ ap (λ rest. xs ++ rest) (none_missing (length xs)) ∙ append-nil xs
+
+-- one more task gets its lengths
+
+same_some : (a b : ChangedTask) → Some a ≡ Some b → a ≡ b
+same_some a b e = cc
+
+pub next-resized : (n : ℕ) (changed : List ChangedTask) (last : ChangedTask) (old mid new : Bytes) → slice_get changed n ≡ Some last → ChangesAscend changed
+    → ResizesEach n changed old mid → Resizes last.0 last.1 mid new → ResizesEach (n + 1) changed old new
+next-resized n changed last old mid new is ascend each resizes = record {
+  own = λ i d own below there few. elim (cases_lt i n) [
+    | inl less ↦
+        resizes.rest own.0 d few (ascend-differ changed i n own last ascend less there is) ∙ each.own i d own less there few
+    | inr more ↦
+        let index : n ≡ i = omega arith in
+        let same : last ≡ own = same_some last own (sym is ∙ ap (slice_get changed) index ∙ there) in
+        subst (λ (o : ChangedTask). bytes_of new o.0 d ≡ resized (length_of o.1 d) (bytes_of old o.0 d)) same
+        (resizes.own d few
+        ∙ ap (resized (length_of last.1 d))
+        (each.rest last.0 d few (λ j other inside at. ascend-differ changed j n other last ascend inside at is)))
+  ];
+  rest = λ task d few none.
+      resizes.rest task d few (λ same. none n last (omega arith) is (sym same))
+      ∙ each.rest task d few (λ i own below. none i own (omega arith));
+  all = resizes.all ∙ each.all;
+}
+
+-- the lengths of a table, by the tables of its tasks
+
+by_task : (found : Option TaskTable) (table : Table) (task d : ℕ) → slice_get table.tasks task ≡ found
+    → length_in table task d ≡ option_map_or (λ datagram. datagram.length) (option_and_then (λ (t : TaskTable). slice_get t.datagrams d) found) 0
+by_task found table task d there =
+    ap (λ f. option_map_or (λ (datagram : Datagram). datagram.length) (option_and_then (λ (t : TaskTable). slice_get t.datagrams d) f) 0) there
+
+replaced_by : (said : Option TaskTable) (old new : Option TaskTable) (own : TaskTable) → old ≡ Some own → new ≡ option_map (λ (o : TaskTable). unwrap_or said o) old → new ≡ Some (unwrap_or said own)
+replaced_by said old new own there is = is ∙ ap (option_map (λ (o : TaskTable). unwrap_or said o)) there
+
+blank : TaskTable
+blank = record { datagrams = []; outputs = 0; inputs = 0 }
+
+new_task : (change : Change) (table : Table) (task : ℕ) (said : Option TaskTable) → IsTable table → ChangesAscend change.tasks → task < TASKS → table_said_of change task ≡ said
+    → (own : TaskTable) × (slice_get table.tasks task ≡ Some own) × (slice_get (swapped change table).tasks task ≡ Some (unwrap_or said own))
+new_task change table task said is ascend low told =
+    let eight = is.eight in
+    let own = get_or table.tasks task blank in
+    let there = slice_get-get_or table.tasks task blank (omega arith) in (
+      own,
+      there,
+      replaced_by said (slice_get table.tasks task) (slice_get (swapped change table).tasks task) own there
+          (swaps-replace change table ascend task ∙ ap (λ s. option_map (λ (o : TaskTable). unwrap_or s o) (slice_get table.tasks task)) told),
+    )
+
+abbrev GetsLength : Change → Table → Bytes → Bytes → ℕ → ℕ → Type 0
+GetsLength change table old new task d = bytes_of new task d ≡ resized (length_in (swapped change table) task d) (bytes_of old task d)
+
+said_length : (change : Change) (table : Table) (old new : Bytes) (task d : ℕ) → IsTable table → ChangesAscend change.tasks → task < TASKS → d < MOST_DATAGRAMS
+    → ResizesEach (length change.tasks) change.tasks old new → HasNumber change.tasks task → GetsLength change table old new task d
+said_length change table old new task d is ascend low few each has =
+    let row = has.row in
+    let told : table_said_of change row.0 ≡ Some row.1 = ap (option_map (λ (c : ChangedTask). c.1)) (found-at change.tasks has.index row ascend has.there) in
+    let there = new_task change table row.0 (Some row.1) is ascend (subst (λ (t : ℕ). t < TASKS) (sym has.is) low) told in
+    let size = by_task (Some row.1) (swapped change table) row.0 d there.2 in
+    subst (λ t. GetsLength change table old new t d) has.is
+    (each.own has.index d row (slice_get_within change.tasks has.index row has.there) has.there few ∙ ap (λ n. resized n (bytes_of old row.0 d)) (sym size))
+
+kept_length : (change : Change) (table : Table) (old new : Bytes) (task d : ℕ) → IsTable table → ChangesAscend change.tasks → task < TASKS → d < MOST_DATAGRAMS → HasSizes table old
+    → ResizesEach (length change.tasks) change.tasks old new → HasNone change.tasks task → GetsLength change table old new task d
+kept_length change table old new task d is ascend low few sizes each none =
+    let told : table_said_of change task ≡ None = ap (option_map (λ (c : ChangedTask). c.1)) (none-found change.tasks task none) in
+    let there = new_task change table task None is ascend low told in
+    let size : length (bytes_of old task d) ≡ length_in (swapped change table) task d =
+    sizes task d low few ∙ by_task (Some there.0) table task d there.1 ∙ sym (by_task (Some there.0) (swapped change table) task d there.2) in
+    each.rest task d few (λ i own below at. none i own at)
+    ∙ sym (resized-same (bytes_of old task d)) ∙ ap (λ n. resized n (bytes_of old task d)) size
+
+-- once the changed tasks have the lengths of their new tables, each datagram has that of the new table
+pub lengths-changed : (change : Change) (table : Table) (old new : Bytes) → IsTable table → ChangesAscend change.tasks → HasSizes table old
+    → ResizesEach (length change.tasks) change.tasks old new → (task d : ℕ) → task < TASKS → d < MOST_DATAGRAMS → GetsLength change table old new task d
+lengths-changed change table old new is ascend sizes each task d low few = elim (by-number change.tasks task) [
+  | inl has ↦ said_length change table old new task d is ascend low few each has
+  | inr none ↦ kept_length change table old new task d is ascend low few sizes each none
+]
