@@ -5,8 +5,9 @@ from dataclasses import dataclass
 from pictures.elements import label, spelt
 
 BARS = 222
-RULER, BADGES, BAND, CELL, BITS = 17, 15, 20, 16, 13
+RULER, BADGES, BAND, CELL, BITS = 17, 15, 22, 16, 13
 LEAST_HEIGHT = 68
+LOWER = {"out": 0, "in": 4}
 # Widths of a character of the fixed font at its smallest size.
 SMALL = 5.45
 
@@ -61,6 +62,14 @@ class Bar:
     def band_top(self):
         """Where the areas begin."""
         return self.top + RULER + self.badges
+
+    def box_top(self, direction):
+        """Where an area's box begins: inputs are a little lower, so that narrow ones are known without colour."""
+        return self.band_top() + LOWER[direction]
+
+    def box_height(self, direction):
+        """How high an area's box is."""
+        return self.band - LOWER[direction]
 
     def cell_top(self):
         """Where the variables begin."""

@@ -1,5 +1,6 @@
 """What stands above and below the rows: the line and its edit, groups, legend, and what no datagram carries."""
 
+from pictures.bars import LOWER
 from pictures.elements import element, label, plural, void
 from pictures.row_drawing import badge_at
 from pictures.style import MARK_WORDS
@@ -71,13 +72,17 @@ def heading(view, left, width):
     refused = [f"{asked}: {said}" for asked, said in view.answers if said.startswith("refused")]
     words.add_list("Refused", refused)
     groups = view.project.groups
-    words.add_list("Present", [group_words(group) for group in groups if is_present(group, view.after)])
-    words.add_list("Absent", [group_words(group) for group in groups if not is_present(group, view.after)])
+    present = [group for group in groups if is_present(group, view.after)]
+    words.add_list("Present", [group_words(group) for group in present])
+    words.add_list("Absent", [group_words(group) for group in groups if group not in present])
     written = view.blocks_to_write()
     words.add_list("Blocks to write", block_phrases(written), 3)
-    told = " ".join(f"{station}/0x{block.register:04x}" for station, _, block in written)
+    told = {
+        "data_present": " ".join(str(group.alias) for group in present),
+        "data_written": " ".join(f"{station}/0x{block.register:04x}" for station, _, block in written),
+    }
     chips, bottom = legend(view, left, words.y + 10, width)
-    return "\n".join([element("g", *words.content, kind="head", data_written=told), chips]), bottom
+    return "\n".join([element("g", *words.content, kind="head", **told), chips]), bottom
 
 
 def block_phrases(written):
@@ -88,24 +93,25 @@ def block_phrases(written):
     return [f"{station}: {', '.join(rows)}" for station, rows in slaves.items()]
 
 
-def chip(kind, box, letter, x, y):
+def chip(kind, box, letter):
     """A sample of a box with its letter."""
-    sample = void("rect", kind=box, x=float(x), y=float(y), width=float(CHIP), height=14.0)
-    return element("g", sample, label(x + CHIP / 2, y + 11, letter, text_anchor="middle"), kind=f"legend {kind}")
+    lower = LOWER[kind] if box == "band" else 0
+    sample = void("rect", kind=box, x=0.0, y=float(lower), width=float(CHIP), height=float(15 - lower))
+    return element("g", sample, label(CHIP / 2, 12 + lower / 4, letter, text_anchor="middle"), kind=f"legend {kind}")
 
 
 def legend(view, left, top, width):
     """What colours, letters and lines mean, and where it ends."""
     samples = [
         ("out", "band", "O", "output area, master to slave"),
-        ("in", "band", "I", "input area, slave to master"),
+        ("in", "band", "I", "input area, slave to master, lower"),
         ("out", "cell", "7", "variable, its number over its bits"),
         ("gap", "cell", "–", "gap in an area"),
         ("unused", None, "", "bits of no area"),
         ("out", "band", "O ×9", "areas folded for want of room, their count"),
     ]
     content, x, y = [], left, top
-    entries = [(chip(*sample[:3], 0, 0), sample[3]) for sample in samples]
+    entries = [(chip(*sample[:3]), sample[3]) for sample in samples]
     if view.edit:
         entries += [(badge_at(CHIP - 12, 1, mark), words) for mark, words in MARK_WORDS.items()]
     for drawn, words in entries:

@@ -1,6 +1,6 @@
 """Draws a row: a ruler of bytes, the areas, and below them their variables and gaps, all to the row's scale."""
 
-from pictures.bars import AREA_NAMES, BADGES, BAND, BITS_NAMES, CELL, RULER, SMALL, VARIABLE_NAMES, Bar
+from pictures.bars import AREA_NAMES, BADGES, BAND, BITS_NAMES, CELL, LOWER, RULER, SMALL, VARIABLE_NAMES, Bar
 from pictures.elements import element, label, plural, spelt, text, void
 from pictures.rows import Run, cell_runs, field_runs, scale_of, unused_of
 from pictures.style import DIRECTION_LETTERS, DIRECTION_WORDS, MARK_LETTERS, MARK_WORDS
@@ -121,7 +121,10 @@ class RowDrawer:
 
     def bar(self, row, top, scale, cells):
         """The bar of a row, with bands that are high enough for upright names."""
-        names = [AREA_NAMES.upright_height(area_words(run, self.slaves), run.bits * scale / 8) for run, _ in cells]
+        names = [
+            AREA_NAMES.upright_height(area_words(run, self.slaves), run.bits * scale / 8) + LOWER["in"]
+            for run, _ in cells
+        ]
         numbers = [
             VARIABLE_NAMES.upright_height(cell_words(cell), cell.bits * scale / 8)
             for _, below in cells
@@ -132,9 +135,10 @@ class RowDrawer:
 
     def areas(self, run, bar):
         """An area, or a run of areas that are too narrow for names of their own."""
-        place, y = run.items[0].place, bar.band_top()
-        box = void("rect", kind="band", x=bar.x(run.bit), y=y, width=bar.width(run.bits), height=float(bar.band))
-        name = bar.name(AREA_NAMES, area_words(run, self.slaves), run, y, bar.band)
+        place = run.items[0].place
+        y, height = float(bar.box_top(place.direction)), float(bar.box_height(place.direction))
+        box = void("rect", kind="band", x=bar.x(run.bit), y=y, width=bar.width(run.bits), height=height)
+        name = bar.name(AREA_NAMES, area_words(run, self.slaves), run, y, height)
         content = [element("title", text(self.area_title(run))), box, name, badge(bar, run)]
         kind = f"{place.direction} {run.mark.value}"
         told = {"data_direction": place.direction, "data_mark": run.mark.value}

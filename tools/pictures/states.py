@@ -151,7 +151,8 @@ def state_of(session, project):
     """The state that the program tells when it is asked for everything."""
     slaves = [slave for slave, _ in project.slaves()]
     longer = [b"layout\n", *(b"regs %d\n" % slave.station for slave in slaves)]
-    (layout, *printed), places = session.answers(longer, [b"place %d\n" % variable for variable in sorted(project.homes)])
+    single = [b"place %d\n" % variable for variable in sorted(project.homes)]
+    (layout, *printed), places = session.answers(longer, single)
     parts, datagrams = datagrams_of(layout[1:])
     told = [(slave.station, blocks_of(lines)) for slave, lines in zip(slaves, printed)]
     blocks = {station: rows for station, rows in told if rows is not None}

@@ -55,6 +55,8 @@ class PictureReader:
             self.expect("their count", int(words[5]), len(written))
             line = f"{told.edit[0]}: from epoch {before} to epoch {after.epoch}, recut {words[3]}, moved {words[5]}"
             self.expect("the edit's line", True, line in head.words())
+        present = {str(told.records.aliases[station]) for station in after.present}
+        self.expect("present groups", present | {"0"}, set(head.data("present").split()))
         bare = {str(station) for station in after.present if not told.records.areas[station]}
         self.expect("slaves without process data", bare, set(foot.data("bare").split()))
         empty = {f"{station}/{area}" for station, area in after.pairs if (station, area) not in after.areas}
@@ -86,7 +88,16 @@ class PictureReader:
         for state in self.states_of(node):
             self.found[state]["datagrams"][name] = (int(address, 16), length, expected)
             self.tops.setdefault(name, {})[state] = min(float(rect.attributes["y"]) for rect in node.tagged("rect"))
+        self.read_ruler(node)
         self.read_boxes(node, name, length)
+
+    def read_ruler(self, row):
+        """The numbers of the bytes: each stands beside its byte's beginning."""
+        ruler = next(node for node in row.nodes if "ruler" in node.kinds())
+        for text in ruler.tagged("text"):
+            wanted = row.number("left") + int(text.text()) * row.number("scale") + 3
+            if abs(float(text.attributes["x"]) - wanted) > NEAR:
+                self.said.append(f"byte {text.text()} of a ruler: {wanted} is wanted, {text.attributes['x']} is found")
 
     def read_boxes(self, row, name, length):
         """The boxes of a row: each to scale, areas and unused bits side by side, and so variables and gaps in areas."""
@@ -116,6 +127,8 @@ class PictureReader:
         wanted = row.number("left") + bit * scale, bits * scale
         if abs(x - wanted[0]) > NEAR or abs(width - wanted[1]) > NEAR:
             self.said.append(f"box of bits {bit} to {bit + bits}: {wanted} is wanted, {(x, width)} is found")
+        place = f": bit {bit} (byte {bit // 8}, bit {bit % 8}), {bits} bit{'' if bits == 1 else 's'}"
+        self.expect(f"title with {place}", True, place in node.first("title").text())
         return bit, bit + bits
 
     def read_area(self, row, name, node):
@@ -128,11 +141,9 @@ class PictureReader:
             rows = [list(map(int, re.split("[/:]", words))) for words in folded.split()]
             ends = min(row[3] for row in rows), max(row[3] + row[4] for row in rows)
             self.expect("ends of areas", ends, (node.number("bit"), node.number("bit") + node.number("bits")))
-            wanted = [LETTERS[direction], f"{rows[0][0]}…{rows[-1][0]}", len(rows)]
         else:
             rows = [[node.number(word) for word in ("station", "area", "sync-manager", "bit", "bits")]]
-            wanted = [LETTERS[direction], str(rows[0][0]), None]
-        self.read_area_words(row, node, wanted)
+        self.read_area_words(row, node, rows)
         for station, area, manager, bit, bits in rows:
             for state in self.states_of(row):
                 self.read_whence(node, (station, area), state)
@@ -146,19 +157,19 @@ class PictureReader:
             wanted = f"{word} task {other[2]} datagram {other[3]} bit {other[4]}"
             self.expect(f"whence or whither of area {area}", wanted, text.text())
 
-    def read_area_words(self, row, node, wanted):
+    def read_area_words(self, row, node, rows):
         """What is written in an area: its letter and station, or how many areas are folded."""
-        letter, station, count = wanted
+        letter, (station, _, manager, *_) = LETTERS[node.data("direction")], rows[0]
         words = [child.text() for child in node.nodes if child.tag == "text" and "whence" not in child.kinds()]
-        if words:
-            found = words[0].split(",")[0].split()
-            counts = [int(number) for pair in re.findall(r"×(\d+)|(\d+) areas", words[0]) for number in pair if number]
-            self.expect("letter of an area", letter, found[0])
-            if count is None or "…" in words[0]:
-                self.expect("station of an area", station, found[1])
-            self.expect("count of areas", [] if count is None else [count], counts)
-        elif node.number("bits") * row.number("scale") >= NAMED_AREA * 8:
-            self.said.append(f"area of station {station} isn't named")
+        if len(rows) > 1:
+            count = f"{len(rows)} areas"
+            allowed = [f"{letter} {station}…{rows[-1][0]}, {count}", f"{letter} {count}", f"{letter} ×{len(rows)}"]
+        else:
+            short = f"{letter} {station} SM {manager}"
+            name = "".join(sign if sign.isprintable() else "\ufffd" for sign in self.told.records.names[station])
+            allowed = [f"{letter} {station}", short, f"{short} {name}"]
+        if words or node.number("bits") * row.number("scale") >= NAMED_AREA * 8:
+            self.expect(f"name of area {rows[0]}", True, len(words) == 1 and words[0] in allowed)
 
     def read_variable(self, row, name, node):
         """A variable, or a folded run of them."""
@@ -167,22 +178,26 @@ class PictureReader:
             rows = [[*map(int, words[:3]), words[3]] for words in rows]
         else:
             rows = [[node.number(word) for word in ("variable", "bit", "bits")] + [node.data("mark")]]
-            self.read_variable_words(row, node, *rows[0])
+        self.read_variable_words(row, node, [variable for variable, *_ in rows])
         for variable, bit, bits, mark in rows:
             inside = node.number("bit") <= bit and bit + bits <= node.number("bit") + node.number("bits")
             self.expect(f"variable {variable} inside its box", True, inside)
             for state in self.states_of(row):
                 self.found[state]["variables"][variable] = (*name, bit, bits, node.kinds()[1], mark)
 
-    def read_variable_words(self, row, node, variable, _, bits, mark):
-        """What is written in a variable's box: its number and its bits."""
-        self.expect(f"class of variable {variable}", mark, node.kinds()[2])
-        number, letter = str(variable), mark[0].upper()
+    def read_variable_words(self, row, node, numbers):
+        """What is written in a variable's box: its number, or how many are folded, and its bits."""
+        bits, mark = node.number("bits"), node.data("mark")
+        self.expect(f"class of variable {numbers[0]}", mark, node.kinds()[2])
+        names, letter = [str(numbers[0])], mark[0].upper()
+        if node.data("variables"):
+            count = f"{len(numbers)} variable{'' if len(numbers) == 1 else 's'}"
+            names = [f"{numbers[0]}…{numbers[-1]}, {count}", count, f"×{len(numbers)}"]
         widths = [str(bits), f"{letter} {bits}", letter]
-        allowed = [[number, width] for width in widths]
+        allowed = [[name, width] for name in names for width in widths]
         if bits * row.number("scale") < NAMED_VARIABLE * 8:
-            allowed += [[], [number], *([width] for width in widths)]
-        self.expect(f"what is written of variable {variable} stands in {allowed}", True, node.words() in allowed)
+            allowed += [[], *([words] for words in names + widths)]
+        self.expect(f"what is written of variable {numbers[0]}, one of {allowed}", True, node.words() in allowed)
 
     def read_gap(self, row, name, node):
         """A gap: no variable has a bit of it."""

@@ -28,10 +28,12 @@ class Records:
 
     def __init__(self, text):
         document = tomllib.loads(text)
-        self.areas, self.homes = {}, {}
+        self.areas, self.homes, self.names, self.aliases = {}, {}, {}, {}
         groups = [document, *document.get("group", [])]
-        for slave in (slave for group in groups for slave in group.get("slave", [])):
+        for group, slave in ((group, slave) for group in groups for slave in group.get("slave", [])):
             self.areas[slave["station"]] = slave.get("area", [])
+            self.names[slave["station"]] = slave.get("name", "")
+            self.aliases[slave["station"]] = group.get("alias", 0)
         for station, areas in self.areas.items():
             for row, area in enumerate(areas):
                 self.homes |= {entry[0]: (station, row) for pdo in area.get("pdo", []) for entry in pdo["entries"]}

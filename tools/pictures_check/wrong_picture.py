@@ -3,8 +3,8 @@
 
     wrong_picture.py WAY PICTURE
 
-Each way is something that a maker could get wrong: a number that is carried, one that is written, the place of a box, an
-area left out, before and after exchanged; and in a report a number in a cell, and a row left out.
+Each way is something that a maker could get wrong: a number that is carried, one that is written, the place of a box,
+an area left out, before and after exchanged; and in a report a number in a cell, and a row left out.
 """
 
 import re
