@@ -51,6 +51,7 @@ fn areas_after<'a>(
 /// It outlives the groups that an outlook looks at.
 #[derive(Drop)]
 pub struct OutlookRoom {
+    // they have no elements, so they may come to hold the areas of any groups
     before: Vec<SlaveAreas<'static>>,
     after: Vec<SlaveAreas<'static>>,
 }
