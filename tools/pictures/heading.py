@@ -15,7 +15,7 @@ MORE = "; and {} more"
 def listed(phrases, width, most):
     """Phrases in lines that a width has room for, at most so many; the last one counts what was left out."""
     room, lines = int(width / CHARACTER), [""]
-    for row, phrase in enumerate(phrases):
+    for row, phrase in enumerate(cut(phrase, room) for phrase in phrases):
         joined = f"{lines[-1]}; {phrase}" if lines[-1] else phrase
         is_last = len(lines) == most and row + 1 < len(phrases)
         if len(joined) + (len(MORE.format(len(phrases))) if is_last else 0) <= room or not lines[-1]:
@@ -26,6 +26,11 @@ def listed(phrases, width, most):
             lines[-1] += MORE.format(len(phrases) - row)
             break
     return lines
+
+
+def cut(phrase, room):
+    """A phrase, or as much of its front as there is room for."""
+    return phrase if len(phrase) <= room else f"{phrase[: room - 1]}…"
 
 
 class Words:
@@ -67,8 +72,9 @@ def heading(view, left, width):
     words = Words(left, 10, width)
     words.add(f"{view.name}: the line in epoch {view.after.epoch}", "heading")
     if view.edit:
-        said = f"recut {view.edit.recut}, moved {view.edit.moved}"
-        words.add(f"{view.edit.words}: from epoch {view.before.epoch} to epoch {view.edit.epoch}, {said}")
+        edit = view.edit
+        said = f": from epoch {view.before.epoch} to epoch {edit.epoch}, recut {edit.recut}, moved {edit.moved}"
+        words.add(cut(edit.words, int((width - 2 * left) / CHARACTER) - len(said)) + said)
     refused = [f"{asked}: {said}" for asked, said in view.answers if said.startswith("refused")]
     words.add_list("Refused", refused)
     groups = view.project.groups

@@ -16,6 +16,7 @@ th, td {{ padding: 0.2rem 0.7rem 0.2rem 0; text-align: left; white-space: nowrap
 th, td {{ border-bottom: 1px solid var(--fine); }}
 thead th {{ position: sticky; top: 0; background: var(--paper); }}
 {selectors("number", "td", "th")} {{ text-align: right; }}
+{selectors("words", "td")} {{ white-space: normal; min-width: 18rem; }}
 {selectors("code", "td")} {{ font-family: "DejaVu Sans Mono", Menlo, Consolas, monospace; }}
 th button {{ all: unset; cursor: pointer; font-weight: bold; }}
 th button:focus-visible {{ outline: 2px solid currentColor; }}

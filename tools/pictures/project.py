@@ -21,7 +21,7 @@ class Area:
 
 @dataclass(frozen=True)
 class Slave:
-    """A declared slave, present or not; the name is empty where the text has none."""
+    """A declared slave, present or not; without a name in the text it has its group's, or an empty one."""
 
     station: int
     name: str
@@ -80,12 +80,18 @@ def area_of(number, table):
     return Area(number, table["sm"], table["dir"], offered)
 
 
-def slaves_of(table):
-    """The slaves of a group, or of the document."""
+def slaves_of(table, name):
+    """The slaves of a group, or of the document, which has no name."""
     return [
-        Slave(slave["station"], name_of(slave), [area_of(*row) for row in enumerate(slave.get("area", []))])
+        Slave(slave["station"], name_of(slave) or name, [area_of(*row) for row in enumerate(slave.get("area", []))])
         for slave in table.get("slave", [])
     ]
+
+
+def group_of(table):
+    """A group that comes and goes."""
+    name = name_of(table)
+    return Group(table["alias"], name, slaves_of(table, name))
 
 
 def read_project(text):
@@ -94,8 +100,7 @@ def read_project(text):
         document = tomllib.loads(text.decode())
     except ValueError as error:
         raise Refusal(f"the project text can't be read: {error}") from error
-    groups = [Group(0, "", slaves_of(document))]
-    groups += [Group(table["alias"], name_of(table), slaves_of(table)) for table in document.get("group", [])]
+    groups = [Group(0, "", slaves_of(document, "")), *map(group_of, document.get("group", []))]
     homes = {
         variable: (slave.station, area.number, pdo)
         for group in groups

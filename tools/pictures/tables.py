@@ -11,7 +11,7 @@ VARIABLES = ["variable|number", "direction|", "bits|number", "task|number", "dat
 VARIABLES += ["byte.bit|number", "logical address|code", "station address|number", "slave|", "alias|number", "PDO|code"]
 VARIABLE_CHANGES = ["place before|", "change|"]
 BLOCKS = ["station address|number", "slave|", "alias|number", "area|number", "direction|", "block|", "register|code"]
-BLOCKS += ["bytes|code", "what they say|"]
+BLOCKS += ["bytes|code", "what they say|words"]
 BLOCK_CHANGES = ["bytes before|code", "change|"]
 COLUMNS = {
     "datagrams": DATAGRAMS + DATAGRAM_CHANGES,

@@ -53,8 +53,9 @@ class PictureReader:
         self.expect("blocks to write", {(str(station), at) for station, at in told.written}, written)
         if told.edit:
             self.expect("their count", int(words[5]), len(written))
-            line = f"{told.edit[0]}: from epoch {before} to epoch {after.epoch}, recut {words[3]}, moved {words[5]}"
-            self.expect("the edit's line", True, line in head.words())
+            said = f": from epoch {before} to epoch {after.epoch}, recut {words[3]}, moved {words[5]}"
+            lines = [line.removesuffix(said).rstrip("…") for line in head.words() if line.endswith(said)]
+            self.expect("lines of the edit", [True], [bool(line) and told.edit[0].startswith(line) for line in lines])
         present = {str(told.records.aliases[station]) for station in after.present}
         self.expect("present groups", present | {"0"}, set(head.data("present").split()))
         bare = {str(station) for station in after.present if not told.records.areas[station]}
@@ -166,8 +167,7 @@ class PictureReader:
             allowed = [f"{letter} {station}…{rows[-1][0]}, {count}", f"{letter} {count}", f"{letter} ×{len(rows)}"]
         else:
             short = f"{letter} {station} SM {manager}"
-            name = "".join(sign if sign.isprintable() else "\ufffd" for sign in self.told.records.names[station])
-            allowed = [f"{letter} {station}", short, f"{short} {name}"]
+            allowed = [f"{letter} {station}", short, f"{short} {self.told.records.shown_name(station)}"]
         if words or node.number("bits") * row.number("scale") >= NAMED_AREA * 8:
             self.expect(f"name of area {rows[0]}", True, len(words) == 1 and words[0] in allowed)
 

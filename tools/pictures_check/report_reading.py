@@ -81,7 +81,9 @@ class ReportReader:
             written |= {"first bit": str(bit), "byte.bit": f"{bit // 8}.{bit % 8}"}
             written |= {"direction": "O output" if direction == "out" else "I input"}
             written |= {"logical address": f"0x{address + bit // 8:08x}"}
-            written |= {"station address": str(self.told.records.homes[key][0])}
+            station = self.told.records.homes[key][0]
+            written |= {"station address": str(station), "alias": str(self.told.records.aliases[station])}
+            written["slave"] = self.told.records.shown_name(station)
             if self.told.before:
                 written["place before"] = "task {} datagram {} bit {}".format(*before[:3]) if before else ""
             wanted[str(key)] = (self.changes(before, after, written), written)

@@ -32,12 +32,16 @@ class Records:
         groups = [document, *document.get("group", [])]
         for group, slave in ((group, slave) for group in groups for slave in group.get("slave", [])):
             self.areas[slave["station"]] = slave.get("area", [])
-            self.names[slave["station"]] = slave.get("name", "")
+            self.names[slave["station"]] = slave.get("name", "") or (group.get("name", "") if "alias" in group else "")
             self.aliases[slave["station"]] = group.get("alias", 0)
         for station, areas in self.areas.items():
             for row, area in enumerate(areas):
                 self.homes |= {entry[0]: (station, row) for pdo in area.get("pdo", []) for entry in pdo["entries"]}
         self.homes.pop(0, None)
+
+    def shown_name(self, station):
+        """A slave's name, as a document may have it."""
+        return "".join(sign if sign.isprintable() else "\ufffd" for sign in self.names[station])
 
 
 class State:
