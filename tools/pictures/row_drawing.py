@@ -15,9 +15,8 @@ def area_words(run, slaves):
     place = run.items[0].place
     letter = DIRECTION_LETTERS[place.direction]
     if len(run.items) > 1:
-        count = plural(len(run.items), "area")
-        stations = f"{place.station}…{run.items[-1].place.station}"
-        return [f"{letter} {stations}, {count}", f"{letter} {count}", f"{letter} ×{len(run.items)}"]
+        stations = f"{letter} {place.station}…{run.items[-1].place.station}"
+        return [f"{stations}, {len(run.items)} areas", stations, f"{letter} ×{len(run.items)}"]
     short = f"{letter} {place.station}"
     manager = f"{short} SM {place.sync_manager}"
     name = slaves[place.station].name
@@ -31,9 +30,10 @@ def cell_words(run):
         return ["gap", "–"]
     if len(run.items) == 1:
         return [str(numbers[0])]
-    count = plural(len(numbers), "variable")
-    ends = [f"{numbers[0]}…{numbers[-1]}, {count}"] if len(numbers) > 1 else []
-    return [*ends, count, f"×{len(numbers)}"]
+    if len(numbers) == 1:
+        return ["1 variable", "×1"]
+    ends = f"{numbers[0]}…{numbers[-1]}"
+    return [f"{ends}, {len(numbers)} variables", ends, f"×{len(numbers)}"]
 
 
 def bits_words(run, area_mark):

@@ -11,6 +11,8 @@ SCALES = (96, 80, 64, 56, 48, 40, 32, 28, 24, 20, 16, 14, 12, 10, 8, 7, 6, 5, 4,
 LEAST_SCALE = 4
 # Below these widths, in pixels, not even an upright name has room.
 NARROW_AREA, NARROW_VARIABLE = 12, 10
+# A folded box as broad as this has room for its first and its last name, and is closed.
+BROAD = 168
 
 
 @dataclass(frozen=True)
@@ -120,12 +122,18 @@ class Rows:
         return Mark.KEPT if found == datagram and marks <= {Mark.KEPT} else Mark.MOVED
 
 
-def runs_of(items, is_narrow, bounds, joins):
-    """The items in runs: narrow ones beside each other that `joins` lets stand together are in one."""
+def runs_of(items, bounds, joins, narrow, broad):
+    """The items in runs: items of fewer bits than `narrow` that `joins` lets stand together are in one, until the run
+    has as many bits as `broad`. `bounds` tells an item's first bit and the one behind its last."""
+
+    def is_narrow(item):
+        return bounds(item)[1] - bounds(item)[0] < narrow
+
     runs = []
     for item in items:
         last = runs[-1] if runs else None
-        if last and is_narrow(item) and is_narrow(last[-1]) and joins(last[-1], item):
+        is_open = last and is_narrow(last[-1]) and bounds(last[-1])[1] - bounds(last[0])[0] < broad
+        if is_open and is_narrow(item) and joins(last[-1], item):
             last.append(item)
         else:
             runs.append([item])
@@ -136,9 +144,10 @@ def field_runs(fields, scale):
     """The areas of a row in runs of one direction and one mark."""
     return runs_of(
         fields,
-        lambda field: field.place.bits * scale < NARROW_AREA * 8,
         lambda field: (field.place.bit, field.place.end()),
-        lambda one, next_one: one.place.direction == next_one.place.direction and one.mark == next_one.mark,
+        lambda one, other: one.place.direction == other.place.direction and one.mark == other.mark,
+        NARROW_AREA * 8 / scale,
+        BROAD * 8 / scale,
     )
 
 
@@ -146,9 +155,10 @@ def cell_runs(cells, scale):
     """The bits of an area in runs of variables, or of gaps, with one mark."""
     return runs_of(
         cells,
-        lambda cell: cell.bits * scale < NARROW_VARIABLE * 8,
         lambda cell: (cell.bit, cell.bit + cell.bits),
-        lambda one, next_one: (one.number is None) == (next_one.number is None) and one.mark == next_one.mark,
+        lambda one, other: (one.number is None) == (other.number is None) and one.mark == other.mark,
+        NARROW_VARIABLE * 8 / scale,
+        BROAD * 8 / scale,
     )
 
 

@@ -163,8 +163,8 @@ class PictureReader:
         letter, (station, _, manager, *_) = LETTERS[node.data("direction")], rows[0]
         words = [child.text() for child in node.nodes if child.tag == "text" and "whence" not in child.kinds()]
         if len(rows) > 1:
-            count = f"{len(rows)} areas"
-            allowed = [f"{letter} {station}…{rows[-1][0]}, {count}", f"{letter} {count}", f"{letter} ×{len(rows)}"]
+            stations = f"{letter} {station}…{rows[-1][0]}"
+            allowed = [f"{stations}, {len(rows)} areas", stations, f"{letter} ×{len(rows)}"]
         else:
             short = f"{letter} {station} SM {manager}"
             allowed = [f"{letter} {station}", short, f"{short} {self.told.records.shown_name(station)}"]
@@ -191,8 +191,9 @@ class PictureReader:
         self.expect(f"class of variable {numbers[0]}", mark, node.kinds()[2])
         names, letter = [str(numbers[0])], mark[0].upper()
         if node.data("variables"):
-            count = f"{len(numbers)} variable{'' if len(numbers) == 1 else 's'}"
-            names = [f"{numbers[0]}…{numbers[-1]}, {count}", count, f"×{len(numbers)}"]
+            ends = f"{numbers[0]}…{numbers[-1]}"
+            names = [f"{ends}, {len(numbers)} variables", ends] if numbers[1:] else ["1 variable"]
+            names.append(f"×{len(numbers)}")
         widths = [str(bits), f"{letter} {bits}", letter]
         allowed = [[name, width] for name in names for width in widths]
         if bits * row.number("scale") < NAMED_VARIABLE * 8:
