@@ -91,11 +91,8 @@ impl Core {
     pub(super) fn open(&mut self, slaves: usize) {
         for place in 0..slaves {
             let (_, areas) = self.plan.slave(place);
-            for number in 0..usize::from(areas) {
-                self.seat(AREAS * place + number);
-                self.set_owed(BLOCKS * place + 2 * number, true);
-                self.set_owed(BLOCKS * place + 2 * number + 1, true);
-            }
+            (0..usize::from(areas)).for_each(|number| self.seat(AREAS * place + number));
+            (0..2 * areas).for_each(|number| self.compare(place, number));
         }
     }
 
@@ -116,7 +113,9 @@ impl Core {
         if let Some(spot) = remapped {
             self.put_values(spot, values);
         }
-        self.compare(&report.blocks);
+        for (station, number) in &report.blocks {
+            self.compare(self.plan.place_of(*station), *number);
+        }
         self.frames.clear();
         self.write = None;
         self.fresh.fill(false);
@@ -173,7 +172,7 @@ impl Core {
         for place in self.plan.slaves_of(alias) {
             (AREAS * place..AREAS * (place + 1)).for_each(|spot| self.clear(spot));
             for n in BLOCKS * place..BLOCKS * (place + 1) {
-                self.known[n] = None;
+                self.blocks[n].known = None;
                 self.set_owed(n, false);
             }
         }
@@ -222,13 +221,12 @@ impl Core {
         });
     }
 
-    /// A moved block is owed where its slave isn't known to have its bytes.
-    fn compare(&mut self, blocks: &[(u16, u8)]) {
-        for (station, number) in blocks {
-            let place = self.plan.place_of(*station);
-            let n = BLOCKS * place + usize::from(*number);
-            let owed = self.known[n].is_none_or(|known| known != self.plan.block(place, *number));
-            self.set_owed(n, owed);
-        }
+    /// A block that moved is owed where its slave isn't known to have its bytes.
+    fn compare(&mut self, place: usize, number: u8) {
+        let n = BLOCKS * place + usize::from(number);
+        let (block, kept) = (self.plan.block(place, number), &mut self.blocks[n]);
+        kept.block = block;
+        let owed = kept.known != Some(block);
+        self.set_owed(n, owed);
     }
 }

@@ -1,6 +1,6 @@
 //! The same core in plain Rust, written for speed: what is sent is kept packed with masks, what is awaited is found by
-//! its serial, and what is known of blocks stands in one array, 16 for each declared slave. Over the plain plan an edit
-//! looks at what the plan tells of it alone.
+//! its serial, and blocks stand in one array, 16 for each declared slave. Over the plain plan an edit looks at what the
+//! plan tells of it alone.
 
 #[path = "edits.rs"]
 mod edits;
@@ -71,6 +71,14 @@ struct Write {
     address: u32,
 }
 
+/// A register block of a slave, as the line has it and as the slave is known to have it.
+#[derive(Clone, Copy, Default)]
+struct Kept {
+    station: u16,
+    block: Block,
+    known: Option<Block>,
+}
+
 pub struct Core {
     plan: Plan,
     serial: u64,
@@ -85,8 +93,8 @@ pub struct Core {
     seats: Vec<Seat>,
     /// What an edit takes from one place to another, of bytes and of masks.
     lifted: [Vec<u8>; 2],
-    /// As each slave is known to have its blocks.
-    known: Vec<Option<Block>>,
+    /// 16 for each declared slave.
+    blocks: Vec<Kept>,
     owed: Vec<u64>,
     owed_count: u32,
     changes: Vec<Change>,
@@ -118,7 +126,9 @@ impl Core {
     /// The core at its opening: the first group alone is present, and all its blocks are owed.
     pub fn new(groups: &[Group]) -> Core {
         let plan = Plan::new(groups);
-        let slaves: usize = groups.iter().map(|group| group.slaves.len()).sum();
+        let slaves = groups.iter().flat_map(|group| &group.slaves);
+        let kept = slaves.flat_map(|slave| [Kept { station: slave.station, ..Kept::default() }; BLOCKS]);
+        let blocks: Vec<Kept> = kept.collect();
         let mut core = Core {
             plan,
             serial: 0,
@@ -129,10 +139,10 @@ impl Core {
             image: vec![[0; ROOM]; SLOTS],
             sent: vec![[0; ROOM]; SLOTS],
             masks: vec![[0; ROOM]; SLOTS],
-            seats: vec![Seat::default(); AREAS * slaves],
+            seats: vec![Seat::default(); blocks.len() / 2],
             lifted: [Vec::new(), Vec::new()],
-            known: vec![None; BLOCKS * slaves],
-            owed: vec![0; (BLOCKS * slaves).div_ceil(64)],
+            owed: vec![0; blocks.len().div_ceil(64)],
+            blocks,
             owed_count: 0,
             changes: Vec::new(),
         };
@@ -268,28 +278,28 @@ impl Core {
         self.owed_count += u32::from(owed);
     }
 
-    /// A block as the line has it.
-    fn block(&self, n: usize) -> Block {
-        self.plan.block(n / BLOCKS, (n % BLOCKS) as u8)
+    /// The first owed block; 512 of them are looked at together.
+    fn first_owed(&self) -> Option<usize> {
+        let line = self.owed.chunks(8).position(|words| words.iter().fold(0, |all, word| all | word) != 0)?;
+        let at = 8 * line + self.owed[8 * line..].iter().position(|word| *word != 0)?;
+        Some(64 * at + self.owed[at].trailing_zeros() as usize)
     }
 
     #[inline(never)]
     pub fn send_write(&mut self) -> Answer {
-        let Some(at) = self.owed.iter().position(|word| *word != 0) else {
+        let Some(n) = self.first_owed() else {
             return Answer::Refused(18);
         };
         if self.serial >= SETUP_SERIAL {
             return Answer::Refused(19);
         }
-        let n = 64 * at + self.owed[at].trailing_zeros() as usize;
-        let block = self.block(n);
-        let (station, _) = self.plan.slave(n / BLOCKS);
-        let address = u32::from(station) | u32::from(block.register) << 16;
+        let kept = &mut self.blocks[n];
+        let address = u32::from(kept.station) | u32::from(kept.block.register) << 16;
         let mut text = Vec::with_capacity(60);
         text.extend_from_slice(&[0; 16]);
-        add_datagram(&mut text, 5, self.serial, address, block.bytes());
+        add_datagram(&mut text, 5, self.serial, address, kept.block.bytes());
         finish(&mut text, self.serial);
-        self.known[n] = None;
+        kept.known = None;
         self.write = Some(Write { serial: self.serial, block: n, address });
         self.serial += 1;
         Answer::WriteSent(text)
@@ -299,16 +309,16 @@ impl Core {
         let Some((head, size, counter, behind)) = reader::part_of(region) else {
             return Answer::Stale;
         };
-        let written = self.block(block);
+        let kept = &mut self.blocks[block];
         let own = u32::from_le_bytes([head[2], head[3], head[4], head[5]]);
-        if !behind.is_empty() || head[0] != 5 || own != address || size != written.bytes().len() {
+        if !behind.is_empty() || head[0] != 5 || own != address || size != kept.block.bytes().len() {
             return Answer::Stale;
         }
         self.write = None;
         if counter != 1 {
             return Answer::WriteMissed;
         }
-        self.known[block] = Some(written);
+        kept.known = Some(kept.block);
         self.set_owed(block, false);
         Answer::WriteDone
     }

@@ -9,7 +9,7 @@ top="$here/../.."
 scratch=$(mktemp -d)
 trap 'rm -rf "$scratch"' EXIT
 bench="$scratch/crates/edits_bench"
-mkdir -p "$bench/src"
+mkdir -p "$bench/src" "$bench/proofs/configured_in"
 # Takes a crate over, and the crates below it.
 take() {
     [ -d "$top/crates/$1" ] && [ ! -e "$scratch/crates/$1" ] || return 0
@@ -26,6 +26,13 @@ take hc_project
 take hc_plan
 echo 'edits_bench staticlib: hc_records hc_project hc_registers hc_places hc_plan libc' >> "$scratch/crates.txt"
 cp "$top/HANDLES" "$scratch/"
+# Which ledger the blank is of: `open_line` asks for it.
+cat > "$bench/proofs/configured_in/Invariants.antt" <<'END_OF_PROOF'
+use Rattle.edits_bench.proofs.configured_in.Given as goal
+
+abbrev pub ghosts-open_line : goal.ghosts-open_line
+ghosts-open_line a = record { name = a.blank.name; parts = a.blank.parts }
+END_OF_PROOF
 cat > "$bench/src/lib.rt" <<'END_OF_CODE'
 //! What the benchmark calls: each function opens a project's plan and plays what is asked of it.
 #![tactic(auto)]
