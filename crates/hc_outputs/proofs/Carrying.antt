@@ -45,23 +45,37 @@ marked-carries table old new laid ascends blank each = record {
       ∙ blank-bit table old k (MOST_DATAGRAMS * task + d) blank;
 }
 
--- what was done to the bytes: from `first` the values are taken up, the lengths change behind `taken`, and behind `cut` the values are put down
-pub record AreMoved (old : Table) (change : Change) (ones : Bool) (places : List (Option VariablePlace)) (values : List ℕ) (first taken cut last : Bytes) : Type 0 where
-  pub table : IsTable old
-  pub laid : IsLaidOut old
-  pub laid_out : IsLaidOut (swapped change old)
-  pub entries : KeepEntries old (swapped change old)
-  pub rows : ChangesAscend change.rows
-  pub tasks : ChangesAscend change.tasks
-  pub stand : Stand old change.rows places
-  pub sizes : HasSizes old first
-  pub takes : WritesEach (length places) (of_list places) (λ i. bit_at 0) first taken
-  pub reads : ReadsEach (length places) (of_list places) first (word_of ones) values
-  pub cuts : ResizesEach (length change.tasks) change.tasks taken cut
-  pub puts : WritesEach (length change.rows) (of_changed change.rows) (λ i. bit_at (slice_index_or values i 0)) cut last
+-- the course of an edit: from `first` the values are taken up, the lengths change behind `taken`, and behind `cut` the values are put down
+pub record Course : Type 0 where
+  pub old : Table
+  pub change : Change
+  pub ones : Bool
+  pub places : List (Option VariablePlace)
+  pub values : List ℕ
+  pub first : Bytes
+  pub taken : Bytes
+  pub cut : Bytes
+  pub last : Bytes
 
-taken_sizes : (old : Table) (change : Change) (ones : Bool) (places : List (Option VariablePlace)) (values : List ℕ) (first taken cut last : Bytes) → AreMoved old change ones places values first taken cut last → HasSizes old taken
-taken_sizes old change ones places values first taken cut last moved = λ task d low few. moved.takes.sizes (MOST_DATAGRAMS * task + d) ∙ moved.sizes task d low few
+abbrev next : Course → Table
+next e = swapped e.change e.old
+
+pub record AreMoved (e : Course) : Type 0 where
+  pub table : IsTable e.old
+  pub laid : IsLaidOut e.old
+  pub laid_out : IsLaidOut (next e)
+  pub entries : KeepEntries e.old (next e)
+  pub rows : ChangesAscend e.change.rows
+  pub tasks : ChangesAscend e.change.tasks
+  pub stand : Stand e.old e.change.rows e.places
+  pub sizes : HasSizes e.old e.first
+  pub takes : WritesEach (length e.places) (of_list e.places) (λ i. bit_at 0) e.first e.taken
+  pub reads : ReadsEach (length e.places) (of_list e.places) e.first (word_of e.ones) e.values
+  pub cuts : ResizesEach (length e.change.tasks) e.change.tasks e.taken e.cut
+  pub puts : WritesEach (length e.change.rows) (of_changed e.change.rows) (λ i. bit_at (slice_index_or e.values i 0)) e.cut e.last
+
+taken_sizes : (e : Course) → AreMoved e → HasSizes e.old e.taken
+taken_sizes e moved = λ task d low few. moved.takes.sizes (MOST_DATAGRAMS * task + d) ∙ moved.sizes task d low few
 
 pub cut-sizes : (old : Table) (change : Change) (taken cut : Bytes) → IsTable old → ChangesAscend change.tasks → HasSizes old taken → ResizesEach (length change.tasks) change.tasks taken cut → HasSizes (swapped change old) cut
 cut-sizes old change taken cut is ascend sizes cuts task d low few =
@@ -69,17 +83,15 @@ cut-sizes old change taken cut is ascend sizes cuts task d low few =
     ∙ resized-size (length_in (swapped change old) task d) (bytes_of taken task d)
 
 -- a bit that no changed output takes is what it was behind the taking up, as far as the new length goes
-cut_bit : (old : Table) (change : Change) (ones : Bool) (places : List (Option VariablePlace)) (values : List ℕ) (first taken cut last : Bytes) (task d k : ℕ) → AreMoved old change ones places values first taken cut last
-    → task < TASKS → d < MOST_DATAGRAMS → k < 8 * length_in (swapped change old) task d → bit_of (bytes_of cut task d) k ≡ bit_of (bytes_of taken task d) k
-cut_bit old change ones places values first taken cut last task d k moved low few below =
-    ap (λ own. bit_of own k) (lengths-changed change old taken cut moved.table moved.tasks (taken_sizes old change ones places values first taken cut last moved) moved.cuts task d low few)
-    ∙ resized-bit (length_in (swapped change old) task d) (bytes_of taken task d) k below
+cut_bit : (e : Course) (task d k : ℕ) → AreMoved e → task < TASKS → d < MOST_DATAGRAMS → k < 8 * length_in (next e) task d → bit_of (bytes_of e.cut task d) k ≡ bit_of (bytes_of e.taken task d) k
+cut_bit e task d k moved low few below =
+    ap (λ own. bit_of own k) (lengths-changed e.change e.old e.taken e.cut moved.table moved.tasks (taken_sizes e moved) moved.cuts task d low few)
+    ∙ resized-bit (length_in (next e) task d) (bytes_of e.taken task d) k below
 
-cut_past : (old : Table) (change : Change) (ones : Bool) (places : List (Option VariablePlace)) (values : List ℕ) (first taken cut last : Bytes) (task d k : ℕ) → AreMoved old change ones places values first taken cut last
-    → task < TASKS → d < MOST_DATAGRAMS → 8 * length_in (swapped change old) task d ≤ k → bit_of (bytes_of cut task d) k ≡ 0
-cut_past old change ones places values first taken cut last task d k moved low few past =
-    ap (λ own. bit_of own k) (lengths-changed change old taken cut moved.table moved.tasks (taken_sizes old change ones places values first taken cut last moved) moved.cuts task d low few)
-    ∙ resized-past (length_in (swapped change old) task d) (bytes_of taken task d) k past
+cut_past : (e : Course) (task d k : ℕ) → AreMoved e → task < TASKS → d < MOST_DATAGRAMS → 8 * length_in (next e) task d ≤ k → bit_of (bytes_of e.cut task d) k ≡ 0
+cut_past e task d k moved low few past =
+    ap (λ own. bit_of own k) (lengths-changed e.change e.old e.taken e.cut moved.table moved.tasks (taken_sizes e moved) moved.cuts task d low few)
+    ∙ resized-past (length_in (next e) task d) (bytes_of e.taken task d) k past
 
 -- the value of a variable that had no place, and of one that had one
 
@@ -91,34 +103,32 @@ kept_none old value ones variable k none = sym (ap (λ found. cond (is_some foun
 
 -- the value of a changed variable is put down
 
-put_by : (old : Table) (change : Change) (ones : Bool) (places : List (Option VariablePlace)) (values : List ℕ) (first taken cut last : Bytes) (value : ℕ → ℕ → ℕ) (i k : ℕ) (row : ChangedRow) (place : VariablePlace) (found : Option VariablePlace)
-    → AreMoved old change ones places values first taken cut last → Carries old value first → slice_get change.rows i ≡ Some row → IsOutput (swapped change old) row.0 place → k < place.bits → k < 64
-    → place_in old row.0 ≡ found → bit_at (slice_index_or values i 0) k ≡ carried old value ones row.0 k
-put_by old change ones places values first taken cut last value i k row place None moved carries there is below word none =
+put_by : (e : Course) (value : ℕ → ℕ → ℕ) (i k : ℕ) (row : ChangedRow) (place : VariablePlace) (found : Option VariablePlace) → AreMoved e → Carries e.old value e.first → slice_get e.change.rows i ≡ Some row → IsOutput (next e) row.0 place → k < place.bits → k < 64
+    → place_in e.old row.0 ≡ found → bit_at (slice_index_or e.values i 0) k ≡ carried e.old value e.ones row.0 k
+put_by e value i k row place None moved carries there is below word none =
     let count = moved.stand.count in
-    let inside = slice_get_within change.rows i row there in
-    let low : i < length places = omega arith in
-    let lacks : of_list places i ≡ None = moved.stand.each i row there ∙ ap (λ f. option_and_then output_of f) none in
-    ap (λ n. bit_at n k) (moved.reads.given i low lacks) ∙ word-bit ones k word ∙ kept_none old value ones row.0 k none
-put_by old change ones places values first taken cut last value i k row place (Some before) moved carries there is below word some =
+    let inside = slice_get_within e.change.rows i row there in
+    let low : i < length e.places = omega arith in
+    let lacks : of_list e.places i ≡ None = moved.stand.each i row there ∙ ap (λ f. option_and_then output_of f) none in
+    ap (λ n. bit_at n k) (moved.reads.given i low lacks) ∙ word-bit e.ones k word ∙ kept_none e.old value e.ones row.0 k none
+put_by e value i k row place (Some before) moved carries there is below word some =
     let count = moved.stand.count in
-    let inside = slice_get_within change.rows i row there in
-    let low : i < length places = omega arith in
+    let inside = slice_get_within e.change.rows i row there in
+    let low : i < length e.places = omega arith in
     let entry = moved.entries row.0 before place some is.there in
     let same = entry.bits in
-    let was : IsOutput old row.0 before = record { there = some; output = sym entry.dir ∙ is.output } in
-    let stood : of_list places i ≡ Some before = moved.stand.each i row there ∙ found-output old row.0 before was in
-    moved.reads.read i k before low stood (omega arith) ∙ carries.values row.0 k before was (omega arith) ∙ kept_some old value ones row.0 k before some
+    let was : IsOutput e.old row.0 before = record { there = some; output = sym entry.dir ∙ is.output } in
+    let stood : of_list e.places i ≡ Some before = moved.stand.each i row there ∙ found-output e.old row.0 before was in
+    moved.reads.read i k before low stood (omega arith) ∙ carries.values row.0 k before was (omega arith) ∙ kept_some e.old value e.ones row.0 k before some
 
-put_value : (old : Table) (change : Change) (ones : Bool) (places : List (Option VariablePlace)) (values : List ℕ) (first taken cut last : Bytes) (value : ℕ → ℕ → ℕ) (i k : ℕ) (row : ChangedRow) (place : VariablePlace)
-    → AreMoved old change ones places values first taken cut last → Carries old value first → slice_get change.rows i ≡ Some row → IsOutput (swapped change old) row.0 place → k < place.bits
-    → bit_of (bytes_of last place.task place.datagram) (place.bit + k) ≡ carried old value ones row.0 k
-put_value old change ones places values first taken cut last value i k row place moved carries there is below =
-    let low = slice_get_within change.rows i row there in
-    let new : of_changed change.rows i ≡ Some place = of-new change old i row moved.table.ascends moved.rows there ∙ found-output (swapped change old) row.0 place is in
+put_value : (e : Course) (value : ℕ → ℕ → ℕ) (i k : ℕ) (row : ChangedRow) (place : VariablePlace) → AreMoved e → Carries e.old value e.first → slice_get e.change.rows i ≡ Some row → IsOutput (next e) row.0 place → k < place.bits
+    → bit_of (bytes_of e.last place.task place.datagram) (place.bit + k) ≡ carried e.old value e.ones row.0 k
+put_value e value i k row place moved carries there is below =
+    let low = slice_get_within e.change.rows i row there in
+    let new : of_changed e.change.rows i ≡ Some place = of-new e.change e.old i row moved.table.ascends moved.rows there ∙ found-output (next e) row.0 place is in
     let most = (moved.puts.ranges i place low new).most in
     moved.puts.own i k place low new below
-    ∙ put_by old change ones places values first taken cut last value i k row place (place_in old row.0) moved carries there is below (omega arith) refl
+    ∙ put_by e value i k row place (place_in e.old row.0) moved carries there is below (omega arith) refl
 
 -- the value of any other stays where it is
 
@@ -127,91 +137,86 @@ apart_from : (table : Table) (variable other : ℕ) (place another : VariablePla
 apart_from table variable other place another k laid differ there there' below lies =
     not-two place another k (laid.apart variable other place another (λ same. differ (sym same)) there there') below lies
 
-stayed : (old : Table) (change : Change) (ones : Bool) (places : List (Option VariablePlace)) (values : List ℕ) (first taken cut last : Bytes) (value : ℕ → ℕ → ℕ) (variable k : ℕ) (place : VariablePlace)
-    → AreMoved old change ones places values first taken cut last → Carries old value first → HasNone change.rows variable → IsOutput (swapped change old) variable place → k < place.bits
-    → bit_of (bytes_of last place.task place.datagram) (place.bit + k) ≡ carried old value ones variable k
-stayed old change ones places values first taken cut last value variable k place moved carries none is below =
-    let there : place_in old variable ≡ Some place = sym (same-place change old variable moved.table.ascends none) ∙ is.there in
+stayed : (e : Course) (value : ℕ → ℕ → ℕ) (variable k : ℕ) (place : VariablePlace) → AreMoved e → Carries e.old value e.first → HasNone e.change.rows variable → IsOutput (next e) variable place → k < place.bits
+    → bit_of (bytes_of e.last place.task place.datagram) (place.bit + k) ≡ carried e.old value e.ones variable k
+stayed e value variable k place moved carries none is below =
+    let there : place_in e.old variable ≡ Some place = sym (same-place e.change e.old variable moved.table.ascends none) ∙ is.there in
     let lies = moved.laid_out.inside variable place is.there in
     let within = lies.within in
     let count = moved.stand.count in
     moved.puts.rest place.task place.datagram (place.bit + k) lies.datagram
-    (λ i other low at. let own = row-at change.rows i low in
-    apart_from (swapped change old) variable own.row.0 place other k moved.laid_out (none i own.row own.there) is.there
-    (new-are change old moved.table.ascends moved.rows i own.row other own.there at).there below)
-    ∙ cut_bit old change ones places values first taken cut last place.task place.datagram (place.bit + k) moved lies.task lies.datagram (omega arith)
+    (λ i other low at. let own = row-at e.change.rows i low in
+    apart_from (next e) variable own.row.0 place other k moved.laid_out (none i own.row own.there) is.there
+    (new-are e.change e.old moved.table.ascends moved.rows i own.row other own.there at).there below)
+    ∙ cut_bit e place.task place.datagram (place.bit + k) moved lies.task lies.datagram (omega arith)
     ∙ moved.takes.rest place.task place.datagram (place.bit + k) lies.datagram
-    (λ i other low at. let own = row-at change.rows i (omega arith) in
-    apart_from old variable own.row.0 place other k moved.laid (none i own.row own.there) there
-    (old-are change old places moved.stand i own.row other own.there at).there below)
+    (λ i other low at. let own = row-at e.change.rows i (omega arith) in
+    apart_from e.old variable own.row.0 place other k moved.laid (none i own.row own.there) there
+    (old-are e.change e.old e.places moved.stand i own.row other own.there at).there below)
     ∙ carries.values variable k place (record { there = there; output = is.output }) below
-    ∙ kept_some old value ones variable k place there
+    ∙ kept_some e.old value e.ones variable k place there
 
 -- a bit that lies in no output's new place
 
-taken_zero : (old : Table) (change : Change) (ones : Bool) (places : List (Option VariablePlace)) (values : List ℕ) (first taken cut last : Bytes) (i task d k : ℕ) (row : ChangedRow) (place : VariablePlace)
-    → AreMoved old change ones places values first taken cut last → slice_get change.rows i ≡ Some row → IsOutput old row.0 place → LiesIn place task d k → bit_of (bytes_of taken task d) k ≡ 0
-taken_zero old change ones places values first taken cut last i task d k row place moved there is lies =
+taken_zero : (e : Course) (i task d k : ℕ) (row : ChangedRow) (place : VariablePlace) → AreMoved e → slice_get e.change.rows i ≡ Some row → IsOutput e.old row.0 place → LiesIn place task d k → bit_of (bytes_of e.taken task d) k ≡ 0
+taken_zero e i task d k row place moved there is lies =
     let from = lies.from in
     let below = lies.below in
     let count = moved.stand.count in
-    let inside = slice_get_within change.rows i row there in
-    let low : i < length places = omega arith in
+    let inside = slice_get_within e.change.rows i row there in
+    let low : i < length e.places = omega arith in
     let whole : place.bit + (k - place.bit) ≡ k = omega arith in
-    let stood : of_list places i ≡ Some place = moved.stand.each i row there ∙ found-output old row.0 place is in
-    subst (λ t. bit_of (bytes_of taken t d) k ≡ 0) lies.task_is
-    (subst (λ e. bit_of (bytes_of taken place.task e) k ≡ 0) lies.datagram
-    (subst (λ n. bit_of (bytes_of taken place.task place.datagram) n ≡ 0) whole
+    let stood : of_list e.places i ≡ Some place = moved.stand.each i row there ∙ found-output e.old row.0 place is in
+    subst (λ t. bit_of (bytes_of e.taken t d) k ≡ 0) lies.task_is
+    (subst (λ n. bit_of (bytes_of e.taken place.task n) k ≡ 0) lies.datagram
+    (subst (λ n. bit_of (bytes_of e.taken place.task place.datagram) n ≡ 0) whole
     (moved.takes.own i (k - place.bit) place low stood (omega arith) ∙ bit_at-zero (k - place.bit))))
 
-free_bit : (old : Table) (change : Change) (ones : Bool) (places : List (Option VariablePlace)) (values : List ℕ) (first taken cut last : Bytes) (value : ℕ → ℕ → ℕ) (task d k : ℕ)
-    → AreMoved old change ones places values first taken cut last → Carries old value first → task < TASKS → d < MOST_DATAGRAMS → HasNoBit (swapped change old) task d k
-    → HasBit old task d k ⊎ HasNoBit old task d k → bit_of (bytes_of taken task d) k ≡ 0
-free_bit old change ones places values first taken cut last value task d k moved carries low few misses (inl has) = elim (by-number change.rows has.variable) [
+free_bit : (e : Course) (value : ℕ → ℕ → ℕ) (task d k : ℕ) → AreMoved e → Carries e.old value e.first → task < TASKS → d < MOST_DATAGRAMS → HasNoBit (next e) task d k
+    → HasBit e.old task d k ⊎ HasNoBit e.old task d k → bit_of (bytes_of e.taken task d) k ≡ 0
+free_bit e value task d k moved carries low few misses (inl has) = elim (by-number e.change.rows has.variable) [
   | inl changed ↦
-      taken_zero old change ones places values first taken cut last changed.index task d k changed.row has.place moved changed.there
-      (subst (λ n. IsOutput old n has.place) (sym changed.is) has.is) has.lies
+      taken_zero e changed.index task d k changed.row has.place moved changed.there
+      (subst (λ n. IsOutput e.old n has.place) (sym changed.is) has.is) has.lies
   | inr none ↦
       absurd (misses has.variable has.place
-      (record { there = same-place change old has.variable moved.table.ascends none ∙ has.is.there; output = has.is.output }) has.lies)
+      (record { there = same-place e.change e.old has.variable moved.table.ascends none ∙ has.is.there; output = has.is.output }) has.lies)
 ]
-free_bit old change ones places values first taken cut last value task d k moved carries low few misses (inr none) =
+free_bit e value task d k moved carries low few misses (inr none) =
     let count = moved.stand.count in
     moved.takes.rest task d k few
-    (λ i other inside at lies. let own = row-at change.rows i (omega arith) in
-    none own.row.0 other (old-are change old places moved.stand i own.row other own.there at) lies)
+    (λ i other inside at lies. let own = row-at e.change.rows i (omega arith) in
+    none own.row.0 other (old-are e.change e.old e.places moved.stand i own.row other own.there at) lies)
     ∙ carries.others task d k low few none
 
-pub moved-sizes : (old : Table) (change : Change) (ones : Bool) (places : List (Option VariablePlace)) (values : List ℕ) (first taken cut last : Bytes) → AreMoved old change ones places values first taken cut last
-    → HasSizes (swapped change old) last
-moved-sizes old change ones places values first taken cut last moved task d low few =
+moved_sizes : (e : Course) → AreMoved e → HasSizes (next e) e.last
+moved_sizes e moved task d low few =
     moved.puts.sizes (MOST_DATAGRAMS * task + d)
-    ∙ cut-sizes old change taken cut moved.table moved.tasks (taken_sizes old change ones places values first taken cut last moved) moved.cuts task d low few
+    ∙ cut-sizes e.old e.change e.taken e.cut moved.table moved.tasks (taken_sizes e moved) moved.cuts task d low few
 
-pub moved-carries : (old : Table) (change : Change) (ones : Bool) (places : List (Option VariablePlace)) (values : List ℕ) (first taken cut last : Bytes) (value : ℕ → ℕ → ℕ) → AreMoved old change ones places values first taken cut last
-    → Carries old value first → Carries (swapped change old) (carried old value ones) last
-moved-carries old change ones places values first taken cut last value moved carries = record {
-  sizes = moved-sizes old change ones places values first taken cut last moved;
+pub moved-carries : (e : Course) (value : ℕ → ℕ → ℕ) → AreMoved e → Carries e.old value e.first → Carries (next e) (carried e.old value e.ones) e.last
+moved-carries e value moved carries = record {
+  sizes = moved_sizes e moved;
   all_bytes = λ task d low few.
       moved.puts.bytes task d few
-      (subst AreBytes (sym (lengths-changed change old taken cut moved.table moved.tasks (taken_sizes old change ones places values first taken cut last moved) moved.cuts task d low few))
-      (resized-bytes (length_in (swapped change old) task d) (bytes_of taken task d) (moved.takes.bytes task d few (carries.all_bytes task d low few))));
-  values = λ variable k place is below. elim (by-number change.rows variable) [
+      (subst AreBytes (sym (lengths-changed e.change e.old e.taken e.cut moved.table moved.tasks (taken_sizes e moved) moved.cuts task d low few))
+      (resized-bytes (length_in (next e) task d) (bytes_of e.taken task d) (moved.takes.bytes task d few (carries.all_bytes task d low few))));
+  values = λ variable k place is below. elim (by-number e.change.rows variable) [
     | inl has ↦
-        subst (λ n. bit_of (bytes_of last place.task place.datagram) (place.bit + k) ≡ carried old value ones n k) has.is
-        (put_value old change ones places values first taken cut last value has.index k has.row place moved carries has.there
-        (subst (λ n. IsOutput (swapped change old) n place) (sym has.is) is) below)
-    | inr none ↦ stayed old change ones places values first taken cut last value variable k place moved carries none is below
+        subst (λ n. bit_of (bytes_of e.last place.task place.datagram) (place.bit + k) ≡ carried e.old value e.ones n k) has.is
+        (put_value e value has.index k has.row place moved carries has.there
+        (subst (λ n. IsOutput (next e) n place) (sym has.is) is) below)
+    | inr none ↦ stayed e value variable k place moved carries none is below
   ];
   others = λ task d k low few misses.
       moved.puts.rest task d k few
-      (λ i place inside at. let own = row-at change.rows i inside in
-      misses own.row.0 place (new-are change old moved.table.ascends moved.rows i own.row place own.there at))
-      ∙ elim (cases_lt k (8 * length_in (swapped change old) task d)) [
+      (λ i place inside at. let own = row-at e.change.rows i inside in
+      misses own.row.0 place (new-are e.change e.old moved.table.ascends moved.rows i own.row place own.there at))
+      ∙ elim (cases_lt k (8 * length_in (next e) task d)) [
         | inl below ↦
-            cut_bit old change ones places values first taken cut last task d k moved low few below
-            ∙ free_bit old change ones places values first taken cut last value task d k moved carries low few misses (bit-lies old task d k moved.table.ascends)
-        | inr past ↦ cut_past old change ones places values first taken cut last task d k moved low few past
+            cut_bit e task d k moved low few below
+            ∙ free_bit e value task d k moved carries low few misses (bit-lies e.old task d k moved.table.ascends)
+        | inr past ↦ cut_past e task d k moved low few past
       ];
 }
 

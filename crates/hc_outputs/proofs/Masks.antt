@@ -45,13 +45,13 @@ same-at n i z = elim (cases_lt i n) [
 
 -- zeros are bytes
 
-zero_small : 0 < 256
-zero_small = omega arith
+pub zero-small : 0 < 256
+zero-small = omega arith
 
 pub zero-bytes : (n : ℕ) → AreBytes (replicate n 0)
 zero-bytes n i low =
     let there : get_or (replicate n 0) i 0 ≡ 0 = get_or-replicate n i 0 0 (omega (arith, length-replicate {A = ℕ} n 0)) in
-    subst (λ (b : ℕ). b < 256) (sym there) zero_small
+    subst (λ (b : ℕ). b < 256) (sym there) zero-small
 
 -- behind the front either the post or the mask has ended
 ended : (front bytes mask : List ℕ) (rest i : ℕ) → length mask ≡ length front + rest → length front ≡ min (length front + rest) (length bytes) → length front ≤ i

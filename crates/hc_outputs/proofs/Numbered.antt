@@ -17,6 +17,14 @@ passed : {Y : Type 0} (test : Bool) (row : ℕ × Y) (rest : Option (ℕ × Y)) 
 passed true row rest other e there = cc
 passed false row rest other e there = there
 
+-- two that are found in one place are the same, and nothing is found where there is none
+
+pub same-some : {X : Type 0} (a b : X) → Some a ≡ Some b → a ≡ b
+same-some a b e = cc
+
+pub none-some : {X P : Type 0} (found : Option X) (x : X) → found ≡ None → found ≡ Some x → P
+none-some found x none there = let never : None ≡ Some x = sym none ∙ there in cc
+
 abbrev pub IsFoundIn : {Y : Type 0} → List (ℕ × Y) → ℕ × Y → Type 0
 IsFoundIn rows row = find (λ other. other.0 == row.0) rows ≡ Some row
 
@@ -63,11 +71,8 @@ pub record HasNumber {Y : Type 0} (rows : List (ℕ × Y)) (number : ℕ) : Type
 abbrev pub HasNone : {Y : Type 0} → List (ℕ × Y) → ℕ → Type 0
 HasNone rows number = (i : ℕ) (row : ℕ × _) → slice_get rows i ≡ Some row → row.0 ≢ number
 
-same_some : {X : Type 0} (a b : X) → Some a ≡ Some b → a ≡ b
-same_some a b e = cc
-
 none_behind : {Y : Type 0} (row : ℕ × Y) (rows : List (ℕ × Y)) (number : ℕ) → row.0 ≢ number → HasNone rows number → HasNone (row ∷ rows) number
-none_behind row rows number other none zero own there is = other (ap (λ (r : ℕ × _). r.0) (same_some row own there) ∙ is)
+none_behind row rows number other none zero own there is = other (ap (λ (r : ℕ × _). r.0) (same-some row own there) ∙ is)
 none_behind row rows number other none (suc i) own there is = none i own there is
 
 behind : {Y : Type 0} (row : ℕ × Y) (rows : List (ℕ × Y)) (number : ℕ) → row.0 ≢ number → HasNumber rows number ⊎ HasNone rows number → HasNumber (row ∷ rows) number ⊎ HasNone (row ∷ rows) number

@@ -17,8 +17,8 @@ use Rattle.hc_places.specs.Table.{IsTable, Table, TaskTable}
 use Rattle.hc_places.proofs.lemmas.Swaps.{swaps-replace}
 use Rattle.hc_outputs.specs.Packed.{Bytes, HasSizes, bytes_of, length_in}
 use Rattle.hc_outputs.specs.Pieces.{Resizes, ResizesEach, length_of, resized}
-use Rattle.hc_outputs.proofs.Masks.{same-at}
-use Rattle.hc_outputs.proofs.Numbered.{ascend-differ, HasNone, HasNumber, by-number, found-at, none-found}
+use Rattle.hc_outputs.proofs.Masks.{same-at, zero-small}
+use Rattle.hc_outputs.proofs.Numbered.{same-some, ascend-differ, HasNone, HasNumber, by-number, found-at, none-found}
 
 -- the bits of bytes that are cut, or have zeros behind
 
@@ -50,9 +50,6 @@ resized-bit size xs k low = elim (cases_lt k (8 * length (take size xs))) [
 pub resized-past : (size : ℕ) (xs : List ℕ) (k : ℕ) → 8 * size ≤ k → bit_of (resized size xs) k ≡ 0
 resized-past size xs k past = bit-past (resized size xs) k (let all = resized-size size xs in omega arith)
 
-zero_small : 0 < 256
-zero_small = omega arith
-
 pub resized-bytes : (size : ℕ) (xs : List ℕ) → AreBytes xs → AreBytes (resized size xs)
 resized-bytes size xs bytes i low =
     let front = length-take size xs in
@@ -62,7 +59,7 @@ resized-bytes size xs bytes i low =
           let cut : i < size = omega arith in
           subst (λ (b : ℕ). b < 256) (sym (get_or_append_left (take size xs) (replicate (size - length xs) 0) 0 i inside ∙ get_or-take size xs i 0 cut)) (bytes i below)
       | inr past ↦
-          subst (λ (b : ℕ). b < 256) (sym (get_or-append_right (take size xs) (replicate (size - length xs) 0) i 0 past ∙ same-at (size - length xs) (i - length (take size xs)) 0)) zero_small
+          subst (λ (b : ℕ). b < 256) (sym (get_or-append_right (take size xs) (replicate (size - length xs) 0) i 0 past ∙ same-at (size - length xs) (i - length (take size xs)) 0)) zero-small
     ]
 
 none_missing : (n : ℕ) → replicate {A = ℕ} (n - n) 0 ≡ []
@@ -73,9 +70,6 @@ resized-same xs = ap (λ front. front ++ replicate (length xs - length xs) 0) (t
 
 -- one more task gets its lengths
 
-same_some : (a b : ChangedTask) → Some a ≡ Some b → a ≡ b
-same_some a b e = cc
-
 pub next-resized : (n : ℕ) (changed : List ChangedTask) (last : ChangedTask) (old mid new : Bytes) → slice_get changed n ≡ Some last → ChangesAscend changed
     → ResizesEach n changed old mid → Resizes last.0 last.1 mid new → ResizesEach (n + 1) changed old new
 next-resized n changed last old mid new is ascend each resizes = record {
@@ -84,7 +78,7 @@ next-resized n changed last old mid new is ascend each resizes = record {
         resizes.rest own.0 d few (ascend-differ changed i n own last ascend less there is) ∙ each.own i d own less there few
     | inr more ↦
         let index : n ≡ i = omega arith in
-        let same : last ≡ own = same_some last own (sym is ∙ ap (slice_get changed) index ∙ there) in
+        let same : last ≡ own = same-some last own (sym is ∙ ap (slice_get changed) index ∙ there) in
         subst (λ (o : ChangedTask). bytes_of new o.0 d ≡ resized (length_of o.1 d) (bytes_of old o.0 d)) same
         (resizes.own d few
         ∙ ap (resized (length_of last.1 d))

@@ -13,15 +13,12 @@ use Rattle.hc_places.proofs.lemmas.Same.{same-dirs}
 use Rattle.hc_places.proofs.lemmas.Swaps.{swaps-move}
 use Rattle.hc_outputs.specs.Packed.{Bytes, HasSizes, IsLaidOut, IsOutput}
 use Rattle.hc_outputs.specs.Pieces.{AreApart, Fit, Numbered, Stand, of_changed, of_list, of_rows, output_in, output_of}
-use Rattle.hc_outputs.proofs.Numbered.{Ascend, HasNone, ascend-differ, by-number, found-at, none-found}
+use Rattle.hc_outputs.proofs.Numbered.{same-some, none-some, Ascend, HasNone, ascend-differ, by-number, found-at, none-found}
 
 -- the place of an output variable
 
-some_same : (a b : VariablePlace) → Some a ≡ Some b → a ≡ b
-some_same a b e = cc
-
 by_dir : (test : Bool) (place other : VariablePlace) → cond test (Some place) None ≡ Some other → (test ≡ true) × (place ≡ other)
-by_dir true place other e = (refl, some_same place other e)
+by_dir true place other e = (refl, same-some place other e)
 by_dir false place other e = cc
 
 found_by : (table : Table) (variable : ℕ) (place : VariablePlace) (found : Option VariablePlace) → place_in table variable ≡ found → option_and_then output_of found ≡ Some place → IsOutput table variable place
@@ -84,9 +81,6 @@ of_row table i row ascend there =
 pub rows-are : (table : Table) → RowsAscend table.variables → AreOutputs table table.variables (of_rows table.variables)
 rows-are table ascend i row place there is = output-found table row.0 place (sym (of_row table i row ascend there) ∙ is)
 
-none_some : {P : Type 0} (found : Option VariablePlace) (place : VariablePlace) → found ≡ None → found ≡ Some place → P
-none_some found place none there = let never : None ≡ Some place = sym none ∙ there in cc
-
 -- each output has a row
 pub record IsAmong (n : ℕ) (places : Numbered) (place : VariablePlace) : Type 0 where
   pub index : ℕ
@@ -100,7 +94,7 @@ has-row table variable place ascend is = elim (by-number table.variables variabl
     low = slice_get_within table.variables has.index has.row has.there;
     there = of_row table has.index has.row ascend has.there ∙ ap (output_in table) has.is ∙ found-output table variable place is;
   }
-  | inr none ↦ none_some (place_in table variable) place (ap (option_map (λ (r : Row). r.1)) (none-found table.variables variable none)) is.there
+  | inr none ↦ none-some (place_in table variable) place (ap (option_map (λ (r : Row). r.1)) (none-found table.variables variable none)) is.there
 ]
 
 -- the changed variables, in both tables
@@ -127,9 +121,6 @@ new-are change table ascend order i row place there is =
 pub old-are : (change : Change) (table : Table) (places : List (Option VariablePlace)) → Stand table change.rows places → AreOutputs table change.rows (of_list places)
 old-are change table places stand i row place there is = output-found table row.0 place (sym (stand.each i row there) ∙ is)
 
-same_row : (a b : ChangedRow) → Some a ≡ Some b → a ≡ b
-same_row a b e = cc
-
 -- one more changed variable is looked up
 pub next-stands : (table : Table) (changed : List ChangedRow) (places : List (Option VariablePlace)) (n : ℕ) (last : ChangedRow) → slice_get changed n ≡ Some last → length places ≡ n
     → ((i : ℕ) (row : ChangedRow) → i < n → slice_get changed i ≡ Some row → of_list places i ≡ output_in table row.0)
@@ -138,7 +129,7 @@ next-stands table changed places n last is count before i row below there = elim
   | inl less ↦ get_or_append_left places (output_in table last.0 ∷ []) None i (omega arith) ∙ before i row less there
   | inr more ↦
       let index : n ≡ i = omega arith in
-      let same : last ≡ row = same_row last row (sym is ∙ ap (slice_get changed) index ∙ there) in
+      let same : last ≡ row = same-some last row (sym is ∙ ap (slice_get changed) index ∙ there) in
       let own : of_list (places ++ output_in table last.0 ∷ []) n ≡ output_in table last.0 = get_or_push places (output_in table last.0) None n count in
       subst (λ (m : ℕ). of_list (places ++ output_in table last.0 ∷ []) m ≡ output_in table row.0) index (own ∙ ap (λ (r : ChangedRow). output_in table r.0) same)
 ]

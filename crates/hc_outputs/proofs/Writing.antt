@@ -10,6 +10,7 @@ use Rattle.hc_records.specs.Image.{VariablePlace}
 use Rattle.hc_records.specs.ImageLaws.{SharesNoBit}
 use Rattle.hc_places.specs.Ranges.{IsPlace}
 use Rattle.hc_outputs.specs.Packed.{Bytes, LiesIn, bytes_of}
+use Rattle.hc_outputs.proofs.Numbered.{none-some, same-some}
 use Rattle.hc_outputs.specs.Pieces.{AreApart, Fit, Numbered, ReadsEach, Writes, WritesAt, WritesEach}
 
 -- one place is written
@@ -96,16 +97,10 @@ nothing-written places run bytes = record {
   all = refl;
 }
 
-some_same : (a b : VariablePlace) → Some a ≡ Some b → a ≡ b
-some_same a b e = cc
-
-none_some : (found : Option VariablePlace) (place : VariablePlace) → found ≡ None → found ≡ Some place → ⊥
-none_some found place none there = let never : None ≡ Some place = sym none ∙ there in cc
-
 earlier : (places : Numbered) (n i : ℕ) (place : VariablePlace) → places n ≡ None → i < n + 1 → places i ≡ Some place → i < n
 earlier places n i place none low there = elim (cases_lt i n) [
   | inl less ↦ less
-  | inr more ↦ let same : i ≡ n = omega arith in absurd (none_some (places n) place none (sym (ap places same) ∙ there))
+  | inr more ↦ let same : i ≡ n = omega arith in none-some (places n) place none (sym (ap places same) ∙ there)
 ]
 
 up_to : (P : ℕ → VariablePlace → Type 0) (places : Numbered) (n : ℕ) (last : VariablePlace) → places n ≡ Some last
@@ -115,7 +110,7 @@ up_to P places n last is before own i place low there = elim (cases_lt i n) [
   | inl less ↦ before i place less there
   | inr more ↦
       let index : n ≡ i = omega arith in
-      let same : last ≡ place = some_same last place (sym is ∙ ap places index ∙ there) in
+      let same : last ≡ place = same-some last place (sym is ∙ ap places index ∙ there) in
       subst (λ j. P j place) index (subst (P n) same own)
 ]
 
@@ -206,6 +201,6 @@ next-read n most lacking value places run old mid new values (Some last) is low 
       read = λ i k place below there. all i place below there k;
       given = λ i below none. elim (cases_lt i n) [
         | inl less ↦ get_or-set_other values n i value 0 (less_differs i n less) ∙ reads.given i less none
-        | inr more ↦ let same : i ≡ n = omega arith in absurd (none_some (places i) last none (ap places same ∙ is))
+        | inr more ↦ let same : i ≡ n = omega arith in none-some (places i) last none (ap places same ∙ is)
       ];
     }

@@ -5,7 +5,7 @@ use Rattle.hc_records.specs.declared.limits.TheConstants.{MOST_DATAGRAMS}
 use Rattle.hc_places.specs.Swap.{ChangedRow, ChangedTask, swapped}
 use Rattle.hc_outputs.specs.Packed.{HasSizes}
 use Rattle.hc_outputs.specs.Pieces.{AreApart, Fit, ReadsEach, ResizesEach, WritesEach, of_changed, of_list}
-use Rattle.hc_outputs.proofs.Carrying.{AreMoved, cut-sizes, moved-carries}
+use Rattle.hc_outputs.proofs.Carrying.{AreMoved, Course, cut-sizes, moved-carries}
 use Rattle.hc_outputs.proofs.Standing.{new-are, old-are, outputs-apart, outputs-fit}
 use Rattle.hc_outputs.proofs.moves.carry_over.Goals as goal
 
@@ -52,7 +52,8 @@ returns-clause-carried c = λ value before.
     let places = c.args.places.now in
     let values = c.take_up.new.values in
     let keeps = c.requires.keeps in
-    let moved : AreMoved old change c.args.ones places values c.args.rows.now c.take_up.new.rows c.resize.new.rows c.put_down.new.rows =
+    let course : Course = record { old = old; change = change; ones = c.args.ones; places = places; values = values; first = c.args.rows.now; taken = c.take_up.new.rows; cut = c.resize.new.rows; last = c.put_down.new.rows } in
+    let moved : AreMoved course =
     record {
       table = keeps.table;
       laid = c.requires.laid;
@@ -67,7 +68,7 @@ returns-clause-carried c = λ value before.
       cuts = subst (λ (l : List ChangedTask). ResizesEach (length l) l c.take_up.new.rows c.resize.new.rows) c.tasks-tasks.ensures.tasks c.resize.ensures;
       puts = subst (λ (l : List ChangedRow). WritesEach (length l) (of_changed l) (λ i. bit_at (slice_index_or values i 0)) c.resize.new.rows c.put_down.new.rows) c.changes-changed.ensures.rows c.put_down.ensures;
     } in
-    moved-carries old change c.args.ones places values c.args.rows.now c.take_up.new.rows c.resize.new.rows c.put_down.new.rows value moved before
+    moved-carries course value moved before
 
 pub returns-clause-sizes : goal.returns-clause-sizes
 returns-clause-sizes c =

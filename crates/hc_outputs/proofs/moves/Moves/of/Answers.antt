@@ -21,7 +21,7 @@ loop-variable-preserved c =
     let there : slice_get rows n ≡ Some last =
     subst (λ (l : List ChangedRow). slice_get l n ≡ Some last) c.changes-changed.ensures.rows (slice_get_read items (length items) n last refl c.loop-variable-test.true c.loop-variable-item.is) in
     let own : c.output.result ≡ output_in old last.0 = ◌∙◌ {A = Option VariablePlace} c.output.ensures (ap (option_and_then output_of) c.place.ensures) in
-    let all = c.in_ok-push.ensures.items ∙ ap (λ (found : Option VariablePlace). places ++ found ∷ []) own in
+    let all = ◌∙◌ {A = List (Option VariablePlace)} c.in_ok-push.ensures.items (ap (λ (found : Option VariablePlace). places ++ found ∷ []) own) in
     let values = c.in_ok-push-2.ensures.items in
     record {
       count = let size = ap length all in let more = length-append places (output_in old last.0 ∷ []) in let count = c.loop-variable.invariant.count in omega arith;
