@@ -2,8 +2,8 @@
 # Makes the picture and the report of each example and of a drawn line of 2,048 slaves, reads all numbers back out of
 # them and compares these with what the program that `rt ci` has built prints; compares the stored pictures of examples/
 # with those made now; and shows the comparison wrong pictures and reports, each of which it must refuse. It tells the
-# seconds that each took, and does not judge them. The last line is 'N passed, M failed'. It wants python3, 3.11 or later;
-# where they are installed, xmllint and tidy look at the documents.
+# seconds that each took, and does not judge them. The last line is 'N passed, M failed'. It wants python3, 3.11 or
+# later; where they are installed, xmllint and tidy look at the documents.
 set -u
 cd "$(dirname "$0")/.."
 program=crates/hotline/out/hotline

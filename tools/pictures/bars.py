@@ -36,9 +36,9 @@ class Lettering:
         return width >= self.upright_width + 4
 
 
-AREA_NAMES = Lettering("name", 6.65, "name", 6.65)
-VARIABLE_NAMES = Lettering("number", 6.05, "small", 5.45)
-BITS_NAMES = Lettering("small", 5.45, "small", 5.45)
+AREA_NAMES = Lettering("name", 6.65, "slim", SMALL)
+VARIABLE_NAMES = Lettering("number", 6.05, "small", SMALL)
+BITS_NAMES = Lettering("small", SMALL, "small", SMALL)
 
 
 @dataclass(frozen=True)

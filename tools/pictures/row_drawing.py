@@ -7,7 +7,7 @@ from pictures.style import DIRECTION_LETTERS, DIRECTION_WORDS, MARK_LETTERS, MAR
 from pictures.views import Mark
 
 RULER_STEPS = (1, 2, 4, 8, 16, 32, 64, 128, 256)
-BADGE = 12
+BADGE, BADGE_HEIGHT = 10, 12
 
 
 def area_words(run, slaves):
@@ -77,15 +77,18 @@ def unused(bar, bit, bits):
     return element("g", title, box, kind="unused", data_bit=bit, data_bits=bits)
 
 
-def badge(bar, run):
-    """The letter of a run's mark above it, and where a moved area was or will be, if there is room for these words."""
-    if run.mark is Mark.KEPT:
-        return ""
-    left, width, y = bar.x(run.bit), bar.width(run.bits), bar.band_top() - BADGE - 2
-    way = way_of(run)
-    if way and BITS_NAMES.fitting([way], width - BADGE - 4):
-        return badge_at(left, y, run.mark) + label(left + BADGE + 4, y + 10, way, "small whence")
-    return badge_at(left + (width - BADGE) / 2, y, run.mark)
+def badges(bar, runs):
+    """Above each run the letter of its mark, none over another one, and where a moved area was or will be, if there is
+    room for these words."""
+    drawn, free = [], 0
+    for run in runs:
+        left, width, y = bar.x(run.bit), bar.width(run.bits), bar.band_top() - BADGE_HEIGHT - 2
+        way = way_of(run) if BITS_NAMES.fitting([way_of(run)], width - BADGE - 4) else ""
+        x = max(left if way else left + (width - BADGE) / 2, free)
+        words = label(x + BADGE + 4, y + 10, way, "small whence") if way else ""
+        drawn.append(badge_at(x, y, run.mark) + words if run.mark is not Mark.KEPT else "")
+        free = x + BADGE if run.mark is not Mark.KEPT else free
+    return drawn
 
 
 def way_of(run):
@@ -95,7 +98,7 @@ def way_of(run):
 
 def badge_at(x, y, mark):
     """The letter of a mark in a small square of its colour."""
-    square = void("rect", x=float(x), y=float(y), width=float(BADGE), height=float(BADGE))
+    square = void("rect", x=float(x), y=float(y), width=float(BADGE), height=float(BADGE_HEIGHT))
     letter = label(x + BADGE / 2, y + 10, MARK_LETTERS[mark], text_anchor="middle")
     return element("g", square, letter, kind=f"badge {mark.value}")
 
@@ -114,8 +117,8 @@ class RowDrawer:
         cells = [(run, cells_below(run, scale)) for run in runs]
         bar = self.bar(row, top, scale, cells)
         content = [ruler(bar, row.datagram.length), *(unused(bar, *span) for span in unused_of(row, runs))]
-        for run, below in cells:
-            content.append(self.areas(run, bar))
+        for (run, below), badge in zip(cells, badges(bar, runs)):
+            content.append(self.areas(run, bar, badge))
             content += [self.cells(cell, run, bar) for cell in below]
         return "".join(content), bar, runs
 
@@ -133,13 +136,13 @@ class RowDrawer:
         badges = 0 if row.mark is Mark.KEPT else BADGES
         return Bar(scale, top, badges, max([BAND, *names]), max([CELL, *numbers]))
 
-    def areas(self, run, bar):
+    def areas(self, run, bar, badge):
         """An area, or a run of areas that are too narrow for names of their own."""
         place = run.items[0].place
         y, height = float(bar.box_top(place.direction)), float(bar.box_height(place.direction))
         box = void("rect", kind="band", x=bar.x(run.bit), y=y, width=bar.width(run.bits), height=height)
         name = bar.name(AREA_NAMES, area_words(run, self.slaves), run, y, height)
-        content = [element("title", text(self.area_title(run))), box, name, badge(bar, run)]
+        content = [element("title", text(self.area_title(run))), box, name, badge]
         kind = f"{place.direction} {run.mark.value}"
         told = {"data_direction": place.direction, "data_mark": run.mark.value}
         told |= {"data_bit": run.bit, "data_bits": run.bits}

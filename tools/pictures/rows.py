@@ -9,8 +9,8 @@ from pictures.views import Mark
 ROOM, LONG_ROOM = 832, 1486
 SCALES = (96, 80, 64, 56, 48, 40, 32, 28, 24, 20, 16, 14, 12, 10, 8, 7, 6, 5, 4, 3, 2, 1)
 LEAST_SCALE = 4
-# Below these widths, in pixels, not even an upright name has room.
-NARROW_AREA, NARROW_VARIABLE = 12, 10
+# Below this width, in pixels, not even an upright name has room.
+NARROW = 10
 # A folded box as broad as this has room for its first and its last name, and is closed.
 BROAD = 168
 
@@ -146,20 +146,29 @@ def field_runs(fields, scale):
         fields,
         lambda field: (field.place.bit, field.place.end()),
         lambda one, other: one.place.direction == other.place.direction and one.mark == other.mark,
-        NARROW_AREA * 8 / scale,
+        NARROW * 8 / scale,
         BROAD * 8 / scale,
     )
 
 
 def cell_runs(cells, scale):
-    """The bits of an area in runs of variables, or of gaps, with one mark."""
-    return runs_of(
+    """The bits of an area in runs of one mark: of variables, of gaps, or of both where neither run would be broad."""
+    narrow, broad = NARROW * 8 / scale, BROAD * 8 / scale
+    alike = runs_of(
         cells,
         lambda cell: (cell.bit, cell.bit + cell.bits),
         lambda one, other: (one.number is None) == (other.number is None) and one.mark == other.mark,
-        NARROW_VARIABLE * 8 / scale,
-        BROAD * 8 / scale,
+        narrow,
+        broad,
     )
+    mixed = runs_of(
+        alike,
+        lambda run: (run.bit, run.bit + run.bits),
+        lambda one, other: one.mark == other.mark,
+        narrow,
+        broad,
+    )
+    return [Run([cell for part in run.items for cell in part.items], run.bit, run.bits, run.mark) for run in mixed]
 
 
 def unused_of(row, runs):

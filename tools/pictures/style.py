@@ -28,7 +28,8 @@ PICTURE = f"""
 .picture .name {{ font-weight: bold; }}
 .picture .quiet {{ font: 10px sans-serif; fill: var(--quiet); }}
 .picture .number {{ font-size: 10px; }}
-.picture .small {{ font-size: 9px; }}
+.picture .small, .picture .slim {{ font-size: 9px; }}
+.picture .slim {{ font-weight: bold; }}
 .picture .ticks {{ stroke: var(--quiet); stroke-width: 1; fill: none; }}
 .picture rect {{ stroke: var(--paper); stroke-width: 1; }}
 .picture .out > .band {{ fill: {ORANGE}; }}
