@@ -1,12 +1,14 @@
 #!/bin/sh
 # Compares what the program that `rt ci` has built prints for drawn scripts with what the plain models of compare/ work out
-# of them. Each of the two comparisons is also shown three wrong programs, of which it must find the wrong line: one with
-# another byte in a line, one that leaves a line out, one that tells the epoch before. The last line is 'N passed, M
-# failed'. Words after its name are a program to be compared in place of the built one.
+# of them, and what `projectcheck` tells of spoilt projects with what was spoilt. Each comparison is also shown wrong
+# programs, of which it must find the wrong line: one with another byte in a line, one that leaves a line out, and of
+# `hotline` one that tells the epoch before. The last line is 'N passed, M failed'. Words after its name are a program to be
+# compared in place of the built `hotline`.
 set -u
 cd "$(dirname "$0")/.."
 [ "$#" -gt 0 ] || set -- crates/hotline/out/hotline
-for needed in rustc "$1"; do
+check=crates/projectcheck/out/projectcheck
+for needed in rustc "$1" "$check"; do
     if ! command -v "$needed" >/dev/null; then
         echo "compare: $needed is missing"
         exit 1
@@ -36,8 +38,10 @@ fail() {
     failed=$((failed + 1))
 }
 
-build wrong compare/wrong_program.rs
-for name in edits events; do
+# compare NAME WAYS PROGRAM..: a comparison, and with each wrong program
+compare() {
+    name=$1 ways=$2
+    shift 2
     build "$name" "compare/$name/main.rs"
     if "$scratch/$name" "$@" >"$scratch/said" 2>&1; then
         cat "$scratch/said"
@@ -45,7 +49,7 @@ for name in edits events; do
     else
         fail "$name: the program prints something else"
     fi
-    for way in byte line epoch; do
+    for way in $ways; do
         "$scratch/$name" "$scratch/wrong" "$way" "$@" >"$scratch/said" 2>&1
         if [ "$?" -eq 1 ] && grep -q 'is wanted' "$scratch/said"; then
             pass "$name: refused with another $way"
@@ -53,6 +57,11 @@ for name in edits events; do
             fail "$name: not refused with another $way"
         fi
     done
-done
+}
+
+build wrong compare/wrong_program.rs
+compare edits "byte line epoch" "$@"
+compare events "byte line epoch" "$@"
+compare places "byte line" "$check"
 echo "$passed passed, $failed failed"
 [ "$passed" -gt 0 ] && [ "$failed" -eq 0 ]

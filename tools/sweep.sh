@@ -129,6 +129,26 @@ sweep_program() {
     done
 }
 
+# A run of `projectcheck` ends with its whole text, with nothing where its input isn't read, or with want of memory.
+check_ended_well() {
+    if ! has_refused; then
+        cmp -s "$scratch/said" crates/projectcheck/stdout && [ "$1" -eq "$(cat crates/projectcheck/status)" ]
+        return
+    fi
+    case $1 in
+    3) [ "$(cat "$scratch/said")" = 'project fault 11 Memory' ] ;;
+    4) [ ! -s "$scratch/said" ] ;;
+    *) false ;;
+    esac
+}
+
+# sweep_check
+sweep_check() {
+    for mode in alone lasting; do
+        refuse_each projectcheck check_ended_well "$mode" crates/projectcheck/stdin crates/projectcheck/out/projectcheck
+    done
+}
+
 sweep_test worked_pieces project_texts::projects::project_or_memory
 sweep_test worked_lines lines::edits_tell_what_they_change
 sweep_test worked_lines lines::a_list_of_edits_is_answered_in_its_order
@@ -143,5 +163,6 @@ sweep_program "alone lasting" "every command" tools/commands.in tools/commands.o
 sweep_program "alone lasting" "frames" tools/frames.in tools/frames.out 0
 sweep_program "alone lasting" "the tool changer with frames" examples/tool_changer_frames.in examples/tool_changer_frames.out 0
 sweep_program alone "two groups" examples/two_groups.in examples/two_groups.out 0
+sweep_check
 echo "$passed passed, $failed failed"
 [ "$failed" -eq 0 ]

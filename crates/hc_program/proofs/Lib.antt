@@ -1,6 +1,7 @@
 pub mod Numbered
 pub mod Arguments
 pub mod Turns
+mod Checks
 pub mod Openings
 pub mod Outcomes
 pub mod Starved

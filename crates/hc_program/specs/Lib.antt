@@ -13,3 +13,5 @@ pub mod Opening
 pub mod Text
 pub mod Starved
 pub mod Turns
+pub mod Places
+pub mod Checking

@@ -21,16 +21,16 @@ use std::alloc::Global;
 use std::io::{Read, Write};
 
 /// The exit status of a run whose last line was reached.
-const DONE: u8 = 0;
+pub(crate) const DONE: u8 = 0;
 
 /// The exit status behind a line that is no command.
 const BAD_COMMAND: u8 = 2;
 
 /// The exit status where the project isn't opened.
-const UNOPENED: u8 = 3;
+pub(crate) const UNOPENED: u8 = 3;
 
 /// The exit status where the input isn't read or a write failed.
-const BROKEN: u8 = 4;
+pub(crate) const BROKEN: u8 = 4;
 
 /// How a run ended.
 #[derive(Clone, Copy, Debug, PartialEq, Eq)]
@@ -126,13 +126,13 @@ fn run_commands<W: Write>(
     }
 }
 
-/// Writes the line of a project that isn't opened, behind which the run ends.
-fn end_with<W: Write>(line: &[u8], starved: bool, output: &mut W) -> RunEnd
-    ensures told { EndsAs (W.contents output.old) (W.contents output.new) result.status (record { text = line.now; status = 3 }) }
+/// Writes the lines with which a run ends, and ends it with this status.
+pub(crate) fn end_with<W: Write>(lines: &[u8], end: u8, starved: bool, output: &mut W) -> RunEnd
+    ensures told { EndsAs (W.contents output.old) (W.contents output.new) result.status (record { text = lines.now; status = end }) }
     ensures starved { result.starved ≡ starved }
 {
-    let status = match write_text(output, line) {
-        Ok(()) => UNOPENED,
+    let status = match write_text(output, lines) {
+        Ok(()) => end,
         Err(_) => BROKEN,
     };
     RunEnd { status, starved }
@@ -149,8 +149,8 @@ fn end_unopened<W: Write>(alloc: Global, fault: Unopened, output: &mut W) -> Run
 {
     let mut line = String::new(alloc);
     match push_unopened(fault, &mut line) {
-        Ok(()) => end_with(line.as_bytes(), fault.is_memory(), output),
-        Err(_) => end_with(memory_text(fault), true, output),
+        Ok(()) => end_with(line.as_bytes(), UNOPENED, fault.is_memory(), output),
+        Err(_) => end_with(memory_text(fault), UNOPENED, true, output),
     }
 }
 

@@ -2,9 +2,11 @@
 //! calls it over standard input and output.
 #![tactic(auto)]
 
+pub mod checking;
 mod commands;
 pub mod engine;
 mod frames;
 mod opening;
+mod places;
 mod refusals;
 mod replies;

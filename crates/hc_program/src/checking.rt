@@ -1,0 +1,108 @@
+//! The run of `projectcheck`: reads a project text, and tells that it is a project, or why it isn't and where.
+ghost use Rattle.std.specs.Prelude.{◌≡◌, ◌≤◌, ◌++◌, false, true, length, IfOk, IfSome, OnOk, string_bytes};
+ghost use Rattle.hc_text.specs.declared.input.TheConstants.{MOST_INPUT};
+ghost use Rattle.hc_program.specs.Checking.{CheckOutcome, IsTold, StarvedCheck, position_text, told_status, told_text};
+ghost use Rattle.hc_program.specs.Starved.{EndsAsOne};
+
+use crate::engine::{BROKEN, DONE, RunEnd, UNOPENED, end_with};
+use crate::opening::{Unopened, memory_text};
+use crate::places::push_spot;
+use crate::refusals::push_project_fault;
+use hc_project::{Found, locate};
+use hc_records::faults::ProjectFault;
+use hc_text::input::{Unread, read_all};
+use std::alloc::{AllocError, Global};
+use std::io::{Read, Write};
+
+/// What is told of a text.
+#[derive(Drop)]
+struct Told {
+    /// The lines to print.
+    text: String,
+    /// The exit status.
+    status: u8,
+}
+
+/// Adds the line of a place in a text that is no TOML document.
+fn push_position(line: usize, column: usize, out: &mut String) -> Result<(), AllocError>
+    ensures { OnOk result (string_bytes out.new ≡ string_bytes out.old ++ position_text line column) }
+{
+    write!(out, "at line {line} column {column}\n")
+}
+
+/// Adds the lines of a fault and its place, or the line `ok`.
+fn push_told(found: Option<Found>, out: &mut String) -> Result<(), AllocError>
+    ensures { OnOk result (string_bytes out.new ≡ string_bytes out.old ++ told_text found) }
+{
+    match found {
+        None => out.push_str("ok\n"),
+        Some(Found::InText { line, column }) => {
+            push_project_fault(ProjectFault::NotToml, out)?;
+            push_position(line, column, out)
+        }
+        Some(Found::InProject { fault, spot }) => {
+            push_project_fault(fault, out)?;
+            push_spot(spot, out)
+        }
+    }
+}
+
+fn status_of(found: Option<Found>) -> u8
+    ensures { result ≡ told_status found }
+{
+    match found {
+        None => DONE,
+        Some(_) => UNOPENED,
+    }
+}
+
+/// What is told of a text, or `AllocError` where a growth was refused.
+fn tell(alloc: Global, input: &[u8]) -> Result<Told, AllocError>
+    ensures { IfOk result (λ told. IsTold input.now (string_bytes told.text) told.status) }
+{
+    let found = locate(alloc, input)?;
+    let mut text = String::new(alloc);
+    push_told(found, &mut text)?;
+    Ok(Told {
+        text,
+        status: status_of(found),
+    })
+}
+
+/// Tells of an input that is read.
+fn check_input<W: Write>(alloc: Global, input: &[u8], output: &mut W) -> RunEnd
+    requires { length input.now ≤ MOST_INPUT }
+    ensures unstarved { result.starved ≡ false
+        → EndsAsOne (W.contents output.old) (W.contents output.new) result.status (CheckOutcome input.now) }
+    ensures starved { result.starved ≡ true
+        → EndsAsOne (W.contents output.old) (W.contents output.new) result.status StarvedCheck }
+{
+    match tell(alloc, input) {
+        Ok(told) => end_with(told.text.as_bytes(), told.status, false, output),
+        Err(_) => {
+            let line = memory_text(Unopened::Project(ProjectFault::Memory));
+            end_with(line, UNOPENED, true, output)
+        }
+    }
+}
+
+/// Runs the check: reads all of a reader, and writes `ok`, or the fault of the project text and its place. Where it ends
+/// unstarved with another status than 4, what was written is what is told of the text by `locate`, with status 0 for a
+/// project and 3 for a fault; in any unstarved end it is a front of such a text. A starved end has written nothing, with
+/// status 4, where the input isn't read, else `project fault 11 Memory`, with status 3.
+///
+/// Status 4 comes where it comes for `run_hotline`: the input is too long, or reading or writing failed.
+pub fn run_projectcheck<R: Read, W: Write>(alloc: Global, input: &mut R, output: &mut W) -> RunEnd
+    ensures unstarved { result.starved ≡ false → IfSome (R.remaining input.old)
+        (λ bytes. EndsAsOne (W.contents output.old) (W.contents output.new) result.status (CheckOutcome bytes)) }
+    ensures starved { result.starved ≡ true
+        → EndsAsOne (W.contents output.old) (W.contents output.new) result.status StarvedCheck }
+{
+    match read_all(alloc, input) {
+        Ok(bytes) => check_input(alloc, &bytes, output),
+        Err(fault) => RunEnd {
+            status: BROKEN,
+            starved: fault == Unread::Memory,
+        },
+    }
+}

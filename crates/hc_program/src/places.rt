@@ -1,0 +1,155 @@
+//! Places of a project's text as they are printed.
+ghost use Rattle.std.specs.Prelude.{◌≡◌, ◌++◌, OnOk, string_bytes};
+ghost use Rattle.hc_program.specs.Places.{alias_text, array_text, first_text, group_text, item_text, key_name, key_text, path_text, place_text, separator, spot_text, station_text};
+
+use hc_project::{Key, Place, Spot};
+use std::alloc::AllocError;
+
+/// A full stop where something stands before it.
+fn separator(is_behind: bool) -> &'static str
+    ensures { result.now ≡ separator is_behind }
+{
+    if is_behind { "." } else { "" }
+}
+
+/// Adds the group of a place, none at the top.
+#[tactic(auto, unfolding(crate::specs::Places::group_text))]
+fn push_group(group: usize, out: &mut String) -> Result<(), AllocError>
+    ensures { OnOk result (string_bytes out.new ≡ string_bytes out.old ++ group_text group) }
+{
+    if group == 0 {
+        return Ok(());
+    }
+    let index = group - 1;
+    write!(out, "group[{index}]")
+}
+
+/// Adds an item of an array, none where the place lies in none.
+#[tactic(auto, unfolding(crate::specs::Places::array_text))]
+fn push_array(
+    is_behind: bool,
+    name: &str,
+    index: Option<usize>,
+    out: &mut String,
+) -> Result<(), AllocError>
+    ensures { OnOk result (string_bytes out.new ≡ string_bytes out.old ++ array_text is_behind name.now index) }
+{
+    match index {
+        Some(index) => {
+            let dot = separator(is_behind);
+            write!(out, "{dot}{name}[{index}]")
+        }
+        None => Ok(()),
+    }
+}
+
+fn push_item(name: &str, index: usize, rest: &str, out: &mut String) -> Result<(), AllocError>
+    ensures { OnOk result (string_bytes out.new ≡ string_bytes out.old ++ item_text name.now index rest.now) }
+{
+    write!(out, "{name}[{index}]{rest}")
+}
+
+fn push_key_name(key: Key, out: &mut String) -> Result<(), AllocError>
+    ensures { OnOk result (string_bytes out.new ≡ string_bytes out.old ++ key_name key) }
+{
+    match key {
+        Key::Whole => Ok(()),
+        Key::Groups => out.push_str("group"),
+        Key::Alias => out.push_str("alias"),
+        Key::Slaves => out.push_str("slave"),
+        Key::Station => out.push_str("station"),
+        Key::Areas => out.push_str("area"),
+        Key::Sm => out.push_str("sm"),
+        Key::Dir => out.push_str("dir"),
+        Key::Phys => out.push_str("phys"),
+        Key::Task => out.push_str("task"),
+        Key::Assigned => out.push_str("assigned"),
+        Key::AssignedAt(index) => push_item("assigned", index, "", out),
+        Key::Pdos => out.push_str("pdo"),
+        Key::Index => out.push_str("index"),
+        Key::Entries => out.push_str("entries"),
+        Key::Entry(index) => push_item("entries", index, "", out),
+        Key::Variable(index) => push_item("entries", index, "[0]", out),
+        Key::Bits(index) => push_item("entries", index, "[1]", out),
+    }
+}
+
+/// Adds what a place names, nothing where it is the table itself.
+#[tactic(auto, unfolding(crate::specs::Places::key_text))]
+fn push_key(is_behind: bool, key: Key, out: &mut String) -> Result<(), AllocError>
+    ensures { OnOk result (string_bytes out.new ≡ string_bytes out.old ++ key_text is_behind key) }
+{
+    if let Key::Whole = key {
+        return Ok(());
+    }
+    out.push_str(separator(is_behind))?;
+    push_key_name(key, out)
+}
+
+/// Adds the keys and indexes of a place.
+#[tactic(auto, unfolding(crate::specs::Places::path_text))]
+fn push_path(place: Place, out: &mut String) -> Result<(), AllocError>
+    ensures { OnOk result (string_bytes out.new ≡ string_bytes out.old ++ path_text place) }
+{
+    let in_group = place.group != 0;
+    push_group(place.group, out)?;
+    push_array(in_group, "slave", place.slave, out)?;
+    push_array(true, "area", place.area, out)?;
+    push_array(true, "pdo", place.pdo, out)?;
+    push_key(in_group || place.slave.is_some(), place.key, out)
+}
+
+#[tactic(auto, unfolding(crate::specs::Places::alias_text))]
+fn push_alias(alias: u16, out: &mut String) -> Result<(), AllocError>
+    ensures { OnOk result (string_bytes out.new ≡ string_bytes out.old ++ alias_text alias) }
+{
+    if alias == 0 {
+        return Ok(());
+    }
+    write!(out, " alias {alias}")
+}
+
+#[tactic(auto, unfolding(crate::specs::Places::station_text))]
+fn push_station(station: u16, out: &mut String) -> Result<(), AllocError>
+    ensures { OnOk result (string_bytes out.new ≡ string_bytes out.old ++ station_text station) }
+{
+    if station == 0 {
+        return Ok(());
+    }
+    write!(out, " station {station}")
+}
+
+/// Adds a place, with its group's alias and its slave's station address where they are known.
+#[tactic(auto, unfolding(crate::specs::Places::place_text))]
+fn push_place(place: Place, out: &mut String) -> Result<(), AllocError>
+    ensures { OnOk result (string_bytes out.new ≡ string_bytes out.old ++ place_text place) }
+{
+    push_path(place, out)?;
+    push_alias(place.alias, out)?;
+    push_station(place.station, out)
+}
+
+/// Adds the place of the earlier of two things.
+fn push_first(first: Option<Place>, out: &mut String) -> Result<(), AllocError>
+    ensures { OnOk result (string_bytes out.new ≡ string_bytes out.old ++ first_text first) }
+{
+    match first {
+        Some(place) => {
+            out.push_str(" first ")?;
+            push_place(place, out)
+        }
+        None => Ok(()),
+    }
+}
+
+/// Adds the line of a place, as `at slave[1].station station 7 first slave[0].station station 7`. `AllocError` where a
+/// growth was refused; `out` may then have a front of the line.
+#[tactic(auto, unfolding(crate::specs::Places::spot_text))]
+pub fn push_spot(spot: Spot, out: &mut String) -> Result<(), AllocError>
+    ensures { OnOk result (string_bytes out.new ≡ string_bytes out.old ++ spot_text spot) }
+{
+    out.push_str("at ")?;
+    push_place(spot.place, out)?;
+    push_first(spot.first, out)?;
+    out.push_str("\n")
+}
