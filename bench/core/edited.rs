@@ -3,7 +3,7 @@
 //! A turn plays rounds of edits in the core, in the library's plan before it and behind it, and in the plain core before
 //! and behind these. Each edit of a round has one that takes it back. Behind a round all owed blocks are written and all
 //! tasks are posted, so that an edit finds known blocks and values. What is told of an edit, and its changes, are dropped
-//! behind it. What two readings of the clock take with nothing between is taken off.
+//! behind it. The least that two readings of the clock take with nothing between is taken off.
 
 mod rows;
 
@@ -232,9 +232,9 @@ fn median(mut values: Vec<f64>) -> f64 {
     values.get(values.len() / 2).copied().unwrap_or(f64::NAN)
 }
 
-/// What edits take, less what nothing takes: the median over rounds.
+/// What edits take, less the least that nothing takes: the median over rounds.
 fn of(rounds: &Rounds, edits: &[usize]) -> f64 {
-    let nothing = median(rounds.iter().filter_map(|row| row.last()).map(|time| *time as f64).collect());
+    let nothing = rounds.iter().filter_map(|row| row.last()).min().map_or(0.0, |time| *time as f64);
     median(rounds.iter().flat_map(|row| edits.iter().map(|edit| row[*edit] as f64 - nothing)).collect())
 }
 
