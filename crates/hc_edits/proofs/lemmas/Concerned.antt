@@ -78,7 +78,7 @@ rank_all declared = ranked declared.present declared.group.slaves
 by_rank-around : (front behind : List Declared) (declared : Declared) → by_rank (front ++ declared ∷ behind) ≡ by_rank front ++ (rank_all declared ++ by_rank behind)
 by_rank-around front behind declared = flat_map-append rank_all front (declared ∷ behind)
 
-pub rank-count : (groups : List Declared) → length (by_rank groups) ≡ sum_by (λ declared. length declared.group.slaves) groups
+rank-count : (groups : List Declared) → length (by_rank groups) ≡ sum_by (λ declared. length declared.group.slaves) groups
 rank-count [] = refl
 rank-count (declared ∷ groups) =
     length-append (rank_all declared) (by_rank groups)
