@@ -6,6 +6,8 @@
 #[cfg(test)]
 mod breaks;
 #[cfg(test)]
+mod checks;
+#[cfg(test)]
 mod devices;
 #[cfg(test)]
 mod edits;
