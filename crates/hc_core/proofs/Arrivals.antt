@@ -1,6 +1,6 @@
 -- What is kept stays right behind each arrival.
 use Rattle.std.proofs.Common.{◌≡◌, ℕ, ◌<◌, ◌≤◌, arith, true, false, cond, List, [], ◌∷◌, ◌++◌, map, sym, ap, ◌∙◌, subst, Some, None}
-use Rattle.std.specs.Prelude.{All, fold, slice_get}
+use Rattle.std.specs.Prelude.{All, fold}
 use Rattle.std.specs.List.{flat_map, list_any}
 use Rattle.std.proofs.lemmas.Bool.{not-true}
 use Rattle.std.proofs.lemmas.List.Elements.{All-weaker}
@@ -12,7 +12,7 @@ use Rattle.hc_records.proofs.lemmas.Lengths.{length-sendable}
 use Rattle.hc_records.proofs.lemmas.Packable.{project-packable}
 use Rattle.hc_records.specs.Line.{groups_of, line}
 use Rattle.hc_records.specs.Project.{lowest_fault}
-use Rattle.hc_registers.specs.Blocks.{LineBlock, line_blocks}
+use Rattle.hc_registers.specs.Blocks.{LineBlock}
 use Rattle.hc_plan.specs.Reports.{name_of}
 use Rattle.hc_events.specs.Arrivals.{Arrival}
 use Rattle.hc_events.specs.Accepted.{AreAccepted, StandsIn}
@@ -29,8 +29,8 @@ use Rattle.hc_events.proofs.lemmas.WithoutStale.{goods-of_news}
 use Rattle.hc_awaited.specs.Waiting.{ended}
 use Rattle.hc_awaited.proofs.lemmas.Sorts.{write-kept}
 use Rattle.hc_inputs.specs.Image.{Image, data_of}
-use Rattle.hc_owed.specs.Laws.{WritesAreRight, known_with}
-use Rattle.hc_owed.specs.Writes.{confirmed}
+use Rattle.hc_owed.specs.Board.{Board, kept_of}
+use Rattle.hc_owed.specs.Laws.{known_with}
 use Rattle.hc_core.proofs.Awaits.{waits-ended, waits-stale}
 use Rattle.hc_core.proofs.Posts.{values-came}
 use Rattle.hc_core.proofs.Known.{kept-alike, known-done, known-framed, known-missed}
@@ -59,10 +59,7 @@ agree-stale kept past taken arrival stale agree =
       waits = waits-stale past kept.awaited arrival stale agree.waits;
       slots = λ task d below. agree.slots task d below ∙ sym (says.slots task d);
       values = values-came past arrival kept.outputs agree.values;
-      known = record {
-        blocks = agree.known.blocks ∙ kept-alike (known_bytes past) (known_bytes (Came arrival ∷ past)) (state_of past) (λ station number. sym (says.known station number));
-        room = agree.known.room;
-      };
+      known = agree.known ∙ kept-alike (known_bytes past) (known_bytes (Came arrival ∷ past)) (state_of past) (λ station number. sym (says.known station number));
       tells = news-none taken past arrival kept.changes (none_fresh past arrival stale) agree.tells;
     }
 
@@ -93,11 +90,8 @@ agree-inputs kept past taken arrival outcomes inputs tells puts agree = record {
       ∙ ap (λ slot. fold (renewed task d) slot (goods_in outcomes arrival.parts)) (agree.slots task d below)
       ∙ ap (fold (renewed task d) (slot_of past task d)) (sym tells.goods);
   values = values-came past arrival kept.outputs agree.values;
-  known = record {
-    blocks = agree.known.blocks
-        ∙ kept-alike (known_bytes past) (known_bytes (Came arrival ∷ past)) (state_of past) (λ station number. sym (known-framed past arrival tells.sending tells.there tells.frame station number));
-    room = agree.known.room;
-  };
+  known = agree.known
+      ∙ kept-alike (known_bytes past) (known_bytes (Came arrival ∷ past)) (state_of past) (λ station number. sym (known-framed past arrival tells.sending tells.there tells.frame station number));
   tells = news-came taken past arrival kept.changes (goods_in outcomes arrival.parts) tells.goods (fresh-fits StandsIn past arrival (all_sent past agree.accepted)) agree.tells;
 }
 
@@ -118,10 +112,7 @@ agree-missed kept past taken arrival tells agree = record {
   waits = waits-ended past kept.awaited arrival agree.accepted agree.waits tells.news;
   slots = λ task d below. agree.slots task d below ∙ sym (none_put past arrival task d tells.none);
   values = values-came past arrival kept.outputs agree.values;
-  known = record {
-    blocks = agree.known.blocks ∙ kept-alike (known_bytes past) (known_bytes (Came arrival ∷ past)) (state_of past) (λ station number. sym (known-missed past arrival tells.good_is station number));
-    room = agree.known.room;
-  };
+  known = agree.known ∙ kept-alike (known_bytes past) (known_bytes (Came arrival ∷ past)) (state_of past) (λ station number. sym (known-missed past arrival tells.good_is station number));
   tells = news-none taken past arrival kept.changes tells.none agree.tells;
 }
 
@@ -130,10 +121,10 @@ agree-missed kept past taken arrival tells agree = record {
 heads_same : (a b : LineBlock) (xs ys : List LineBlock) → a ∷ xs ≡ b ∷ ys → a ≡ b
 heads_same a b xs ys e = cc
 
-pub agree-done : WritesAreRight → (kept : Kept) (past taken : Record) (arrival : Arrival) (n : ℕ) (block : LineBlock) (rest : List LineBlock)
-    → TellsWrite past arrival true → owed_blocks past ≡ block ∷ rest → slice_get (line_blocks (line_of past)) n ≡ Some block → Agree kept past taken
-    → Agree (record kept { awaited = ended arrival.serial kept.awaited; owed = record kept.owed { blocks = confirmed n block.block.bytes kept.owed.blocks } }) (Came arrival ∷ past) taken
-agree-done right kept past taken arrival n block rest tells first at agree =
+pub agree-done : (kept : Kept) (past taken : Record) (arrival : Arrival) (block : LineBlock) (rest : List LineBlock) (owed : Board) → TellsWrite past arrival true → owed_blocks past ≡ block ∷ rest
+    → owed ≡ kept_of (known_with (name_of block) (Some block.block.bytes) (known_bytes past)) (state_of past) → Agree kept past taken
+    → Agree (record kept { awaited = ended arrival.serial kept.awaited; owed = owed }) (Came arrival ∷ past) taken
+agree-done kept past taken arrival block rest owed tells first confirmed agree =
     let write = write-kept past kept.awaited arrival.serial tells.sending agree.waits.kept tells.there tells.writes in
     let way = agree.waits.written write.write write.there in
     let same : way.block ≡ block = heads_same way.block block way.rest rest (sym way.first ∙ first) in
@@ -148,13 +139,9 @@ agree-done right kept past taken arrival n block rest tells first at agree =
       waits = waits-ended past kept.awaited arrival agree.accepted agree.waits tells.news;
       slots = λ task d below. agree.slots task d below ∙ sym (none_put past arrival task d tells.none);
       values = values-came past arrival kept.outputs agree.values;
-      known = record {
-        blocks = ap (confirmed n block.block.bytes) agree.known.blocks
-            ∙ (right (known_bytes past) (state_of past) n block (record { project = agree.project; stands = at })).when_confirmed
-            ∙ kept-alike (known_with (name_of block) (Some block.block.bytes) (known_bytes past)) (known_bytes (Came arrival ∷ past)) (state_of past)
-            (λ station number. sym (known station number ∙ ap (λ (one : LineBlock). known_with (name_of one) (Some one.block.bytes) (known_bytes past) station number) same));
-        room = agree.known.room;
-      };
+      known = confirmed
+          ∙ kept-alike (known_with (name_of block) (Some block.block.bytes) (known_bytes past)) (known_bytes (Came arrival ∷ past)) (state_of past)
+          (λ station number. sym (known station number ∙ ap (λ (one : LineBlock). known_with (name_of one) (Some one.block.bytes) (known_bytes past) station number) same));
       tells = news-none taken past arrival kept.changes tells.none agree.tells;
     }
 

@@ -1,10 +1,9 @@
 -- What is kept stays right behind an accepted edit.
-use Rattle.std.proofs.Common.{◌≡◌, ℕ, ◌≤◌, List, [], ◌∷◌, ◌++◌, map, refl, sym, ap, ◌∙◌, subst, append_assoc, Some, None, Option}
-use Rattle.std.specs.Prelude.{IsOk, Ok, Result}
+use Rattle.std.proofs.Common.{◌≡◌, ℕ, ◌+◌, List, [], ◌∷◌, ◌++◌, length, map, refl, sym, ap, ◌∙◌, subst, append_assoc, length-append, Some, None, Option}
+use Rattle.std.specs.Prelude.{Err, IfSome, IsOk, Ok, Result}
 use Rattle.std.specs.Result.{result_unwrap_or}
-use Rattle.std.proofs.lemmas.List.{map-append}
+use Rattle.std.proofs.lemmas.List.{length-map, map-append}
 use Rattle.hc_records.specs.declared.edit.Edit.{Edit}
-use Rattle.hc_records.specs.declared.records.Declared.{Declared}
 use Rattle.hc_records.specs.declared.faults.EditFault.{EditFault}
 use Rattle.hc_records.specs.Boundaries.{recut}
 use Rattle.hc_records.specs.Edits.{changed as changed_state, crowded_task, edit_faults, edited, refused_by, state_after}
@@ -12,12 +11,18 @@ use Rattle.hc_records.specs.Line.{State, groups_of, line}
 use Rattle.hc_records.specs.Lists.{lowest}
 use Rattle.hc_records.specs.Project.{lowest_fault}
 use Rattle.hc_edits.specs.Edits.{own_fault}
-use Rattle.hc_registers.specs.Blocks.{LineBlock, line_blocks}
+use Rattle.hc_edits.proofs.lemmas.Accepted.{accepted-project}
+use Rattle.hc_edits.proofs.lemmas.Refusals.{own-refuses}
 use Rattle.hc_places.specs.declared.swap.Swap.{Swap}
 use Rattle.hc_places.specs.Swap.{swapped}
-use Rattle.hc_places.specs.Table.{table_of}
+use Rattle.hc_places.specs.Table.{Table, table_of}
+use Rattle.hc_ranks.specs.declared.blocks.Gone.{Gone}
+use Rattle.hc_ranks.specs.Blocks.{RankedBlock}
+use Rattle.hc_ranks.specs.Differences.{Differ}
+use Rattle.hc_ranks.specs.Places.{places}
+use Rattle.hc_plan.specs.Prepared.{IsPrepared, PreparedEdit}
 use Rattle.hc_plan.specs.declared.report.Report.{Report}
-use Rattle.hc_plan.specs.Reports.{Tells, name_of}
+use Rattle.hc_plan.specs.Reports.{Tells}
 use Rattle.hc_events.specs.declared.answer.Answer.TheVariants as answer
 use Rattle.hc_events.specs.declared.change.Change.{Change}
 use Rattle.hc_events.specs.declared.change.Change.TheVariants as change
@@ -31,22 +36,18 @@ use Rattle.hc_events.specs.Steps.{told_of_edit}
 use Rattle.hc_events.proofs.lemmas.Views.{legal-joined}
 use Rattle.hc_awaited.specs.Waiting.{nothing}
 use Rattle.hc_inputs.specs.Image.{HasNone, Image}
+use Rattle.hc_outputs.specs.Moves.{Moves, table_after}
 use Rattle.hc_outputs.specs.Packed.{Holds, Packed}
 use Rattle.hc_outputs.specs.Values.{kept as kept_over}
-use Rattle.hc_owed.specs.Edits.{IsEdited, changed}
-use Rattle.hc_owed.specs.Kept.{declared_blocks, name_kept}
-use Rattle.hc_owed.specs.Laws.{EditsAreRight, kept_by, kept_of, known_over}
+use Rattle.hc_owed.specs.Board.{Board, kept_of}
+use Rattle.hc_owed.specs.Laws.{IsEdited, known_over}
 use Rattle.hc_core.proofs.Awaits.{waits-edited}
 use Rattle.hc_core.proofs.Posts.{values-edited}
 use Rattle.hc_core.proofs.Known.{kept-alike, known-edited}
 use Rattle.hc_core.specs.Agreement.{Agree, Kept}
 use Rattle.hc_core.specs.News.{TellNews}
-
--- a fault of its own is that over the declared groups of the plan
-
-pub own-told : (kept : Kept) (past taken : Record) (edit : Edit) (groups : List Declared) → groups ≡ kept.plan.groups → Agree kept past taken → own_fault (state_of past).groups edit ≡ own_fault groups edit
-own-told kept past taken edit groups same agree =
-    ap (λ (state : State). own_fault state.groups edit) (sym agree.state) ∙ ap (λ (all : List Declared). own_fault all edit) (sym same)
+use Rattle.hc_core.specs.Prepared.{CoreEdit, IsReady}
+use Rattle.hc_core.specs.State.{CoreState}
 
 -- the state that an accepted edit leads to is that behind it
 
@@ -56,6 +57,23 @@ accepted_next (Some fault) made next e = cc
 
 pub after-is : (state : State) (edit : Edit) (next : State) → edited state edit ≡ Ok next → state_after state edit ≡ next
 after-is state edit next e = ap (λ (made : Result State EditFault). result_unwrap_or made state) e
+
+-- an edit that is accepted has no fault of its own
+
+err_ok : {X : Type 0} (fault : EditFault) (made : X) → Err fault ≡ Ok made → ⊥
+err_ok fault made e = cc
+
+none_own : (found : Option EditFault) → ((fault : EditFault) → found ≡ Some fault → ⊥) → found ≡ None
+none_own None refuses = refl
+none_own (Some fault) refuses = absurd (refuses fault refl)
+
+tells_none : {X : Type 0} (found : Option EditFault) (told : Result X EditFault) → found ≡ None → IfSome found (λ fault. told ≡ Err fault)
+tells_none None told none = tt
+tells_none (Some fault) told none = cc
+
+pub accepted-own : {X : Type 0} (state : State) (edit : Edit) (new : State) (told : Result X EditFault) → edited state edit ≡ Ok new → IfSome (own_fault state.groups edit) (λ fault. told ≡ Err fault)
+accepted-own state edit new told accepted =
+    tells_none (own_fault state.groups edit) told (none_own (own_fault state.groups edit) (λ fault own. err_ok fault new (sym (own-refuses state edit fault own) ∙ accepted)))
 
 pub edited-told : (old new : State) (edit : Edit) (report : Report) → edited old edit ≡ Ok new → Tells old edit new report
     → answer.Edited report.epoch report.recut report.moved ≡ told_of_edit old (state_after old edit)
@@ -94,26 +112,10 @@ news-edited taken past edit changes new report accepted tell tells =
       behind = swap_behind (state_of taken) changes swap ∙ ap (λ state. state_after state swap.edit) behind ∙ ap (state_after (state_of past)) tell.named;
     }
 
--- what hc_owed asks, and what it then keeps
-
-names_kept : (known : ℕ → ℕ → Option (List ℕ)) (blocks : List LineBlock) → map name_kept (map (kept_by known) blocks) ≡ map name_of blocks
-names_kept known [] = refl
-names_kept known (block ∷ blocks) = ap (λ names. (block.station, block.number) ∷ names) (names_kept known blocks)
-
-pub edited-owed : (kept : Kept) (past taken : Record) (edit : Edit) (new : State) (report : Report) → edited kept.plan edit ≡ Ok new → Tells kept.plan edit new report → Agree kept past taken
-    → IsEdited kept.owed.blocks new report
-edited-owed kept past taken edit new report accepted tell agree = record {
-  old = kept.plan;
-  edit = edit;
-  named = ap (map name_kept) agree.known.blocks ∙ names_kept (known_bytes past) (line_blocks (line_of past)) ∙ ap (λ state. map name_of (line_blocks (line state))) (sym agree.state);
-  accepted = accepted;
-  told = tell;
-}
-
 -- all that is kept
 
-pub agree-edited : EditsAreRight → (kept : Kept) (past taken : Record) (edit : Edit) (new : State) (report : Report) (inputs : Image) (outputs : Packed) → edited (state_of past) edit ≡ Ok new → Tells (state_of past) edit new report
-    → lowest_fault (groups_of new.groups) ≡ None → crowded_task (line new) ≡ None → declared_blocks new.groups ≤ kept.owed.room → HasNone inputs
+pub agree-edited : (kept : Kept) (past taken : Record) (new : State) (report : Report) (inputs : Image) (outputs : Packed) (owed : Board) → edited (state_of past) report.swap.edit ≡ Ok new → Tells (state_of past) report.swap.edit new report
+    → crowded_task (line new) ≡ None → HasNone inputs → owed ≡ kept_of (known_over (state_of past) (known_bytes past)) new
     → Holds (table_of (line new)) (kept_over (table_of (line_of past)) (value_bit past)) outputs → Agree kept past taken
     → Agree (record {
       plan = new;
@@ -121,15 +123,16 @@ pub agree-edited : EditsAreRight → (kept : Kept) (past taken : Record) (edit :
       awaited = nothing;
       inputs = inputs;
       outputs = outputs;
-      owed = record kept.owed { blocks = changed kept.owed.blocks report.blocks (line_blocks (line new)) };
+      owed = owed;
       changes = kept.changes ++ change.Swapped report.swap ∷ [];
-    }) (Edited edit ∷ past) taken
-agree-edited right kept past taken edit new report inputs outputs accepted tell project uncrowded room none carried agree =
+    }) (Edited report.swap.edit ∷ past) taken
+agree-edited kept past taken new report inputs outputs owed accepted tell uncrowded none known carried agree =
+    let edit = report.swap.edit in
     let after : state_after (state_of past) edit ≡ new = after-is (state_of past) edit new accepted in
     record {
       accepted = (accepted_next (lowest (edit_faults (state_of past) edit)) (changed_state (state_of past) edit) new accepted, agree.accepted);
       state = sym after;
-      project = subst (λ state. lowest_fault (groups_of state.groups) ≡ None) (sym after) project;
+      project = subst (λ state. lowest_fault (groups_of state.groups) ≡ None) (sym after) (accepted-project (state_of past) new edit agree.project accepted);
       uncrowded = subst (λ state. crowded_task (line state) ≡ None) (sym after) uncrowded;
       serial = agree.serial;
       left = agree.left;
@@ -137,12 +140,66 @@ agree-edited right kept past taken edit new report inputs outputs accepted tell 
       slots = λ task d below. none task d;
       values = values-edited past edit outputs
           (subst (λ (state : State). Holds (table_of (line state)) (kept_over (table_of (line_of past)) (value_bit past)) outputs) (sym after) carried);
-      known = record {
-        blocks = ap (λ blocks. changed blocks report.blocks (line_blocks (line new))) agree.known.blocks
-            ∙ right (known_bytes past) (state_of past) new edit report agree.project accepted tell
-            ∙ kept-alike (known_over (state_of past) (known_bytes past)) (known_bytes (Edited edit ∷ past)) new (λ station number. sym (known-edited past edit station number))
-            ∙ ap (kept_of (known_bytes (Edited edit ∷ past))) (sym after);
-        room = subst (λ (state : State). declared_blocks state.groups ≤ kept.owed.room) (sym after) room;
-      };
+      known = known
+          ∙ kept-alike (known_over (state_of past) (known_bytes past)) (known_bytes (Edited edit ∷ past)) new (λ station number. sym (known-edited past edit station number))
+          ∙ ap (kept_of (known_bytes (Edited edit ∷ past))) (sym after);
       tells = news-edited taken past edit kept.changes new report accepted tell agree.tells;
     }
+
+-- an edit that is ready for a core, as what the core keeps
+
+pub ready-here : (made own now : CoreState) (ready : CoreEdit) (edit : PreparedEdit) (moves : Moves) (room : List Change) (capacity : ℕ) → IsReady made edit moves room capacity
+    → (let seen : CoreEdit = record { core = made; edit = edit } in seen) ≡ ready → ready.core ≡ now → own ≡ now → IsReady own edit moves room capacity
+ready-here made own now ready edit moves room capacity is view asked sees =
+    subst (λ (core : CoreState). IsReady core edit moves room capacity) (ap (λ (one : CoreEdit). one.core) view ∙ asked ∙ sym sees) is
+
+pub table-leads : (core : CoreState) (edit : PreparedEdit) (moves : Moves) (room : List Change) (capacity : ℕ) → IsReady core edit moves room capacity → IsPrepared edit → table_after moves ≡ table_of (line edit.new)
+table-leads core edit moves room capacity ready prepared =
+    let swap = edit.report.swap.change in
+    ap (λ said. swapped said moves.before) ready.change ∙ ap (swapped swap) ready.table ∙ ap (λ (state : State). swapped swap (table_of (line state))) (sym ready.made) ∙ prepared.told.leads
+
+pub new-project : (edit : PreparedEdit) → IsPrepared edit → lowest_fault (groups_of edit.new.groups) ≡ None
+new-project edit prepared = accepted-project edit.old edit.new edit.report.swap.edit prepared.project prepared.accepted
+
+abbrev pub owed-edited : (kept : Kept) (past taken : Record) (edit : PreparedEdit) (gone : Gone) (blocks : List RankedBlock) → edit.old ≡ state_of past → IsPrepared edit → gone ≡ edit.gone → blocks ≡ edit.blocks → Agree kept past taken
+    → IsEdited kept.owed gone blocks
+owed-edited kept past taken edit gone blocks made prepared left moved agree = record {
+  known = known_bytes past;
+  old = edit.old;
+  edit = edit.report.swap.edit;
+  new = edit.new;
+  right = agree.known ∙ ap (kept_of (known_bytes past)) (sym made);
+  project = prepared.project;
+  accepted = prepared.accepted;
+  differ = subst (λ (span : Gone). Differ (places edit.old) (places edit.new) span blocks) (sym left)
+      (subst (λ (list : List RankedBlock). Differ (places edit.old) (places edit.new) edit.gone list) (sym moved) prepared.differ);
+}
+
+pub agree-carried : (kept : Kept) (past taken : Record) (edit : PreparedEdit) (moves : Moves) (room : List Change) (capacity : ℕ) (inputs : Image) (outputs : Packed) (owed : Board)
+    → IsReady (record { past = past; taken = taken }) edit moves room capacity → IsPrepared edit → HasNone inputs → owed ≡ kept_of (known_over edit.old (known_bytes past)) edit.new
+    → ((value : ℕ → ℕ → ℕ) → Holds moves.before value kept.outputs → Holds (table_after moves) (kept_over moves.before value) outputs) → Agree kept past taken
+    → Agree (record {
+      plan = edit.new;
+      serial = kept.serial;
+      awaited = nothing;
+      inputs = inputs;
+      outputs = outputs;
+      owed = owed;
+      changes = kept.changes ++ change.Swapped edit.report.swap ∷ [];
+    }) (Edited edit.report.swap.edit ∷ past) taken
+agree-carried kept past taken edit moves room capacity inputs outputs owed ready prepared none known moves_so agree =
+    let asked = edit.report.swap.edit in
+    let accepted : edited (state_of past) asked ≡ Ok edit.new = subst (λ (state : State). edited state asked ≡ Ok edit.new) ready.made prepared.accepted in
+    let told : Tells (state_of past) asked edit.new edit.report = subst (λ (state : State). Tells state asked edit.new edit.report) ready.made prepared.told in
+    let before : Holds moves.before (value_bit past) kept.outputs = subst (λ (table : Table). Holds table (value_bit past) kept.outputs) (sym ready.table) agree.values in
+    let carried : Holds (table_of (line edit.new)) (kept_over (table_of (line_of past)) (value_bit past)) outputs =
+    subst (λ (table : Table). Holds (table_of (line edit.new)) (kept_over table (value_bit past)) outputs) ready.table
+    (subst (λ (table : Table). Holds table (kept_over moves.before (value_bit past)) outputs) (table-leads (record { past = past; taken = taken }) edit moves room capacity ready prepared) (moves_so (value_bit past) before)) in
+    agree-edited kept past taken edit.new edit.report inputs outputs owed accepted told prepared.crowds.1 none
+    (known ∙ ap (λ (state : State). kept_of (known_over state (known_bytes past)) edit.new) ready.made) carried agree
+
+-- room that was taken for the changes of a core suffices for them and one more
+
+pub count-waiting : (taken past : Record) (changes : List Change) → TellNews taken past changes → length (news_of past) ≡ length (news_of taken) + length changes
+count-waiting taken past changes tells =
+    ap (λ news. length news) tells.told ∙ length-append (news_of taken) (map told_by changes) ∙ ap (λ n. length (news_of taken) + n) (length-map changes told_by)

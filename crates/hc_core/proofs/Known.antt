@@ -4,8 +4,9 @@ use Rattle.std.specs.Prelude.{option_and_then}
 use Rattle.std.specs.List.{list_any}
 use Rattle.std.proofs.lemmas.Bool.{and_parts, eq-eqb, eqb-true}
 use Rattle.hc_records.specs.declared.edit.Edit.{Edit}
-use Rattle.hc_records.specs.Line.{State, line}
-use Rattle.hc_registers.specs.Blocks.{LineBlock, line_blocks}
+use Rattle.hc_records.specs.Line.{State}
+use Rattle.hc_registers.specs.Blocks.{LineBlock}
+use Rattle.hc_ranks.specs.Places.{places}
 use Rattle.hc_plan.specs.Reports.{name_of}
 use Rattle.hc_events.specs.Arrivals.{Arrival}
 use Rattle.hc_events.specs.Entries.{Entry, Record, Opened, Edited, Posted, Sent, Wrote, Came}
@@ -18,8 +19,8 @@ use Rattle.hc_events.specs.SendingLaws.{is_opening}
 use Rattle.hc_events.proofs.lemmas.Awaited.{by_bool, same_is}
 use Rattle.hc_events.proofs.lemmas.OneWrite.{awaited-heads, known-same, unconfirmed}
 use Rattle.hc_events.proofs.lemmas.Standing.{found-under}
-use Rattle.hc_owed.specs.Edits.{same_name}
-use Rattle.hc_owed.specs.Laws.{Knowledge, kept_by, kept_of, known_over, known_with}
+use Rattle.hc_owed.specs.Board.{Board, Knowledge, differs, kept_of, known_in, owed_in}
+use Rattle.hc_owed.specs.Laws.{known_over, known_with, same_name}
 
 -- what is kept by the same knowledge is the same
 
@@ -27,9 +28,18 @@ map_alike : {X Y : Type 0} (f g : X → Y) → ((x : X) → f x ≡ g x) → (xs
 map_alike f g k [] = refl
 map_alike f g k (x ∷ xs) = ap (λ y. y ∷ map f xs) (k x) ∙ ap (λ ys. g x ∷ ys) (map_alike f g k xs)
 
+known_same : (a b : Knowledge) → ((station number : ℕ) → a station number ≡ b station number) → (place : Option LineBlock) → known_in a place ≡ known_in b place
+known_same a b same None = refl
+known_same a b same (Some block) = same block.station block.number
+
+owed_same : (a b : Knowledge) → ((station number : ℕ) → a station number ≡ b station number) → (place : Option LineBlock) → owed_in a place ≡ owed_in b place
+owed_same a b same None = refl
+owed_same a b same (Some block) = ap (differs block.block.bytes) (same block.station block.number)
+
 pub kept-alike : (a b : Knowledge) (state : State) → ((station number : ℕ) → a station number ≡ b station number) → kept_of a state ≡ kept_of b state
 kept-alike a b state same =
-    map_alike (kept_by a) (kept_by b) (λ block. ap (λ found. kept_by (λ station number. found) block) (same block.station block.number)) (line_blocks (line state))
+    ap (λ (known : List (Option (List ℕ))). let board : Board = record (kept_of a state) { known = known } in board) (map_alike (known_in a) (known_in b) (known_same a b same) (places state))
+    ∙ ap (λ (owed : List Bool). let board : Board = record (kept_of b state) { owed = owed } in board) (map_alike (owed_in a) (owed_in b) (owed_same a b same) (places state))
 
 -- where the last write of a block stands
 

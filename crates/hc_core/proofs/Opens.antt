@@ -1,39 +1,37 @@
 -- What is kept at the opening is what the record of the opening says.
-use Rattle.std.proofs.Common.{◌≡◌, ℕ, ◌≤◌, List, [], map, refl, sym, arith, None}
+use Rattle.std.proofs.Common.{◌≡◌, ◌≤◌, List, [], refl, sym, ◌∙◌, arith, None}
 use Rattle.std.proofs.lemmas.List.{append-nil}
 use Rattle.hc_records.specs.declared.records.Group.{Group}
 use Rattle.hc_records.specs.Edits.{crowded_task}
 use Rattle.hc_records.specs.Line.{State, groups_of, line, opened}
 use Rattle.hc_records.specs.Project.{lowest_fault}
-use Rattle.hc_registers.specs.Blocks.{line_blocks}
 use Rattle.hc_frames.specs.declared.limits.TheConstants.{SETUP_SERIAL}
 use Rattle.hc_events.specs.Accepted.{just_opened}
 use Rattle.hc_events.specs.Changes.{news_of}
+use Rattle.hc_events.specs.Owed.{known_bytes}
 use Rattle.hc_awaited.specs.Waiting.{nothing}
 use Rattle.hc_inputs.specs.Image.{HasNone, Image}
 use Rattle.hc_outputs.specs.Packed.{Holds, Packed}
 use Rattle.hc_places.specs.Table.{table_of}
-use Rattle.hc_owed.specs.Kept.{declared_blocks, unknown}
+use Rattle.hc_owed.specs.Board.{Board, kept_of, nothing_known}
 use Rattle.hc_core.proofs.Awaits.{waits-opened}
+use Rattle.hc_core.proofs.Known.{kept-alike}
 use Rattle.hc_core.specs.Agreement.{Agree}
-
-itself : (n : ℕ) → n ≤ n
-itself n = omega arith
 
 none_sent : 0 ≤ SETUP_SERIAL
 none_sent = omega arith
 
-pub agree-opened : (groups : List Group) (inputs : Image) (outputs : Packed) → lowest_fault (groups_of (opened groups).groups) ≡ None → crowded_task (line (opened groups)) ≡ None → HasNone inputs → Holds (table_of (line (opened groups))) (λ variable k. 0) outputs
+pub agree-opened : (groups : List Group) (inputs : Image) (outputs : Packed) (owed : Board) → lowest_fault (groups_of (opened groups).groups) ≡ None → crowded_task (line (opened groups)) ≡ None → HasNone inputs → owed ≡ kept_of nothing_known (opened groups) → Holds (table_of (line (opened groups))) (λ variable k. 0) outputs
     → Agree (record {
       plan = opened groups;
       serial = 0;
       awaited = nothing;
       inputs = inputs;
       outputs = outputs;
-      owed = record { blocks = map unknown (line_blocks (line (opened groups))); room = declared_blocks (opened groups).groups };
+      owed = owed;
       changes = [];
     }) (just_opened groups) (just_opened groups)
-agree-opened groups inputs outputs project uncrowded none zeros = record {
+agree-opened groups inputs outputs owed project uncrowded none unknown zeros = record {
   accepted = refl;
   state = refl;
   project = project;
@@ -43,7 +41,7 @@ agree-opened groups inputs outputs project uncrowded none zeros = record {
   waits = waits-opened groups;
   slots = λ task d below. none task d;
   values = zeros;
-  known = record { blocks = refl; room = itself (declared_blocks (opened groups).groups) };
+  known = unknown ∙ kept-alike nothing_known (known_bytes (just_opened groups)) (opened groups) (λ station number. refl);
   tells = record { told = sym (append-nil (news_of (just_opened groups))); legal = tt; behind = refl };
 }
 

@@ -93,6 +93,6 @@ agree-posted kept past taken task epoch bytes outputs none holds agree = record 
   waits = waits-posted past kept.awaited task bytes agree.waits;
   slots = agree.slots;
   values = values-posted past task bytes outputs agree.project holds;
-  known = record { blocks = agree.known.blocks; room = agree.known.room };
+  known = agree.known;
   tells = record { told = agree.tells.told; legal = agree.tells.legal; behind = agree.tells.behind };
 }

@@ -19,9 +19,8 @@ use Rattle.hc_events.specs.Sendings.{Frame, Named}
 use Rattle.hc_events.specs.Steps.{SendsTasks, kept_if, proposal, task_faults, with_sent}
 use Rattle.hc_events.proofs.lemmas.Accepted.{accepted-more, kept-after}
 use Rattle.hc_awaited.specs.Waiting.{all_sent, wrote}
-use Rattle.hc_owed.specs.Kept.{declared_blocks, differs}
-use Rattle.hc_owed.specs.Laws.{WritesAreRight, kept_of, known_with}
-use Rattle.hc_owed.specs.Writes.{sent}
+use Rattle.hc_owed.specs.Board.{Board, kept_of}
+use Rattle.hc_owed.specs.Laws.{known_with}
 use Rattle.hc_core.proofs.Awaits.{waits-wrote}
 use Rattle.hc_core.proofs.Posts.{values-sent, values-wrote}
 use Rattle.hc_core.proofs.Known.{kept-alike, known-wrote}
@@ -66,12 +65,9 @@ agree-sent kept past taken tasks none owed left agree =
       waits = waits-all_sent past kept.awaited tasks owed accepted agree.waits;
       slots = λ task d below. agree.slots task d below ∙ sym (sent_alike (λ before. slot_of before task d) (λ before frame. refl) frames past);
       values = values-sent frames past kept.outputs agree.values;
-      known = record {
-        blocks = agree.known.blocks
-            ∙ kept-alike (known_bytes past) (known_bytes (with_sent past frames)) (state_of past) (λ station number. sym (sent_alike (λ before. known_bytes before station number) (λ before frame. refl) frames past))
-            ∙ ap (kept_of (known_bytes (with_sent past frames))) (sym same);
-        room = subst (λ state. declared_blocks state.groups ≤ kept.owed.room) (sym same) agree.known.room;
-      };
+      known = agree.known
+          ∙ kept-alike (known_bytes past) (known_bytes (with_sent past frames)) (state_of past) (λ station number. sym (sent_alike (λ before. known_bytes before station number) (λ before frame. refl) frames past))
+          ∙ ap (kept_of (known_bytes (with_sent past frames))) (sym same);
       tells = record {
         told = sent_alike news_of (λ before frame. refl) frames past ∙ agree.tells.told;
         legal = agree.tells.legal;
@@ -84,14 +80,10 @@ agree-sent kept past taken tasks none owed left agree =
 one_left : (n most : ℕ) → n < most → n + 1 ≤ most
 one_left n most less = omega (arith, less)
 
-owed_differs : (past : Record) (block : LineBlock) (rest : List LineBlock) → owed_blocks past ≡ block ∷ rest → differs block.block.bytes (known_bytes past block.station block.number) ≡ true
-owed_differs past block rest first =
-    All-head (λ (one : LineBlock). is_owed past one ≡ true) block rest
-    (subst (All (λ (one : LineBlock). is_owed past one ≡ true)) first (filter_passes (is_owed past) (line_blocks (line_of past))))
-
-pub agree-wrote : WritesAreRight → (kept : Kept) (past taken : Record) (n : ℕ) (block : LineBlock) → IsFirstOwed past n block → kept.serial < SETUP_SERIAL → Agree kept past taken
-    → Agree (record kept { awaited = wrote kept.serial block kept.awaited; owed = record kept.owed { blocks = sent n kept.owed.blocks }; serial = kept.serial + 1 }) (Wrote block ∷ past) taken
-agree-wrote right kept past taken n block first left agree = record {
+pub agree-wrote : (kept : Kept) (past taken : Record) (n : ℕ) (block : LineBlock) (owed : Board) → IsFirstOwed past n block → kept.serial < SETUP_SERIAL
+    → owed ≡ kept_of (known_with (name_of block) None (known_bytes past)) (state_of past) → Agree kept past taken
+    → Agree (record kept { awaited = wrote kept.serial block kept.awaited; owed = owed; serial = kept.serial + 1 }) (Wrote block ∷ past) taken
+agree-wrote kept past taken n block owed first left sent agree = record {
   accepted = (record { rest = first.rest; first = first.first }, agree.accepted);
   state = agree.state;
   project = agree.project;
@@ -102,11 +94,6 @@ agree-wrote right kept past taken n block first left agree = record {
       (waits-wrote past kept.awaited block first.rest agree.accepted agree.project first.first agree.waits);
   slots = agree.slots;
   values = values-wrote past block kept.outputs agree.values;
-  known = record {
-    blocks = ap (sent n) agree.known.blocks
-        ∙ (right (known_bytes past) (state_of past) n block (record { project = agree.project; stands = first.at })).when_sent (owed_differs past block first.rest first.first)
-        ∙ kept-alike (known_with (name_of block) None (known_bytes past)) (known_bytes (Wrote block ∷ past)) (state_of past) (λ station number. sym (known-wrote past block station number));
-    room = agree.known.room;
-  };
+  known = sent ∙ kept-alike (known_with (name_of block) None (known_bytes past)) (known_bytes (Wrote block ∷ past)) (state_of past) (λ station number. sym (known-wrote past block station number));
   tells = record { told = agree.tells.told; legal = agree.tells.legal; behind = agree.tells.behind };
 }

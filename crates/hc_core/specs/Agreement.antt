@@ -14,8 +14,7 @@ use Rattle.hc_events.specs.Owed.{known_bytes}
 use Rattle.hc_awaited.specs.Waiting.{Waiting}
 use Rattle.hc_inputs.specs.Image.{Image, data_of}
 use Rattle.hc_outputs.specs.Packed.{Packed}
-use Rattle.hc_owed.specs.Kept.{Owed, declared_blocks}
-use Rattle.hc_owed.specs.Laws.{kept_of}
+use Rattle.hc_owed.specs.Board.{Board, kept_of}
 use Rattle.hc_core.specs.Records.{record_of}
 use Rattle.hc_core.specs.declared.keeping.Core.TheInside.{Inside}
 use Rattle.hc_core.specs.News.{TellNews}
@@ -27,11 +26,6 @@ use Rattle.hc_core.specs.Waits.{Waits}
 abbrev pub ShowsSlots : Record → Image → Type 0
 ShowsSlots past image = (task d : ℕ) → d < MOST_DATAGRAMS → data_of image task d ≡ slot_of past task d
 
--- of each block of the line what its slave is known to have, and room for those of all declared slaves
-pub record Knows (past : Record) (owed : Owed) : Type 0 where
-  pub blocks : owed.blocks ≡ kept_of (known_bytes past) (state_of past)
-  pub room : declared_blocks (state_of past).groups ≤ owed.room
-
 -- the parts of a core
 pub record Kept : Type 0 where
   pub plan : State
@@ -39,7 +33,7 @@ pub record Kept : Type 0 where
   pub awaited : Waiting
   pub inputs : Image
   pub outputs : Packed
-  pub owed : Owed
+  pub owed : Board
   pub changes : List Change
 
 -- each part says what the record says
@@ -53,7 +47,7 @@ pub record Agree (kept : Kept) (past taken : Record) : Type 0 where
   pub waits : Waits past kept.awaited
   pub slots : ShowsSlots past kept.inputs
   pub values : HoldsValues past kept.outputs
-  pub known : Knows past kept.owed
+  pub known : kept.owed ≡ kept_of (known_bytes past) (state_of past)
   pub tells : TellNews taken past kept.changes
 
 -- what contracts see of a core

@@ -1,13 +1,14 @@
 -- The first owed block.
 use Rattle.std.specs.Prelude.{◌≡◌, ℕ, ◌≤◌, List, ◌∷◌, length, slice_get, Some}
-use Rattle.hc_registers.specs.Blocks.{LineBlock, RegisterBlock, line_blocks}
+use Rattle.hc_registers.specs.Blocks.{LineBlock, RegisterBlock}
+use Rattle.hc_ranks.specs.Places.{places}
 use Rattle.hc_events.specs.Entries.{Record}
-use Rattle.hc_events.specs.Points.{line_of}
+use Rattle.hc_events.specs.Points.{state_of}
 use Rattle.hc_events.specs.Owed.{owed_blocks}
 
--- a block stands at a position of the line's blocks, and is the first of the owed ones
+-- a block stands at a place of the line, by rank, and is the first of the owed ones
 pub record IsFirstOwed (past : Record) (n : ℕ) (block : LineBlock) : Type 0 where
-  pub at : slice_get (line_blocks (line_of past)) n ≡ Some block
+  pub at : slice_get (places (state_of past)) n ≡ Some (Some block)
   pub rest : List LineBlock
   pub first : owed_blocks past ≡ block ∷ rest
 

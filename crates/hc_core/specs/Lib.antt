@@ -12,6 +12,7 @@ pub mod Records
 pub mod News
 pub mod Agreement
 pub mod Waits
+pub mod Prepared
 pub mod Values
 pub mod Goods
 pub mod Firsts

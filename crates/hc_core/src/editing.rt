@@ -1,51 +1,89 @@
-//! An accepted edit, and what it changes.
+//! An edit: what it would make of the core, and its carrying out.
 ghost use Rattle.std.specs.Prelude.{◌≡◌, ◌≢◌, ◌∷◌, IfErr, IfOk, IfSome, Err, Ok, OnErr, OnOk};
 ghost use Rattle.hc_records.specs.declared.faults.EditFault.TheVariants.{Memory};
 ghost use Rattle.hc_records.specs.Edits.{edited, state_after};
 ghost use Rattle.hc_edits.specs.Edits.{own_fault};
+ghost use Rattle.hc_events.specs.declared.answer.Answer.TheVariants as answer;
 ghost use Rattle.hc_events.specs.Entries.{Edited};
 ghost use Rattle.hc_events.specs.Points.{state_of};
 ghost use Rattle.hc_events.specs.Steps.{told_of_edit};
 
 use crate::keeping::Core;
-use hc_edits::faults::own_fault;
+use crate::prepared::{CoreEdit, add_swap};
 use hc_events::answer::Answer;
-use hc_events::change::Change;
+use hc_outputs::moves::Moves;
+use hc_plan::report::Report;
 use hc_records::edit::Edit;
 use hc_records::faults::EditFault;
 use std::alloc::Global;
+use std::snapshot::Snapshot;
+
+/// What is told of an accepted edit.
+fn told_of(report: &Report) -> Answer
+    ensures { result ≡ answer.Edited report.now.epoch report.now.recut report.now.moved }
+{
+    Answer::Edited {
+        epoch: report.epoch,
+        recut: report.recut,
+        moved: report.moved,
+    }
+}
 
 impl Core {
-    /// An edit, behind the look at its own faults.
-    fn change(&mut self, alloc: Global, edit: &Edit) -> Result<Answer, EditFault>
-        ensures answer { IfOk result (λ told. told ≡ told_of_edit (state_of self.old.past) (state_after (state_of self.old.past) edit.now)) }
+    /// Works out what an edit would make of the core; nothing changes. What is answered tells what the edit would
+    /// cost, and `carry_out` carries it out as long as nothing else was accepted and no change was taken. The
+    /// faults are those of `edit`, the lowest whose condition holds, or `Memory` where a growth was refused: all
+    /// memory of the edit is taken here. A fault that the edit has by itself, of the faults 1 to 11, is told
+    /// whatever memory does.
+    pub fn prepare(&mut self, alloc: Global, edit: &Edit) -> Result<CoreEdit, EditFault>
+        ensures made { IfOk result (λ ready. ready.core ≡ self.old) }
+        ensures edit { IfOk result (λ ready. ready.edit.report.swap.edit ≡ edit.now) }
         ensures accepted { OnOk result (edited (state_of self.old.past) edit.now ≡ Ok (state_after (state_of self.old.past) edit.now)) }
         ensures refused { IfErr result (λ fault. fault ≢ Memory → edited (state_of self.old.past) edit.now ≡ Err fault) }
-        ensures entries { OnOk result (self.new ≡ record self.old { past = Edited edit.now ∷ self.old.past }) }
-        ensures unchanged { OnErr result (self.new ≡ self.old) }
+        ensures own { IfSome (own_fault (state_of self.old.past).groups edit.now) (λ fault. result ≡ Err fault) }
+        ensures unchanged { self.new ≡ self.old }
     {
-        self.changes.reserve(1)?;
-        let old = self.plan.places().copied(alloc)?;
-        let report = self.plan.apply(alloc, edit)?;
-        self.awaited.clear();
-        self.inputs.clear();
-        self.owed.change(&self.plan, &report);
-        self.outputs.change(&old, self.plan.places());
-        let told = Answer::Edited {
-            epoch: report.epoch,
-            recut: report.recut,
-            moved: report.moved,
-        };
-        self.changes.push_reserved(Change::Swapped(report.swap));
-        self.past = self.past.edited(edit);
-        Ok(told)
+        let edit = self.plan.prepare(alloc, edit)?;
+        let moves = Moves::of(alloc, self.plan.places(), &edit.report().swap)?;
+        let room = Vec::with_capacity(alloc, self.changes.len() + 1)?;
+        let core = Snapshot::of(&*self);
+        Ok(CoreEdit {
+            edit,
+            moves,
+            room,
+            core,
+        })
     }
 
-    /// An edit: where it is accepted a new epoch begins, in which nothing is awaited and no datagram has data;
-    /// output variables that keep a place keep their values, and the value of any other is 0;
-    /// the blocks that it moved are owed unless their slaves are known to have their bytes. Otherwise the
-    /// lowest fault whose condition holds, or `Memory` where a growth was refused, and nothing changed. A fault
-    /// that the edit has by itself, of the faults 1 to 11, is told whatever memory does.
+    /// Carries a prepared edit out: a new epoch begins, in which nothing is awaited and no datagram has data;
+    /// output variables that keep a place keep their values, and the value of any other is 0; the blocks that it
+    /// moved are owed unless their slaves are known to have their bytes. The edit was prepared for the core as
+    /// it is. Nothing can be refused, and it takes no memory.
+    pub fn carry_out(&mut self, ready: CoreEdit) -> Answer
+        requires { ready.core ≡ self.old }
+        ensures answer { result ≡ told_of_edit (state_of self.old.past) (state_after (state_of self.old.past) ready.edit.report.swap.edit) }
+        ensures entries { self.new ≡ record self.old { past = Edited ready.edit.report.swap.edit ∷ self.old.past } }
+    {
+        let CoreEdit {
+            edit,
+            moves,
+            room,
+            core: _,
+        } = ready;
+        self.awaited.clear();
+        self.inputs.clear();
+        self.owed.change(edit.gone(), edit.blocks());
+        self.outputs.change(moves, &edit.report().swap);
+        let report = self.plan.carry_out(edit);
+        let told = told_of(&report);
+        self.past = self.past.edited(report.swap.edit());
+        add_swap(&mut self.changes, room, report.swap);
+        told
+    }
+
+    /// An edit, prepared and carried out. Otherwise the lowest fault whose condition holds, or `Memory` where a
+    /// growth was refused, and nothing changed. A fault that the edit has by itself, of the faults 1 to 11, is
+    /// told whatever memory does.
     pub(crate) fn edit(&mut self, alloc: Global, edit: &Edit) -> Result<Answer, EditFault>
         ensures answer { IfOk result (λ told. told ≡ told_of_edit (state_of self.old.past) (state_after (state_of self.old.past) edit.now)) }
         ensures accepted { OnOk result (edited (state_of self.old.past) edit.now ≡ Ok (state_after (state_of self.old.past) edit.now)) }
@@ -54,9 +92,7 @@ impl Core {
         ensures entries { OnOk result (self.new ≡ record self.old { past = Edited edit.now ∷ self.old.past }) }
         ensures unchanged { OnErr result (self.new ≡ self.old) }
     {
-        if let Some(fault) = own_fault(self.plan.groups(), edit) {
-            return Err(fault);
-        }
-        self.change(alloc, edit)
+        let ready = self.prepare(alloc, edit)?;
+        Ok(self.carry_out(ready))
     }
 }

@@ -13,6 +13,7 @@ mod owing;
 mod parting;
 mod past;
 mod posting;
+pub mod prepared;
 mod reading;
 mod sending;
 mod serving;

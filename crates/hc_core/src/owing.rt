@@ -7,25 +7,21 @@ use crate::keeping::Core;
 use hc_plan::blocks::LineBlock;
 
 impl Core {
-    /// The first owed block, with its position in line and block order; none where nothing is owed. It takes
-    /// no memory.
+    /// The first owed block, with its place by rank; none where nothing is owed. It takes no memory.
     pub(crate) fn first_block(&self) -> Option<(u32, LineBlock)>
         ensures { MatchOption result (owed_blocks self.now.past ≡ []) (λ found. IsFirstOwed self.now.past found.0 found.1) }
     {
-        let Some(n) = self.owed.first() else {
+        let Some(first) = self.owed.first() else {
             return None;
         };
-        let Some((station, block)) = self.plan.nth_block(n) else {
-            return None;
-        };
-        let Some((_, number)) = self.owed.name(n) else {
+        let Some(block) = self.plan.block(first.station, first.number) else {
             return None;
         };
         Some((
-            n,
+            first.place,
             LineBlock {
-                station,
-                number,
+                station: first.station,
+                number: first.number,
                 block,
             },
         ))

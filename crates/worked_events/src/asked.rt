@@ -152,37 +152,29 @@ pub fn is_wanted(answer: &Answer, wanted: &Wanted) -> bool {
     }
 }
 
-/// The answer to an edit.
-fn edited(driven: &mut Driven, alloc: Global, edit: Edit) -> Result<Answer, AllocError> {
-    driven.put(alloc, Event::Edit(&edit))
+/// The edit that a row's event is, if it is one.
+fn edit_of(alloc: Global, asked: Asked) -> Result<Option<Edit>, AllocError> {
+    let edit = match asked {
+        Asked::Connect(alias) => Edit::Connect(alias),
+        Asked::Disconnect(alias) => Edit::Disconnect(alias),
+        Asked::Remap(station, area, indexes) => Edit::Remap {
+            station,
+            area,
+            pdos: Items::of(Vec::from_slice(alloc, indexes)?),
+        },
+        Asked::Move(station, area, task) => Edit::Move {
+            station,
+            area,
+            task,
+        },
+        _ => return Ok(None),
+    };
+    Ok(Some(edit))
 }
 
-/// The answer to a row's event.
-pub fn answer(driven: &mut Driven, alloc: Global, asked: Asked) -> Result<Answer, AllocError> {
+/// The answer to a row's event that is no edit; that nothing is owed, to an edit.
+fn other_answer(driven: &mut Driven, alloc: Global, asked: Asked) -> Result<Answer, AllocError> {
     match asked {
-        Asked::Connect(alias) => edited(driven, alloc, Edit::Connect(alias)),
-        Asked::Disconnect(alias) => edited(driven, alloc, Edit::Disconnect(alias)),
-        Asked::Remap(station, area, indexes) => {
-            let pdos = Items::of(Vec::from_slice(alloc, indexes)?);
-            edited(
-                driven,
-                alloc,
-                Edit::Remap {
-                    station,
-                    area,
-                    pdos,
-                },
-            )
-        }
-        Asked::Move(station, area, task) => edited(
-            driven,
-            alloc,
-            Edit::Move {
-                station,
-                area,
-                task,
-            },
-        ),
         Asked::Post(task, epoch, bytes) => driven.put(alloc, Event::Post { task, epoch, bytes }),
         Asked::Send(tasks) => driven.put(alloc, Event::SendTasks(tasks)),
         Asked::Write => driven.put(alloc, Event::SendWrite),
@@ -192,7 +184,43 @@ pub fn answer(driven: &mut Driven, alloc: Global, asked: Asked) -> Result<Answer
             driven.put(alloc, Event::Arrive(bytes.as_slice()))
         }
         Asked::Read(task) => driven.put(alloc, Event::Read(task)),
+        _ => Ok(Answer::Refused(CoreFault::NothingOwed)),
     }
+}
+
+/// The answer to a row's event.
+pub fn answer(driven: &mut Driven, alloc: Global, asked: Asked) -> Result<Answer, AllocError> {
+    match edit_of(alloc, asked)? {
+        Some(edit) => driven.put(alloc, Event::Edit(&edit)),
+        None => other_answer(driven, alloc, asked),
+    }
+}
+
+/// Whether a row's edit is told as the row wants where it is prepared, and leaves the core as it was.
+fn is_prepared(driven: &mut Driven, alloc: Global, row: &Row) -> Result<bool, AllocError> {
+    let Some(edit) = edit_of(alloc, row.0)? else {
+        return Ok(false);
+    };
+    match driven.prepared(alloc, &edit)? {
+        Some(answer) => Ok(is_wanted(&answer, &row.1)),
+        None => Ok(false),
+    }
+}
+
+/// The number, from 0, of the first row whose edit isn't prepared so, none where all are.
+pub fn first_unprepared(
+    driven: &mut Driven,
+    alloc: Global,
+    rows: &[Row],
+) -> Result<Option<usize>, AllocError> {
+    let mut number = 0_usize;
+    for row in rows {
+        if !is_prepared(driven, alloc, row)? {
+            return Ok(Some(number));
+        }
+        number = number.saturating_add(1);
+    }
+    Ok(None)
 }
 
 /// Whether an event is answered as its row wants.

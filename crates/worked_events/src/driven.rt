@@ -10,6 +10,8 @@ use hc_core::keeping::Core;
 use hc_events::answer::Answer;
 use hc_events::event::Event;
 use hc_events::faults::CoreFault;
+use hc_records::edit::Edit;
+use hc_records::faults::EditFault;
 use hc_records::limits::TASKS;
 use std::alloc::{AllocError, Global};
 
@@ -71,6 +73,17 @@ fn served_or_again(core: &mut Core, alloc: Global, event: Event<'_>) -> Answer
     answer
 }
 
+/// What an edit would be answered, by its preparing. It is as many blocks that it would have written as move.
+fn told_before(core: &mut Core, alloc: Global, edit: &Edit) -> Result<Answer, EditFault> {
+    let ready = core.prepare(alloc, edit)?;
+    let report = ready.edit().report();
+    Ok(Answer::Edited {
+        epoch: report.epoch,
+        recut: report.recut,
+        moved: ready.edit().blocks().len() as u32,
+    })
+}
+
 /// A core.
 #[derive(Drop)]
 pub struct Driven {
@@ -89,5 +102,21 @@ impl Driven {
             return Err(AllocError);
         }
         Ok(answer)
+    }
+
+    /// What an edit would be answered, if its preparing leaves the core as it was. Want of memory where a growth was
+    /// refused.
+    pub fn prepared(&mut self, alloc: Global, edit: &Edit) -> Result<Option<Answer>, AllocError> {
+        let left = left_by(&self.core);
+        let answer = match told_before(&mut self.core, alloc, edit) {
+            Ok(told) => told,
+            Err(EditFault::Memory) => return Err(AllocError),
+            Err(fault) => Answer::Refused(CoreFault::from(fault)),
+        };
+        if left_by(&self.core) == left {
+            Ok(Some(answer))
+        } else {
+            Ok(None)
+        }
     }
 }

@@ -1,5 +1,5 @@
 //! What a line is put through, one stage after another.
-use crate::asked::{Row, first_wrong};
+use crate::asked::{Row, first_unprepared, first_wrong};
 use crate::driven::Driven;
 use crate::lines::{opened, write_all};
 use crate::told::{News, are_told};
@@ -17,6 +17,8 @@ pub enum Stage {
     Sends(u32),
     /// Each row's event is answered as it wants.
     Rows(&'static [Row]),
+    /// Each row's edit is prepared, and told as the row wants; none is carried out.
+    Prepared(&'static [Row]),
     /// The changes since they were taken last tell just this.
     Told(&'static [News]),
 }
@@ -50,6 +52,7 @@ fn first_wrong_row(
         Stage::Blocks(count) => write_all(driven, alloc)? == count,
         Stage::Sends(times) => send_times(driven, alloc, times)?,
         Stage::Rows(rows) => return first_wrong(driven, alloc, rows),
+        Stage::Prepared(rows) => return first_unprepared(driven, alloc, rows),
         Stage::Told(news) => are_told(&driven.core.take_changes(alloc), news),
     };
     Ok(if holds { None } else { Some(0) })

@@ -2,7 +2,7 @@
 use crate::asked::Asked::{Comes, Connect, Disconnect, Move, Post, Read, Remap, Send, Write};
 use crate::asked::{Row, Wanted};
 use crate::lines::AXIS;
-use crate::stages::Stage::{Blocks, Rows};
+use crate::stages::Stage::{Blocks, Prepared, Rows};
 use crate::stages::{Case, first_wrong_case};
 use hc_events::answer::Outcome::Inputs;
 use hc_events::faults::CoreFault;
@@ -120,8 +120,14 @@ const COMES: &[Row] = &[
     (Disconnect(0), Wanted::Refused(CoreFault::Mandatory)),
 ];
 
-/// It goes, and what was read is gone; it comes again, and its four blocks are owed again.
-const COMES_AGAIN: &[Row] = &[
+/// What its coming would cost is asked before it comes.
+const ASKED_BEFORE: &[Row] = &[
+    (Connect(7), Wanted::Refused(CoreFault::UnknownAlias)),
+    (Connect(100), Wanted::Edited(1, 1, 4)),
+];
+
+/// Its task is sent, and answered.
+const ANSWERED: &[Row] = &[
     (Post(0, 1, &[2]), Wanted::Posted),
     (
         Send(&[0]),
@@ -134,6 +140,25 @@ const COMES_AGAIN: &[Row] = &[
             datagram: 0,
         }]),
     ),
+];
+
+/// Of each kind of edit it is asked what it would cost: the outputs' two blocks and the place of the inputs move where
+/// they lose their PDO, and both FMMUs where they get another task.
+const ASKED_THEN: &[Row] = &[
+    (Connect(100), Wanted::Refused(CoreFault::AlreadyPresent)),
+    (
+        Remap(1002, 0, &[]),
+        Wanted::Refused(CoreFault::UnknownStation),
+    ),
+    (Remap(1001, 0, &[]), Wanted::Edited(2, 1, 3)),
+    (Move(1001, 0, 1), Wanted::Edited(2, 2, 2)),
+    (Disconnect(100), Wanted::Edited(2, 1, 0)),
+];
+
+/// None of these was carried out: what was read is still read. Now it goes, and what was read is gone; it comes again,
+/// and its four blocks are owed again.
+const COMES_AGAIN: &[Row] = &[
+    (Read(0), Wanted::Image(1, &[Some(b"\x02\x34\x0a")])),
     (Disconnect(100), Wanted::Edited(2, 1, 0)),
     (Read(0), Wanted::Image(2, &[])),
     (Send(&[0]), Wanted::Sent(&[])),
@@ -307,8 +332,11 @@ const LINES: &[Case] = &[
     (
         TOOL,
         &[
+            Prepared(ASKED_BEFORE),
             Rows(COMES),
             Blocks(4),
+            Rows(ANSWERED),
+            Prepared(ASKED_THEN),
             Rows(COMES_AGAIN),
             Blocks(4),
             Rows(ZERO_AGAIN),

@@ -3,8 +3,7 @@ use Rattle.std.proofs.Common.{◌≡◌, ◌≤◌, ℕ, Bool, true, false, cond
 use Rattle.std.specs.Prelude.{All, nat_lt}
 use Rattle.std.specs.List.{enumerate_from}
 use Rattle.std.proofs.lemmas.Bool.{le-ltb}
-use Rattle.std.proofs.lemmas.List.Elements.{All-cons, All-filter, All-head, All-map, All-nil}
-use Rattle.std.proofs.lemmas.Option.{get_or_from_slice_get, slice_get_within}
+use Rattle.std.proofs.lemmas.List.Elements.{All-cons, All-contains, All-filter, All-head, All-map, All-nil}
 use Rattle.hc_records.specs.declared.records.Area.{Area}
 use Rattle.hc_records.specs.Line.{Member}
 use Rattle.hc_records.specs.Lists.{lowest}
@@ -17,6 +16,7 @@ use Rattle.hc_events.specs.Entries.{Record}
 use Rattle.hc_events.specs.Owed.{is_owed, owed_blocks}
 use Rattle.hc_events.specs.Points.{line_of}
 use Rattle.hc_events.specs.Steps.{write_faults}
+use Rattle.hc_events.proofs.lemmas.Answers.{owed-in_line}
 use Rattle.hc_core.specs.Firsts.{HasBytes, IsFirstOwed}
 
 sync_length : (area : Area) → length (sync_manager_bytes area) ≡ 8
@@ -57,8 +57,7 @@ line_has line = All-flat_map Has (member_blocks line) line (λ i d within. membe
 
 pub first-bytes : (past : Record) (n : ℕ) (block : LineBlock) → IsFirstOwed past n block → HasBytes block.block
 first-bytes past n block first =
-    let blocks = line_blocks (line_of past) in
-    subst Has (get_or_from_slice_get blocks n block block first.at) (line_has (line_of past) n block (slice_get_within blocks n block first.at))
+    All-contains Has (line_blocks (line_of past)) block (line_has (line_of past)) (owed-in_line past block first.rest first.first)
 
 first-size : (blocks : List LineBlock) → All Has blocks → write_size blocks ≤ 60
 first-size [] all = omega arith

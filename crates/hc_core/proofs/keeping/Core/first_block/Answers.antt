@@ -1,15 +1,11 @@
-use Rattle.std.proofs.Common.{◌≡◌, ◌∙◌, ℕ, List, [], ap, sym, subst, Some, None}
-use Rattle.std.specs.Prelude.{option_map, slice_get}
-use Rattle.std.proofs.lemmas.Option.{slice_get-map}
+use Rattle.std.proofs.Common.{◌≡◌, ◌∙◌, ℕ, [], ap, sym, subst, Some, None}
 use Rattle.hc_records.specs.Line.{State, line}
-use Rattle.hc_registers.specs.Blocks.{LineBlock, RegisterBlock, line_blocks}
-use Rattle.hc_plan.specs.Configuration.{at_station, line_block_at}
+use Rattle.hc_registers.specs.Blocks.{LineBlock, RegisterBlock}
+use Rattle.hc_plan.specs.Configuration.{block_at}
 use Rattle.hc_events.specs.Owed.{known_bytes, owed_blocks}
-use Rattle.hc_events.specs.Points.{line_of}
-use Rattle.hc_owed.specs.Kept as owed
-use Rattle.hc_owed.specs.Laws.{kept_by}
+use Rattle.hc_events.specs.Points.{line_of, state_of}
 use Rattle.hc_core.specs.Records.{record_of}
-use Rattle.hc_core.proofs.Firsts.{first-owed, none-owed}
+use Rattle.hc_core.proofs.Firsts.{first-configured}
 use Rattle.hc_core.specs.Firsts.{IsFirstOwed}
 use Rattle.hc_core.specs.State.{CoreState}
 use Rattle.hc_core.proofs.keeping.Core.first_block.Goals as goal
@@ -22,44 +18,33 @@ same_some x y e = cc
 
 pub returns-in_default : goal.returns-in_default
 returns-in_default c =
+    let past = record_of c.self.inside.past in
     subst (λ (state : CoreState). owed_blocks state.past ≡ []) c.self.view_is
-    (none-owed (record_of c.self.inside.past) c.self.inside.owed.blocks c.self.invariant.known.blocks (sym c.in_default.ensures))
+    (c.in_default.ensures (known_bytes past) (state_of past) c.self.invariant.project c.self.invariant.known)
 
-pub returns-in_default-nth_block : goal.returns-in_default-nth_block
-returns-in_default-nth_block c =
+pub returns-in_default-block : goal.returns-in_default-block
+returns-in_default-block c =
     let past = record_of c.self.inside.past in
-    let found = first-owed past c.self.inside.owed.blocks c.in-Some.n c.self.invariant.known.blocks (sym c.in-Some.ensures) in
-    let never : None ≡ Some (found.0.station, found.0.block) =
-    c.in_default-nth_block.ensures ∙ ap (λ (state : State). line_block_at (line state) c.in-Some.n) c.self.invariant.state
-    ∙ ap (option_map (λ (one : LineBlock). at_station one.station one.block)) found.1.at in
-    absurd (none_some (found.0.station, found.0.block) never)
-
-pub returns-in_default-name : goal.returns-in_default-name
-returns-in_default-name c =
-    let past = record_of c.self.inside.past in
-    let found = first-owed past c.self.inside.owed.blocks c.in-Some.n c.self.invariant.known.blocks (sym c.in-Some.ensures) in
-    let never : None ≡ Some (found.0.station, found.0.number) =
-    c.in_default-name.ensures ∙ ap (λ (blocks : List owed.Kept). option_map owed.name_kept (slice_get blocks c.in-Some.n)) c.self.invariant.known.blocks
-    ∙ ap (option_map owed.name_kept) (slice_get-map (kept_by (known_bytes past)) (line_blocks (line_of past)) c.in-Some.n ∙ ap (option_map (kept_by (known_bytes past))) found.1.at) in
-    absurd (none_some (found.0.station, found.0.number) never)
+    let found = c.in-Some.ensures (known_bytes past) (state_of past) c.self.invariant.project c.self.invariant.known in
+    let never : None ≡ Some found.block.block =
+    c.in_default-block.ensures ∙ ap (λ (state : State). block_at (line state) c.in-Some.first.station c.in-Some.first.number) c.self.invariant.state
+    ∙ ap (λ (n : ℕ). block_at (line_of past) n c.in-Some.first.number) found.station ∙ ap (block_at (line_of past) found.block.station) found.number
+    ∙ first-configured past found.block found.rest c.self.invariant.project found.first in
+    absurd (none_some found.block.block never)
 
 pub returns : goal.returns
 returns c =
     let past = record_of c.self.inside.past in
-    let found = first-owed past c.self.inside.owed.blocks c.in-Some.n c.self.invariant.known.blocks (sym c.in-Some.ensures) in
-    let station = c.in-Some-nth_block.station in
-    let block = c.in-Some-nth_block.block in
-    let number = c.in-Some-name.number in
-    let pair : Some (station, block) ≡ Some (found.0.station, found.0.block) =
-    c.in-Some-nth_block.ensures ∙ ap (λ (state : State). line_block_at (line state) c.in-Some.n) c.self.invariant.state
-    ∙ ap (option_map (λ (one : LineBlock). at_station one.station one.block)) found.1.at in
-    let name : Some (c.in-Some-name.field-0-0, number) ≡ Some (found.0.station, found.0.number) =
-    c.in-Some-name.ensures ∙ ap (λ (blocks : List owed.Kept). option_map owed.name_kept (slice_get blocks c.in-Some.n)) c.self.invariant.known.blocks
-    ∙ ap (option_map owed.name_kept) (slice_get-map (kept_by (known_bytes past)) (line_blocks (line_of past)) c.in-Some.n ∙ ap (option_map (kept_by (known_bytes past))) found.1.at) in
-    let parts = same_some (station, block) (found.0.station, found.0.block) pair in
-    let names = same_some (c.in-Some-name.field-0-0, number) (found.0.station, found.0.number) name in
-    let same = ap (λ (n : ℕ). let one : LineBlock = record { station = n; number = number; block = block } in one) (ap (λ (p : ℕ × RegisterBlock). p.0) parts)
-    ∙ ap (λ (n : ℕ). let one : LineBlock = record { station = found.0.station; number = n; block = block } in one) (ap (λ (p : ℕ × ℕ). p.1) names)
-    ∙ ap (λ (b : RegisterBlock). let one : LineBlock = record { station = found.0.station; number = found.0.number; block = b } in one) (ap (λ (p : ℕ × RegisterBlock). p.1) parts) in
-    subst (λ (state : CoreState). IsFirstOwed state.past c.in-Some.n (record { station = station; number = number; block = block })) c.self.view_is
-    (subst (IsFirstOwed past c.in-Some.n) (sym same) found.1)
+    let found = c.in-Some.ensures (known_bytes past) (state_of past) c.self.invariant.project c.self.invariant.known in
+    let first = c.in-Some.first in
+    let block = c.in-Some-block.block in
+    let own : Some block ≡ Some found.block.block =
+    c.in-Some-block.ensures ∙ ap (λ (state : State). block_at (line state) first.station first.number) c.self.invariant.state
+    ∙ ap (λ (n : ℕ). block_at (line_of past) n first.number) found.station ∙ ap (block_at (line_of past) found.block.station) found.number
+    ∙ first-configured past found.block found.rest c.self.invariant.project found.first in
+    let same = ap (λ (n : ℕ). let one : LineBlock = record { station = n; number = first.number; block = block } in one) found.station
+    ∙ ap (λ (n : ℕ). let one : LineBlock = record { station = found.block.station; number = n; block = block } in one) found.number
+    ∙ ap (λ (b : RegisterBlock). let one : LineBlock = record { station = found.block.station; number = found.block.number; block = b } in one) (same_some block found.block.block own) in
+    let is : IsFirstOwed past first.place found.block = record { at = found.stands; rest = found.rest; first = found.first } in
+    subst (λ (state : CoreState). IsFirstOwed state.past first.place (record { station = first.station; number = first.number; block = block })) c.self.view_is
+    (subst (IsFirstOwed past first.place) (sym same) is)

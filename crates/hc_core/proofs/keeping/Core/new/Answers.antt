@@ -1,6 +1,5 @@
-use Rattle.std.proofs.Common.{◌≡◌, ◌∙◌, List, ap, map, sym, subst}
+use Rattle.std.proofs.Common.{◌≡◌, ◌∙◌, List, ap, sym, subst}
 use Rattle.hc_records.specs.Line.{State, line, opened}
-use Rattle.hc_registers.specs.Blocks.{line_blocks}
 use Rattle.hc_events.specs.declared.change.Change.{Change}
 use Rattle.hc_events.specs.Accepted.{just_opened}
 use Rattle.hc_events.specs.Entries.{Record}
@@ -8,7 +7,7 @@ use Rattle.hc_awaited.specs.Waiting.{Waiting, nothing}
 use Rattle.hc_outputs.specs.Packed.{Holds, IsLaidOut}
 use Rattle.hc_outputs.proofs.lemmas.LaidOut.{line-laid_out}
 use Rattle.hc_places.specs.Table.{Table, table_of}
-use Rattle.hc_owed.specs.Kept.{Owed, declared_blocks, unknown}
+use Rattle.hc_owed.specs.Board.{Board, kept_of, nothing_known}
 use Rattle.hc_core.specs.Records.{record_of}
 use Rattle.hc_core.proofs.Opens.{IsProject, IsUncrowded, agree-opened}
 use Rattle.hc_core.specs.Agreement.{Agree, Kept}
@@ -21,21 +20,19 @@ invariant_of-result c =
     let plan = c.in_ok-plan.ensures.state in
     let past : record_of c.opened-past.result ≡ just_opened groups = c.opened-past.ensures in
     let taken : record_of c.of-taken.result.value ≡ just_opened groups = ap record_of c.of-taken.ensures ∙ past in
-    let kept : State → Waiting → Owed → List Change → Kept = λ state awaited owed changes. record { plan = state; serial = 0; awaited = awaited; inputs = inputs; outputs = c.in_ok-outputs.outputs; owed = owed; changes = changes } in
-    let owing : State → Owed = λ state. record { blocks = map unknown (line_blocks (line state)); room = declared_blocks state.groups } in
-    let owed : c.in_ok-owed.owed ≡ owing (opened groups) = c.in_ok-owed.ensures ∙ ap owing plan in
+    let kept : State → Waiting → List Change → Kept = λ state awaited changes. record { plan = state; serial = 0; awaited = awaited; inputs = inputs; outputs = c.in_ok-outputs.outputs; owed = c.in_ok-owed.owed; changes = changes } in
+    let owed : c.in_ok-owed.owed ≡ kept_of nothing_known (opened groups) = c.in_ok-owed.ensures ∙ ap (kept_of nothing_known) plan in
     let zeros : Holds (table_of (line (opened groups))) (λ variable k. 0) c.in_ok-outputs.outputs =
     subst (λ (t : Table). Holds t (λ variable k. 0) c.in_ok-outputs.outputs) (c.places.ensures.table ∙ ap (λ (state : State). table_of (line state)) plan) c.in_ok-outputs.ensures in
-    subst (λ (before : Record). Agree (kept c.in_ok-plan.plan c.in_ok-awaited.awaited c.in_ok-owed.owed c.new-6.result.items) before (record_of c.of-taken.result.value)) (sym past)
-    (subst (λ (before : Record). Agree (kept c.in_ok-plan.plan c.in_ok-awaited.awaited c.in_ok-owed.owed c.new-6.result.items) (just_opened groups) before) (sym taken)
-    (subst (λ (state : State). Agree (kept state c.in_ok-awaited.awaited c.in_ok-owed.owed c.new-6.result.items) (just_opened groups) (just_opened groups)) (sym plan)
-    (subst (λ (waiting : Waiting). Agree (kept (opened groups) waiting c.in_ok-owed.owed c.new-6.result.items) (just_opened groups) (just_opened groups)) (sym c.in_ok-awaited.ensures)
-    (subst (λ (owed : Owed). Agree (kept (opened groups) nothing owed c.new-6.result.items) (just_opened groups) (just_opened groups)) (sym owed)
-    (subst (λ (changes : List Change). Agree (kept (opened groups) nothing (owing (opened groups)) changes) (just_opened groups) (just_opened groups)) (sym c.new-6.ensures.items)
-    (agree-opened groups inputs c.in_ok-outputs.outputs
+    subst (λ (before : Record). Agree (kept c.in_ok-plan.plan c.in_ok-awaited.awaited c.new-6.result.items) before (record_of c.of-taken.result.value)) (sym past)
+    (subst (λ (before : Record). Agree (kept c.in_ok-plan.plan c.in_ok-awaited.awaited c.new-6.result.items) (just_opened groups) before) (sym taken)
+    (subst (λ (state : State). Agree (kept state c.in_ok-awaited.awaited c.new-6.result.items) (just_opened groups) (just_opened groups)) (sym plan)
+    (subst (λ (waiting : Waiting). Agree (kept (opened groups) waiting c.new-6.result.items) (just_opened groups) (just_opened groups)) (sym c.in_ok-awaited.ensures)
+    (subst (λ (changes : List Change). Agree (kept (opened groups) nothing changes) (just_opened groups) (just_opened groups)) (sym c.new-6.ensures.items)
+    (agree-opened groups inputs c.in_ok-outputs.outputs c.in_ok-owed.owed
     (subst IsProject plan c.places.ensures.kept)
     (subst IsUncrowded plan c.places.ensures.uncrowded)
-    c.in_ok-inputs.ensures zeros))))))
+    c.in_ok-inputs.ensures owed zeros)))))
 
 pub new-requires-5 : goal.new-requires-5
 new-requires-5 c =
