@@ -218,6 +218,12 @@ fn spoil(fault: usize, draws: &mut Draws, project: &mut Project) -> (&'static st
     let at = At::drawn(draws);
     let [first, later] = two(draws);
     match fault {
+        1 => {
+            at.slave(project).station = "?".into();
+            let text = text_of(project);
+            let lines = text.lines().take_while(|line| *line != "station = ?").count();
+            ("NotToml", format!("line {} column 11", lines + 1))
+        }
         2 => {
             let rest = spoil_missing(draws, at.spoilt(project));
             ("MissingField", at.area_path(rest) + &at.numbers(project))
@@ -317,7 +323,7 @@ fn main() -> ExitCode {
         return ExitCode::from(1);
     }
     let mut draws = Draws(7);
-    for fault in 2..=10 {
+    for fault in 1..=10 {
         for _ in 0..DRAWS {
             let mut spoilt = project();
             let (name, place) = spoil(fault, &mut draws, &mut spoilt);
@@ -327,6 +333,6 @@ fn main() -> ExitCode {
             }
         }
     }
-    println!("{} spoilt projects of {} slaves are told with their places", 9 * DRAWS, GROUPS * SLAVES);
+    println!("{} spoilt projects of {} slaves are told with their places", 10 * DRAWS, GROUPS * SLAVES);
     ExitCode::SUCCESS
 }
