@@ -73,15 +73,18 @@ fn served_or_again(core: &mut Core, alloc: Global, event: Event<'_>) -> Answer
     answer
 }
 
-/// What an edit would be answered, by its preparing. It is as many blocks that it would have written as move.
-fn told_before(core: &mut Core, alloc: Global, edit: &Edit) -> Result<Answer, EditFault> {
+/// What an edit would be answered, by its preparing; none where it names another number of blocks than it moves.
+fn told_before(core: &mut Core, alloc: Global, edit: &Edit) -> Result<Option<Answer>, EditFault> {
     let ready = core.prepare(alloc, edit)?;
     let report = ready.edit().report();
-    Ok(Answer::Edited {
+    if ready.edit().blocks().len() != report.moved as usize {
+        return Ok(None);
+    }
+    Ok(Some(Answer::Edited {
         epoch: report.epoch,
         recut: report.recut,
-        moved: ready.edit().blocks().len() as u32,
-    })
+        moved: report.moved,
+    }))
 }
 
 /// A core.
@@ -111,10 +114,10 @@ impl Driven {
         let answer = match told_before(&mut self.core, alloc, edit) {
             Ok(told) => told,
             Err(EditFault::Memory) => return Err(AllocError),
-            Err(fault) => Answer::Refused(CoreFault::from(fault)),
+            Err(fault) => Some(Answer::Refused(CoreFault::from(fault))),
         };
         if left_by(&self.core) == left {
-            Ok(Some(answer))
+            Ok(answer)
         } else {
             Ok(None)
         }
