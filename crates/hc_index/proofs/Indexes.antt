@@ -1,69 +1,44 @@
 -- What an index of a project's groups finds in their line.
-use Rattle.std.proofs.Common.{◌≡◌, ◌≢◌, ℕ, zero, suc, ◌+◌, ◌-◌, ◌<◌, ◌≤◌, ◌==◌, Bool, true, false, List, length, get_or, take, Option, Some, None, refl, sym, ap, subst, ◌∙◌, arith, rules}
-use Rattle.std.specs.Prelude.{All, AllPairs, Contains, IfSome, MatchOption, is_some, nat_lt, option_map, position, slice_get, sum_by}
+use Rattle.std.proofs.Common.{◌≡◌, ◌≢◌, ℕ, ◌+◌, ◌-◌, ◌<◌, ◌≤◌, ◌==◌, Bool, true, false, List, [], length, get_or, take, Option, Some, None, refl, sym, ap, subst, ◌∙◌, arith, if◌then◌else◌}
+use Rattle.std.specs.Prelude.{All, AllPairs, Contains, MatchOption, find, is_some, option_and_then, option_map, position, slice_get, sum_by}
 use Rattle.std.specs.List.{list_any}
-use Rattle.std.specs.List.Sorted.{IsNonDecreasingBy, IsPartitionPoint}
-use Rattle.std.proofs.lemmas.Bool.{eq-eqb, eqb-true, ltb-false, ltb-true}
+use Rattle.std.specs.List.Sorted.{IsNonDecreasing}
+use Rattle.std.proofs.lemmas.Bool.{eq-eqb, eqb-true}
 use Rattle.std.proofs.lemmas.Bool.Decides.{nat_tests}
-use Rattle.std.proofs.lemmas.List.Elements.{All-weaker}
-use Rattle.std.proofs.lemmas.List.Sorted.{All-permutation, Contains-permutation, IsPermutation-sym, length_permutation, list_any-IsPermutation}
-use Rattle.std.proofs.lemmas.Option.{get_or_from_slice_get, slice_get-get_or, slice_get_past, slice_get_within}
+use Rattle.std.proofs.lemmas.List.Elements.{All-map, All-weaker}
+use Rattle.std.proofs.lemmas.List.Sums.{sum_by_more_le}
+use Rattle.std.proofs.lemmas.List.Sorted.{All-permutation, Contains-permutation, IsPermutation-sym, list_any-IsPermutation}
+use Rattle.std.proofs.lemmas.Option.{get_or_from_slice_get, slice_get-map, slice_get_past, slice_get_within}
 use Rattle.hc_records.specs.declared.limits.TheConstants.{MOST_AREAS}
 use Rattle.hc_records.specs.declared.records.Declared.{Declared}
+use Rattle.hc_records.specs.declared.records.Slave.{Slave}
 use Rattle.hc_records.specs.Edits.{has_station}
 use Rattle.hc_records.specs.Line.{Member, groups_of, is_at, line_from}
 use Rattle.hc_records.specs.Project.{lowest_fault}
-use Rattle.hc_records.proofs.lemmas.Finds.{mapped-some}
-use Rattle.hc_records.proofs.lemmas.Lines.{line-ascends}
+use Rattle.hc_records.proofs.lemmas.Lines.{RankWithin, declared_slaves, line-within}
 use Rattle.hc_records.proofs.lemmas.Lists.{AllPairs-weaker}
 use Rattle.hc_records.proofs.lemmas.Slaves.{line-inside, line-stations, project-counted}
 use Rattle.hc_records.proofs.lemmas.Walks.{length-line}
 use Rattle.hc_index.specs.declared.addresses.Address.{Address}
-use Rattle.hc_index.specs.declared.seats.Seat.{Seat}
-use Rattle.hc_index.specs.Index.{Index, IsIndexOf, IsIndexOfDeclared, address_of, addresses, own_blocks, owned_by, present_blocks, slave_in}
-use Rattle.hc_index.proofs.Declaring.{addresses-distinct, addresses-length, addresses-ranked, any-station, line-among}
-use Rattle.hc_index.proofs.Found.{any-none, any-some, only-one, past-end, position-at, position-none}
-use Rattle.hc_index.proofs.Owners.{few-blocks, line-sum, owned-at}
-use Rattle.hc_index.proofs.Rising.{rises}
-use Rattle.hc_index.proofs.Seated.{IsSeated, SeatOf, blocks-next, blocks-rise, line-seated, ranks-absent, ranks-rise, seat-at, seated-length}
-
--- an element of which all have something has it
-all-get : {X : Type 0} (P : X → Type 0) (xs : List X) (i : ℕ) (x : X) → All P xs → slice_get xs i ≡ Some x → P x
-all-get P xs i x all at = subst P (get_or_from_slice_get xs i x x at) (all i x (slice_get_within xs i x at))
+use Rattle.hc_index.specs.Index.{Index, IsIndexOf, IsMember, address_of, addresses, all_present, block_sum, blocks_of, declared_count, own_blocks, own_sum, owned_by, present_count, rank_in, slave_in, sums_from, IsSpot, block_sums}
+use Rattle.hc_index.proofs.Declaring.{addresses-distinct, addresses-ranked, any-station, line-among}
+use Rattle.hc_index.proofs.Found.{any-none, any-some, find-position, only-one, position-at, position-none}
+use Rattle.hc_index.proofs.Lines.{line-absent, line-at, line-front, line-length, line-ranks}
+use Rattle.hc_index.proofs.Owners.{line-sum, owned-at, owned-past}
+use Rattle.hc_index.proofs.Summed.{FallsIn, all-get, begin-rising, falls-behind, falls-in, some-at, sums-at, sums-last, sums-length}
 
 all-contained : {X : Type 0} (P : X → Type 0) (xs : List X) (x : X) → All P xs → Contains xs x → P x
 all-contained P xs x all at = subst P at.2 (all at.0 x at.1)
 
-pub is-seated : (groups : List Declared) (index : Index) → IsIndexOf groups index → IsSeated groups 0 index.seats (line_from 1 groups)
-is-seated groups index is = subst (λ (seats : List Seat). IsSeated groups 0 seats (line_from 1 groups)) (sym is.seats) (line-seated groups)
-
-pub line-length : (groups : List Declared) (index : Index) → IsIndexOf groups index → length index.seats ≡ length (line_from 1 groups)
-line-length groups index is = seated-length groups 0 index.seats (line_from 1 groups) (is-seated groups index is)
+-- an index of groups, seen with them
+pub seen : {own groups : List Declared} {index : Index} → own ≡ groups → IsIndexOf own index → IsIndexOf groups index
+seen {index} same is = subst (λ (g : List Declared). IsIndexOf g index) same is
 
 pub line-low : (groups : List Declared) → lowest_fault (groups_of groups) ≡ None → length (line_from 1 groups) < 65535
 line-low groups none =
     let few = length-line 1 groups in
-    let counted : sum_by (λ (d : Declared). length d.group.slaves) groups < 65535 = project-counted groups none in
+    let counted : sum_by declared_count groups < 65535 = project-counted groups none in
     omega (arith, few, counted)
-
-pub seats-ascend : (groups : List Declared) (index : Index) → IsIndexOf groups index → IsNonDecreasingBy (λ (seat : Seat). seat.rank) index.seats
-seats-ascend groups index is =
-    rises (λ (seat : Seat). seat.rank) index.seats (ranks-rise groups 0 index.seats (line_from 1 groups) (is-seated groups index is) (line-ascends 1 groups))
-
-pub fronts-rise : (groups : List Declared) (index : Index) → IsIndexOf groups index → IsNonDecreasingBy (λ (seat : Seat). seat.blocks) index.seats
-fronts-rise groups index is =
-    rises (λ (seat : Seat). seat.blocks) index.seats (blocks-rise groups 0 index.seats (line_from 1 groups) (is-seated groups index is))
-
-pub few-present : (groups : List Declared) → lowest_fault (groups_of groups) ≡ None → present_blocks groups < 4294967296
-few-present groups none =
-    let line = line_from 1 groups in
-    let sum = line-sum 1 groups in
-    let low = line-low groups none in
-    let blocks = few-blocks line (λ k d within. (line-inside groups none k d within).few) in
-    omega (arith, sum, low, blocks)
-
-pub room-for : (groups : List Declared) (index : Index) → IsIndexOfDeclared groups index → sum_by (λ (d : Declared). length d.group.slaves) groups ≡ length index.addresses
-room-for groups index is = sym (addresses-length 1 groups) ∙ sym (length_permutation (addresses groups) index.addresses is.addresses)
 
 -- the slave with a station address
 
@@ -86,17 +61,71 @@ ranked-apart : (groups : List Declared) → AllPairs (λ a b. a.rank ≢ b.rank)
 ranked-apart groups =
     AllPairs-weaker (λ (a b : Address). a.rank < b.rank) (λ a b. a.rank ≢ b.rank) (λ a b below same. omega arith) (addresses groups) (addresses-ranked groups)
 
-pub position-found : (groups : List Declared) (index : Index) (station rank place : ℕ) → IsIndexOf groups index → Contains index.addresses (record { station = station; rank = rank })
-    → option_map (λ (seat : Seat). seat.rank) (slice_get index.seats place) ≡ Some rank → position (is_at station) (line_from 1 groups) ≡ Some place
-position-found groups index station rank place is declared at =
+-- its rank is at least 1
+pub rank-some : (groups : List Declared) (index : Index) (address : Address) → IsIndexOf groups index → Contains index.addresses address → 1 ≤ address.rank
+rank-some groups index address is at =
+    all-contained (λ (a : Address). 1 ≤ a.rank) (addresses groups) address
+    (All-map (λ (a : Address). 1 ≤ a.rank) address_of (line_from 1 (all_present groups))
+    (All-weaker (RankWithin 1 (1 + length (declared_slaves (all_present groups)))) (λ member. 1 ≤ member.rank) (λ member within. within.0) (line_from 1 (all_present groups)) (line-within 1 (all_present groups))))
+    (declared-among groups index address is at)
+
+-- a slave of a group that is present, in the line
+
+present-own : (present : Bool) (slaves : List Slave) → present ≡ true → (if present then slaves else []) ≡ slaves
+present-own true slaves is = refl
+present-own false slaves is = cc
+
+is-present : (present : Bool) (slaves : List Slave) (place : ℕ) → place < length (if present then slaves else []) → present ≡ true
+is-present true slaves place inside = refl
+is-present false slaves place inside = absurd (omega arith)
+
+pub found-in : (groups : List Declared) (group place : ℕ) (declared : Declared) (slave : Slave) → slice_get groups group ≡ Some declared → slice_get declared.group.slaves place ≡ Some slave
+    → slave_in groups group place ≡ Some slave
+found-in groups group place declared slave here own = ap (option_and_then (λ (d : Declared). slice_get d.group.slaves place)) here ∙ own
+
+-- and its member of a line
+pub member-in : (groups : List Declared) (group place rank : ℕ) (slave : Slave) → rank ≡ rank_in groups group place → slave_in groups group place ≡ Some slave
+    → option_map {U = Member} (λ slave. record { rank = rank_in groups group place; slave = slave }) (slave_in groups group place) ≡ Some (record { rank = rank; slave = slave })
+member-in groups group place rank slave is found =
+    ap (option_map {U = Member} (λ (s : Slave). record { rank = rank_in groups group place; slave = s })) found ∙ ap (λ (r : ℕ). Some (record { rank = r; slave = slave })) (sym is)
+
+pub no-member : {M : Type 0} (o : Option M) (member : M) → o ≡ None → o ≡ Some member → ⊥
+no-member o member none some = let bad : None ≡ Some member = sym none ∙ some in cc
+
+-- it stands at a position, and is found at its place
+pub record StandsAt (groups : List Declared) (group place : ℕ) : Type 0 where
+  pub slave : Slave
+  pub found : slave_in groups group place ≡ Some slave
+  pub at : slice_get (line_from 1 groups) (sum_by present_count (take group groups) + place) ≡ Some (record { rank = rank_in groups group place; slave = slave })
+
+pub stands-at : (groups : List Declared) (group place : ℕ) (declared : Declared) → slice_get groups group ≡ Some declared → declared.present ≡ true → place < length declared.group.slaves → StandsAt groups group place
+stands-at groups group place declared here present inside =
+    let own = some-at declared.group.slaves place inside in
+    record {
+      slave = own.0;
+      found = found-in groups group place declared own.0 here own.1;
+      at =
+          line-at 1 groups group place declared own.0 here
+          (ap (λ (slaves : List Slave). slice_get slaves place) (present-own declared.present declared.group.slaves present) ∙ own.1);
+    }
+
+pub falls-at : (groups : List Declared) (position group place : ℕ) → FallsIn present_count groups position group place → StandsAt groups group place
+falls-at groups position group place falls =
+    let present = is-present falls.x.present falls.x.group.slaves place falls.low in
+    stands-at groups group place falls.x falls.at present
+    (subst (λ (slaves : List Slave). place < length slaves) (present-own falls.x.present falls.x.group.slaves present) falls.low)
+
+pub position-found : (groups : List Declared) (index : Index) (station rank group place : ℕ) → IsIndexOf groups index → Contains index.addresses (record { station = station; rank = rank })
+    → IsMember groups rank group place → position (is_at station) (line_from 1 groups) ≡ Some (sum_by present_count (take group groups) + place)
+position-found groups index station rank group place is declared member =
     let line = line_from 1 groups in
-    let found = mapped-some (λ (seat : Seat). seat.rank) (slice_get index.seats place) rank at in
-    let of : SeatOf groups line place 0 found.0 = seat-at groups 0 index.seats line place found.0 (is-seated groups index is) found.1 in
-    let own = all-get (λ (m : Member). Contains (addresses groups) (address_of m)) line place of.member (line-among groups) of.at in
-    let same = only-one (λ (a : Address). a.rank) (addresses groups) (address_of of.member) (record { station = station; rank = rank }) (ranked-apart groups) own
-    (declared-among groups index (record { station = station; rank = rank }) is declared) (sym of.stands.rank ∙ found.2) in
-    let here : of.member.slave.station ≡ station = ap (λ (a : Address). a.station) same in
-    position-at (is_at station) line place of.member (alone groups station is.declared.project) of.at (eq-eqb of.member.slave.station station here)
+    let stands = stands-at groups group place member.declared member.at member.present member.inside in
+    let of : Member = record { rank = rank_in groups group place; slave = stands.slave } in
+    let own = all-get (λ (m : Member). Contains (addresses groups) (address_of m)) line (sum_by present_count (take group groups) + place) of (line-among groups) stands.at in
+    let same = only-one (λ (a : Address). a.rank) (addresses groups) (address_of of) (record { station = station; rank = rank }) (ranked-apart groups) own
+    (declared-among groups index (record { station = station; rank = rank }) is declared) (sym member.ranked) in
+    let here : stands.slave.station ≡ station = ap (λ (a : Address). a.station) same in
+    position-at (is_at station) line (sum_by present_count (take group groups) + place) of (alone groups station is.declared.project) stands.at (eq-eqb stands.slave.station station here)
 
 by-test : (rank : ℕ) (m : Member) (all : List Address) (station : ℕ) (here : Bool) → (m.slave.station == station) ≡ here → AllPairs (λ a b. a.station ≢ b.station) all
     → Contains all (address_of m) → Contains all (record { station = station; rank = rank }) → m.rank ≢ rank → (m.slave.station == station) ≡ false
@@ -106,13 +135,12 @@ by-test rank m all station true is distinct own declared other =
     absurd (other (ap (λ (a : Address). a.rank) same))
 
 pub position-absent : (groups : List Declared) (index : Index) (station rank : ℕ) → IsIndexOf groups index → Contains index.addresses (record { station = station; rank = rank })
-    → All (λ seat. seat.rank ≢ rank) index.seats → position (is_at station) (line_from 1 groups) ≡ None
+    → All (λ member. member.rank ≢ rank) (line_from 1 groups) → position (is_at station) (line_from 1 groups) ≡ None
 position-absent groups index station rank is declared none =
     let line = line_from 1 groups in
-    let others = ranks-absent groups 0 rank index.seats line (is-seated groups index is) none in
     position-none (is_at station) line
     (λ k d within. by-test rank (get_or line k d) (addresses groups) station ((get_or line k d).slave.station == station) refl (addresses-distinct groups is.declared.project)
-    (line-among groups k d within) (declared-among groups index (record { station = station; rank = rank }) is declared) (others k d within))
+    (line-among groups k d within) (declared-among groups index (record { station = station; rank = rank }) is declared) (none k d within))
 
 pub position-unknown : (groups : List Declared) (index : Index) (station : ℕ) → IsIndexOf groups index → All (λ address. address.station ≢ station) index.addresses
     → position (is_at station) (line_from 1 groups) ≡ None
@@ -122,25 +150,6 @@ position-unknown groups index station is none =
     position-none (is_at station) line
     (λ k d within. not-at (get_or line k d).slave.station station
     (all-contained (λ (a : Address). a.station ≢ station) (addresses groups) (address_of (get_or line k d)) all (line-among groups k d within)))
-
--- the position, if there is one, of the seat with the rank that is declared with it
-
-pub position-is : (groups : List Declared) (index : Index) (station rank : ℕ) (found : Option ℕ) → IsIndexOf groups index → Contains index.addresses (record { station = station; rank = rank })
-    → MatchOption found (All (λ seat. seat.rank ≢ rank) index.seats) (λ place. option_map (λ (seat : Seat). seat.rank) (slice_get index.seats place) ≡ Some rank)
-    → found ≡ position (is_at station) (line_from 1 groups)
-position-is groups index station rank None is declared none = sym (position-absent groups index station rank is declared none)
-position-is groups index station rank (Some place) is declared at = sym (position-found groups index station rank place is declared at)
-
-pub place-low : (groups : List Declared) (index : Index) (rank : ℕ) (found : Option ℕ) → IsIndexOf groups index
-    → MatchOption found (All (λ seat. seat.rank ≢ rank) index.seats) (λ place. option_map (λ (seat : Seat). seat.rank) (slice_get index.seats place) ≡ Some rank)
-    → IfSome found (λ place. place < 65535)
-place-low groups index rank None is none = search rules
-place-low groups index rank (Some place) is at =
-    let seat = mapped-some (λ (s : Seat). s.rank) (slice_get index.seats place) rank at in
-    let within = slice_get_within index.seats place seat.0 seat.1 in
-    let long = line-length groups index is in
-    let low = line-low groups is.declared.project in
-    omega (arith, within, long, low)
 
 -- whether it is declared
 pub declared-is : (groups : List Declared) (index : Index) (station : ℕ) (found : Option ℕ) → IsIndexOf groups index
@@ -156,117 +165,202 @@ declared-is groups index station (Some rank) is at =
     ∙ any-some test index.addresses at.0 (record { station = station; rank = rank }) at.1
     (eq-eqb (get_or index.addresses at.0 (record { station = station; rank = rank })).station station (ap (λ (a : Address). a.station) at.2)))
 
--- the slave at a position, by its seat
+-- the slave that has a block
+pub record OwnerOf (groups : List Declared) (n group place number : ℕ) : Type 0 where
+  pub stands : StandsAt groups group place
+  pub low : place < 65535
+  pub few : number < 256
+  pub owned : owned_by (line_from 1 groups) n ≡ Some (record { rank = rank_in groups group place; slave = stands.slave }, number)
 
-pub nth-found : (groups : List Declared) (index : Index) (place : ℕ) (seat : Seat) → IsIndexOf groups index → slice_get index.seats place ≡ Some seat
-    → option_map (λ slave. record { rank = seat.rank; slave = slave }) (slave_in groups seat.group seat.place) ≡ slice_get (line_from 1 groups) place
-nth-found groups index place seat is at =
-    let of : SeatOf groups (line_from 1 groups) place 0 seat = seat-at groups 0 index.seats (line_from 1 groups) place seat (is-seated groups index is) at in
-    ap (option_map (λ slave. record { rank = seat.rank; slave = slave })) of.stands.slave
-    ∙ ap (λ (rank : ℕ). Some (record { rank = rank; slave = of.member.slave })) of.stands.rank
-    ∙ sym of.at
+own-present : (present : Bool) (slaves : List Slave) (offset : ℕ) → offset < block_sum (if present then slaves else []) → present ≡ true
+own-present true slaves offset low = refl
+own-present false slaves offset low = absurd (omega arith)
 
-pub nth-past : (groups : List Declared) (index : Index) (place : ℕ) → IsIndexOf groups index → slice_get index.seats place ≡ None → slice_get (line_from 1 groups) place ≡ None
-nth-past groups index place is none =
-    let long = line-length groups index is in
-    let end = past-end index.seats place none in
-    slice_get_past (line_from 1 groups) place (omega (arith, long, end))
-
--- the slave that has a block: the last with no more blocks in front of it
-pub record Owning (groups : List Declared) (seats : List Seat) (n begun : ℕ) : Type 0 where
-  pub some : 1 ≤ begun
-  pub seat : Seat
-  pub at : slice_get seats (begun - 1) ≡ Some seat
-  pub front : seat.blocks ≤ n
-  pub fits : n - seat.blocks < 256
-  pub member : Member
-  pub ranked : seat.rank ≡ member.rank
-  pub slave : slave_in groups seat.group seat.place ≡ Some member.slave
-  pub owned : owned_by (line_from 1 groups) n ≡ Some (member, n - seat.blocks)
-
-nowhere : Seat
-nowhere = record { group = 0; place = 0; rank = 0; blocks = 0 }
-
-own-fits : (seats : List Seat) (n begun blocks own sum : ℕ) (later : Bool) → nat_lt begun (length seats) ≡ later
-    → IsPartitionPoint (λ seat. seat.blocks ≤ n) (λ seat. n < seat.blocks) seats begun → begun ≤ length seats → n < sum → blocks ≤ n
-    → (begun < length seats → (get_or seats begun nowhere).blocks ≡ blocks + own) × (begun ≡ length seats → 0 + sum ≡ blocks + own) → n - blocks < own
-own-fits seats n begun blocks own sum true is parts most few front next =
-    let low = ltb-true begun (length seats) is in
-    let after = parts.1 begun nowhere (omega arith) low in
-    let same = next.0 low in
-    omega (arith, after, same)
-own-fits seats n begun blocks own sum false is parts most few front next =
-    let past = ltb-false begun (length seats) is in
-    let same = next.1 (omega (arith, past)) in
-    omega (arith, same)
-
-pub owning : (groups : List Declared) (index : Index) (n begun : ℕ) → IsIndexOf groups index → n < index.blocks
-    → IsPartitionPoint (λ seat. seat.blocks ≤ n) (λ seat. n < seat.blocks) index.seats begun → begun ≤ length index.seats → Owning groups index.seats n begun
-owning groups index n zero is few parts most =
+owner : (groups : List Declared) (n group offset place number : ℕ) → lowest_fault (groups_of groups) ≡ None → (falls : FallsIn own_sum groups n group offset)
+    → FallsIn blocks_of falls.x.group.slaves offset place number → OwnerOf groups n group place number
+owner groups n group offset place number none falls own =
     let line = line_from 1 groups in
-    let none = is.declared.project in
-    let sum = line-sum 1 groups in
-    let total = is.blocks in
-    let long = line-length groups index is in
-    let blocks = few-blocks line (λ k d within. (line-inside groups none k d within).few) in
-    let low : 0 < length index.seats = omega (arith, sum, total, long, blocks) in
-    let of : SeatOf groups line 0 0 (get_or index.seats 0 nowhere) =
-    seat-at groups 0 index.seats line 0 (get_or index.seats 0 nowhere) (is-seated groups index is) (slice_get-get_or index.seats 0 nowhere low) in
-    let front : (get_or index.seats 0 nowhere).blocks ≡ 0 + 0 = of.stands.front in
-    let after = parts.1 0 nowhere (omega arith) low in
-    absurd (omega (arith, front, after))
-owning groups index n (suc place) is few parts most =
-    let line = line_from 1 groups in
-    let none = is.declared.project in
-    let seat = get_or index.seats place nowhere in
-    let at = slice_get-get_or index.seats place nowhere (omega arith) in
-    let of : SeatOf groups line place 0 seat = seat-at groups 0 index.seats line place seat (is-seated groups index is) at in
-    let own = own_blocks of.member in
-    let front = parts.0 place nowhere (omega arith) (omega arith) in
-    let sum = line-sum 1 groups in
-    let total = is.blocks in
-    let next = blocks-next groups 0 index.seats line place seat of.member (is-seated groups index is) at of.at nowhere in
-    let more : place + 1 ≡ suc place = omega arith in
-    let behind = subst (λ (k : ℕ). (k < length index.seats → (get_or index.seats k nowhere).blocks ≡ seat.blocks + own) × (k ≡ length index.seats → 0 + sum_by own_blocks line ≡ seat.blocks + own)) more next in
-    let fits = own-fits index.seats n (suc place) seat.blocks own (sum_by own_blocks line) (nat_lt (suc place) (length index.seats)) refl parts most (omega (arith, sum, total)) front behind in
-    let most_own = all-get (λ (m : Member). length m.slave.areas ≤ MOST_AREAS) line place of.member (λ k d within. (line-inside groups none k d within).few) of.at in
-    let before : seat.blocks ≡ 0 + sum_by own_blocks (take place line) = of.stands.front in
-    let whole : sum_by own_blocks (take place line) + (n - seat.blocks) ≡ n = omega (arith, before, front) in
-    let back : place ≡ suc place - 1 = omega arith in
-    record {
-      some = omega arith;
-      seat = seat;
-      at = subst (λ (k : ℕ). slice_get index.seats k ≡ Some seat) back at;
-      front = front;
-      fits = omega (arith, fits, most_own);
-      member = of.member;
-      ranked = of.stands.rank;
-      slave = of.stands.slave;
-      owned = ap (owned_by line) (sym whole) ∙ owned-at line place of.member (n - seat.blocks) of.at fits;
-    }
+    let present = own-present falls.x.present falls.x.group.slaves offset falls.low in
+    let slaves = present-own falls.x.present falls.x.group.slaves present in
+    let inside = slice_get_within falls.x.group.slaves place own.x own.at in
+    let stands = stands-at groups group place falls.x falls.at present inside in
+    let position = sum_by present_count (take group groups) + place in
+    let of : Member = record { rank = rank_in groups group place; slave = stands.slave } in
+    let found = found-in groups group place falls.x own.x falls.at own.at in
+    let same : own.x ≡ stands.slave = let also = stands.found in cc in
+    let count = ap blocks_of same in
+    let low : number < own_blocks of = let few = own.low in omega (arith, few, count) in
+    let front = line-front 1 groups group place falls.x falls.at (subst (λ (s : List Slave). place < length s) (sym slaves) inside) in
+    let before = ap (λ (s : List Slave). block_sum (take place s)) slaves in
+    let whole : sum_by own_blocks (take position line) + number ≡ n = let sum = falls.sum in let behind = own.sum in omega (arith, front, before, sum, behind) in
+    let most = all-get (λ (m : Member). length m.slave.areas ≤ MOST_AREAS) line position of (λ k d within. (line-inside groups none k d within).few) stands.at in
+    let short = slice_get_within line position of stands.at in
+    let long = line-low groups none in
+    record { stands = stands; low = omega (arith, short, long); few = omega (arith, low, most); owned = ap (owned_by line) (sym whole) ∙ owned-at line position of number stands.at low }
 
--- and the block's number in its own order
-pub record OwnerOf (groups : List Declared) (n : ℕ) (seat : Seat) : Type 0 where
-  pub front : seat.blocks ≤ n
-  pub fits : n - seat.blocks < 256
-  pub member : Member
-  pub found : option_map (λ slave. record { rank = seat.rank; slave = slave }) (slave_in groups seat.group seat.place) ≡ Some member
-  pub owned : owned_by (line_from 1 groups) n ≡ Some (member, n - seat.blocks)
+module _ (groups : List Declared) (index : Index) (is : IsIndexOf groups index) where
+  pub blocks-begin : (slice_get index.blocks 0 ≡ Some 0) × IsNonDecreasing index.blocks
+  blocks-begin = begin-rising own_sum index.blocks groups is.blocks
 
-owner-seat : (groups : List Declared) (seats : List Seat) (n begun : ℕ) → (own : Owning groups seats n begun) → OwnerOf groups n own.seat
-owner-seat groups seats n begun own =
-    record {
-      front = own.front;
-      fits = own.fits;
-      member = own.member;
-      found =
-          ap (option_map (λ slave. record { rank = own.seat.rank; slave = slave })) own.slave
-          ∙ ap (λ (rank : ℕ). Some (record { rank = rank; slave = own.member.slave })) own.ranked;
-      owned = own.owned;
-    }
+  -- no slave has a block that is behind all
+  pub blocks-behind : (n : ℕ) → All (λ sum. sum ≤ n) index.blocks → owned_by (line_from 1 groups) n ≡ None
+  blocks-behind n all =
+      let sum = line-sum 1 groups in
+      let past = falls-behind own_sum index.blocks groups n is.blocks all in
+      owned-past (line_from 1 groups) n (omega (arith, sum, past))
 
-pub owner-of : (groups : List Declared) (seats : List Seat) (n begun : ℕ) (seat : Seat) → Owning groups seats n begun → slice_get seats (begun - 1) ≡ Some seat → OwnerOf groups n seat
-owner-of groups seats n begun seat own at =
-    let place : slice_get seats (begun - 1) ≡ Some own.seat = own.at in
-    let same : own.seat ≡ seat = cc in
-    subst (OwnerOf groups n) same (owner-seat groups seats n begun own)
+  -- the group whose block it is, and that group's own sums
+
+  falls : (n group offset : ℕ) → IsSpot index.blocks n group offset → FallsIn own_sum groups n group offset
+  falls n group offset spot = falls-in own_sum index.blocks groups n group offset is.blocks spot
+
+  own-front : (group : ℕ) (declared : Declared) → slice_get groups group ≡ Some declared → slice_get index.fronts group ≡ Some (block_sums declared)
+  own-front group declared here =
+      ap (λ (fronts : List (List ℕ)). slice_get fronts group) is.declared.fronts ∙ slice_get-map block_sums groups group ∙ ap (option_map block_sums) here
+
+  pub has-front : (n group offset : ℕ) → IsSpot index.blocks n group offset → slice_get index.fronts group ≢ None
+  has-front n group offset spot none = let own = own-front group (falls n group offset spot).x (falls n group offset spot).at in cc
+
+  front-is : (n group offset : ℕ) (own : List ℕ) → (spot : IsSpot index.blocks n group offset) → slice_get index.fronts group ≡ Some own → own ≡ block_sums (falls n group offset spot).x
+  front-is n group offset own spot at = let front = own-front group (falls n group offset spot).x (falls n group offset spot).at in cc
+
+  pub front-begins : (n group offset : ℕ) (own : List ℕ) → IsSpot index.blocks n group offset → slice_get index.fronts group ≡ Some own → (slice_get own 0 ≡ Some 0) × IsNonDecreasing own
+  front-begins n group offset own spot at = begin-rising blocks_of own (falls n group offset spot).x.group.slaves (front-is n group offset own spot at)
+
+  pub front-reaches : (n group offset : ℕ) (own : List ℕ) → IsSpot index.blocks n group offset → slice_get index.fronts group ≡ Some own → ¬ (All (λ sum. sum ≤ offset) own)
+  front-reaches n group offset own spot at all =
+      let here = falls n group offset spot in
+      let past = falls-behind blocks_of own here.x.group.slaves offset (front-is n group offset own spot at) all in
+      let most = ap block_sum (present-own here.x.present here.x.group.slaves (own-present here.x.present here.x.group.slaves offset here.low)) in
+      let low = here.low in
+      omega (arith, past, most, low)
+
+  pub owner-of : (n group offset place number : ℕ) (own : List ℕ) → IsSpot index.blocks n group offset → slice_get index.fronts group ≡ Some own → IsSpot own offset place number
+      → OwnerOf groups n group place number
+  owner-of n group offset place number own spot at mine =
+      let here = falls n group offset spot in
+      owner groups n group offset place number is.declared.project here
+      (falls-in blocks_of own here.x.group.slaves offset place number (front-is n group offset own spot at) mine)
+
+-- the rank of a declared slave, by the index
+pub record Ranked (groups : List Declared) (index : Index) (group place : ℕ) : Type 0 where
+  pub inside : group < length index.ranks
+  pub rank : get_or index.ranks group 0 ≡ sum_by declared_count (take group groups)
+  pub low : get_or index.ranks group 0 + place < 65535
+
+pub ranked : (groups : List Declared) (index : Index) (group place : ℕ) (declared : Declared) → IsIndexOf groups index → slice_get groups group ≡ Some declared → place < length declared.group.slaves
+    → Ranked groups index group place
+ranked groups index group place declared is at low =
+    let inside = slice_get_within groups group declared at in
+    let long = ap length is.declared.ranks ∙ sums-length declared_count 0 groups in
+    let rank = ap (λ (sums : List ℕ). get_or sums group 0) is.declared.ranks
+    ∙ get_or_from_slice_get (sums_from declared_count 0 groups) group (0 + sum_by declared_count (take group groups)) 0 (sums-at declared_count 0 groups group (omega (arith, inside))) in
+    let counted = project-counted groups is.declared.project in
+    let own = sum_by_more_le declared_count groups group declared inside in
+    let same = ap declared_count (get_or_from_slice_get groups group declared declared at) in
+    record { inside = omega (arith, long, inside); rank = omega (arith, rank); low = omega (arith, counted, own, same, low) }
+
+-- how many slaves and blocks the line has
+
+total-at : {X : Type 0} (count : X → ℕ) (sums : List ℕ) (xs : List X) → sums ≡ sums_from count 0 xs → (length xs < length sums) × (get_or sums (length xs) 0 ≡ sum_by count xs)
+total-at count sums xs is =
+    let long = ap length is ∙ sums-length count 0 xs in
+    let last = get_or_from_slice_get sums (length xs) (0 + sum_by count xs) 0 (ap (λ (s : List ℕ). slice_get s (length xs)) is ∙ sums-last count 0 xs) in
+    (omega (arith, long), omega (arith, last))
+
+pub slaves-total : (groups : List Declared) (index : Index) → IsIndexOf groups index
+    → (length groups < length index.slaves) × (get_or index.slaves (length groups) 0 ≡ length (line_from 1 groups))
+slaves-total groups index is =
+    let total = total-at present_count index.slaves groups is.slaves in
+    (total.0, total.1 ∙ sym (line-length 1 groups))
+
+pub blocks-total : (groups : List Declared) (index : Index) → IsIndexOf groups index
+    → (length groups < length index.blocks) × (get_or index.blocks (length groups) 0 ≡ sum_by own_blocks (line_from 1 groups))
+blocks-total groups index is =
+    let total = total-at own_sum index.blocks groups is.blocks in
+    (total.0, total.1 ∙ sym (line-sum 1 groups))
+
+-- where a rank or a position falls
+
+falls-here : {X : Type 0} (count : X → ℕ) (xs : List X) (n index offset : ℕ) (x : X) → FallsIn count xs n index offset → slice_get xs index ≡ Some x → (n ≡ sum_by count (take index xs) + offset) × (offset < count x)
+falls-here count xs n index offset x falls at =
+    let own = falls.at in
+    let same : falls.x ≡ x = cc in
+    let low = falls.low in
+    let count_is = ap count same in
+    (falls.sum, omega (arith, low, count_is))
+
+module _ (groups : List Declared) (index : Index) (is : IsIndexOf groups index) where
+  pub ranks-begin : (slice_get index.ranks 0 ≡ Some 0) × IsNonDecreasing index.ranks
+  ranks-begin = begin-rising declared_count index.ranks groups is.declared.ranks
+
+  pub slaves-begin : (slice_get index.slaves 0 ≡ Some 0) × IsNonDecreasing index.slaves
+  slaves-begin = begin-rising present_count index.slaves groups is.slaves
+
+  pub rank-inside : (n group place : ℕ) → IsSpot index.ranks n group place → group < length groups
+  rank-inside n group place spot = let falls = falls-in declared_count index.ranks groups n group place is.declared.ranks spot in slice_get_within groups group falls.x falls.at
+
+  pub rank-behind : (rank : ℕ) → 1 ≤ rank → All (λ sum. sum ≤ rank - 1) index.ranks → All (λ member. member.rank ≢ rank) (line_from 1 groups)
+  rank-behind rank some all =
+      let past = falls-behind declared_count index.ranks groups (rank - 1) is.declared.ranks all in
+      All-weaker (λ (member : Member). member.rank < 1 + sum_by declared_count groups) (λ member. member.rank ≢ rank) (λ member low same. omega (arith, past, some, low, same)) (line_from 1 groups)
+      (line-ranks 1 groups)
+
+  rank-falls : (rank group place : ℕ) (declared : Declared) → 1 ≤ rank → IsSpot index.ranks (rank - 1) group place → slice_get groups group ≡ Some declared
+      → (rank ≡ rank_in groups group place) × (place < declared_count declared)
+  rank-falls rank group place declared some spot at =
+      let here = falls-here declared_count groups (rank - 1) group place declared (falls-in declared_count index.ranks groups (rank - 1) group place is.declared.ranks spot) at in
+      let sum = here.0 in
+      (omega (arith, some, sum), here.1)
+
+  pub rank-member : (rank group place : ℕ) (declared : Declared) → 1 ≤ rank → IsSpot index.ranks (rank - 1) group place → slice_get groups group ≡ Some declared → declared.present ≡ true
+      → IsMember groups rank group place
+  rank-member rank group place declared some spot at present =
+      let here = rank-falls rank group place declared some spot at in
+      record { declared = declared; at = at; present = present; inside = here.1; ranked = here.0 }
+
+  pub rank-absent : (rank group place : ℕ) (declared : Declared) → 1 ≤ rank → IsSpot index.ranks (rank - 1) group place → slice_get groups group ≡ Some declared → declared.present ≡ false
+      → All (λ member. member.rank ≢ rank) (line_from 1 groups)
+  rank-absent rank group place declared some spot at absent =
+      let here = rank-falls rank group place declared some spot at in
+      subst (λ (r : ℕ). All (λ member. member.rank ≢ r) (line_from 1 groups)) (sym here.0) (line-absent 1 groups group place declared at absent here.1)
+
+  pub nth-found : (position group place : ℕ) → IsSpot index.slaves position group place
+      → option_map {U = Member} (λ slave. record { rank = rank_in groups group place; slave = slave }) (slave_in groups group place) ≡ slice_get (line_from 1 groups) position
+  nth-found position group place spot =
+      let falls = falls-in present_count index.slaves groups position group place is.slaves spot in
+      let stands = falls-at groups position group place falls in
+      member-in groups group place (rank_in groups group place) stands.slave refl stands.found ∙ sym stands.at ∙ ap (slice_get (line_from 1 groups)) (sym falls.sum)
+
+  pub nth-past : (position : ℕ) → All (λ sum. sum ≤ position) index.slaves → slice_get (line_from 1 groups) position ≡ None
+  nth-past position all =
+      let past = falls-behind present_count index.slaves groups position is.slaves all in
+      let long = line-length 1 groups in
+      slice_get_past (line_from 1 groups) position (omega (arith, past, long))
+
+-- the slave of the line with a rank stands at this position
+pub record Fronts (groups : List Declared) (index : Index) (group place : ℕ) : Type 0 where
+  pub inside : group < length index.slaves
+  pub sum : get_or index.slaves group 0 ≡ sum_by present_count (take group groups)
+  pub low : get_or index.slaves group 0 + place < 65535
+
+pub fronts : (groups : List Declared) (index : Index) (rank group place : ℕ) → IsIndexOf groups index → IsMember groups rank group place → Fronts groups index group place
+fronts groups index rank group place is member =
+    let stands = stands-at groups group place member.declared member.at member.present member.inside in
+    let within = slice_get_within groups group member.declared member.at in
+    let long = ap length is.slaves ∙ sums-length present_count 0 groups in
+    let sum = get_or_from_slice_get index.slaves group (0 + sum_by present_count (take group groups)) 0
+    (ap (λ (s : List ℕ). slice_get s group) is.slaves ∙ sums-at present_count 0 groups group (omega (arith, within))) in
+    let short = slice_get_within (line_from 1 groups) (sum_by present_count (take group groups) + place) (record { rank = rank_in groups group place; slave = stands.slave }) stands.at in
+    let few = line-low groups is.declared.project in
+    record { inside = omega (arith, long, within); sum = omega (arith, sum); low = omega (arith, sum, short, few) }
+
+-- it is found there, by its station address
+pub member-found : (groups : List Declared) (index : Index) (station rank group place : ℕ) → IsIndexOf groups index → Contains index.addresses (record { station = station; rank = rank })
+    → IsMember groups rank group place
+    → option_map {U = Member} (λ slave. record { rank = rank_in groups group place; slave = slave }) (slave_in groups group place) ≡ find (is_at station) (line_from 1 groups)
+member-found groups index station rank group place is declared member =
+    let stands = stands-at groups group place member.declared member.at member.present member.inside in
+    member-in groups group place (rank_in groups group place) stands.slave refl stands.found
+    ∙ sym stands.at
+    ∙ sym (find-position (is_at station) (line_from 1 groups) (sum_by present_count (take group groups) + place) (position-found groups index station rank group place is declared member))

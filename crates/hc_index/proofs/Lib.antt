@@ -2,7 +2,8 @@ pub mod Aliased
 pub mod Declaring
 pub mod Found
 pub mod Indexes
+pub mod Lines
 pub mod Owners
 pub mod Rising
-pub mod Seated
+pub mod Summed
 pub mod lemmas

@@ -1,14 +1,17 @@
--- The slave that has the block with a number.
-use Rattle.std.proofs.Common.{◌≡◌, ℕ, zero, suc, ◌+◌, ◌-◌, ◌*◌, ◌<◌, ◌≤◌, List, [], ◌∷◌, length, take, refl, sym, ap, ◌∙◌, arith}
+-- The slave that has the block with a number, and how many blocks there are.
+use Rattle.std.proofs.Common.{◌≡◌, ℕ, zero, suc, ◌+◌, ◌-◌, ◌*◌, ◌<◌, ◌≤◌, Bool, true, false, List, [], ◌∷◌, length, take, refl, sym, ap, ◌∙◌, arith, if◌then◌else◌}
 use Rattle.std.specs.Prelude.{All, Some, None, slice_get, sum_by}
 use Rattle.std.proofs.lemmas.Bool.{le-ltb, lt-ltb}
 use Rattle.std.proofs.lemmas.List.Elements.{All-head, All-tail}
-use Rattle.std.proofs.lemmas.List.Sums.{sum_by-cons, sum_by-append}
-use Rattle.hc_records.specs.declared.limits.TheConstants.{MOST_AREAS}
+use Rattle.std.proofs.lemmas.List.Sums.{sum_by-cons, sum_by-append, sum_by_more_le}
 use Rattle.hc_records.specs.declared.records.Declared.{Declared}
 use Rattle.hc_records.specs.declared.records.Slave.{Slave}
-use Rattle.hc_records.specs.Line.{Member, line_from, members_from, present_slaves}
-use Rattle.hc_index.specs.Index.{block_sum, blocks_of, own_blocks, owned_by, present_blocks}
+use Rattle.hc_records.specs.Line.{Member, groups_of, line_from, members_from, present_slaves}
+use Rattle.hc_records.specs.Project.{lowest_fault}
+use Rattle.hc_records.proofs.lemmas.Limits.{project-inside}
+use Rattle.hc_records.proofs.lemmas.Lines.{each-group}
+use Rattle.hc_records.proofs.lemmas.Slaves.{IsSlaveInside, project-counted}
+use Rattle.hc_index.specs.Index.{block_sum, blocks_of, declared_count, own_blocks, own_sum, owned_by}
 
 owned-here : (member : Member) (members : List Member) (n number : ℕ) → n ≡ number → number < own_blocks member → owned_by (member ∷ members) n ≡ Some (member, number)
 owned-here member members n number is low =
@@ -36,27 +39,57 @@ owned-past (member ∷ members) n past =
 
 -- the blocks of the line
 
-members-sum : (rank : ℕ) (slaves : List Slave) → sum_by own_blocks (members_from rank slaves) ≡ block_sum slaves
+pub members-sum : (rank : ℕ) (slaves : List Slave) → sum_by own_blocks (members_from rank slaves) ≡ block_sum slaves
 members-sum rank [] = refl
 members-sum rank (slave ∷ slaves) =
     sum_by-cons own_blocks (record { rank = rank; slave = slave }) (members_from (rank + 1) slaves)
     ∙ ap (λ (n : ℕ). blocks_of slave + n) (members-sum (rank + 1) slaves)
     ∙ sym (sum_by-cons blocks_of slave slaves)
 
-pub line-sum : (rank : ℕ) (groups : List Declared) → sum_by own_blocks (line_from rank groups) ≡ present_blocks groups
+pub line-sum : (rank : ℕ) (groups : List Declared) → sum_by own_blocks (line_from rank groups) ≡ sum_by own_sum groups
 line-sum rank [] = refl
 line-sum rank (declared ∷ groups) =
     let next = rank + length declared.group.slaves in
     sum_by-append own_blocks (members_from rank (present_slaves declared)) (line_from next groups)
     ∙ ap (λ (n : ℕ). n + sum_by own_blocks (line_from next groups)) (members-sum rank (present_slaves declared))
-    ∙ ap (λ (n : ℕ). block_sum (present_slaves declared) + n) (line-sum next groups)
-    ∙ sym (sum_by-cons (λ (d : Declared). block_sum (present_slaves d)) declared groups)
+    ∙ ap (λ (n : ℕ). own_sum declared + n) (line-sum next groups)
+    ∙ sym (sum_by-cons own_sum declared groups)
 
 -- a slave has at most 16
-pub few-blocks : (members : List Member) → All (λ member. length member.slave.areas ≤ MOST_AREAS) members → sum_by own_blocks members ≤ 16 * length members
-few-blocks [] few = omega arith
-few-blocks (member ∷ members) few =
-    let here = All-head (λ member. length member.slave.areas ≤ MOST_AREAS) member members few in
-    let rest = few-blocks members (All-tail (λ member. length member.slave.areas ≤ MOST_AREAS) member members few) in
-    let sum = sum_by-cons own_blocks member members in
+
+few-blocks : (slaves : List Slave) → All IsSlaveInside slaves → block_sum slaves ≤ 16 * length slaves
+few-blocks [] inside = omega arith
+few-blocks (slave ∷ slaves) inside =
+    let here = (All-head IsSlaveInside slave slaves inside).few in
+    let rest = few-blocks slaves (All-tail IsSlaveInside slave slaves inside) in
+    let sum = sum_by-cons blocks_of slave slaves in
     omega (arith, here, rest, sum)
+
+few-own : (present : Bool) (slaves : List Slave) → All IsSlaveInside slaves → block_sum (if present then slaves else []) ≤ 16 * length slaves
+few-own true slaves inside = few-blocks slaves inside
+few-own false slaves inside = omega arith
+
+few-groups : (groups : List Declared) → All (λ declared. All IsSlaveInside declared.group.slaves) groups → sum_by own_sum groups ≤ 16 * sum_by declared_count groups
+few-groups [] inside = omega arith
+few-groups (declared ∷ groups) inside =
+    let here = few-own declared.present declared.group.slaves (All-head (λ declared. All IsSlaveInside declared.group.slaves) declared groups inside) in
+    let rest = few-groups groups (All-tail (λ declared. All IsSlaveInside declared.group.slaves) declared groups inside) in
+    let sum = sum_by-cons own_sum declared groups in
+    let count = sum_by-cons declared_count declared groups in
+    omega (arith, here, rest, sum, count)
+
+all-inside : (groups : List Declared) → lowest_fault (groups_of groups) ≡ None → All (λ declared. All IsSlaveInside declared.group.slaves) groups
+all-inside groups none = each-group IsSlaveInside groups (project-inside (groups_of groups) none).slaves
+
+pub few-present : (groups : List Declared) → lowest_fault (groups_of groups) ≡ None → sum_by own_sum groups < 4294967296
+few-present groups none =
+    let counted = project-counted groups none in
+    let few = few-groups groups (all-inside groups none) in
+    omega (arith, counted, few)
+
+pub few-declared : (groups : List Declared) → lowest_fault (groups_of groups) ≡ None → All (λ declared. block_sum declared.group.slaves < 4294967296) groups
+few-declared groups none k d within =
+    let counted = project-counted groups none in
+    let own = sum_by_more_le declared_count groups k d within in
+    let few = few-blocks _ (all-inside groups none k d within) in
+    omega (arith, counted, own, few)

@@ -1,5 +1,5 @@
 -- What an index of a project's declared groups keeps, so that a group, a slave or a block of the line is found without a walk.
-use Rattle.std.specs.Prelude.{◌≡◌, ℕ, ◌+◌, ◌-◌, ◌*◌, nat_lt, true, if◌then◌else◌, List, [], ◌∷◌, ◌++◌, length, map, slice_get, sum_by, Option, Some, None, option_and_then}
+use Rattle.std.specs.Prelude.{◌≡◌, ℕ, ◌+◌, ◌-◌, ◌*◌, ◌<◌, nat_lt, true, if◌then◌else◌, List, [], ◌∷◌, length, map, slice_get, sum_by, take, Option, Some, None, option_and_then}
 use Rattle.std.specs.List.{enumerate_from}
 use Rattle.std.specs.List.Sorted.{IsPermutation}
 use Rattle.hc_records.specs.declared.records.Declared.{Declared}
@@ -8,7 +8,6 @@ use Rattle.hc_records.specs.Line.{Member, groups_of, line_from, present_slaves}
 use Rattle.hc_records.specs.Project.{lowest_fault}
 use Rattle.hc_index.specs.declared.addresses.Address.{Address}
 use Rattle.hc_index.specs.declared.aliases.Alias.{Alias}
-use Rattle.hc_index.specs.declared.seats.Seat.{Seat}
 
 -- the aliases of all declared groups, present or not, each with the group's number from 0, in declared order
 
@@ -46,50 +45,82 @@ block_sum slaves = sum_by blocks_of slaves
 abbrev pub own_blocks : Member → ℕ
 own_blocks member = blocks_of member.slave
 
--- those of the slaves of present groups
-abbrev pub present_blocks : List Declared → ℕ
-present_blocks groups = sum_by (λ (declared : Declared). block_sum (present_slaves declared)) groups
-
 -- the slave at a place in the group with a number
 abbrev pub slave_in : List Declared → ℕ → ℕ → Option Slave
 slave_in groups group place = option_and_then (λ (declared : Declared). slice_get declared.group.slaves place) (slice_get groups group)
 
--- the seats of slaves of a group: the first has this place in it, this rank, and so many blocks in front of it in the line
-abbrev pub seats_of : ℕ → ℕ → ℕ → ℕ → List Slave → List Seat
-seats_of group place rank blocks [] = []
-seats_of group place rank blocks (slave ∷ slaves) =
-    (record { group = group; place = place; rank = rank; blocks = blocks })
-    ∷ seats_of group (place + 1) (rank + 1) (blocks + blocks_of slave) slaves
+-- sums along a list: how many are in front of each element, of which each counts for so many, and at the end how many there are in all
 
--- the seats of the slaves of the line; the first group has this number, its first slave this rank, and so many blocks are in front
-abbrev pub line_seats : ℕ → ℕ → ℕ → List Declared → List Seat
-line_seats group rank blocks [] = []
-line_seats group rank blocks (declared ∷ rest) =
-    seats_of group 0 rank blocks (present_slaves declared)
-    ++ line_seats (group + 1) (rank + length declared.group.slaves) (blocks + block_sum (present_slaves declared)) rest
+-- the sums, where so many are in front of the first element
+abbrev pub sums_from : {X : Type 0} → (X → ℕ) → ℕ → List X → List ℕ
+sums_from count front [] = front ∷ []
+sums_from count front (x ∷ xs) = front ∷ sums_from count (front + count x) xs
+
+-- a number falls behind the sum at an index, so far behind it, and is below the next one
+pub record IsSpot (sums : List ℕ) (n index offset : ℕ) : Type 0 where
+  pub front : ℕ
+  pub at : slice_get sums index ≡ Some front
+  pub sum : front + offset ≡ n
+  pub next : ℕ
+  pub behind : slice_get sums (index + 1) ≡ Some next
+  pub below : n < next
+
+-- how many slaves a group declares
+abbrev pub declared_count : Declared → ℕ
+declared_count declared = length declared.group.slaves
+
+-- how many slaves it has in the line
+abbrev pub present_count : Declared → ℕ
+present_count declared = length (present_slaves declared)
+
+-- how many blocks those have
+abbrev pub own_sum : Declared → ℕ
+own_sum declared = block_sum (present_slaves declared)
+
+-- the rank of the slave at a place in the group with a number
+abbrev pub rank_in : List Declared → ℕ → ℕ → ℕ
+rank_in groups group place = 1 + sum_by declared_count (take group groups) + place
+
+-- the sums of the blocks of a declared group's slaves
+abbrev pub block_sums : Declared → List ℕ
+block_sums declared = sums_from blocks_of 0 declared.group.slaves
 
 -- the aliases with the numbers of their groups, in the order of the aliases; the station addresses with their ranks, in the
--- order of the addresses; the seats of the line; and the number of its blocks
+-- order of the addresses; for each declared group the sums of its slaves' blocks; and the sums of the groups' declared slaves, of
+-- their slaves of the line, and of the blocks of those
 pub record Index : Type 0 where
   pub aliases : List Alias
   pub addresses : List Address
-  pub seats : List Seat
-  pub blocks : ℕ
+  pub fronts : List (List ℕ)
+  pub ranks : List ℕ
+  pub slaves : List ℕ
+  pub blocks : List ℕ
 
--- the index has the aliases of a project's groups, and the addresses of the slaves that they declare
+-- the index has what never changes of a project's groups: their aliases, and of the slaves that they declare the addresses, the
+-- ranks and the blocks
 pub record IsIndexOfDeclared (groups : List Declared) (index : Index) : Type 0 where
   pub project : lowest_fault (groups_of groups) ≡ None
   pub aliases : IsPermutation (aliases groups) index.aliases
   pub addresses : IsPermutation (addresses groups) index.addresses
+  pub fronts : index.fronts ≡ map block_sums groups
+  pub ranks : index.ranks ≡ sums_from declared_count 0 groups
 
 -- the index is that of a project's groups
 pub record IsIndexOf (groups : List Declared) (index : Index) : Type 0 where
   pub declared : IsIndexOfDeclared groups index
-  pub seats : index.seats ≡ line_seats 0 1 0 groups
-  pub blocks : index.blocks ≡ present_blocks groups
+  pub slaves : index.slaves ≡ sums_from present_count 0 groups
+  pub blocks : index.blocks ≡ sums_from own_sum 0 groups
 
 -- the slave of a line that has the block with a number, from 0, with the block's number in the slave's own order
 abbrev pub owned_by : List Member → ℕ → Option (Member × ℕ)
 owned_by [] n = None
 owned_by (member ∷ members) n =
     if nat_lt n (own_blocks member) then Some (member, n) else owned_by members (n - own_blocks member)
+
+-- the slave with a rank stands in the line: its group, with this number, is present, and it has this place in it
+pub record IsMember (groups : List Declared) (rank group place : ℕ) : Type 0 where
+  pub declared : Declared
+  pub at : slice_get groups group ≡ Some declared
+  pub present : declared.present ≡ true
+  pub inside : place < length declared.group.slaves
+  pub ranked : rank ≡ rank_in groups group place

@@ -6,7 +6,7 @@ ghost use Rattle.hc_index.specs.Index.{IsIndexOf, IsIndexOfDeclared};
 
 use crate::addresses::{Address, find_rank, sorted_addresses};
 use crate::aliases::{Alias, find_group, sorted_aliases};
-use crate::seats::{Seat, count_begun, find_seat, seat_line};
+use crate::sums::{Spot, declared_sums, find_spot, group_fronts, number_at, sum_line};
 use hc_records::records::{Declared, Slave};
 use std::alloc::{AllocError, Global};
 use std::marker::Model;
@@ -51,10 +51,14 @@ pub struct Index {
     aliases: Vec<Alias>,
     // of all declared slaves, the lowest station address first
     addresses: Vec<Address>,
-    // of the slaves of the line, in its order; there is room for all declared ones
-    seats: Vec<Seat>,
-    // how many register blocks the slaves of the line have
-    blocks: u32,
+    // of each declared group, how many blocks are in front of each of its slaves in the group, and how many it has
+    fronts: Vec<Vec<u32>>,
+    // how many slaves are declared in front of each group, and how many there are
+    ranks: Vec<u32>,
+    // how many slaves of the line are in front of each group, and how many it has
+    slaves: Vec<u32>,
+    // and how many blocks of the line
+    blocks: Vec<u32>,
 }
 
 impl Drop for Index {
@@ -62,22 +66,24 @@ impl Drop for Index {
         let Index {
             aliases: _,
             addresses: _,
-            seats: _,
+            fronts: _,
+            ranks: _,
+            slaves: _,
             blocks: _,
         } = self;
     }
 }
 
 impl Model for Index {
-    ghost use Rattle.std.specs.Prelude.{◌≤◌, length, vec_capacity};
+    ghost use Rattle.std.specs.Prelude.{◌<◌, length, map, vec_capacity};
     ghost use Rattle.std.specs.List.Sorted.{IsNonDecreasingBy};
     ghost use Rattle.hc_index.specs.Index.{Index};
 
     ghost Value = { Index };
 
-    ghost view = { λ index. record { aliases = index.aliases.items; addresses = index.addresses.items; seats = index.seats.items; blocks = index.blocks } };
+    ghost view = { λ index. record { aliases = index.aliases.items; addresses = index.addresses.items; fronts = map (λ sums. sums.items) index.fronts.items; ranks = index.ranks.items; slaves = index.slaves.items; blocks = index.blocks.items } };
 
-    ghost invariant = { λ index. IsNonDecreasingBy (λ alias. alias.alias) index.aliases.items × IsNonDecreasingBy (λ address. address.station) index.addresses.items × (length index.addresses.items ≤ vec_capacity index.seats) };
+    ghost invariant = { λ index. IsNonDecreasingBy (λ alias. alias.alias) index.aliases.items × IsNonDecreasingBy (λ address. address.station) index.addresses.items × (length index.fronts.items < vec_capacity index.slaves) × (length index.fronts.items < vec_capacity index.blocks) };
 }
 
 impl Index {
@@ -88,24 +94,31 @@ impl Index {
     {
         let aliases = sorted_aliases(alloc, groups)?;
         let addresses = sorted_addresses(alloc, groups)?;
-        let mut seats = Vec::with_capacity(alloc, addresses.len())?;
-        let blocks = seat_line(&mut seats, groups);
+        let fronts = group_fronts(alloc, groups)?;
+        let ranks = declared_sums(alloc, groups)?;
+        let mut slaves = Vec::with_capacity(alloc, groups.len() + 1)?;
+        let mut blocks = Vec::with_capacity(alloc, groups.len() + 1)?;
+        sum_line(&mut slaves, &mut blocks, fronts.as_slice(), groups);
         Ok(Index {
             aliases,
             addresses,
-            seats,
+            fronts,
+            ranks,
+            slaves,
             blocks,
         })
     }
 
     /// Other groups of those that it has the aliases and the slaves' addresses of are present: it becomes
-    /// the index of the groups as they are now. It takes no memory.
+    /// the index of the groups as they are now. It looks at no slave, and takes no memory.
     pub fn follow(&mut self, groups: &[Declared])
         requires { IsIndexOfDeclared groups.now self.old }
         ensures { IsIndexOf groups.now self.new }
     {
-        self.seats.clear();
-        self.blocks = seat_line(&mut self.seats, groups);
+        self.slaves.clear();
+        self.blocks.clear();
+        let fronts = self.fronts.as_slice();
+        sum_line(&mut self.slaves, &mut self.blocks, fronts, groups);
     }
 
     /// The groups that it is the index of, for look-ups.
@@ -117,8 +130,10 @@ impl Index {
             groups,
             aliases: self.aliases.as_slice(),
             addresses: self.addresses.as_slice(),
-            seats: self.seats.as_slice(),
-            blocks: self.blocks,
+            fronts: self.fronts.as_slice(),
+            ranks: self.ranks.as_slice(),
+            slaves: self.slaves.as_slice(),
+            blocks: self.blocks.as_slice(),
         }
     }
 }
@@ -129,12 +144,14 @@ pub struct Indexed<'a> {
     groups: &'a [Declared],
     aliases: &'a [Alias],
     addresses: &'a [Address],
-    seats: &'a [Seat],
-    blocks: u32,
+    fronts: &'a [Vec<u32>],
+    ranks: &'a [u32],
+    slaves: &'a [u32],
+    blocks: &'a [u32],
 }
 
 impl<'a> Model for Indexed<'a> {
-    ghost use Rattle.std.specs.Prelude.{List};
+    ghost use Rattle.std.specs.Prelude.{List, map};
     ghost use Rattle.std.specs.List.Sorted.{IsNonDecreasingBy};
     ghost use Rattle.hc_records.specs.declared.records.Declared.{Declared};
     ghost use Rattle.hc_index.specs.Index.{IsIndexOf};
@@ -143,29 +160,29 @@ impl<'a> Model for Indexed<'a> {
 
     ghost view = { λ indexed. indexed.groups.now };
 
-    ghost invariant = { λ indexed. IsIndexOf indexed.groups.now (record { aliases = indexed.aliases.now; addresses = indexed.addresses.now; seats = indexed.seats.now; blocks = indexed.blocks }) × IsNonDecreasingBy (λ alias. alias.alias) indexed.aliases.now × IsNonDecreasingBy (λ address. address.station) indexed.addresses.now };
+    ghost invariant = { λ indexed. IsIndexOf indexed.groups.now (record { aliases = indexed.aliases.now; addresses = indexed.addresses.now; fronts = map (λ sums. sums.items) indexed.fronts.now; ranks = indexed.ranks.now; slaves = indexed.slaves.now; blocks = indexed.blocks.now }) × IsNonDecreasingBy (λ alias. alias.alias) indexed.aliases.now × IsNonDecreasingBy (λ address. address.station) indexed.addresses.now };
 }
 
 impl<'a> Indexed<'a> {
-    ghost use Rattle.std.specs.Prelude.{◌≡◌, ◌==◌, ◌<◌, IfSome, find, length, option_map, position, slice_get, sum_by};
+    ghost use Rattle.std.specs.Prelude.{◌≡◌, ◌≢◌, ◌==◌, ◌<◌, ◌≤◌, All, IfSome, MatchOption, find, length, option_map, position, slice_get, sum_by};
     ghost use Rattle.std.specs.List.{list_any};
     ghost use Rattle.hc_records.specs.Edits.{has_station};
     ghost use Rattle.hc_records.specs.Line.{is_at, line_from};
-    ghost use Rattle.hc_index.specs.Index.{own_blocks, owned_by, slave_in};
+    ghost use Rattle.hc_index.specs.Index.{IsMember, own_blocks, owned_by, rank_in, slave_in};
 
     /// How many slaves the line has.
     pub fn slaves(&self) -> usize
         ensures value { result ≡ length (line_from 1 self.now) }
         ensures few { result < 65535 }
     {
-        self.seats.len()
+        self.slaves[self.groups.len()] as usize
     }
 
     /// How many register blocks the slaves of the line have.
     pub fn blocks(&self) -> u32
         ensures { result ≡ sum_by own_blocks (line_from 1 self.now) }
     {
-        self.blocks
+        self.blocks[self.groups.len()]
     }
 
     /// The number among the declared groups, from 0, of the one with an alias, present or not; none where
@@ -184,6 +201,17 @@ impl<'a> Indexed<'a> {
         find_rank(self.addresses, station).is_some()
     }
 
+    /// Where the slave with a rank stands, if its group is present: the number of the group, from 0, and the
+    /// slave's place in it.
+    fn find_present(&self, rank: u16) -> Option<Spot>
+        requires { 1 ≤ rank }
+        ensures { MatchOption result (All (λ member. member.rank ≢ rank) (line_from 1 self.now)) (λ spot. IsMember self.now rank spot.index spot.offset) }
+    {
+        let spot = find_spot(self.ranks, u32::from(rank) - 1)?;
+        let declared = self.groups.get(spot.index)?;
+        if declared.present { Some(spot) } else { None }
+    }
+
     /// The position in the line, from 0, of the slave with a station address; none where it isn't
     /// present.
     pub fn position(&self, station: u16) -> Option<usize>
@@ -191,18 +219,20 @@ impl<'a> Indexed<'a> {
         ensures low { IfSome result (λ index. index < 65535) }
     {
         let rank = find_rank(self.addresses, station)?;
-        find_seat(self.seats, rank)
+        let spot = self.find_present(rank)?;
+        let position = number_at(self.slaves, spot.index, spot.offset);
+        Some(usize::from(position))
     }
 
-    /// The slave that a seat is of; none where there is none at its place.
-    fn slave_of(&self, seat: Seat) -> Option<LineSlave<'a>>
-        ensures { result ≡ option_map (λ slave. record { rank = seat.rank; slave = slave }) (slave_in self.now seat.group seat.place) }
+    /// The slave at a place in a group with a number, both from 0; none where there is none.
+    fn slave_in(&self, group: usize, place: u32) -> Option<LineSlave<'a>>
+        ensures { result ≡ option_map (λ slave. record { rank = rank_in self.now group place; slave = slave }) (slave_in self.now group place) }
     {
-        let declared = self.groups.get(usize::from(seat.group))?;
+        let declared = self.groups.get(group)?;
         let slaves = declared.group.slaves.as_slice();
-        let slave = slaves.get(usize::from(seat.place))?;
+        let slave = slaves.get(place as usize)?;
         Some(LineSlave {
-            rank: seat.rank,
+            rank: number_at(self.ranks, group, place) + 1,
             slave,
         })
     }
@@ -211,14 +241,20 @@ impl<'a> Indexed<'a> {
     pub fn nth(&self, position: usize) -> Option<LineSlave<'a>>
         ensures { result ≡ slice_get (line_from 1 self.now) position }
     {
-        self.slave_of(*self.seats.get(position)?)
+        if position >= self.slaves() {
+            return None;
+        }
+        let spot = find_spot(self.slaves, position as u32)?;
+        self.slave_in(spot.index, spot.offset)
     }
 
     /// The slave of the line with a station address; none where it isn't present.
     pub fn slave_at(&self, station: u16) -> Option<LineSlave<'a>>
         ensures { result ≡ find (is_at station) (line_from 1 self.now) }
     {
-        self.nth(self.position(station)?)
+        let rank = find_rank(self.addresses, station)?;
+        let spot = self.find_present(rank)?;
+        self.slave_in(spot.index, spot.offset)
     }
 
     /// The slave that has the register block with a number, from 0, in line and block order, with the
@@ -226,12 +262,10 @@ impl<'a> Indexed<'a> {
     pub fn block_owner(&self, n: u32) -> Option<(LineSlave<'a>, u8)>
         ensures { result ≡ owned_by (line_from 1 self.now) n }
     {
-        if n >= self.blocks {
-            return None;
-        }
-        let seat = *self.seats.get(count_begun(self.seats, n) - 1)?;
-        let slave = self.slave_of(seat)?;
-        let number = n - seat.blocks;
-        Some((slave, number as u8))
+        let group = find_spot(self.blocks, n)?;
+        let own = self.fronts.get(group.index)?;
+        let place = find_spot(own.as_slice(), group.offset)?;
+        let slave = self.slave_in(group.index, place.index as u32)?;
+        Some((slave, place.offset as u8))
     }
 }

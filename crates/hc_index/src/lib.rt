@@ -5,4 +5,4 @@
 mod addresses;
 mod aliases;
 pub mod index;
-mod seats;
+mod sums;

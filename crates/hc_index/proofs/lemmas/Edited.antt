@@ -12,32 +12,29 @@ use Rattle.hc_records.specs.declared.records.Declared.{Declared}
 use Rattle.hc_records.specs.declared.records.Group.{Group}
 use Rattle.hc_records.specs.declared.records.Slave.{Slave}
 use Rattle.hc_records.specs.Edits.{groups_after, with_area, with_presence, with_slaves}
-use Rattle.hc_records.specs.Line.{groups_of, present_slaves}
+use Rattle.hc_records.specs.Line.{groups_of}
 use Rattle.hc_records.specs.Lists.{changed_at}
 use Rattle.hc_records.specs.Project.{lowest_fault}
 use Rattle.hc_index.specs.declared.addresses.Address.{Address}
 use Rattle.hc_index.specs.declared.aliases.Alias.{Alias}
-use Rattle.hc_index.specs.declared.seats.Seat.{Seat}
-use Rattle.hc_index.specs.Index.{Index, IsIndexOf, IsIndexOfDeclared, alias_of, aliases, addresses, block_sum, blocks_of, line_seats, present_blocks, seats_of}
+use Rattle.hc_index.specs.Index.{Index, IsIndexOf, IsIndexOfDeclared, alias_of, block_sum, block_sums, blocks_of, declared_count, own_sum, present_count, sums_from}
 use Rattle.hc_index.proofs.Declaring.{addresses-group, addresses_from, own_addresses}
+use Rattle.hc_index.proofs.Summed.{sums-kept}
 
--- a change of a declared group keeps its alias
+-- a change of a declared group keeps what never changes
+record KeepsDeclared (change : Declared → Declared) : Type 0 where
+  alias : (declared : Declared) → (change declared).group.alias ≡ declared.group.alias
+  addresses : (rank : ℕ) (declared : Declared) → own_addresses rank (change declared).group.slaves ≡ own_addresses rank declared.group.slaves
+  count : (declared : Declared) → declared_count (change declared) ≡ declared_count declared
+  sums : (declared : Declared) → block_sums (change declared) ≡ block_sums declared
 
-abbrev KeepsAlias : (Declared → Declared) → Type 0
-KeepsAlias change = (declared : Declared) → (change declared).group.alias ≡ declared.group.alias
-
-aliases-kept : (change : Declared → Declared) → KeepsAlias change → (group : ℕ) (groups : List Declared) → map alias_of (enumerate_from group (map change groups)) ≡ map alias_of (enumerate_from group groups)
+aliases-kept : (change : Declared → Declared) → KeepsDeclared change → (group : ℕ) (groups : List Declared) → map alias_of (enumerate_from group (map change groups)) ≡ map alias_of (enumerate_from group groups)
 aliases-kept change keeps group [] = refl
 aliases-kept change keeps group (declared ∷ groups) =
-    ap (λ (alias : ℕ). (record { alias = alias; group = group }) ∷ map alias_of (enumerate_from (group + 1) (map change groups))) (keeps declared)
+    ap (λ (alias : ℕ). (record { alias = alias; group = group }) ∷ map alias_of (enumerate_from (group + 1) (map change groups))) (keeps.alias declared)
     ∙ ap (λ (behind : List Alias). (record { alias = declared.group.alias; group = group }) ∷ behind) (aliases-kept change keeps (group + 1) groups)
 
--- a change of a declared group keeps the addresses of its slaves
-record KeepsAddresses (change : Declared → Declared) : Type 0 where
-  addresses : (rank : ℕ) (declared : Declared) → own_addresses rank (change declared).group.slaves ≡ own_addresses rank declared.group.slaves
-  count : (declared : Declared) → length (change declared).group.slaves ≡ length declared.group.slaves
-
-addresses-kept : (change : Declared → Declared) → KeepsAddresses change → (rank : ℕ) (groups : List Declared) → addresses_from rank (map change groups) ≡ addresses_from rank groups
+addresses-kept : (change : Declared → Declared) → KeepsDeclared change → (rank : ℕ) (groups : List Declared) → addresses_from rank (map change groups) ≡ addresses_from rank groups
 addresses-kept change keeps rank [] = refl
 addresses-kept change keeps rank (declared ∷ groups) =
     let slaves = declared.group.slaves in
@@ -48,21 +45,37 @@ addresses-kept change keeps rank (declared ∷ groups) =
     ∙ ap (λ (behind : List Address). own_addresses rank slaves ++ behind) (addresses-kept change keeps next groups)
     ∙ sym (addresses-group rank declared groups)
 
+fronts-kept : (change : Declared → Declared) → KeepsDeclared change → (groups : List Declared) → map block_sums (map change groups) ≡ map block_sums groups
+fronts-kept change keeps [] = refl
+fronts-kept change keeps (declared ∷ groups) =
+    ap (λ (own : List ℕ). own ∷ map block_sums (map change groups)) (keeps.sums declared) ∙ ap (λ (behind : List (List ℕ)). block_sums declared ∷ behind) (fronts-kept change keeps groups)
+
+declared-kept : (change : Declared → Declared) → KeepsDeclared change → (groups : List Declared) (index : Index) → IsIndexOfDeclared groups index → lowest_fault (groups_of (map change groups)) ≡ None
+    → IsIndexOfDeclared (map change groups) index
+declared-kept change keeps groups index is none =
+    record {
+      project = none;
+      aliases = subst (λ (all : List Alias). IsPermutation all index.aliases) (sym (aliases-kept change keeps 0 groups)) is.aliases;
+      addresses = subst (λ (all : List Address). IsPermutation all index.addresses) (sym (addresses-kept change keeps 1 groups)) is.addresses;
+      fronts = is.fronts ∙ sym (fronts-kept change keeps groups);
+      ranks = is.ranks ∙ sym (sums-kept declared_count change keeps.count 0 groups);
+    }
+
 -- presence set
 
 same-group : (present here : Bool) (declared : Declared) → (if here then record declared { present = present } else declared).group ≡ declared.group
 same-group present true declared = refl
 same-group present false declared = refl
 
-presence-keeps : (alias : ℕ) (present : Bool) → KeepsAddresses (with_presence alias present)
+presence-keeps : (alias : ℕ) (present : Bool) → KeepsDeclared (with_presence alias present)
 presence-keeps alias present =
+    let same : (declared : Declared) → (with_presence alias present declared).group ≡ declared.group = λ declared. same-group present (declared.group.alias == alias) declared in
     record {
-      addresses = λ rank declared. ap (λ (group : Group). own_addresses rank group.slaves) (same-group present (declared.group.alias == alias) declared);
-      count = λ declared. ap (λ (group : Group). length group.slaves) (same-group present (declared.group.alias == alias) declared);
+      alias = λ declared. ap (λ (group : Group). group.alias) (same declared);
+      addresses = λ rank declared. ap (λ (group : Group). own_addresses rank group.slaves) (same declared);
+      count = λ declared. ap (λ (group : Group). length group.slaves) (same declared);
+      sums = λ declared. ap (λ (group : Group). sums_from blocks_of 0 group.slaves) (same declared);
     }
-
-presence-names : (alias : ℕ) (present : Bool) → KeepsAlias (with_presence alias present)
-presence-names alias present declared = ap (λ (group : Group). group.alias) (same-group present (declared.group.alias == alias) declared)
 
 -- an area changed
 
@@ -96,47 +109,31 @@ own-kept change keeps rank (slave ∷ slaves) =
     ap (λ (station : ℕ). (record { station = station; rank = rank }) ∷ own_addresses (rank + 1) (map change slaves)) (keeps.station slave)
     ∙ ap (λ (behind : List Address). (record { station = slave.station; rank = rank }) ∷ behind) (own-kept change keeps (rank + 1) slaves)
 
-slaves-keep : (change : Slave → Slave) → KeepsSlave change → KeepsAddresses (with_slaves change)
+slaves-keep : (change : Slave → Slave) → KeepsSlave change → KeepsDeclared (with_slaves change)
 slaves-keep change keeps =
     record {
+      alias = λ declared. refl;
       addresses = λ rank declared. own-kept change keeps rank declared.group.slaves;
       count = λ declared. length-map declared.group.slaves change;
+      sums = λ declared. sums-kept blocks_of change keeps.blocks 0 declared.group.slaves;
     }
 
-edit-keeps : (groups : List Declared) (edit : Edit) → addresses (groups_after groups edit) ≡ addresses groups
-edit-keeps groups (Connect alias) = addresses-kept (with_presence alias true) (presence-keeps alias true) 1 groups
-edit-keeps groups (Disconnect alias) = addresses-kept (with_presence alias false) (presence-keeps alias false) 1 groups
-edit-keeps groups (Remap station area pdos) =
-    let change = with_area station area (λ a. record a { assigned = pdos }) in
-    addresses-kept (with_slaves change) (slaves-keep change (area-keeps station area (λ a. record a { assigned = pdos }))) 1 groups
-edit-keeps groups (Move station area task) =
-    let change = with_area station area (λ a. record a { task = task }) in
-    addresses-kept (with_slaves change) (slaves-keep change (area-keeps station area (λ a. record a { task = task }))) 1 groups
-
-slaves-name : (change : Slave → Slave) → KeepsAlias (with_slaves change)
-slaves-name change declared = refl
-
-edit-names : (groups : List Declared) (edit : Edit) → aliases (groups_after groups edit) ≡ aliases groups
-edit-names groups (Connect alias) = aliases-kept (with_presence alias true) (presence-names alias true) 0 groups
-edit-names groups (Disconnect alias) = aliases-kept (with_presence alias false) (presence-names alias false) 0 groups
-edit-names groups (Remap station area pdos) =
-    let change = with_area station area (λ a. record a { assigned = pdos }) in
-    aliases-kept (with_slaves change) (slaves-name change) 0 groups
-edit-names groups (Move station area task) =
-    let change = with_area station area (λ a. record a { task = task }) in
-    aliases-kept (with_slaves change) (slaves-name change) 0 groups
+area-change : (station area : ℕ) (change : Area → Area) → KeepsDeclared (with_slaves (with_area station area change))
+area-change station area change = slaves-keep (with_area station area change) (area-keeps station area change)
 
 pub kept-declared :
     (groups : List Declared) (index : Index) (edit : Edit) → IsIndexOfDeclared groups index → lowest_fault (groups_of (groups_after groups edit)) ≡ None
     → IsIndexOfDeclared (groups_after groups edit) index
-kept-declared groups index edit is none =
-    record {
-      project = none;
-      aliases = subst (λ (all : List Alias). IsPermutation all index.aliases) (sym (edit-names groups edit)) is.aliases;
-      addresses = subst (λ (all : List Address). IsPermutation all index.addresses) (sym (edit-keeps groups edit)) is.addresses;
-    }
+kept-declared groups index (Connect alias) is none = declared-kept (with_presence alias true) (presence-keeps alias true) groups index is none
+kept-declared groups index (Disconnect alias) is none = declared-kept (with_presence alias false) (presence-keeps alias false) groups index is none
+kept-declared groups index (Remap station area pdos) is none =
+    let change : Area → Area = λ a. record a { assigned = pdos } in
+    declared-kept (with_slaves (with_area station area change)) (area-change station area change) groups index is none
+kept-declared groups index (Move station area task) is none =
+    let change : Area → Area = λ a. record a { task = task } in
+    declared-kept (with_slaves (with_area station area change)) (area-change station area change) groups index is none
 
--- the seats of the line, where areas change alone
+-- where areas change alone, the line has as many slaves and blocks
 
 sum-kept : (change : Slave → Slave) → KeepsSlave change → (slaves : List Slave) → block_sum (map change slaves) ≡ block_sum slaves
 sum-kept change keeps [] = refl
@@ -146,61 +143,33 @@ sum-kept change keeps (slave ∷ slaves) =
     ∙ ap (λ (rest : ℕ). blocks_of slave + rest) (sum-kept change keeps slaves)
     ∙ sym (sum_by-cons blocks_of slave slaves)
 
-seats-kept : (change : Slave → Slave) → KeepsSlave change → (group place rank blocks : ℕ) (slaves : List Slave) → seats_of group place rank blocks (map change slaves) ≡ seats_of group place rank blocks slaves
-seats-kept change keeps group place rank blocks [] = refl
-seats-kept change keeps group place rank blocks (slave ∷ slaves) =
-    ap (λ (own : ℕ). (record { group = group; place = place; rank = rank; blocks = blocks }) ∷ seats_of group (place + 1) (rank + 1) (blocks + own) (map change slaves)) (keeps.blocks slave)
-    ∙ ap (λ (behind : List Seat). (record { group = group; place = place; rank = rank; blocks = blocks }) ∷ behind) (seats-kept change keeps group (place + 1) (rank + 1) (blocks + blocks_of slave) slaves)
+own-count : (change : Slave → Slave) (present : Bool) (slaves : List Slave) → length (if present then map change slaves else []) ≡ length (if present then slaves else [])
+own-count change true slaves = length-map slaves change
+own-count change false slaves = refl
 
-present-kept : (change : Slave → Slave) (present : Bool) (slaves : List Slave) → (if present then map change slaves else []) ≡ map change (if present then slaves else [])
-present-kept change true slaves = refl
-present-kept change false slaves = refl
+own-blocks : (change : Slave → Slave) → KeepsSlave change → (present : Bool) (slaves : List Slave) → block_sum (if present then map change slaves else []) ≡ block_sum (if present then slaves else [])
+own-blocks change keeps true slaves = sum-kept change keeps slaves
+own-blocks change keeps false slaves = refl
 
-line-kept : (change : Slave → Slave) → KeepsSlave change → (group rank blocks : ℕ) (groups : List Declared) → line_seats group rank blocks (map (with_slaves change) groups) ≡ line_seats group rank blocks groups
-line-kept change keeps group rank blocks [] = refl
-line-kept change keeps group rank blocks (declared ∷ groups) =
-    let slaves = present_slaves declared in
-    let next = rank + length declared.group.slaves in
-    let behind = map (with_slaves change) groups in
-    ap (λ (all : List Slave). seats_of group 0 rank blocks all ++ line_seats (group + 1) (rank + length (map change declared.group.slaves)) (blocks + block_sum all) behind)
-    (present-kept change declared.present declared.group.slaves)
-    ∙ ap (λ (own : List Seat). own ++ line_seats (group + 1) (rank + length (map change declared.group.slaves)) (blocks + block_sum (map change slaves)) behind) (seats-kept change keeps group 0 rank blocks slaves)
-    ∙ ap (λ (count : ℕ). seats_of group 0 rank blocks slaves ++ line_seats (group + 1) (rank + count) (blocks + block_sum (map change slaves)) behind) (length-map declared.group.slaves change)
-    ∙ ap (λ (own : ℕ). seats_of group 0 rank blocks slaves ++ line_seats (group + 1) next (blocks + own) behind) (sum-kept change keeps slaves)
-    ∙ ap (λ (rest : List Seat). seats_of group 0 rank blocks slaves ++ rest) (line-kept change keeps (group + 1) next (blocks + block_sum slaves) groups)
-
-blocks-kept : (change : Slave → Slave) → KeepsSlave change → (groups : List Declared) → present_blocks (map (with_slaves change) groups) ≡ present_blocks groups
-blocks-kept change keeps [] = refl
-blocks-kept change keeps (declared ∷ groups) =
-    let count : Declared → ℕ = λ d. block_sum (present_slaves d) in
-    sum_by-cons count (with_slaves change declared) (map (with_slaves change) groups)
-    ∙ ap (λ (own : ℕ). own + present_blocks (map (with_slaves change) groups)) (ap block_sum (present-kept change declared.present declared.group.slaves) ∙ sum-kept change keeps (present_slaves declared))
-    ∙ ap (λ (rest : ℕ). block_sum (present_slaves declared) + rest) (blocks-kept change keeps groups)
-    ∙ sym (sum_by-cons count declared groups)
-
-index-kept : (change : Slave → Slave) → KeepsSlave change → (groups : List Declared) (index : Index) → IsIndexOf groups index → lowest_fault (groups_of (map (with_slaves change) groups)) ≡ None
-    → IsIndexOf (map (with_slaves change) groups) index
-index-kept change keeps groups index is none =
+index-kept : (station area : ℕ) (change : Area → Area) (groups : List Declared) (index : Index) → IsIndexOf groups index
+    → lowest_fault (groups_of (map (with_slaves (with_area station area change)) groups)) ≡ None → IsIndexOf (map (with_slaves (with_area station area change)) groups) index
+index-kept station area change groups index is none =
+    let slave = with_area station area change in
+    let keeps = area-keeps station area change in
     record {
-      declared = record {
-        project = none;
-        aliases = subst (λ (all : List Alias). IsPermutation all index.aliases) (sym (aliases-kept (with_slaves change) (slaves-name change) 0 groups)) is.declared.aliases;
-        addresses = subst (λ (all : List Address). IsPermutation all index.addresses) (sym (addresses-kept (with_slaves change) (slaves-keep change keeps) 1 groups)) is.declared.addresses;
-      };
-      seats = is.seats ∙ sym (line-kept change keeps 0 1 0 groups);
-      blocks = is.blocks ∙ sym (blocks-kept change keeps groups);
+      declared = declared-kept (with_slaves slave) (area-change station area change) groups index is.declared none;
+      slaves = is.slaves ∙ sym (sums-kept present_count (with_slaves slave) (λ declared. own-count slave declared.present declared.group.slaves) 0 groups);
+      blocks = is.blocks ∙ sym (sums-kept own_sum (with_slaves slave) (λ declared. own-blocks slave keeps declared.present declared.group.slaves) 0 groups);
     }
 
 pub remap-keeps :
     (groups : List Declared) (index : Index) (station area : ℕ) (pdos : List ℕ) → IsIndexOf groups index → lowest_fault (groups_of (groups_after groups (Remap station area pdos))) ≡ None
     → IsIndexOf (groups_after groups (Remap station area pdos)) index
 remap-keeps groups index station area pdos is none =
-    let change : Area → Area = λ a. record a { assigned = pdos } in
-    index-kept (with_area station area change) (area-keeps station area change) groups index is none
+    index-kept station area (λ a. record a { assigned = pdos }) groups index is none
 
 pub move-keeps :
     (groups : List Declared) (index : Index) (station area task : ℕ) → IsIndexOf groups index → lowest_fault (groups_of (groups_after groups (Move station area task))) ≡ None
     → IsIndexOf (groups_after groups (Move station area task)) index
 move-keeps groups index station area task is none =
-    let change : Area → Area = λ a. record a { task = task } in
-    index-kept (with_area station area change) (area-keeps station area change) groups index is none
+    index-kept station area (λ a. record a { task = task }) groups index is none

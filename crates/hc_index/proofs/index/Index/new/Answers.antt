@@ -1,23 +1,35 @@
-use Rattle.std.proofs.Common.{arith}
-use Rattle.std.proofs.lemmas.List.Sorted.{length_permutation}
+use Rattle.std.proofs.Common.{length, ap, arith}
+use Rattle.std.proofs.lemmas.List.{length-map}
 use Rattle.hc_records.proofs.lemmas.Slaves.{project-counted}
-use Rattle.hc_index.specs.Index.{addresses}
-use Rattle.hc_index.proofs.Declaring.{addresses-length}
-use Rattle.hc_index.proofs.Indexes.{few-present}
+use Rattle.hc_index.specs.Index.{block_sums}
+use Rattle.hc_index.proofs.Owners.{few-declared, few-present}
 use Rattle.hc_index.proofs.index.Index.new.Goals as goal
 
 pub sorted_addresses-requires : goal.sorted_addresses-requires
 sorted_addresses-requires c = project-counted c.args.groups.now c.requires
 
-pub seat_line-blocks-requires-clause-room : goal.seat_line-blocks-requires-clause-room
-seat_line-blocks-requires-clause-room c =
-    let many = addresses-length 1 c.args.groups.now in
-    let same = length_permutation (addresses c.args.groups.now) c.in_ok-addresses.addresses.items c.in_ok-addresses.ensures.same in
-    let room = c.in_ok-seats.ensures.exact in
-    omega (arith, many, same, room, c.len.ensures)
+pub group_fronts-requires : goal.group_fronts-requires
+group_fronts-requires c = few-declared c.args.groups.now c.requires
 
-pub seat_line-blocks-requires-clause-counted : goal.seat_line-blocks-requires-clause-counted
-seat_line-blocks-requires-clause-counted c = project-counted c.args.groups.now c.requires
+pub declared_sums-requires : goal.declared_sums-requires
+declared_sums-requires c = project-counted c.args.groups.now c.requires
 
-pub seat_line-blocks-requires-clause-few : goal.seat_line-blocks-requires-clause-few
-seat_line-blocks-requires-clause-few c = few-present c.args.groups.now c.requires
+pub sum_line-requires-clause-counted : goal.sum_line-requires-clause-counted
+sum_line-requires-clause-counted c = project-counted c.args.groups.now c.requires
+
+pub sum_line-requires-clause-few : goal.sum_line-requires-clause-few
+sum_line-requires-clause-few c = few-present c.args.groups.now c.requires
+
+pub invariant_of-result : goal.invariant_of-result
+invariant_of-result c =
+    let fronts = length-map c.in_ok-fronts.fronts.items (λ v. v.items) in
+    let groups = length-map c.args.groups.now block_sums in
+    let same = ap length c.in_ok-fronts.ensures in
+    let slaves = c.in_ok-slaves.ensures.exact in
+    let blocks = c.in_ok-blocks.ensures.exact in
+    let room = c.sum_line.ensures.room in (
+      c.in_ok-aliases.ensures.order,
+      c.in_ok-addresses.ensures.order,
+      omega (arith, fronts, groups, same, slaves, room),
+      omega (arith, fronts, groups, same, blocks, room),
+    )

@@ -1,80 +1,70 @@
-use Rattle.std.proofs.Common.{◌≡◌, ◌∙◌, ◌-◌, List, Some, None, sym, ap, subst, arith}
-use Rattle.std.specs.Prelude.{slice_get}
+use Rattle.std.proofs.Common.{◌≡◌, ℕ, ◌∙◌, Global, List, Some, None, Vec, ap, refl, sym, arith}
+use Rattle.std.specs.Prelude.{map, option_map, slice_get}
 use Rattle.std.proofs.lemmas.Grind.{common_steps}
-use Rattle.std.proofs.lemmas.Option.{gets}
-use Rattle.hc_records.specs.declared.records.Declared.{Declared}
-use Rattle.hc_records.specs.Line.{Member, line_from}
-use Rattle.hc_index.specs.Index.{Index, IsIndexOf}
-use Rattle.hc_index.proofs.Indexes.{fronts-rise, owner-of, owning}
-use Rattle.hc_index.proofs.Owners.{line-sum, owned-past}
+use Rattle.std.proofs.lemmas.Option.{gets, slice_get-map}
+use Rattle.hc_records.specs.Line.{Member}
+use Rattle.hc_index.specs.Index.{rank_in}
+use Rattle.hc_index.proofs.Indexes.{blocks-begin, blocks-behind, front-begins, front-reaches, has-front, member-in, no-member, owner-of, seen}
 use Rattle.hc_index.proofs.index.Indexed.block_owner.Goals as goal
 
-pub returns-then-n-self : goal.returns-then-n-self
-returns-then-n-self c =
-    let index : Index = record { aliases = c.self.inside.aliases.now; addresses = c.self.inside.addresses.now; seats = c.self.inside.seats.now; blocks = c.self.inside.blocks } in
-    let is = subst (λ (g : List Declared). IsIndexOf g index) c.self.view_is c.self.invariant.0 in
-    let sum = line-sum 1 c.args.self.now in
-    let total = is.blocks in
-    sym (owned-past (line_from 1 c.args.self.now) c.args.n (omega (arith, sum, total, c.if-n-self.true)))
+pub find_spot-requires-clause-first : goal.find_spot-requires-clause-first
+find_spot-requires-clause-first c = (blocks-begin c.args.self.now _ (seen c.self.view_is c.self.invariant.0)).0
 
-pub count_begun-requires : goal.count_begun-requires
-count_begun-requires c = fronts-rise c.self.inside.groups.now _ c.self.invariant.0
+pub find_spot-requires-clause-rising : goal.find_spot-requires-clause-rising
+find_spot-requires-clause-rising c = (blocks-begin c.args.self.now _ (seen c.self.view_is c.self.invariant.0)).1
 
-pub overflow_sub-count_begun : goal.overflow_sub-count_begun
-overflow_sub-count_begun c =
-    let index : Index = record { aliases = c.self.inside.aliases.now; addresses = c.self.inside.addresses.now; seats = c.self.inside.seats.now; blocks = c.self.inside.blocks } in
-    let is = subst (λ (g : List Declared). IsIndexOf g index) c.self.view_is c.self.invariant.0 in
-    let own = owning c.args.self.now index c.args.n c.count_begun.result is c.if-n-self.false c.count_begun.ensures.parted c.count_begun.ensures.bound in
-    own.some
+pub returns-in_err-group : goal.returns-in_err-group
+returns-in_err-group c = c.from_residual.ensures ∙ sym (blocks-behind c.args.self.now _ (seen c.self.view_is c.self.invariant.0) c.args.n c.in_err-group.ensures)
 
-pub returns-in_err-seat : goal.returns-in_err-seat
-returns-in_err-seat c =
-    let index : Index = record { aliases = c.self.inside.aliases.now; addresses = c.self.inside.addresses.now; seats = c.self.inside.seats.now; blocks = c.self.inside.blocks } in
-    let is = subst (λ (g : List Declared). IsIndexOf g index) c.self.view_is c.self.invariant.0 in
-    let own = owning c.args.self.now index c.args.n c.count_begun.result is c.if-n-self.false c.count_begun.ensures.parted c.count_begun.ensures.bound in
-    let none : slice_get index.seats (c.count_begun.result - 1) ≡ None = grind (arith, common_steps, gets) in
-    let some = own.at in
-    cc
+pub returns-in_err-own : goal.returns-in_err-own
+returns-in_err-own c =
+    let none : slice_get c.self.inside.fronts.now c.in_ok-group.group.index ≡ None = grind (arith, common_steps, gets) in
+    absurd (has-front c.args.self.now _ (seen c.self.view_is c.self.invariant.0) c.args.n _ _ c.in_ok-group.ensures
+    (slice_get-map (λ v. v.items) c.self.inside.fronts.now c.in_ok-group.group.index ∙ ap (option_map (λ v. v.items)) none))
+
+-- the sums of a group's slaves
+front-at : (fronts : List (Vec ℕ Global)) (group : ℕ) (sums : Vec ℕ Global) (own : List ℕ) → slice_get fronts group ≡ Some sums → own ≡ sums.items → slice_get (map (λ v. v.items) fronts) group ≡ Some own
+front-at fronts group sums own at is = slice_get-map (λ v. v.items) fronts group ∙ ap (option_map (λ v. v.items)) at ∙ ap Some (sym is)
+
+pub find_spot-requires-2-clause-first : goal.find_spot-requires-2-clause-first
+find_spot-requires-2-clause-first c =
+    (front-begins c.args.self.now _ (seen c.self.view_is c.self.invariant.0) c.args.n _ _ c.as_slice.result.now c.in_ok-group.ensures
+    (front-at c.self.inside.fronts.now c.in_ok-group.group.index c.in_ok-own.own.now c.as_slice.result.now (grind (arith, common_steps, gets)) c.as_slice.ensures.value)).0
+
+pub find_spot-requires-2-clause-rising : goal.find_spot-requires-2-clause-rising
+find_spot-requires-2-clause-rising c =
+    (front-begins c.args.self.now _ (seen c.self.view_is c.self.invariant.0) c.args.n _ _ c.as_slice.result.now c.in_ok-group.ensures
+    (front-at c.self.inside.fronts.now c.in_ok-group.group.index c.in_ok-own.own.now c.as_slice.result.now (grind (arith, common_steps, gets)) c.as_slice.ensures.value)).1
+
+pub returns-in_err-place : goal.returns-in_err-place
+returns-in_err-place c =
+    absurd (front-reaches c.args.self.now _ (seen c.self.view_is c.self.invariant.0) c.args.n _ _ c.as_slice.result.now c.in_ok-group.ensures
+    (front-at c.self.inside.fronts.now c.in_ok-group.group.index c.in_ok-own.own.now c.as_slice.result.now (grind (arith, common_steps, gets)) c.as_slice.ensures.value) c.in_err-place.ensures)
+
+pub overflow_cast-place : goal.overflow_cast-place
+overflow_cast-place c =
+    let it = owner-of c.args.self.now _ (seen c.self.view_is c.self.invariant.0) c.args.n _ _ _ _ c.as_slice.result.now c.in_ok-group.ensures
+    (front-at c.self.inside.fronts.now c.in_ok-group.group.index c.in_ok-own.own.now c.as_slice.result.now (grind (arith, common_steps, gets)) c.as_slice.ensures.value) c.in_ok-place.ensures in
+    omega (arith, it.low)
 
 pub returns-in_err-slave : goal.returns-in_err-slave
 returns-in_err-slave c =
-    let index : Index = record { aliases = c.self.inside.aliases.now; addresses = c.self.inside.addresses.now; seats = c.self.inside.seats.now; blocks = c.self.inside.blocks } in
-    let is = subst (λ (g : List Declared). IsIndexOf g index) c.self.view_is c.self.invariant.0 in
-    let own = owning c.args.self.now index c.args.n c.count_begun.result is c.if-n-self.false c.count_begun.ensures.parted c.count_begun.ensures.bound in
-    let seat = c.in_ok-seat.field-0.now in
-    let owner = owner-of c.args.self.now index.seats c.args.n c.count_begun.result seat own (grind (arith, common_steps, gets)) in
-    let made = c.slave_of.ensures in
-    let found = owner.found in
-    let none = c.in_err-slave.was in
-    cc
-
-pub overflow_sub-number : goal.overflow_sub-number
-overflow_sub-number c =
-    let index : Index = record { aliases = c.self.inside.aliases.now; addresses = c.self.inside.addresses.now; seats = c.self.inside.seats.now; blocks = c.self.inside.blocks } in
-    let is = subst (λ (g : List Declared). IsIndexOf g index) c.self.view_is c.self.invariant.0 in
-    let own = owning c.args.self.now index c.args.n c.count_begun.result is c.if-n-self.false c.count_begun.ensures.parted c.count_begun.ensures.bound in
-    let seat = c.in_ok-seat.field-0.now in
-    let owner = owner-of c.args.self.now index.seats c.args.n c.count_begun.result seat own (grind (arith, common_steps, gets)) in
-    owner.front
+    let it = owner-of c.args.self.now _ (seen c.self.view_is c.self.invariant.0) c.args.n _ _ _ _ c.as_slice.result.now c.in_ok-group.ensures
+    (front-at c.self.inside.fronts.now c.in_ok-group.group.index c.in_ok-own.own.now c.as_slice.result.now (grind (arith, common_steps, gets)) c.as_slice.ensures.value) c.in_ok-place.ensures in
+    absurd (no-member c.slave_in.result _ c.in_err-slave.was (c.slave_in.ensures ∙ member-in c.args.self.now c.in_ok-group.group.index c.in_ok-place.place.index _ it.stands.slave refl it.stands.found))
 
 pub overflow_cast-result : goal.overflow_cast-result
 overflow_cast-result c =
-    let index : Index = record { aliases = c.self.inside.aliases.now; addresses = c.self.inside.addresses.now; seats = c.self.inside.seats.now; blocks = c.self.inside.blocks } in
-    let is = subst (λ (g : List Declared). IsIndexOf g index) c.self.view_is c.self.invariant.0 in
-    let own = owning c.args.self.now index c.args.n c.count_begun.result is c.if-n-self.false c.count_begun.ensures.parted c.count_begun.ensures.bound in
-    let seat = c.in_ok-seat.field-0.now in
-    let owner = owner-of c.args.self.now index.seats c.args.n c.count_begun.result seat own (grind (arith, common_steps, gets)) in
-    let fits = owner.fits in
-    omega (arith, fits)
+    let it = owner-of c.args.self.now _ (seen c.self.view_is c.self.invariant.0) c.args.n _ _ _ _ c.as_slice.result.now c.in_ok-group.ensures
+    (front-at c.self.inside.fronts.now c.in_ok-group.group.index c.in_ok-own.own.now c.as_slice.result.now (grind (arith, common_steps, gets)) c.as_slice.ensures.value) c.in_ok-place.ensures in
+    omega (arith, it.few)
 
 pub returns : goal.returns
 returns c =
-    let index : Index = record { aliases = c.self.inside.aliases.now; addresses = c.self.inside.addresses.now; seats = c.self.inside.seats.now; blocks = c.self.inside.blocks } in
-    let is = subst (λ (g : List Declared). IsIndexOf g index) c.self.view_is c.self.invariant.0 in
-    let own = owning c.args.self.now index c.args.n c.count_begun.result is c.if-n-self.false c.count_begun.ensures.parted c.count_begun.ensures.bound in
-    let seat = c.in_ok-seat.field-0.now in
-    let owner = owner-of c.args.self.now index.seats c.args.n c.count_begun.result seat own (grind (arith, common_steps, gets)) in
-    let made = c.in_ok-slave.ensures in
-    let found = owner.found in
-    let same : c.in_ok-slave.slave ≡ owner.member = cc in
-    ap (λ (m : Member). Some (m, c.args.n - seat.blocks)) same ∙ sym owner.owned
+    let it = owner-of c.args.self.now _ (seen c.self.view_is c.self.invariant.0) c.args.n _ _ _ _ c.as_slice.result.now c.in_ok-group.ensures
+    (front-at c.self.inside.fronts.now c.in_ok-group.group.index c.in_ok-own.own.now c.as_slice.result.now (grind (arith, common_steps, gets)) c.as_slice.ensures.value) c.in_ok-place.ensures in
+    let groups = c.args.self.now in
+    let rank = rank_in groups c.in_ok-group.group.index c.in_ok-place.place.index in
+    let made = c.in_ok-slave.ensures ∙ member-in groups c.in_ok-group.group.index c.in_ok-place.place.index rank it.stands.slave refl it.stands.found in
+    let same : c.in_ok-slave.slave ≡ record { rank = rank; slave = it.stands.slave } = cc in
+    ap (λ (m : Member). Some (m, c.in_ok-place.place.offset)) same ∙ sym it.owned

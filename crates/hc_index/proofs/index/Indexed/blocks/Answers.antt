@@ -1,11 +1,13 @@
-use Rattle.std.proofs.Common.{◌∙◌, List, sym, subst}
+use Rattle.std.proofs.Common.{◌∙◌, List, ap}
+use Rattle.std.specs.Prelude.{sum_by}
 use Rattle.hc_records.specs.declared.records.Declared.{Declared}
-use Rattle.hc_index.specs.Index.{Index, IsIndexOf}
-use Rattle.hc_index.proofs.Owners.{line-sum}
+use Rattle.hc_records.specs.Line.{line_from}
+use Rattle.hc_index.specs.Index.{own_blocks}
+use Rattle.hc_index.proofs.Indexes.{blocks-total}
 use Rattle.hc_index.proofs.index.Indexed.blocks.Goals as goal
 
+pub bounds-self-inside-self-inside : goal.bounds-self-inside-self-inside
+bounds-self-inside-self-inside c = (blocks-total c.self.inside.groups.now _ c.self.invariant.0).0
+
 pub returns : goal.returns
-returns c =
-    let index : Index = record { aliases = c.self.inside.aliases.now; addresses = c.self.inside.addresses.now; seats = c.self.inside.seats.now; blocks = c.self.inside.blocks } in
-    let is = subst (λ (g : List Declared). IsIndexOf g index) c.self.view_is c.self.invariant.0 in
-    is.blocks ∙ sym (line-sum 1 c.args.self.now)
+returns c = (blocks-total c.self.inside.groups.now _ c.self.invariant.0).1 ∙ ap (λ (g : List Declared). sum_by own_blocks (line_from 1 g)) c.self.view_is

@@ -1,0 +1,124 @@
+-- Sums along a list, and the element that a number falls in.
+use Rattle.std.proofs.Common.{◌≡◌, ℕ, zero, suc, ◌+◌, ◌<◌, ◌≤◌, List, [], ◌∷◌, ◌++◌, length, drop, get_or, take, refl, sym, ap, subst, ◌∙◌, arith, append_assoc}
+use Rattle.std.specs.Prelude.{All, AllPairs, Some, map, slice_get, sum_by}
+use Rattle.std.specs.List.Sorted.{IsNonDecreasing}
+use Rattle.std.proofs.lemmas.List.{drop_more, get_or-map, length-map, take_all}
+use Rattle.std.proofs.lemmas.List.Elements.{All-nil, All-cons, All-weaker}
+use Rattle.std.proofs.lemmas.List.Kept.{AllPairs-cons}
+use Rattle.std.proofs.lemmas.List.Sums.{sum_by-cons, sum_by_more}
+use Rattle.std.proofs.lemmas.Option.{get_or_from_slice_get, slice_get-get_or, slice_get_within}
+use Rattle.hc_records.proofs.lemmas.Lists.{AllPairs-nil}
+use Rattle.hc_index.specs.Index.{IsSpot, sums_from}
+use Rattle.hc_index.proofs.Rising.{rises}
+
+-- an element of which all have something has it
+pub all-get : {X : Type 0} (P : X → Type 0) (xs : List X) (i : ℕ) (x : X) → All P xs → slice_get xs i ≡ Some x → P x
+all-get P xs i x all at = subst P (get_or_from_slice_get xs i x x at) (all i x (slice_get_within xs i x at))
+
+-- there is an element at each place inside
+pub some-at : {X : Type 0} (xs : List X) (i : ℕ) → i < length xs → (x : X) × (slice_get xs i ≡ Some x)
+some-at [] i inside = absurd (omega arith)
+some-at (x ∷ xs) i inside = (get_or (x ∷ xs) i x, slice_get-get_or (x ∷ xs) i x inside)
+
+-- the element that a number falls in, and how far behind its front
+pub record FallsIn {X : Type 0} (count : X → ℕ) (xs : List X) (n index offset : ℕ) : Type 0 where
+  pub x : X
+  pub at : slice_get xs index ≡ Some x
+  pub sum : n ≡ sum_by count (take index xs) + offset
+  pub low : offset < count x
+
+module _ {X : Type 0} (count : X → ℕ) where
+  pub sums-length : (front : ℕ) (xs : List X) → length (sums_from count front xs) ≡ length xs + 1
+  sums-length front [] = refl
+  sums-length front (x ∷ xs) = let rest = sums-length (front + count x) xs in omega (arith, rest)
+
+  pub sums-at : (front : ℕ) (xs : List X) (k : ℕ) → k ≤ length xs → slice_get (sums_from count front xs) k ≡ Some (front + sum_by count (take k xs))
+  sums-at front [] zero low = ap Some (omega arith)
+  sums-at front [] (suc k) low = absurd (omega arith)
+  sums-at front (x ∷ xs) zero low = ap Some (omega arith)
+  sums-at front (x ∷ xs) (suc k) low =
+      let sum = sum_by-cons count x (take k xs) in
+      sums-at (front + count x) xs k (omega arith) ∙ ap Some (omega (arith, sum))
+
+  sums-first : (front : ℕ) (xs : List X) → slice_get (sums_from count front xs) 0 ≡ Some front
+  sums-first front [] = refl
+  sums-first front (x ∷ xs) = refl
+
+  pub sums-last : (front : ℕ) (xs : List X) → slice_get (sums_from count front xs) (length xs) ≡ Some (front + sum_by count xs)
+  sums-last front xs =
+      sums-at front xs (length xs) (omega arith) ∙ ap (λ (all : List X). Some (front + sum_by count all)) (take_all (length xs) xs (omega arith))
+
+  sums-above : (front : ℕ) (xs : List X) → All (λ sum. front ≤ sum) (sums_from count front xs)
+  sums-above front [] = All-cons (λ sum. front ≤ sum) front [] (omega arith) (All-nil (λ sum. front ≤ sum))
+  sums-above front (x ∷ xs) =
+      All-cons (λ sum. front ≤ sum) front (sums_from count (front + count x) xs) (omega arith)
+      (All-weaker (λ sum. front + count x ≤ sum) (λ sum. front ≤ sum) (λ sum above. omega arith) (sums_from count (front + count x) xs) (sums-above (front + count x) xs))
+
+  sums-pairs : (front : ℕ) (xs : List X) → AllPairs (λ a b. a ≤ b) (sums_from count front xs)
+  sums-pairs front [] = AllPairs-cons (λ a b. a ≤ b) front [] (All-nil (λ b. front ≤ b)) (AllPairs-nil (λ a b. a ≤ b))
+  sums-pairs front (x ∷ xs) =
+      AllPairs-cons (λ a b. a ≤ b) front (sums_from count (front + count x) xs)
+      (All-weaker (λ sum. front + count x ≤ sum) (λ sum. front ≤ sum) (λ sum above. omega arith) (sums_from count (front + count x) xs) (sums-above (front + count x) xs))
+      (sums-pairs (front + count x) xs)
+
+  sums-rise : (front : ℕ) (xs : List X) → IsNonDecreasing (sums_from count front xs)
+  sums-rise front xs = rises (λ (sum : ℕ). sum) (sums_from count front xs) (sums-pairs front xs)
+
+  -- sums in which a number is sought
+  pub begin-rising : (sums : List ℕ) (xs : List X) → sums ≡ sums_from count 0 xs → (slice_get sums 0 ≡ Some 0) × IsNonDecreasing sums
+  begin-rising sums xs is = subst (λ (s : List ℕ). (slice_get s 0 ≡ Some 0) × IsNonDecreasing s) (sym is) (sums-first 0 xs, sums-rise 0 xs)
+
+  pub falls-in : (sums : List ℕ) (xs : List X) (n index offset : ℕ) → sums ≡ sums_from count 0 xs → IsSpot sums n index offset → FallsIn count xs n index offset
+  falls-in sums xs n index offset is spot =
+      let long = ap length is ∙ sums-length 0 xs in
+      let inside = slice_get_within sums (index + 1) spot.next spot.behind in
+      let low : index < length xs = omega (arith, long, inside) in
+      let here = some-at xs index low in
+      let first = ap (λ (s : List ℕ). slice_get s index) is ∙ sums-at 0 xs index (omega (arith, low)) in
+      let second = ap (λ (s : List ℕ). slice_get s (index + 1)) is ∙ sums-at 0 xs (index + 1) (omega (arith, low)) in
+      let front : spot.front ≡ 0 + sum_by count (take index xs) = let at = spot.at in cc in
+      let next : spot.next ≡ 0 + sum_by count (take (index + 1) xs) = let at = spot.behind in cc in
+      let more = sum_by_more count xs index here.0 low in
+      let own = ap count (get_or_from_slice_get xs index here.0 here.0 here.1) in
+      let sum = spot.sum in
+      let below = spot.below in
+      record { x = here.0; at = here.1; sum = omega (arith, front, sum); low = omega (arith, own, more, front, next, sum, below) }
+
+  -- or it is behind all
+  pub falls-behind : (sums : List ℕ) (xs : List X) (n : ℕ) → sums ≡ sums_from count 0 xs → All (λ sum. sum ≤ n) sums → sum_by count xs ≤ n
+  falls-behind sums xs n is all =
+      let most = all-get (λ (sum : ℕ). sum ≤ n) sums (length xs) (0 + sum_by count xs) all (ap (λ (s : List ℕ). slice_get s (length xs)) is ∙ sums-last 0 xs) in
+      omega (arith, most)
+
+  -- a walk along the list adds one sum more
+  pub sums-step : (xs : List X) (i : ℕ) (x : X) → i < length xs → x ≡ get_or xs i x → (sums more all : List ℕ) (front : ℕ)
+      → more ≡ sums ++ front ∷ [] → sums ++ sums_from count front (drop i xs) ≡ all → more ++ sums_from count (front + count x) (drop (i + 1) xs) ≡ all
+  sums-step xs i x inside is sums more all front added whole =
+      let rest = sums_from count (front + count x) (drop (i + 1) xs) in
+      ap (λ (s : List ℕ). s ++ rest) added
+      ∙ append_assoc sums (front ∷ []) rest
+      ∙ sym (ap (λ (left : List X). sums ++ sums_from count front left) (drop_more xs i x inside ∙ ap (λ (y : X). y ∷ drop (i + 1) xs) (sym is)))
+      ∙ whole
+
+  pub left-step : (xs : List X) (i : ℕ) (x : X) → i < length xs → x ≡ get_or xs i x → sum_by count (drop i xs) ≡ count x + sum_by count (drop (i + 1) xs)
+  left-step xs i x inside is =
+      ap (sum_by count) (drop_more xs i x inside ∙ ap (λ (y : X). y ∷ drop (i + 1) xs) (sym is)) ∙ sum_by-cons count x (drop (i + 1) xs)
+
+  -- elements that are changed and count for as many have the same sums
+  pub sums-kept : (change : X → X) → ((x : X) → count (change x) ≡ count x) → (front : ℕ) (xs : List X) → sums_from count front (map change xs) ≡ sums_from count front xs
+  sums-kept change keeps front [] = refl
+  sums-kept change keeps front (x ∷ xs) =
+      ap (λ (own : ℕ). front ∷ sums_from count (front + own) (map change xs)) (keeps x)
+      ∙ ap (λ (rest : List ℕ). front ∷ rest) (sums-kept change keeps (front + count x) xs)
+
+-- elements at one place of lists of which something is the same
+pub mapped-at : {X Y Z : Type 0} (f : X → Z) (g : Y → Z) (xs : List X) (ys : List Y) (i : ℕ) (x : X) (y : Y) → map f xs ≡ map g ys → i < length ys → x ≡ get_or xs i x → y ≡ get_or ys i y → f x ≡ g y
+mapped-at {Z} f g xs ys i x y same inside first second =
+    let long = length-map xs f in
+    let other = length-map ys g in
+    let equal = ap length same in
+    ap f first
+    ∙ sym (get_or-map f xs i x (g y) (omega (arith, long, other, equal)))
+    ∙ ap (λ (zs : List Z). get_or zs i (g y)) same
+    ∙ get_or-map g ys i y (g y) inside
+    ∙ sym (ap g second)
