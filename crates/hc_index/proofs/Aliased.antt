@@ -3,7 +3,6 @@ use Rattle.std.proofs.Common.{◌≡◌, ◌≢◌, ℕ, ◌+◌, ◌<◌, ◌==
 use Rattle.std.specs.Prelude.{All, AllPairs, Contains, MatchOption, position}
 use Rattle.std.specs.List.{enumerate_from}
 use Rattle.std.proofs.lemmas.Bool.{eq-eqb}
-use Rattle.std.proofs.lemmas.Bool.Decides.{nat_tests}
 use Rattle.std.proofs.lemmas.List.{get_or-map, length-map}
 use Rattle.std.proofs.lemmas.List.FromFn.{get_or-enumerate_from, length-enumerate_from}
 use Rattle.std.proofs.lemmas.List.Sorted.{All-permutation, Contains-permutation, IsPermutation-sym}
@@ -16,7 +15,7 @@ use Rattle.hc_records.proofs.lemmas.Limits.{project-inside}
 use Rattle.hc_records.proofs.lemmas.Lists.{AllPairs-unmap, AllPairs-weaker}
 use Rattle.hc_index.specs.declared.aliases.Alias.{Alias}
 use Rattle.hc_index.specs.Index.{Index, IsIndexOfDeclared, alias_of, aliases}
-use Rattle.hc_index.proofs.Found.{position-at, position-none}
+use Rattle.hc_index.proofs.Found.{differs, differs-behind, position-at, position-none}
 
 abbrev has_alias : ℕ → Declared → Bool
 has_alias alias declared = declared.group.alias == alias
@@ -32,23 +31,17 @@ alias-at groups k d e within =
     ∙ ap alias_of (get_or-enumerate_from 0 groups k (0, d) within)
     ∙ ap (λ (n : ℕ). record { alias = (get_or groups k d).group.alias; group = n }) number
 
-not-named : (a alias : ℕ) → a ≢ alias → (a == alias) ≡ false
-not-named a alias other = grind (arith, nat_tests)
-
 others : (groups : List Declared) (index : Index) (alias : ℕ) → IsIndexOfDeclared groups index → All (λ own. own.alias ≢ alias) index.aliases → All (λ d. has_alias alias d ≡ false) groups
 others groups index alias is none k d within =
     let nobody : Alias = record { alias = 0; group = 0 } in
     let all = All-permutation (λ (own : Alias). own.alias ≢ alias) index.aliases (aliases groups) (IsPermutation-sym (aliases groups) index.aliases is.aliases) none in
     let long : k < length (aliases groups) = let same = aliases-length groups in omega (arith, same, within) in
-    not-named (get_or groups k d).group.alias alias (subst (λ (own : Alias). own.alias ≢ alias) (alias-at groups k d nobody within) (all k nobody long))
-
-alone-by : (a b alias : ℕ) → a ≢ b → (b == alias) ≡ true → (a == alias) ≡ false
-alone-by a b alias other is = grind (arith, nat_tests)
+    differs (get_or groups k d).group.alias alias (subst (λ (own : Alias). own.alias ≢ alias) (alias-at groups k d nobody within) (all k nobody long))
 
 alone : (groups : List Declared) (alias : ℕ) → lowest_fault (groups_of groups) ≡ None → AllPairs (λ a b. has_alias alias b ≡ true → has_alias alias a ≡ false) groups
 alone groups alias none =
     AllPairs-weaker (λ (a b : Declared). a.group.alias ≢ b.group.alias) (λ a b. has_alias alias b ≡ true → has_alias alias a ≡ false)
-    (λ a b other is. alone-by a.group.alias b.group.alias alias other is) groups
+    (λ a b other is. differs-behind a.group.alias b.group.alias alias other is) groups
     (AllPairs-unmap (λ (a b : Group). a.alias ≢ b.alias) (λ (d : Declared). d.group) groups (project-inside (groups_of groups) none).aliases)
 
 numbered : (groups : List Declared) (alias group : ℕ) (d : Declared) → lowest_fault (groups_of groups) ≡ None → Contains (aliases groups) (record { alias = alias; group = group })

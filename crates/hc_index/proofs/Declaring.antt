@@ -1,10 +1,9 @@
 -- The addresses of the declared slaves, and the slaves of the line among them.
-use Rattle.std.proofs.Common.{◌≡◌, ◌≢◌, ℕ, ◌+◌, ◌<◌, ◌==◌, ◌||◌, Bool, true, false, List, [], ◌∷◌, ◌++◌, length, refl, sym, ap, subst, ◌∙◌, length-append, if◌then◌else◌}
-use Rattle.std.specs.Prelude.{All, AllPairs, Contains, None, map, sum_by}
+use Rattle.std.proofs.Common.{◌≡◌, ◌≢◌, ℕ, ◌+◌, ◌<◌, ◌==◌, ◌||◌, Bool, true, false, List, [], ◌∷◌, ◌++◌, length, refl, sym, ap, subst, ◌∙◌, if◌then◌else◌}
+use Rattle.std.specs.Prelude.{All, AllPairs, Contains, None, map}
 use Rattle.std.specs.List.{list_any}
-use Rattle.std.proofs.lemmas.List.{length-map, map-append}
+use Rattle.std.proofs.lemmas.List.{map-append}
 use Rattle.std.proofs.lemmas.List.Elements.{All-nil, All-append, All-weaker, Contains-append_left, Contains-append_right}
-use Rattle.std.proofs.lemmas.List.Sums.{sum_by-cons}
 use Rattle.std.proofs.lemmas.List.Folds.{list_any-append}
 use Rattle.hc_records.specs.declared.records.Declared.{Declared}
 use Rattle.hc_records.specs.declared.records.Slave.{Slave}
@@ -14,7 +13,6 @@ use Rattle.hc_records.specs.Project.{lowest_fault}
 use Rattle.hc_records.proofs.lemmas.Limits.{project-inside}
 use Rattle.hc_records.proofs.lemmas.Lines.{declared_slaves, line-ascends, line-pairs}
 use Rattle.hc_records.proofs.lemmas.Lists.{AllPairs-map}
-use Rattle.hc_records.proofs.lemmas.Walks.{length-members_from}
 use Rattle.hc_index.specs.declared.addresses.Address.{Address}
 use Rattle.hc_index.proofs.Found.{contains-map}
 use Rattle.hc_index.specs.Index.{address_of, addresses, all_present}
@@ -31,17 +29,6 @@ pub addresses-group : (rank : ℕ) (declared : Declared) (groups : List Declared
     → addresses_from rank (declared ∷ groups) ≡ own_addresses rank declared.group.slaves ++ addresses_from (rank + length declared.group.slaves) groups
 addresses-group rank declared groups =
     map-append address_of (members_from rank declared.group.slaves) (line_from (rank + length declared.group.slaves) (all_present groups))
-
-pub addresses-length : (rank : ℕ) (groups : List Declared) → length (addresses_from rank groups) ≡ sum_by (λ (d : Declared). length d.group.slaves) groups
-addresses-length rank [] = refl
-addresses-length rank (declared ∷ groups) =
-    let slaves = declared.group.slaves in
-    let next = rank + length slaves in
-    ap length (addresses-group rank declared groups)
-    ∙ length-append (own_addresses rank slaves) (addresses_from next groups)
-    ∙ ap (λ (n : ℕ). n + length (addresses_from next groups)) (length-map (members_from rank slaves) address_of ∙ length-members_from rank slaves)
-    ∙ ap (λ (n : ℕ). length slaves + n) (addresses-length next groups)
-    ∙ sym (sum_by-cons (λ (d : Declared). length d.group.slaves) declared groups)
 
 -- the address of each slave of the line is among them
 

@@ -2,9 +2,8 @@
 use Rattle.std.proofs.Common.{◌≡◌, ◌≢◌, ℕ, ◌+◌, ◌-◌, ◌<◌, ◌≤◌, ◌==◌, Bool, true, false, List, [], length, get_or, take, Option, Some, None, refl, sym, ap, subst, ◌∙◌, arith, if◌then◌else◌}
 use Rattle.std.specs.Prelude.{All, AllPairs, Contains, MatchOption, find, is_some, option_and_then, option_map, position, slice_get, sum_by}
 use Rattle.std.specs.List.{list_any}
-use Rattle.std.specs.List.Sorted.{IsNonDecreasing}
 use Rattle.std.proofs.lemmas.Bool.{eq-eqb, eqb-true}
-use Rattle.std.proofs.lemmas.Bool.Decides.{nat_tests}
+use Rattle.std.proofs.lemmas.List.{take_all}
 use Rattle.std.proofs.lemmas.List.Elements.{All-map, All-weaker}
 use Rattle.std.proofs.lemmas.List.Sums.{sum_by_more_le}
 use Rattle.std.proofs.lemmas.List.Sorted.{All-permutation, Contains-permutation, IsPermutation-sym, list_any-IsPermutation}
@@ -20,12 +19,12 @@ use Rattle.hc_records.proofs.lemmas.Lists.{AllPairs-weaker}
 use Rattle.hc_records.proofs.lemmas.Slaves.{line-inside, line-stations, project-counted}
 use Rattle.hc_records.proofs.lemmas.Walks.{length-line}
 use Rattle.hc_index.specs.declared.addresses.Address.{Address}
-use Rattle.hc_index.specs.Index.{Index, IsIndexOf, IsMember, address_of, addresses, all_present, block_sum, blocks_of, declared_count, own_blocks, own_sum, owned_by, present_count, rank_in, slave_in, sums_from, IsSpot, block_sums}
+use Rattle.hc_index.specs.Index.{AreSums, Index, IsIndexOf, IsMember, address_of, addresses, all_present, block_sum, blocks_of, declared_count, own_blocks, own_sum, owned_by, present_count, rank_in, slave_in, IsSpot, block_sums}
 use Rattle.hc_index.proofs.Declaring.{addresses-distinct, addresses-ranked, any-station, line-among}
-use Rattle.hc_index.proofs.Found.{any-none, any-some, find-position, only-one, position-at, position-none}
+use Rattle.hc_index.proofs.Found.{differs, differs-behind, any-none, any-some, find-position, only-one, position-at, position-none}
 use Rattle.hc_index.proofs.Lines.{line-absent, line-at, line-front, line-length, line-ranks}
 use Rattle.hc_index.proofs.Owners.{line-sum, owned-at, owned-past}
-use Rattle.hc_index.proofs.Summed.{FallsIn, all-get, begin-rising, falls-behind, falls-in, some-at, sums-at, sums-last, sums-length}
+use Rattle.hc_index.proofs.Summed.{FallsIn, all-get, are-sums, falls-behind, falls-in, front-at, some-at}
 
 all-contained : {X : Type 0} (P : X → Type 0) (xs : List X) (x : X) → All P xs → Contains xs x → P x
 all-contained P xs x all at = subst P at.2 (all at.0 x at.1)
@@ -42,16 +41,10 @@ line-low groups none =
 
 -- the slave with a station address
 
-alone-by : (a b station : ℕ) → a ≢ b → (b == station) ≡ true → (a == station) ≡ false
-alone-by a b station other is = grind (arith, nat_tests)
-
-not-at : (a station : ℕ) → a ≢ station → (a == station) ≡ false
-not-at a station other = grind (arith, nat_tests)
-
 alone : (groups : List Declared) (station : ℕ) → lowest_fault (groups_of groups) ≡ None → AllPairs (λ a b. is_at station b ≡ true → is_at station a ≡ false) (line_from 1 groups)
 alone groups station none =
     AllPairs-weaker (λ (a b : Member). a.slave.station ≢ b.slave.station) (λ a b. is_at station b ≡ true → is_at station a ≡ false)
-    (λ a b other is. alone-by a.slave.station b.slave.station station other is) (line_from 1 groups) (line-stations groups none)
+    (λ a b other is. differs-behind a.slave.station b.slave.station station other is) (line_from 1 groups) (line-stations groups none)
 
 declared-among : (groups : List Declared) (index : Index) (address : Address) → IsIndexOf groups index → Contains index.addresses address → Contains (addresses groups) address
 declared-among groups index address is at =
@@ -148,7 +141,7 @@ position-unknown groups index station is none =
     let line = line_from 1 groups in
     let all = All-permutation (λ (a : Address). a.station ≢ station) index.addresses (addresses groups) (IsPermutation-sym (addresses groups) index.addresses is.declared.addresses) none in
     position-none (is_at station) line
-    (λ k d within. not-at (get_or line k d).slave.station station
+    (λ k d within. differs (get_or line k d).slave.station station
     (all-contained (λ (a : Address). a.station ≢ station) (addresses groups) (address_of (get_or line k d)) all (line-among groups k d within)))
 
 -- whether it is declared
@@ -158,7 +151,7 @@ pub declared-is : (groups : List Declared) (index : Index) (station : ℕ) (foun
 declared-is groups index station None is none =
     let test : Address → Bool = λ address. address.station == station in
     sym (sym (any-station station 1 groups) ∙ list_any-IsPermutation test (addresses groups) index.addresses is.declared.addresses
-    ∙ any-none test index.addresses (All-weaker (λ (a : Address). a.station ≢ station) (λ a. (a.station == station) ≡ false) (λ a. not-at a.station station) index.addresses none))
+    ∙ any-none test index.addresses (All-weaker (λ (a : Address). a.station ≢ station) (λ a. (a.station == station) ≡ false) (λ a. differs a.station station) index.addresses none))
 declared-is groups index station (Some rank) is at =
     let test : Address → Bool = λ address. address.station == station in
     sym (sym (any-station station 1 groups) ∙ list_any-IsPermutation test (addresses groups) index.addresses is.declared.addresses
@@ -199,8 +192,8 @@ owner groups n group offset place number none falls own =
     record { stands = stands; low = omega (arith, short, long); few = omega (arith, low, most); owned = ap (owned_by line) (sym whole) ∙ owned-at line position of number stands.at low }
 
 module _ (groups : List Declared) (index : Index) (is : IsIndexOf groups index) where
-  pub blocks-begin : (slice_get index.blocks 0 ≡ Some 0) × IsNonDecreasing index.blocks
-  blocks-begin = begin-rising own_sum index.blocks groups is.blocks
+  pub blocks-sums : AreSums index.blocks
+  blocks-sums = are-sums own_sum index.blocks groups is.blocks
 
   -- no slave has a block that is behind all
   pub blocks-behind : (n : ℕ) → All (λ sum. sum ≤ n) index.blocks → owned_by (line_from 1 groups) n ≡ None
@@ -224,8 +217,8 @@ module _ (groups : List Declared) (index : Index) (is : IsIndexOf groups index) 
   front-is : (n group offset : ℕ) (own : List ℕ) → (spot : IsSpot index.blocks n group offset) → slice_get index.fronts group ≡ Some own → own ≡ block_sums (falls n group offset spot).x
   front-is n group offset own spot at = let front = own-front group (falls n group offset spot).x (falls n group offset spot).at in cc
 
-  pub front-begins : (n group offset : ℕ) (own : List ℕ) → IsSpot index.blocks n group offset → slice_get index.fronts group ≡ Some own → (slice_get own 0 ≡ Some 0) × IsNonDecreasing own
-  front-begins n group offset own spot at = begin-rising blocks_of own (falls n group offset spot).x.group.slaves (front-is n group offset own spot at)
+  pub front-sums : (n group offset : ℕ) (own : List ℕ) → IsSpot index.blocks n group offset → slice_get index.fronts group ≡ Some own → AreSums own
+  front-sums n group offset own spot at = are-sums blocks_of own (falls n group offset spot).x.group.slaves (front-is n group offset own spot at)
 
   pub front-reaches : (n group offset : ℕ) (own : List ℕ) → IsSpot index.blocks n group offset → slice_get index.fronts group ≡ Some own → ¬ (All (λ sum. sum ≤ offset) own)
   front-reaches n group offset own spot at all =
@@ -252,33 +245,25 @@ pub ranked : (groups : List Declared) (index : Index) (group place : ℕ) (decla
     → Ranked groups index group place
 ranked groups index group place declared is at low =
     let inside = slice_get_within groups group declared at in
-    let long = ap length is.declared.ranks ∙ sums-length declared_count 0 groups in
-    let rank = ap (λ (sums : List ℕ). get_or sums group 0) is.declared.ranks
-    ∙ get_or_from_slice_get (sums_from declared_count 0 groups) group (0 + sum_by declared_count (take group groups)) 0 (sums-at declared_count 0 groups group (omega (arith, inside))) in
+    let front = front-at declared_count index.ranks groups group is.declared.ranks (omega (arith, inside)) in
     let counted = project-counted groups is.declared.project in
     let own = sum_by_more_le declared_count groups group declared inside in
     let same = ap declared_count (get_or_from_slice_get groups group declared declared at) in
-    record { inside = omega (arith, long, inside); rank = omega (arith, rank); low = omega (arith, counted, own, same, low) }
+    record { inside = front.0; rank = front.1; low = let sum = front.1 in omega (arith, counted, own, same, low, sum) }
 
 -- how many slaves and blocks the line has
-
-total-at : {X : Type 0} (count : X → ℕ) (sums : List ℕ) (xs : List X) → sums ≡ sums_from count 0 xs → (length xs < length sums) × (get_or sums (length xs) 0 ≡ sum_by count xs)
-total-at count sums xs is =
-    let long = ap length is ∙ sums-length count 0 xs in
-    let last = get_or_from_slice_get sums (length xs) (0 + sum_by count xs) 0 (ap (λ (s : List ℕ). slice_get s (length xs)) is ∙ sums-last count 0 xs) in
-    (omega (arith, long), omega (arith, last))
 
 pub slaves-total : (groups : List Declared) (index : Index) → IsIndexOf groups index
     → (length groups < length index.slaves) × (get_or index.slaves (length groups) 0 ≡ length (line_from 1 groups))
 slaves-total groups index is =
-    let total = total-at present_count index.slaves groups is.slaves in
-    (total.0, total.1 ∙ sym (line-length 1 groups))
+    let total = front-at present_count index.slaves groups (length groups) is.slaves (omega arith) in
+    (total.0, total.1 ∙ ap (sum_by present_count) (take_all (length groups) groups (omega arith)) ∙ sym (line-length 1 groups))
 
 pub blocks-total : (groups : List Declared) (index : Index) → IsIndexOf groups index
     → (length groups < length index.blocks) × (get_or index.blocks (length groups) 0 ≡ sum_by own_blocks (line_from 1 groups))
 blocks-total groups index is =
-    let total = total-at own_sum index.blocks groups is.blocks in
-    (total.0, total.1 ∙ sym (line-sum 1 groups))
+    let total = front-at own_sum index.blocks groups (length groups) is.blocks (omega arith) in
+    (total.0, total.1 ∙ ap (sum_by own_sum) (take_all (length groups) groups (omega arith)) ∙ sym (line-sum 1 groups))
 
 -- where a rank or a position falls
 
@@ -291,11 +276,11 @@ falls-here count xs n index offset x falls at =
     (falls.sum, omega (arith, low, count_is))
 
 module _ (groups : List Declared) (index : Index) (is : IsIndexOf groups index) where
-  pub ranks-begin : (slice_get index.ranks 0 ≡ Some 0) × IsNonDecreasing index.ranks
-  ranks-begin = begin-rising declared_count index.ranks groups is.declared.ranks
+  pub ranks-sums : AreSums index.ranks
+  ranks-sums = are-sums declared_count index.ranks groups is.declared.ranks
 
-  pub slaves-begin : (slice_get index.slaves 0 ≡ Some 0) × IsNonDecreasing index.slaves
-  slaves-begin = begin-rising present_count index.slaves groups is.slaves
+  pub slaves-sums : AreSums index.slaves
+  slaves-sums = are-sums present_count index.slaves groups is.slaves
 
   pub rank-inside : (n group place : ℕ) → IsSpot index.ranks n group place → group < length groups
   rank-inside n group place spot = let falls = falls-in declared_count index.ranks groups n group place is.declared.ranks spot in slice_get_within groups group falls.x falls.at
@@ -348,12 +333,11 @@ pub fronts : (groups : List Declared) (index : Index) (rank group place : ℕ) �
 fronts groups index rank group place is member =
     let stands = stands-at groups group place member.declared member.at member.present member.inside in
     let within = slice_get_within groups group member.declared member.at in
-    let long = ap length is.slaves ∙ sums-length present_count 0 groups in
-    let sum = get_or_from_slice_get index.slaves group (0 + sum_by present_count (take group groups)) 0
-    (ap (λ (s : List ℕ). slice_get s group) is.slaves ∙ sums-at present_count 0 groups group (omega (arith, within))) in
+    let front = front-at present_count index.slaves groups group is.slaves (omega (arith, within)) in
+    let sum = front.1 in
     let short = slice_get_within (line_from 1 groups) (sum_by present_count (take group groups) + place) (record { rank = rank_in groups group place; slave = stands.slave }) stands.at in
     let few = line-low groups is.declared.project in
-    record { inside = omega (arith, long, within); sum = omega (arith, sum); low = omega (arith, sum, short, few) }
+    record { inside = front.0; sum = sum; low = omega (arith, sum, short, few) }
 
 -- it is found there, by its station address
 pub member-found : (groups : List Declared) (index : Index) (station rank group place : ℕ) → IsIndexOf groups index → Contains index.addresses (record { station = station; rank = rank })

@@ -4,6 +4,5 @@ pub mod Found
 pub mod Indexes
 pub mod Lines
 pub mod Owners
-pub mod Rising
 pub mod Summed
 pub mod lemmas

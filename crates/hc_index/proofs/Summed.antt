@@ -1,15 +1,12 @@
 -- Sums along a list, and the element that a number falls in.
-use Rattle.std.proofs.Common.{◌≡◌, ℕ, zero, suc, ◌+◌, ◌<◌, ◌≤◌, List, [], ◌∷◌, ◌++◌, length, drop, get_or, take, refl, sym, ap, subst, ◌∙◌, arith, append_assoc}
-use Rattle.std.specs.Prelude.{All, AllPairs, Some, map, slice_get, sum_by}
+use Rattle.std.proofs.Common.{◌≡◌, ℕ, zero, suc, ◌+◌, ◌<◌, ◌≤◌, List, [], ◌∷◌, length, drop, get_or, take, refl, sym, ap, subst, ◌∙◌, arith}
+use Rattle.std.specs.Prelude.{All, Some, map, slice_get, sum_by}
 use Rattle.std.specs.List.Sorted.{IsNonDecreasing}
 use Rattle.std.proofs.lemmas.List.{drop_more, get_or-map, length-map, take_all}
 use Rattle.std.proofs.lemmas.List.Elements.{All-nil, All-cons, All-weaker}
-use Rattle.std.proofs.lemmas.List.Kept.{AllPairs-cons}
 use Rattle.std.proofs.lemmas.List.Sums.{sum_by-cons, sum_by_more}
 use Rattle.std.proofs.lemmas.Option.{get_or_from_slice_get, slice_get-get_or, slice_get_within}
-use Rattle.hc_records.proofs.lemmas.Lists.{AllPairs-nil}
-use Rattle.hc_index.specs.Index.{IsSpot, sums_from}
-use Rattle.hc_index.proofs.Rising.{rises}
+use Rattle.hc_index.specs.Index.{AreSums, IsSpot, sums_from}
 
 -- an element of which all have something has it
 pub all-get : {X : Type 0} (P : X → Type 0) (xs : List X) (i : ℕ) (x : X) → All P xs → slice_get xs i ≡ Some x → P x
@@ -54,19 +51,25 @@ module _ {X : Type 0} (count : X → ℕ) where
       All-cons (λ sum. front ≤ sum) front (sums_from count (front + count x) xs) (omega arith)
       (All-weaker (λ sum. front + count x ≤ sum) (λ sum. front ≤ sum) (λ sum above. omega arith) (sums_from count (front + count x) xs) (sums-above (front + count x) xs))
 
-  sums-pairs : (front : ℕ) (xs : List X) → AllPairs (λ a b. a ≤ b) (sums_from count front xs)
-  sums-pairs front [] = AllPairs-cons (λ a b. a ≤ b) front [] (All-nil (λ b. front ≤ b)) (AllPairs-nil (λ a b. a ≤ b))
-  sums-pairs front (x ∷ xs) =
-      AllPairs-cons (λ a b. a ≤ b) front (sums_from count (front + count x) xs)
-      (All-weaker (λ sum. front + count x ≤ sum) (λ sum. front ≤ sum) (λ sum above. omega arith) (sums_from count (front + count x) xs) (sums-above (front + count x) xs))
-      (sums-pairs (front + count x) xs)
-
   sums-rise : (front : ℕ) (xs : List X) → IsNonDecreasing (sums_from count front xs)
-  sums-rise front xs = rises (λ (sum : ℕ). sum) (sums_from count front xs) (sums-pairs front xs)
+  sums-rise front [] zero zero d low inside = omega arith
+  sums-rise front [] (suc i) j d low inside = absurd (omega arith)
+  sums-rise front [] zero (suc j) d low inside = absurd (omega arith)
+  sums-rise front (x ∷ xs) zero zero d low inside = omega arith
+  sums-rise front (x ∷ xs) zero (suc j) d low inside = let above = sums-above (front + count x) xs j d (omega arith) in omega (arith, above)
+  sums-rise front (x ∷ xs) (suc i) zero d low inside = absurd (omega arith)
+  sums-rise front (x ∷ xs) (suc i) (suc j) d low inside = sums-rise (front + count x) xs i j d (omega arith) (omega arith)
+
+  -- the sum at an index
+  pub front-at : (sums : List ℕ) (xs : List X) (index : ℕ) → sums ≡ sums_from count 0 xs → index ≤ length xs → (index < length sums) × (get_or sums index 0 ≡ sum_by count (take index xs))
+  front-at sums xs index is low =
+      let long = ap length is ∙ sums-length 0 xs in
+      let at = get_or_from_slice_get sums index (0 + sum_by count (take index xs)) 0 (ap (λ (s : List ℕ). slice_get s index) is ∙ sums-at 0 xs index low) in
+      (omega (arith, long, low), omega (arith, at))
 
   -- sums in which a number is sought
-  pub begin-rising : (sums : List ℕ) (xs : List X) → sums ≡ sums_from count 0 xs → (slice_get sums 0 ≡ Some 0) × IsNonDecreasing sums
-  begin-rising sums xs is = subst (λ (s : List ℕ). (slice_get s 0 ≡ Some 0) × IsNonDecreasing s) (sym is) (sums-first 0 xs, sums-rise 0 xs)
+  pub are-sums : (sums : List ℕ) (xs : List X) → sums ≡ sums_from count 0 xs → AreSums sums
+  are-sums sums xs is = subst AreSums (sym is) (record { first = sums-first 0 xs; rising = sums-rise 0 xs })
 
   pub falls-in : (sums : List ℕ) (xs : List X) (n index offset : ℕ) → sums ≡ sums_from count 0 xs → IsSpot sums n index offset → FallsIn count xs n index offset
   falls-in sums xs n index offset is spot =
@@ -89,16 +92,6 @@ module _ {X : Type 0} (count : X → ℕ) where
   falls-behind sums xs n is all =
       let most = all-get (λ (sum : ℕ). sum ≤ n) sums (length xs) (0 + sum_by count xs) all (ap (λ (s : List ℕ). slice_get s (length xs)) is ∙ sums-last 0 xs) in
       omega (arith, most)
-
-  -- a walk along the list adds one sum more
-  pub sums-step : (xs : List X) (i : ℕ) (x : X) → i < length xs → x ≡ get_or xs i x → (sums more all : List ℕ) (front : ℕ)
-      → more ≡ sums ++ front ∷ [] → sums ++ sums_from count front (drop i xs) ≡ all → more ++ sums_from count (front + count x) (drop (i + 1) xs) ≡ all
-  sums-step xs i x inside is sums more all front added whole =
-      let rest = sums_from count (front + count x) (drop (i + 1) xs) in
-      ap (λ (s : List ℕ). s ++ rest) added
-      ∙ append_assoc sums (front ∷ []) rest
-      ∙ sym (ap (λ (left : List X). sums ++ sums_from count front left) (drop_more xs i x inside ∙ ap (λ (y : X). y ∷ drop (i + 1) xs) (sym is)))
-      ∙ whole
 
   pub left-step : (xs : List X) (i : ℕ) (x : X) → i < length xs → x ≡ get_or xs i x → sum_by count (drop i xs) ≡ count x + sum_by count (drop (i + 1) xs)
   left-step xs i x inside is =

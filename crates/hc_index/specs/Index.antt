@@ -1,7 +1,7 @@
 -- What an index of a project's declared groups keeps, so that a group, a slave or a block of the line is found without a walk.
 use Rattle.std.specs.Prelude.{◌≡◌, ℕ, ◌+◌, ◌-◌, ◌*◌, ◌<◌, nat_lt, true, if◌then◌else◌, List, [], ◌∷◌, length, map, slice_get, sum_by, take, Option, Some, None, option_and_then}
 use Rattle.std.specs.List.{enumerate_from}
-use Rattle.std.specs.List.Sorted.{IsPermutation}
+use Rattle.std.specs.List.Sorted.{IsNonDecreasing, IsPermutation}
 use Rattle.hc_records.specs.declared.records.Declared.{Declared}
 use Rattle.hc_records.specs.declared.records.Slave.{Slave}
 use Rattle.hc_records.specs.Line.{Member, groups_of, line_from, present_slaves}
@@ -55,6 +55,11 @@ slave_in groups group place = option_and_then (λ (declared : Declared). slice_g
 abbrev pub sums_from : {X : Type 0} → (X → ℕ) → ℕ → List X → List ℕ
 sums_from count front [] = front ∷ []
 sums_from count front (x ∷ xs) = front ∷ sums_from count (front + count x) xs
+
+-- numbers among which one is sought: they begin with 0 and don't fall
+pub record AreSums (sums : List ℕ) : Type 0 where
+  pub first : slice_get sums 0 ≡ Some 0
+  pub rising : IsNonDecreasing sums
 
 -- a number falls behind the sum at an index, so far behind it, and is below the next one
 pub record IsSpot (sums : List ℕ) (n index offset : ℕ) : Type 0 where

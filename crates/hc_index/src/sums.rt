@@ -1,8 +1,8 @@
 //! Sums along lists, in which the element that a number falls in is found by halves.
-ghost use Rattle.std.specs.Prelude.{◌≡◌, ◌+◌, ◌<◌, ◌≤◌, All, IfOk, MatchOption, Some, length, map, slice_get, slice_index, sum_by, vec_capacity, vec_len};
+ghost use Rattle.std.specs.Prelude.{◌≡◌, ◌+◌, ◌<◌, ◌≤◌, All, IfOk, MatchOption, length, map, slice_index, sum_by, vec_capacity, vec_len};
 ghost use Rattle.std.specs.List.Sorted.{IsNonDecreasing, IsPartitionPoint};
 ghost use Rattle.hc_records.specs.Line.{IsCounted};
-ghost use Rattle.hc_index.specs.Index.{IsSpot, block_sum, block_sums, blocks_of, declared_count, own_sum, present_count, sums_from};
+ghost use Rattle.hc_index.specs.Index.{AreSums, IsSpot, block_sum, block_sums, blocks_of, declared_count, own_sum, present_count, sums_from};
 
 use hc_records::records::{Declared, Slave};
 use std::alloc::{AllocError, Global};
@@ -27,8 +27,7 @@ fn count_begun(sums: &[u32], n: u32) -> usize
 
 /// Where a number falls among sums; none where it is no lower than the last.
 pub(crate) fn find_spot(sums: &[u32], n: u32) -> Option<Spot>
-    requires first { slice_get sums.now 0 ≡ Some 0 }
-    requires rising { IsNonDecreasing sums.now }
+    requires { AreSums sums.now }
     ensures { MatchOption result (All (λ sum. sum ≤ n) sums.now) (λ spot. IsSpot sums.now n spot.index spot.offset) }
 {
     let begun = count_begun(sums, n);

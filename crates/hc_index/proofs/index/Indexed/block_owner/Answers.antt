@@ -4,14 +4,11 @@ use Rattle.std.proofs.lemmas.Grind.{common_steps}
 use Rattle.std.proofs.lemmas.Option.{gets, slice_get-map}
 use Rattle.hc_records.specs.Line.{Member}
 use Rattle.hc_index.specs.Index.{rank_in}
-use Rattle.hc_index.proofs.Indexes.{blocks-begin, blocks-behind, front-begins, front-reaches, has-front, member-in, no-member, owner-of, seen}
+use Rattle.hc_index.proofs.Indexes.{blocks-sums, blocks-behind, front-sums, front-reaches, has-front, member-in, no-member, owner-of, seen}
 use Rattle.hc_index.proofs.index.Indexed.block_owner.Goals as goal
 
-pub find_spot-requires-clause-first : goal.find_spot-requires-clause-first
-find_spot-requires-clause-first c = (blocks-begin c.args.self.now _ (seen c.self.view_is c.self.invariant.0)).0
-
-pub find_spot-requires-clause-rising : goal.find_spot-requires-clause-rising
-find_spot-requires-clause-rising c = (blocks-begin c.args.self.now _ (seen c.self.view_is c.self.invariant.0)).1
+pub find_spot-requires : goal.find_spot-requires
+find_spot-requires c = blocks-sums c.args.self.now _ (seen c.self.view_is c.self.invariant.0)
 
 pub returns-in_err-group : goal.returns-in_err-group
 returns-in_err-group c = c.from_residual.ensures ∙ sym (blocks-behind c.args.self.now _ (seen c.self.view_is c.self.invariant.0) c.args.n c.in_err-group.ensures)
@@ -26,15 +23,10 @@ returns-in_err-own c =
 front-at : (fronts : List (Vec ℕ Global)) (group : ℕ) (sums : Vec ℕ Global) (own : List ℕ) → slice_get fronts group ≡ Some sums → own ≡ sums.items → slice_get (map (λ v. v.items) fronts) group ≡ Some own
 front-at fronts group sums own at is = slice_get-map (λ v. v.items) fronts group ∙ ap (option_map (λ v. v.items)) at ∙ ap Some (sym is)
 
-pub find_spot-requires-2-clause-first : goal.find_spot-requires-2-clause-first
-find_spot-requires-2-clause-first c =
-    (front-begins c.args.self.now _ (seen c.self.view_is c.self.invariant.0) c.args.n _ _ c.as_slice.result.now c.in_ok-group.ensures
-    (front-at c.self.inside.fronts.now c.in_ok-group.group.index c.in_ok-own.own.now c.as_slice.result.now (grind (arith, common_steps, gets)) c.as_slice.ensures.value)).0
-
-pub find_spot-requires-2-clause-rising : goal.find_spot-requires-2-clause-rising
-find_spot-requires-2-clause-rising c =
-    (front-begins c.args.self.now _ (seen c.self.view_is c.self.invariant.0) c.args.n _ _ c.as_slice.result.now c.in_ok-group.ensures
-    (front-at c.self.inside.fronts.now c.in_ok-group.group.index c.in_ok-own.own.now c.as_slice.result.now (grind (arith, common_steps, gets)) c.as_slice.ensures.value)).1
+pub find_spot-requires-2 : goal.find_spot-requires-2
+find_spot-requires-2 c =
+    front-sums c.args.self.now _ (seen c.self.view_is c.self.invariant.0) c.args.n _ _ c.as_slice.result.now c.in_ok-group.ensures
+    (front-at c.self.inside.fronts.now c.in_ok-group.group.index c.in_ok-own.own.now c.as_slice.result.now (grind (arith, common_steps, gets)) c.as_slice.ensures.value)
 
 pub returns-in_err-place : goal.returns-in_err-place
 returns-in_err-place c =

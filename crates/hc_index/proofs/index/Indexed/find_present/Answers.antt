@@ -3,14 +3,11 @@ use Rattle.std.specs.Prelude.{slice_get}
 use Rattle.std.proofs.lemmas.Grind.{common_steps}
 use Rattle.std.proofs.lemmas.Option.{gets}
 use Rattle.hc_index.proofs.Found.{past-end}
-use Rattle.hc_index.proofs.Indexes.{rank-absent, rank-behind, rank-inside, rank-member, ranks-begin, seen}
+use Rattle.hc_index.proofs.Indexes.{rank-absent, rank-behind, rank-inside, rank-member, ranks-sums, seen}
 use Rattle.hc_index.proofs.index.Indexed.find_present.Goals as goal
 
-pub find_spot-requires-clause-first : goal.find_spot-requires-clause-first
-find_spot-requires-clause-first c = (ranks-begin c.self.inside.groups.now _ c.self.invariant.0).0
-
-pub find_spot-requires-clause-rising : goal.find_spot-requires-clause-rising
-find_spot-requires-clause-rising c = (ranks-begin c.self.inside.groups.now _ c.self.invariant.0).1
+pub find_spot-requires : goal.find_spot-requires
+find_spot-requires c = ranks-sums c.self.inside.groups.now _ c.self.invariant.0
 
 pub returns-in_err-spot : goal.returns-in_err-spot
 returns-in_err-spot c = rw c.from_residual.ensures (rank-behind c.args.self.now _ (seen c.self.view_is c.self.invariant.0) c.args.rank c.requires (rw c.from.ensures at c.in_err-spot.ensures))

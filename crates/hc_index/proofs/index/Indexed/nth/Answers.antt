@@ -1,12 +1,9 @@
 use Rattle.std.proofs.Common.{◌∙◌, sym}
-use Rattle.hc_index.proofs.Indexes.{nth-found, nth-past, seen, slaves-begin}
+use Rattle.hc_index.proofs.Indexes.{nth-found, nth-past, seen, slaves-sums}
 use Rattle.hc_index.proofs.index.Indexed.nth.Goals as goal
 
-pub find_spot-requires-clause-first : goal.find_spot-requires-clause-first
-find_spot-requires-clause-first c = (slaves-begin c.self.inside.groups.now _ c.self.invariant.0).0
-
-pub find_spot-requires-clause-rising : goal.find_spot-requires-clause-rising
-find_spot-requires-clause-rising c = (slaves-begin c.self.inside.groups.now _ c.self.invariant.0).1
+pub find_spot-requires : goal.find_spot-requires
+find_spot-requires c = slaves-sums c.self.inside.groups.now _ c.self.invariant.0
 
 pub returns-in_err-spot : goal.returns-in_err-spot
 returns-in_err-spot c = c.from_residual.ensures ∙ sym (nth-past c.args.self.now _ (seen c.self.view_is c.self.invariant.0) c.args.position c.in_err-spot.ensures)
