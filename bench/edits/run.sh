@@ -40,7 +40,6 @@ cat > "$bench/src/lib.rt" <<'END_OF_CODE'
 use hc_places::configure::open_line;
 use hc_places::swap::Swap;
 use hc_places::table::{Datagram, Place, Places};
-use hc_plan::blocks::LineBlock;
 use hc_plan::plan::Plan;
 use hc_plan::report::Report;
 use hc_project::read_project;
@@ -48,6 +47,7 @@ use hc_records::edit::Edit;
 use hc_records::faults::EditFault;
 use hc_records::items::Items;
 use hc_records::records::Dir;
+use hc_registers::blocks::Block;
 use std::alloc::{AllocError, Global};
 use std::marker::Brand;
 use std::sync::ledger::Blank;
@@ -153,13 +153,10 @@ fn told_of_task(told: u64, places: &Places, task: u8) -> u64 {
     told_of(told_of(told, u64::from(outputs)), u64::from(inputs))
 }
 
-fn told_of_block(told: u64, found: &LineBlock) -> u64 {
-    let told = told_of(
-        told_of(told, u64::from(found.station)),
-        u64::from(found.number),
-    );
-    let mut told = told_of(told, u64::from(found.block.register()));
-    for byte in found.block.bytes() {
+fn told_of_block(told: u64, station: u16, number: u8, block: &Block) -> u64 {
+    let told = told_of(told_of(told, u64::from(station)), u64::from(number));
+    let mut told = told_of(told, u64::from(block.register()));
+    for byte in block.bytes() {
         told = told_of(told, u64::from(*byte));
     }
     told
@@ -175,8 +172,19 @@ fn told_of_plan(plan: &Plan) -> u64 {
     for task in 0..8 {
         told = told_of_task(told, places, task);
     }
-    for found in plan.line_blocks() {
-        told = told_of_block(told, &found);
+    // no station address is 0
+    let mut last = 0;
+    let mut number = 0_u8;
+    for n in 0..plan.blocks() {
+        if let Some((station, block)) = plan.nth_block(n) {
+            number = if station == last {
+                number.wrapping_add(1)
+            } else {
+                0
+            };
+            last = station;
+            told = told_of_block(told, station, number, &block);
+        }
     }
     told
 }

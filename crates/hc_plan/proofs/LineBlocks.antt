@@ -1,13 +1,13 @@
 -- The blocks of a line, slave by slave.
-use Rattle.std.proofs.Common.{◌≡◌, ℕ, zero, suc, ◌+◌, ◌-◌, ◌*◌, ◌<◌, ◌≤◌, List, [], ◌∷◌, ◌++◌, length, drop, refl, sym, ap, subst, ◌∙◌, arith, length-append, drop-cons, true, false, if◌then◌else◌}
+use Rattle.std.proofs.Common.{◌≡◌, ℕ, ◌+◌, ◌-◌, ◌*◌, ◌<◌, ◌≤◌, List, [], ◌∷◌, length, refl, sym, ap, subst, ◌∙◌, arith, length-append, true, false, if◌then◌else◌}
 use Rattle.std.proofs.lemmas.List.{length-map}
 use Rattle.std.specs.Prelude.{All, Bool, Option, Some, None, find, not, option_and_then, option_map, slice_get, slice_index_or, nat_lt, sum_by}
 use Rattle.std.specs.List.{enumerate_from, flat_map, list_any}
 use Rattle.std.proofs.lemmas.List.FromFn.{length-enumerate_from}
-use Rattle.std.proofs.lemmas.Option.{get_or_from_slice_get, slice_get-get_or, slice_get-map, slice_get_within}
+use Rattle.std.proofs.lemmas.Option.{slice_get-get_or, slice_get-map}
 use Rattle.std.proofs.lemmas.Bool.{ltb-false, ltb-true}
 use Rattle.std.proofs.lemmas.List.Sums.{sum_by-cons}
-use Rattle.std.proofs.lemmas.List.Elements.{All-head, All-tail, All-weaker}
+use Rattle.std.proofs.lemmas.List.Elements.{All-head, All-tail}
 use Rattle.hc_records.specs.declared.records.Area.{Area}
 use Rattle.hc_records.specs.declared.records.Declared.{Declared}
 use Rattle.hc_records.specs.declared.keys.Key.{Key}
@@ -18,11 +18,11 @@ use Rattle.hc_records.proofs.lemmas.Slaves.{project-counted}
 use Rattle.hc_records.proofs.lemmas.Walks.{get-back, get-front, length-line}
 use Rattle.hc_index.specs.Index.{own_blocks, owned_by}
 use Rattle.hc_registers.specs.declared.fmmu.Mapping.{Mapping}
-use Rattle.hc_registers.specs.Blocks.{LineBlock, RegisterBlock, area_blocks, line_blocks, member_blocks, moved_blocks, numbered, same_block, slave_blocks, sync_manager_block, fmmu_block, mapping_at, mapping_of}
+use Rattle.hc_registers.specs.Blocks.{LineBlock, RegisterBlock, area_blocks, line_blocks, member_blocks, moved_blocks, same_block, slave_blocks, sync_manager_block, fmmu_block, mapping_at, mapping_of}
 use Rattle.hc_places.specs.Layout.{placed_in}
 use Rattle.hc_places.proofs.lemmas.Found.{find-holds}
 use Rattle.hc_places.proofs.lemmas.Layouts.{placed-in-line}
-use Rattle.hc_plan.specs.inner.Blocks.{IsLaidOut, IsMappedSlave, area_blocks_in, blocks_left, fmmu_block_in, mapping_in, own_left, slave_blocks_in}
+use Rattle.hc_plan.specs.inner.Blocks.{IsLaidOut, IsMappedSlave, area_blocks_in, mapping_in, slave_blocks_in}
 use Rattle.hc_plan.specs.Configuration.{at_station, block_at, line_block_at}
 use Rattle.hc_changes.proofs.lemmas.Compared.{flat_map-among}
 use Rattle.hc_records.proofs.lemmas.Lists.{filter-few}
@@ -58,12 +58,6 @@ length-pairs : {X Y : Type 0} (f g : X → Y) (xs : List X) → length (flat_map
 length-pairs f g [] = refl
 length-pairs f g (x ∷ xs) = let rest = length-pairs f g xs in omega (arith, rest)
 
--- a slave has two blocks for each area
-pub length-slave_blocks : (layout : List (List Placed)) (member : Member) → length (slave_blocks_in layout member) ≡ 2 * length member.slave.areas
-length-slave_blocks layout member =
-    length-pairs (λ (e : ℕ × Area). sync_manager_block e.1) (fmmu_block_in layout member.rank) (enumerate_from 0 member.slave.areas)
-    ∙ ap (λ (n : ℕ). 2 * n) (length-enumerate_from 0 member.slave.areas)
-
 pub length-member_blocks : (members : List Member) (member : Member) → length (member_blocks members member) ≡ 2 * length member.slave.areas
 length-member_blocks members member =
     length-map (enumerate_from 0 (slave_blocks members member)) (λ e. record { station = member.slave.station; number = e.0; block = e.1 })
@@ -71,21 +65,6 @@ length-member_blocks members member =
     ∙ length-pairs (λ (e : ℕ × Area). sync_manager_block e.1)
     (λ (e : ℕ × Area). fmmu_block e.0 e.1 (mapping_of members e.1.task (record { dir = e.1.dir; rank = member.rank; area = e.0 }))) (enumerate_from 0 member.slave.areas)
     ∙ ap (λ (n : ℕ). 2 * n) (length-enumerate_from 0 member.slave.areas)
-
--- a list from an element on
-pub drop-met : {X : Type 0} (xs : List X) (position : ℕ) (x : X) → slice_get xs position ≡ Some x → drop position xs ≡ x ∷ drop (position + 1) xs
-drop-met {X} xs position x at =
-    let next : suc position ≡ position + 1 = omega arith in
-    drop-cons xs position x (slice_get_within xs position x at)
-    ∙ ap (λ (y : X). y ∷ drop (suc position) xs) (get_or_from_slice_get xs position x x at)
-    ∙ ap (λ (k : ℕ). x ∷ drop k xs) next
-
--- a walk ends behind the last element
-pub drop-past : {X : Type 0} (xs : List X) (position : ℕ) → slice_get xs position ≡ None → drop position xs ≡ []
-drop-past [] zero none = refl
-drop-past [] (suc position) none = refl
-drop-past (x ∷ xs) zero none = cc
-drop-past (x ∷ xs) (suc position) none = drop-past xs position none
 
 abbrev told : LineBlock → ℕ × RegisterBlock
 told found = at_station found.station found.block
@@ -173,29 +152,6 @@ owner-tells groups layout n number member laid is =
     ∙ ap (λ (blocks : List RegisterBlock). option_map (at_station member.slave.station) (slice_get blocks number))
     (sym (slave_blocks-line groups layout member laid (owner-mapped groups layout n number member laid is)))
 
--- a walk by a layout of the line gives the blocks of the line
-pub walk-begins : (groups : List Declared) (layout : List (List Placed)) (members : List Member) → IsLaidOut groups layout → All (IsMappedSlave layout) members
-    → blocks_left layout None 0 members ≡ flat_map (member_blocks (line_from 1 groups)) members
-walk-begins groups layout members laid mapped =
-    flat_map-among (λ member. own_left layout (Some member) 0) (member_blocks (line_from 1 groups)) members
-    (All-weaker (IsMappedSlave layout) (λ member. own_left layout (Some member) 0 ≡ member_blocks (line_from 1 groups) member)
-    (λ member own. ap (numbered member.slave.station 0) (slave_blocks-line groups layout member laid own)) members mapped)
-
--- and ends its slave's where the slave has no block with the next number
-pub own-met : (layout : List (List Placed)) (member : Member) (number : ℕ) (block : RegisterBlock) → slice_get (slave_blocks_in layout member) number ≡ Some block
-    → own_left layout (Some member) number ≡ (record { station = member.slave.station; number = number; block = block }) ∷ own_left layout (Some member) (number + 1)
-own-met layout member number block at = ap (numbered member.slave.station number) (drop-met (slave_blocks_in layout member) number block at)
-
-pub own-past : (layout : List (List Placed)) (member : Member) (number : ℕ) → slice_get (slave_blocks_in layout member) number ≡ None → own_left layout (Some member) number ≡ []
-own-past layout member number none = ap (numbered member.slave.station number) (drop-past (slave_blocks_in layout member) number none)
-
--- and goes on with the slave behind it
-pub walk-goes : (layout : List (List Placed)) (member : Option Member) (number : ℕ) (members : List Member) (next : Member) (rest : List Member)
-    → own_left layout member number ≡ [] → members ≡ next ∷ rest → blocks_left layout (Some next) 0 rest ≡ blocks_left layout member number members
-walk-goes layout member number members next rest none is =
-    sym (ap (λ (own : List LineBlock). own ++ flat_map (λ m. own_left layout (Some m) 0) members) none
-    ∙ ap (flat_map (λ m. own_left layout (Some m) 0)) is)
-
 -- a slave of the line by its rank and its record
 pub same-member : (rank : ℕ) (slave : Slave) (member : Member) → rank ≡ member.rank → slave ≡ member.slave → member ≡ record { rank = rank; slave = slave }
 same-member rank slave member ranked own =
@@ -233,11 +189,3 @@ few-moved groups layout old laid =
     let all = few-blocks groups layout laid in
     let some = filter-few (λ block. not (list_any (same_block block) (line_blocks old))) (line_blocks (line_from 1 groups)) in
     omega (arith, all, some)
-
--- a block that a slave has is one of few
-pub block-early : (layout : List (List Placed)) (member : Member) (number : ℕ) (block : RegisterBlock) → IsMappedSlave layout member → slice_get (slave_blocks_in layout member) number ≡ Some block
-    → (number < length (slave_blocks_in layout member)) × (length (slave_blocks_in layout member) ≤ 16)
-block-early layout member number block mapped at =
-    let count = length-slave_blocks layout member in
-    let few = mapped.few in
-    (slice_get_within (slave_blocks_in layout member) number block at, omega (arith, count, few))

@@ -5,7 +5,7 @@ ghost use Rattle.hc_index.specs.Index.{IsIndexOf};
 ghost use Rattle.hc_plan.specs.inner.Applied.{Follows};
 
 use crate::applying::work_out;
-use crate::blocks::{LineBlocks, block_at, line_blocks, nth_block};
+use crate::blocks::{block_at, nth_block};
 use crate::laid::Laid;
 use crate::prepared::PreparedEdit;
 use crate::report::Report;
@@ -183,14 +183,6 @@ impl Plan {
         ensures { result ≡ line_block_at (line self.now) n }
     {
         nth_block(&self.indexed(), &self.laid(), n)
-    }
-
-    /// The blocks of the present line, in line and block order, one by one: each with its slave's station
-    /// address and its number in the slave's order. The walk takes no memory.
-    pub fn line_blocks(&self) -> LineBlocks<'_>
-        ensures { result ≡ (config (line self.now)).blocks }
-    {
-        line_blocks(self.groups.as_slice(), self.laid())
     }
 
     /// The keys at which the datagrams of a task, 0 to 7, begin in the present line: `Key::START`, with which the

@@ -114,9 +114,6 @@ module _ (it : Outlook) (is : IsOutlook it) where
       ∙ parts.1) in
       record { was = was; area = area; stood = stood; place = spot-place found of was (place_of new found) (place_of old found) refl refl spot }
 
-  pub others-stay : (found : LineArea) → Contains (line_areas new) found → moves it (mover_of it (own found)) ≡ false → Contains (line_areas old) found × (place_of old found ≡ place_of new found)
-  others-stay found at still = let it-stays = stays found (line-area new found at) still in (area-stands old found it-stays.was, sym it-stays.place)
-
   -- its blocks are those that it had
 
   unmoved-blocks : (found : LineArea) → IsAreaOf new found → moves it (mover_of it (own found)) ≡ false → blocks_moved (mover_of it (own found)) ≡ []

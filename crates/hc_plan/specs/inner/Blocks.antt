@@ -1,5 +1,5 @@
 -- The blocks of a slave, by the places that a layout has for its areas.
-use Rattle.std.specs.Prelude.{◌≡◌, ℕ, ◌<◌, ◌≤◌, ◌%◌, ◌==◌, if◌then◌else◌, List, [], ◌∷◌, ◌++◌, drop, length, option_map, slice_get, Option, Some, None}
+use Rattle.std.specs.Prelude.{◌≡◌, ℕ, ◌<◌, ◌≤◌, ◌%◌, ◌==◌, if◌then◌else◌, List, [], ◌∷◌, length, option_map, slice_get, Option, Some, None}
 use Rattle.std.specs.Option.{ForSome, option_map_or}
 use Rattle.std.specs.List.{enumerate_from, flat_map}
 use Rattle.hc_records.specs.declared.limits.TheConstants.{LAST_SYNC_MANAGER, MOST_AREA_BITS, MOST_AREAS, TASKS}
@@ -12,7 +12,7 @@ use Rattle.hc_records.specs.Packing.{Placed}
 use Rattle.hc_records.specs.Edits.{crowded_task}
 use Rattle.hc_records.specs.Project.{lowest_fault}
 use Rattle.hc_registers.specs.declared.fmmu.Mapping.{Mapping}
-use Rattle.hc_registers.specs.Blocks.{IsMappable, LineBlock, RegisterBlock, fmmu_block, mapping_at, numbered, sync_manager_block}
+use Rattle.hc_registers.specs.Blocks.{IsMappable, RegisterBlock, fmmu_block, mapping_at, sync_manager_block}
 use Rattle.hc_places.specs.Layout.{layout_of, placed_in}
 
 -- where a layout maps the area at an index of a slave with a rank
@@ -39,15 +39,6 @@ area_block_in layout rank number e = if number % 2 == 0 then sync_manager_block 
 -- the blocks of a slave by the places of a layout: for each area in record order its sync manager block, then its FMMU block
 abbrev pub slave_blocks_in : List (List Placed) → Member → List RegisterBlock
 slave_blocks_in layout member = flat_map (area_blocks_in layout member.rank) (enumerate_from 0 member.slave.areas)
-
--- those of a slave, if there is one, from a number on, as blocks of the line
-abbrev pub own_left : List (List Placed) → Option Member → ℕ → List LineBlock
-own_left layout None number = []
-own_left layout (Some member) number = numbered member.slave.station number (drop number (slave_blocks_in layout member))
-
--- those, and those of the slaves behind
-abbrev pub blocks_left : List (List Placed) → Option Member → ℕ → List Member → List LineBlock
-blocks_left layout member number members = own_left layout member number ++ flat_map (λ m. own_left layout (Some m) 0) members
 
 -- a layout is that of the line of a project's groups, in which no task is crowded
 pub record IsLaidOut (groups : List Declared) (layout : List (List Placed)) : Type 0 where
