@@ -87,16 +87,6 @@ not-two_by b a k apart low lies =
 
 -- some places are written, and then one more
 
-pub nothing-written : (places : Numbered) (run : ℕ → ℕ → ℕ) (bytes : Bytes) → WritesEach 0 places run bytes bytes
-nothing-written places run bytes = record {
-  ranges = λ i place low. absurd (omega arith);
-  own = λ i k place low. absurd (omega arith);
-  rest = λ task d k few miss. refl;
-  sizes = λ n. refl;
-  bytes = λ task d few own. own;
-  all = refl;
-}
-
 earlier : (places : Numbered) (n i : ℕ) (place : VariablePlace) → places n ≡ None → i < n + 1 → places i ≡ Some place → i < n
 earlier places n i place none low there = elim (cases_lt i n) [
   | inl less ↦ less

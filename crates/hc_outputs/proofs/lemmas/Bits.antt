@@ -4,7 +4,6 @@ use Rattle.std.specs.Prelude.{find}
 use Rattle.std.proofs.lemmas.Bool.{and_from, and_parts, eq-eqb, eqb-true}
 use Rattle.std.proofs.lemmas.Bool.Decides.{nat_tests}
 use Rattle.hc_bits.specs.Bits.{bit_of}
-use Rattle.hc_bits.proofs.lemmas.Places.{same_bytes_from_bits}
 use Rattle.hc_records.specs.declared.limits.TheConstants.{MOST_DATAGRAMS, TASKS}
 use Rattle.hc_records.specs.declared.records.Dir.TheVariants.{Out}
 use Rattle.hc_records.specs.Image.{VariablePlace}
@@ -119,19 +118,3 @@ pub sent-there : (packed : Packed) (task d : ℕ) → task < TASKS → d < MOST_
 sent-there packed task d low few =
     let is : (nat_lt task TASKS && nat_lt d MOST_DATAGRAMS) ≡ true = within_limits task d low few in
     ap (λ b. cond b (bytes_of packed.sent task d) []) is
-
--- values determine the bytes
-
-bits_same : (table : Table) (value : ℕ → ℕ → ℕ) (first second : Bytes) (task d k : ℕ) → Carries table value first → Carries table value second → task < TASKS → d < MOST_DATAGRAMS
-    → HasBit table task d k ⊎ HasNoBit table task d k → bit_of (bytes_of first task d) k ≡ bit_of (bytes_of second task d) k
-bits_same table value first second task d k one two low few (inl has) =
-    carried-bit table value first task d k one has ∙ sym (carried-bit table value second task d k two has)
-bits_same table value first second task d k one two low few (inr none) =
-    one.others task d k low few none ∙ sym (two.others task d k low few none)
-
-pub carried-same : (table : Table) (value : ℕ → ℕ → ℕ) (first second : Bytes) → RowsAscend table.variables → Carries table value first → Carries table value second
-    → (task d : ℕ) → task < TASKS → d < MOST_DATAGRAMS → bytes_of first task d ≡ bytes_of second task d
-carried-same table value first second ascend one two task d low few =
-    same_bytes_from_bits (bytes_of first task d) (bytes_of second task d) (one.all_bytes task d low few) (two.all_bytes task d low few)
-    (one.sizes task d low few ∙ sym (two.sizes task d low few))
-    (λ k below. bits_same table value first second task d k one two low few (bit-lies table task d k ascend))
