@@ -8,7 +8,7 @@ here=$(cd "$(dirname "$0")" && pwd)
 top="$here/../.."
 scratch=$(mktemp -d)
 trap 'rm -rf "$scratch"' EXIT
-crates="hc_records hc_project hc_registers hc_bitsum hc_cuts hc_tasks hc_edits hc_index hc_places hc_changes hc_plan"
+crates="hc_records hc_project hc_registers hc_ranks hc_bitsum hc_cuts hc_tasks hc_edits hc_index hc_places hc_changes hc_plan"
 for crate in $crates; do
     mkdir -p "$scratch/crates/$crate"
     for part in src specs proofs ${KEPT:+out}; do
