@@ -2,6 +2,7 @@
 pub mod Addresses
 pub mod Ascending
 pub mod Cuts
+pub mod Disjoint
 pub mod Entries
 pub mod Finds
 pub mod Greatest

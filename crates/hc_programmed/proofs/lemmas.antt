@@ -1,0 +1,7 @@
+-- What the crates above cite, a file a subject.
+pub mod Elements
+pub mod Members
+pub mod Places
+pub mod Programmed
+pub mod Shared
+pub mod Sources
