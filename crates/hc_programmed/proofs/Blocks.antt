@@ -1,8 +1,7 @@
 -- What writing blocks one after another leaves of one slave's memory.
-use Rattle.std.proofs.Common.{◌≡◌, ℕ, zero, suc, ◌+◌, ◌-◌, ◌<◌, ◌≤◌, ◌∙◌, inl, inr, List, [], ◌∷◌, length, get_or, take, drop, refl, sym, ap, subst, arith}
+use Rattle.std.proofs.Common.{◌≡◌, ℕ, zero, suc, ◌+◌, ◌-◌, ◌*◌, ◌<◌, ◌≤◌, ◌∙◌, inl, inr, List, [], ◌∷◌, length, get_or, refl, sym, ap, ap₂, subst, arith}
 use Rattle.std.specs.Prelude.{All, AllPairs, Contains, slice_index_or}
 use Rattle.std.proofs.lemmas.Bool.{cases_eq, cases_lt}
-use Rattle.std.proofs.lemmas.List.{get_or-drop, get_or-take}
 use Rattle.std.proofs.lemmas.List.Elements.{All-head, All-tail}
 use Rattle.hc_records.proofs.lemmas.Lists.{AllPairs-head, AllPairs-tail}
 use Rattle.hc_frames.specs.Arrived.{word_at}
@@ -23,14 +22,8 @@ Leaves station r block = block.station ≡ station → Misses block.block.regist
 abbrev pub OwnApart : LineBlock → LineBlock → Type 0
 OwnApart a b = a.station ≡ b.station → StandApart a.block b.block
 
-word-byte : (memory : List ℕ) (i : ℕ) → i < 2 → get_or (take 2 (drop 16 memory)) i 0 ≡ get_or memory (16 + i) 0
-word-byte memory i low = get_or-take 2 (drop 16 memory) i 0 low ∙ get_or-drop 16 memory i 0
-
-pub same-word : (a b : List ℕ) → get_or a 16 0 ≡ get_or b 16 0 → get_or a 17 0 ≡ get_or b 17 0 → word_at a 16 ≡ word_at b 16
-same-word a b low high =
-    let first : get_or (take 2 (drop 16 a)) 0 0 ≡ get_or (take 2 (drop 16 b)) 0 0 = word-byte a 0 (omega arith) ∙ low ∙ sym (word-byte b 0 (omega arith)) in
-    let second : get_or (take 2 (drop 16 a)) 1 0 ≡ get_or (take 2 (drop 16 b)) 1 0 = word-byte a 1 (omega arith) ∙ high ∙ sym (word-byte b 1 (omega arith)) in
-    omega (arith, first, second)
+same-word : (a b : List ℕ) → get_or a 16 0 ≡ get_or b 16 0 → get_or a 17 0 ≡ get_or b 17 0 → word_at a 16 ≡ word_at b 16
+same-word a b low high = ap₂ (λ (m n : ℕ). m + 256 * n) low high
 
 -- behind one block
 

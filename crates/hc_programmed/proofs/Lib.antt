@@ -1,5 +1,4 @@
 pub mod Blocks
-pub mod Decoded
 pub mod Listed
 pub mod Through
 pub mod Wrote

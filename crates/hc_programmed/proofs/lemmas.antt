@@ -1,5 +1,7 @@
 -- What the crates above cite, a file a subject.
+pub mod Decoded
 pub mod Elements
+pub mod Kept
 pub mod Members
 pub mod Places
 pub mod Programmed

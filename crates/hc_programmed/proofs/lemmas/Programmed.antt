@@ -9,29 +9,30 @@ use Rattle.hc_records.specs.declared.records.Area.{Area}
 use Rattle.hc_records.specs.Line.{IsCounted, Member, State, line}
 use Rattle.hc_records.proofs.lemmas.Slaves.{project-counted}
 use Rattle.hc_records.proofs.lemmas.Walks.{length-line}
-use Rattle.hc_registers.specs.Blocks.{LineBlock, RegisterBlock, area_blocks, fmmu_bytes, line_blocks, mapping_of, member_blocks, slave_blocks, sync_manager_block}
+use Rattle.hc_registers.specs.declared.fmmu.Mapping.{Mapping}
+use Rattle.hc_registers.specs.Blocks.{LineBlock, RegisterBlock, area_blocks, fmmu_bytes, line_blocks, mapped_bytes, mapping_of, member_blocks, slave_blocks, sync_manager_block}
 use Rattle.hc_machine.specs.Fmmus.{block_at}
 use Rattle.hc_machine.specs.Laws.{IsPair}
 use Rattle.hc_programmed.specs.Laws.{IsConfigurable}
-use Rattle.hc_programmed.specs.Pairs.{AreasPair, key_of}
+use Rattle.hc_programmed.specs.Pairs.{AreasPair, IsAreaPair, IsMapped, key_of}
 use Rattle.hc_programmed.specs.Writing.{AreMachinesOf, ChangesBlocksAlone, IsMachineOf, IsProgrammed, SlavePairs}
 use Rattle.hc_programmed.specs.WritingLaws.{ProgrammedSlavesPairTheirAreas, WritingKeepsTheCount, WritingProgramsTheLine, machines_written}
 use Rattle.hc_programmed.proofs.Blocks.{Leaves, OwnApart, block-byte, blocks-stay, blocks_behind}
 use Rattle.hc_programmed.proofs.lemmas.Members.{KeepsLine, area-inside, keeps-line, one-station, slave-of}
 use Rattle.hc_programmed.proofs.lemmas.Shared.{Differ, all-share, length-fmmu}
-use Rattle.hc_programmed.proofs.lemmas.Sources.{IsOfLine, IsOfMember, Source, area-to-fmmu, block-in-line, blocks-to-areas, fmmu-in-slave, line-sources, own_fmmu, slave-sources}
+use Rattle.hc_programmed.proofs.lemmas.Sources.{IsOfLine, IsOfMember, Source, area-pair, block-in-line, fmmu-in-slave, line-sources, mapped-area, own_fmmu, slave-sources}
 use Rattle.hc_programmed.proofs.Through.{blocks-through}
 use Rattle.hc_programmed.proofs.Wrote.{IsPlain, Misses}
 
 -- each block of the line can be written
 
-record IsSized (block : RegisterBlock) : Type 0 where
-  from : 1536 ≤ block.register
-  to : block.register + length block.bytes ≤ 4096
-  some : 1 ≤ length block.bytes
-  few : length block.bytes ≤ 16
+pub record IsSized (block : RegisterBlock) : Type 0 where
+  pub from : 1536 ≤ block.register
+  pub to : block.register + length block.bytes ≤ 4096
+  pub some : 1 ≤ length block.bytes
+  pub few : length block.bytes ≤ 16
 
-source-sized : (line : List Member) (member : Member) (block : RegisterBlock) → KeepsLine line → Contains line member → Source line member block → IsSized block
+pub source-sized : (line : List Member) (member : Member) (block : RegisterBlock) → KeepsLine line → Contains line member → Source line member block → IsSized block
 source-sized line member block keeps has (inl manager) =
     let area = manager.area in
     let low : area.sm ≤ 15 = (area-inside line member manager.index area keeps has manager.found).manager in
@@ -239,53 +240,75 @@ writing-counts state machines can are = ap length (machines-behind state machine
 none-zero : (x m : ℕ) → ¬ (IsPair (replicate 16 0) x m)
 none-zero x m pair = let active = pair.active in cc
 
-fmmu-stands : (line : List Member) (member : Member) (memory : List ℕ) (index : ℕ) (area : Area) → IsProgrammed line member memory → slice_get member.slave.areas index ≡ Some area
+pub fmmu-stands : (line : List Member) (member : Member) (memory : List ℕ) (index : ℕ) (area : Area) → IsProgrammed line member memory → slice_get member.slave.areas index ≡ Some area
     → block_at memory index ≡ fmmu_bytes area (mapping_of line area.task (key_of member index area))
 fmmu-stands line member memory index area programmed found =
-    let bytes = fmmu_bytes area (mapping_of line area.task (key_of member index area)) in
     let at = 1536 + 16 * index in
     ap (λ (n : ℕ). slice_range memory at (at + n)) (sym (length-fmmu area (mapping_of line area.task (key_of member index area))))
     ∙ programmed.blocks (own_fmmu line member index area) (fmmu-in-slave line member index area found)
 
-slave-to-areas : (line : List Member) (member : Member) (memory : List ℕ) (x m : ℕ) → KeepsLine line → Contains line member → IsProgrammed line member memory → SlavePairs memory x m
-    → AreasPair line member.slave.station x m
-slave-to-areas line member memory x m keeps has programmed pairs = by (slice_get_cases areas pairs.fmmu).1
+-- a pair of an FMMU of the slave is one of the area of its number
+pub record SlaveFmmu (line : List Member) (member : Member) (memory : List ℕ) (i x m : ℕ) : Type 0 where
+  pub area : Area
+  pub mapping : Mapping
+  pub is : IsMapped line member i area mapping
+  pub stands : block_at memory i ≡ mapped_bytes area mapping
+  pub pair : IsAreaPair area mapping x m
+
+pub slave-fmmu : (line : List Member) (member : Member) (memory : List ℕ) (i x m : ℕ) → KeepsLine line → Contains line member → IsProgrammed line member memory → i < 16
+    → IsPair (block_at memory i) x m → SlaveFmmu line member memory i x m
+slave-fmmu line member memory i x m keeps has programmed low pair = by (slice_get_cases areas i).1
   where
     areas : List Area
     areas = member.slave.areas
 
-    by : ((area : Area) × (pairs.fmmu < length areas) × (slice_get areas pairs.fmmu ≡ Some area) × (get_or areas pairs.fmmu area ≡ area))
-        ⊎ ((length areas ≤ pairs.fmmu) × (slice_get areas pairs.fmmu ≡ None)) → AreasPair line member.slave.station x m
+    by : ((area : Area) × (i < length areas) × (slice_get areas i ≡ Some area) × (get_or areas i area ≡ area)) ⊎ ((length areas ≤ i) × (slice_get areas i ≡ None))
+        → SlaveFmmu line member memory i x m
     by (inl found) =
-        let fmmu = own_fmmu line member pairs.fmmu found.0 in
-        let entry = block-in-line line member fmmu has (fmmu-in-slave line member pairs.fmmu found.0 found.2) in
-        let below = pairs.below in
-        blocks-to-areas line member.slave.station x m keeps
-        (record {
-          block = record { station = member.slave.station; number = entry.0; block = fmmu };
-          in_line = entry.1;
-          station_is = refl;
-          pair = record {
-            from = omega arith;
-            below = omega arith;
-            pair = subst (λ (block : List ℕ). IsPair block x m) (fmmu-stands line member memory pairs.fmmu found.0 programmed found.2) pairs.pair;
-          };
-        })
-    by (inr past) = absurd (none-zero x m (subst (λ (block : List ℕ). IsPair block x m) (programmed.machine.unused pairs.fmmu past.0 pairs.below) pairs.pair))
+        let area = found.0 in
+        let mapping = mapping_of line area.task (key_of member i area) in
+        let stands = fmmu-stands line member memory i area programmed found.2 in
+        let told = area-pair line member i area x m keeps has found.2 (subst (λ (block : List ℕ). IsPair block x m) stands pair) in
+        record {
+          area = area;
+          mapping = told.0;
+          is = record { in_line = has; in_record = found.2; mapped = told.1 };
+          stands = stands ∙ ap (fmmu_bytes area) told.1;
+          pair = told.2;
+        }
+    by (inr past) = absurd (none-zero x m (subst (λ (block : List ℕ). IsPair block x m) (programmed.machine.unused i past.0 low) pair))
 
-areas-to-slave : (line : List Member) (member : Member) (memory : List ℕ) (x m : ℕ) → KeepsLine line → Contains line member → IsProgrammed line member memory
-    → AreasPair line member.slave.station x m → SlavePairs memory x m
-areas-to-slave line member memory x m keeps has programmed pairs =
+slave-to-areas : (line : List Member) (member : Member) (memory : List ℕ) (x m : ℕ) → KeepsLine line → Contains line member → IsProgrammed line member memory → SlavePairs memory x m
+    → AreasPair line member.slave.station x m
+slave-to-areas line member memory x m keeps has programmed pairs =
+    let told = slave-fmmu line member memory pairs.fmmu x m keeps has programmed pairs.below pairs.pair in
+    record { member = member; index = pairs.fmmu; area = told.area; mapping = told.mapping; station_is = refl; is_mapped = told.is; pair = told.pair }
+
+-- and the FMMU of an area that is mapped stands in the machine of its slave
+pub record AreaStands (memory : List ℕ) (index : ℕ) (area : Area) (mapping : Mapping) : Type 0 where
+  pub below : index < 16
+  pub stands : block_at memory index ≡ mapped_bytes area mapping
+
+pub area-stands : (line : List Member) (member : Member) (memory : List ℕ) (x m : ℕ) → KeepsLine line → Contains line member → IsProgrammed line member memory
+    → (pairs : AreasPair line member.slave.station x m) → AreaStands memory pairs.index pairs.area pairs.mapping
+area-stands line member memory x m keeps has programmed pairs =
     let is = pairs.is_mapped in
     let one : member ≡ pairs.member = sym (one-station line pairs.member member keeps is.in_line has pairs.station_is) in
     let own : IsProgrammed line pairs.member memory = subst (λ (slave : Member). IsProgrammed line slave memory) one programmed in
     let few = (slave-of line pairs.member keeps is.in_line).few in
     let within = slice_get_within pairs.member.slave.areas pairs.index pairs.area is.in_record in
+    record { below = omega arith; stands = fmmu-stands line pairs.member memory pairs.index pairs.area own is.in_record ∙ ap (fmmu_bytes pairs.area) is.mapped }
+
+areas-to-slave : (line : List Member) (member : Member) (memory : List ℕ) (x m : ℕ) → KeepsLine line → Contains line member → IsProgrammed line member memory
+    → AreasPair line member.slave.station x m → SlavePairs memory x m
+areas-to-slave line member memory x m keeps has programmed pairs =
+    let told = area-stands line member memory x m keeps has programmed pairs in
+    let is = pairs.is_mapped in
     record {
       fmmu = pairs.index;
-      below = omega arith;
-      pair = subst (λ (block : List ℕ). IsPair block x m) (sym (fmmu-stands line pairs.member memory pairs.index pairs.area own is.in_record))
-          (area-to-fmmu line pairs.member pairs.index pairs.area pairs.mapping x m keeps is pairs.pair);
+      below = told.below;
+      pair = subst (λ (block : List ℕ). IsPair block x m) (sym told.stands)
+          (mapped-area line pairs.member pairs.index pairs.area pairs.mapping x m keeps is pairs.pair);
     }
 
 pub programmed-pairs : ProgrammedSlavesPairTheirAreas

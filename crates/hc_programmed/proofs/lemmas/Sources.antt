@@ -8,11 +8,11 @@ use Rattle.hc_records.specs.declared.records.Area.{Area}
 use Rattle.hc_records.specs.Line.{Member, line}
 use Rattle.hc_records.proofs.lemmas.Lists.{All-enumerate_from, All-flat_map}
 use Rattle.hc_registers.specs.declared.fmmu.Mapping.{Mapping}
-use Rattle.hc_registers.specs.Blocks.{IsMappable, LineBlock, RegisterBlock, area_blocks, fmmu_block, fmmu_bytes, line_blocks, mapping_of, member_blocks, slave_blocks, sync_manager_block}
+use Rattle.hc_registers.specs.Blocks.{IsMappable, LineBlock, RegisterBlock, area_blocks, fmmu_block, fmmu_bytes, line_blocks, mapped_bytes, mapping_of, member_blocks, slave_blocks, sync_manager_block}
 use Rattle.hc_machine.specs.Laws.{IsPair}
 use Rattle.hc_programmed.specs.Laws.{LinesPairTheirAreas}
 use Rattle.hc_programmed.specs.Pairs.{AreasPair, BlocksPair, IsAreaPair, IsBlockPair, IsMapped, LiesInMemory, key_of}
-use Rattle.hc_programmed.proofs.Decoded.{block-pairs, block-unmapped}
+use Rattle.hc_programmed.proofs.lemmas.Decoded.{block-pairs, block-unmapped}
 use Rattle.hc_programmed.proofs.lemmas.Elements.{contains-first, contains-joined, contains-later, contains-mapped, contains-numbered, numbered-at}
 use Rattle.hc_programmed.proofs.lemmas.Members.{KeepsLine, area-in-memory, area-inside, area-width, keeps-line, slave-of}
 use Rattle.hc_programmed.proofs.lemmas.Places.{mapped-place, place-mappable}
@@ -101,6 +101,13 @@ mappable : (line : List Member) (member : Member) (index : ℕ) (area : Area) (m
 mappable line member index area mapping keeps has found mapped =
     place-mappable line member index area mapping (area-inside line member index area keeps has found).task (mapped-place line member index area mapping keeps has found mapped)
 
+pub area-pair : (line : List Member) (member : Member) (index : ℕ) (area : Area) (x m : ℕ) → KeepsLine line → Contains line member → slice_get member.slave.areas index ≡ Some area
+    → IsPair (fmmu_bytes area (mapping_of line area.task (key_of member index area))) x m
+    → (mapping : Mapping) × (mapping_of line area.task (key_of member index area) ≡ Some mapping) × IsAreaPair area mapping x m
+area-pair line member index area x m keeps has found pair =
+    mapped-pair area (mapping_of line area.task (key_of member index area)) x m (in-memory line member index area keeps has found)
+    (λ mapping mapped. mappable line member index area mapping keeps has found mapped) pair
+
 pub pair-of : (line : List Member) (member : Member) (block : LineBlock) (x m : ℕ) → KeepsLine line → Contains line member → IsOfMember line member block → IsBlockPair block x m
     → PairOf line member block x m
 pair-of line member block x m keeps has own pair = by own.source
@@ -112,10 +119,7 @@ pair-of line member block x m keeps has own pair = by own.source
         absurd (omega arith)
     by (inr source) =
         let area = source.area in
-        let told =
-        mapped-pair area (mapping_of line area.task (key_of member source.index area)) x m (in-memory line member source.index area keeps has source.found)
-        (λ mapping mapped. mappable line member source.index area mapping keeps has source.found mapped)
-        (subst (λ (b : RegisterBlock). IsPair b.bytes x m) source.is pair.pair) in
+        let told = area-pair line member source.index area x m keeps has source.found (subst (λ (b : RegisterBlock). IsPair b.bytes x m) source.is pair.pair) in
         record { index = source.index; area = area; mapping = told.0; found = source.found; is = source.is; mapped = told.1; pair = told.2 }
 
 -- the blocks of a slave stand in the line
@@ -155,12 +159,10 @@ blocks-to-areas line station x m keeps pairs =
       pair = told.pair;
     }
 
-pub area-to-fmmu : (line : List Member) (member : Member) (index : ℕ) (area : Area) (mapping : Mapping) (x m : ℕ) → KeepsLine line → IsMapped line member index area mapping
-    → IsAreaPair area mapping x m → IsPair (fmmu_bytes area (mapping_of line area.task (key_of member index area))) x m
-area-to-fmmu line member index area mapping x m keeps is pair =
-    let fits = mappable line member index area mapping keeps is.in_line is.in_record is.mapped in
-    subst (λ (o : Option Mapping). IsPair (fmmu_bytes area o) x m) (sym is.mapped)
-    ((block-pairs area mapping x m (in-memory line member index area keeps is.in_line is.in_record) fits).1 pair)
+pub mapped-area : (line : List Member) (member : Member) (index : ℕ) (area : Area) (mapping : Mapping) (x m : ℕ) → KeepsLine line → IsMapped line member index area mapping
+    → IsAreaPair area mapping x m → IsPair (mapped_bytes area mapping) x m
+mapped-area line member index area mapping x m keeps is pair =
+    (block-pairs area mapping x m (in-memory line member index area keeps is.in_line is.in_record) (mappable line member index area mapping keeps is.in_line is.in_record is.mapped)).1 pair
 
 pub areas-to-blocks : (line : List Member) (station x m : ℕ) → KeepsLine line → AreasPair line station x m → BlocksPair line station x m
 areas-to-blocks line station x m keeps pairs =
@@ -176,7 +178,7 @@ areas-to-blocks line station x m keeps pairs =
       pair = record {
         from = omega arith;
         below = omega arith;
-        pair = area-to-fmmu line pairs.member pairs.index area pairs.mapping x m keeps is pairs.pair;
+        pair = subst (λ (o : Option Mapping). IsPair (fmmu_bytes area o) x m) (sym is.mapped) (mapped-area line pairs.member pairs.index area pairs.mapping x m keeps is pairs.pair);
       };
     }
 

@@ -1,0 +1,3 @@
+-- What the crates above cite, a file a subject.
+pub mod Lines
+pub mod Slaves

@@ -1,0 +1,30 @@
+//! What a programmed line makes of process data: each function here does nothing, and its contract is a law. Nobody calls it.
+ghost use Rattle.hc_carrying.specs.Laws.{InputsAreBroughtBack, LinesStayProgrammed, OtherBitsComeBack, OtherMemoryStays, OutputsArrive};
+
+/// Behind the machines of a programmed line, each bit of a logical datagram that is an input's is the bit of its slave's memory
+/// as it was before the datagram.
+pub fn inputs_are_brought_back()
+    ensures { InputsAreBroughtBack }
+{}
+
+/// Each bit of the data that is no input's comes back as it was sent.
+pub fn other_bits_come_back()
+    ensures { OtherBitsComeBack }
+{}
+
+/// In a slave's memory behind the datagram, each bit that is paired with one of the data by an output area is the bit that was
+/// sent.
+pub fn outputs_arrive()
+    ensures { OutputsArrive }
+{}
+
+/// Every other bit of the memory is as it was.
+pub fn other_memory_stays()
+    ensures { OtherMemoryStays }
+{}
+
+/// As many bytes come back as were sent, and each machine is programmed as before, so the next datagram meets a programmed line
+/// too.
+pub fn lines_stay_programmed()
+    ensures { LinesStayProgrammed }
+{}
