@@ -1,5 +1,6 @@
 //! What a programmed line makes of process data: each function here does nothing, and its contract is a law. Nobody calls it.
 ghost use Rattle.hc_carrying.specs.Laws.{InputsAreBroughtBack, LinesStayProgrammed, OtherBitsComeBack, OtherMemoryStays, OutputsArrive};
+ghost use Rattle.hc_carrying.specs.FrameLaws.{CountersAreExpected, LogicalFramesPass};
 
 /// Behind the machines of a programmed line, each bit of a logical datagram that is an input's is the bit of its slave's memory
 /// as it was before the datagram.
@@ -27,4 +28,15 @@ pub fn other_memory_stays()
 /// too.
 pub fn lines_stay_programmed()
     ensures { LinesStayProgrammed }
+{}
+
+/// The frame of one logical datagram behind machines is read: with its serial and its address, with the data that the machines
+/// make of it one after another, and with the sum of what they add to its working counter, modulo 65,536.
+pub fn logical_frames_pass()
+    ensures { LogicalFramesPass }
+{}
+
+/// What the machines of a programmed line add to the working counter of a datagram of a task is the datagram's expected counter.
+pub fn counters_are_expected()
+    ensures { CountersAreExpected }
 {}

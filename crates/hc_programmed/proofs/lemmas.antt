@@ -2,6 +2,7 @@
 pub mod Decoded
 pub mod Elements
 pub mod Kept
+pub mod Listed
 pub mod Members
 pub mod Places
 pub mod Programmed

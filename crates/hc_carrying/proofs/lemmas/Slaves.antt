@@ -58,7 +58,7 @@ out-way In is = cc
 abbrev areas-of : (line : List Member) (member : Member) (memory : List ℕ) (i x m : ℕ) → SlaveFmmu line member memory i x m → AreasPair line member.slave.station x m
 areas-of line member memory i x m fmmu = record { member = member; index = i; area = fmmu.area; mapping = fmmu.mapping; station_is = refl; is_mapped = fmmu.is; pair = fmmu.pair }
 
-reads-carried : (line : List Member) (member : Member) (memory : List ℕ) (i x m : ℕ) → KeepsLine line → Contains line member → IsProgrammed line member memory → i < 16 → Reads memory i x m
+pub reads-carried : (line : List Member) (member : Member) (memory : List ℕ) (i x m : ℕ) → KeepsLine line → Contains line member → IsProgrammed line member memory → i < 16 → Reads memory i x m
     → CarriesPair line In member.slave.station x m
 reads-carried line member memory i x m keeps has programmed low reads =
     let fmmu = slave-fmmu line member memory i x m keeps has programmed low reads.1 in
@@ -67,7 +67,7 @@ reads-carried line member memory i x m keeps has programmed low reads =
       direction = in-way fmmu.area.dir (sym (block-way fmmu.area fmmu.mapping).0 ∙ ap is_read (sym fmmu.stands) ∙ reads.0);
     }
 
-writes-carried : (line : List Member) (member : Member) (memory : List ℕ) (i x m : ℕ) → KeepsLine line → Contains line member → IsProgrammed line member memory → i < 16 → Writes memory i x m
+pub writes-carried : (line : List Member) (member : Member) (memory : List ℕ) (i x m : ℕ) → KeepsLine line → Contains line member → IsProgrammed line member memory → i < 16 → Writes memory i x m
     → CarriesPair line Out member.slave.station x m
 writes-carried line member memory i x m keeps has programmed low writes =
     let fmmu = slave-fmmu line member memory i x m keeps has programmed low writes.1 in
@@ -95,13 +95,13 @@ serves line member memory x m way keeps has programmed pairs turned =
       pair = subst (λ (block : List ℕ). IsPair block x m) (sym told.stands) (mapped-area line pairs.member pairs.index pairs.area pairs.mapping x m keeps pairs.is_mapped pairs.pair);
     }
 
-carried-reads : (line : List Member) (member : Member) (memory : List ℕ) (x m : ℕ) → KeepsLine line → Contains line member → IsProgrammed line member memory
+pub carried-reads : (line : List Member) (member : Member) (memory : List ℕ) (x m : ℕ) → KeepsLine line → Contains line member → IsProgrammed line member memory
     → CarriesPair line In member.slave.station x m → Serves memory x m is_read
 carried-reads line member memory x m keeps has programmed input =
     let pairs = input.areas in
     serves line member memory x m is_read keeps has programmed pairs ((block-way pairs.area pairs.mapping).0 ∙ ap (λ (dir : Dir). same_dir dir In) input.direction)
 
-carried-writes : (line : List Member) (member : Member) (memory : List ℕ) (x m : ℕ) → KeepsLine line → Contains line member → IsProgrammed line member memory
+pub carried-writes : (line : List Member) (member : Member) (memory : List ℕ) (x m : ℕ) → KeepsLine line → Contains line member → IsProgrammed line member memory
     → CarriesPair line Out member.slave.station x m → Serves memory x m is_write
 carried-writes line member memory x m keeps has programmed output =
     let pairs = output.areas in

@@ -56,7 +56,7 @@ list-widths line member index area task keeps has own =
     named-width member other index number.0 area number.1 one (ap (λ (key : Key). key.area) same)
     (ap (slice_get other.slave.areas) (sym none) ∙ numbered.1) own)
 
-place-widths : (line : List Member) (member : Member) (index : ℕ) (area : Area) (task : ℕ) → KeepsLine line → Contains line member → slice_get member.slave.areas index ≡ Some area
+pub place-widths : (line : List Member) (member : Member) (index : ℕ) (area : Area) (task : ℕ) → KeepsLine line → Contains line member → slice_get member.slave.areas index ≡ Some area
     → All (λ (p : Placed). p.key ≡ key_of member index area → p.bits ≡ width area) (task_places task line)
 place-widths line member index area task keeps has own =
     let list = task_list task line in
@@ -101,7 +101,7 @@ pub place-mappable : (line : List Member) (member : Member) (index : ℕ) (area 
 place-mappable line member index area mapping low place = subst (IsMappable area) place.is (mappable-at area place.placed low place.bits place.good)
 
 -- a logical bit names its task, its datagram and its bit there
-logical-told : (task datagram bit bits k task' datagram' bit' bits' k' : ℕ) → datagram < 16 → datagram' < 16 → bit + bits ≤ 11888 → bit' + bits' ≤ 11888 → k < bits → k' < bits'
+pub logical-told : (task datagram bit bits k task' datagram' bit' bits' k' : ℕ) → datagram < 16 → datagram' < 16 → bit + bits ≤ 11888 → bit' + bits' ≤ 11888 → k < bits → k' < bits'
     → 8 * (16777216 * (task + 1) + 2048 * datagram) + bit + k ≡ 8 * (16777216 * (task' + 1) + 2048 * datagram') + bit' + k'
     → (task ≡ task') × (datagram ≡ datagram') × (bit + k ≡ bit' + k')
 logical-told task datagram bit bits k task' datagram' bit' bits' k' early early' inside inside' below below' same =
