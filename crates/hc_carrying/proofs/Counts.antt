@@ -81,7 +81,7 @@ parts false b is = cc
 same-test : (a b : ℕ) → a ≡ b → (a == b) ≡ true
 same-test a b e = grind (arith, nat_tests)
 
-dir-same : (a b : Dir) → same_dir a b ≡ true → a ≡ b
+pub dir-same : (a b : Dir) → same_dir a b ≡ true → a ≡ b
 dir-same Out Out is = refl
 dir-same Out In is = cc
 dir-same In Out is = cc
@@ -174,7 +174,7 @@ not-before a b same before =
     let other : is_within b a ≡ is_within a a = ap (λ (k : Key). is_within k a) (sym same) in
     cc
 
-one-key : (state : State) (task : ℕ) (a b : Placed) → Contains (task_places task (line state)) a → Contains (task_places task (line state)) b → a.key ≡ b.key → a ≡ b
+pub one-key : (state : State) (task : ℕ) (a b : Placed) → Contains (task_places task (line state)) a → Contains (task_places task (line state)) b → a.key ≡ b.key → a ≡ b
 one-key state task a b has has' same =
     elim (contains-order (λ (x y : Placed). IsTrue (is_before x.key y.key)) (task_places task (line state)) a b (keys-apart state task) has has') [
       | inl one ↦ one

@@ -1,3 +1,4 @@
 pub mod Carrying
 pub mod Laws
 pub mod FrameLaws
+pub mod Variables

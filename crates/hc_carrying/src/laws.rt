@@ -1,6 +1,7 @@
 //! What a programmed line makes of process data: each function here does nothing, and its contract is a law. Nobody calls it.
 ghost use Rattle.hc_carrying.specs.Laws.{InputsAreBroughtBack, LinesStayProgrammed, OtherBitsComeBack, OtherMemoryStays, OutputsArrive};
 ghost use Rattle.hc_carrying.specs.FrameLaws.{CountersAreExpected, LogicalFramesPass};
+ghost use Rattle.hc_carrying.specs.Variables.{VariablesAreCarried};
 
 /// Behind the machines of a programmed line, each bit of a logical datagram that is an input's is the bit of its slave's memory
 /// as it was before the datagram.
@@ -39,4 +40,10 @@ pub fn logical_frames_pass()
 /// What the machines of a programmed line add to the working counter of a datagram of a task is the datagram's expected counter.
 pub fn counters_are_expected()
     ensures { CountersAreExpected }
+{}
+
+/// Each variable with a place stands in an area of a slave: its bits at the place are paired with as many bits of the slave's
+/// memory, which begin behind the first bit of the area's by the widths of the entries before it.
+pub fn variables_are_carried()
+    ensures { VariablesAreCarried }
 {}

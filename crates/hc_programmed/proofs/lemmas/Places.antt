@@ -30,7 +30,7 @@ passes-by true test first found rest is later has = let same : first ≡ found =
 passes-by false test first found rest is later has = later has
 
 -- what is found passes the test
-found-passes : {X : Type 0} (test : X → Bool) (xs : List X) (found : X) → find test xs ≡ Some found → test found ≡ true
+pub found-passes : {X : Type 0} (test : X → Bool) (xs : List X) (found : X) → find test xs ≡ Some found → test found ≡ true
 found-passes test [] found has = cc
 found-passes test (x ∷ xs) found has = passes-by (test x) test x found (find test xs) refl (found-passes test xs found) has
 
