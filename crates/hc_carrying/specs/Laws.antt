@@ -1,10 +1,12 @@
 -- What a programmed line makes of the data of a logical datagram, and what of its machines. Each is the contract of a function of `laws`.
-use Rattle.std.specs.Prelude.{◌≡◌, ℕ, ◌+◌, ◌*◌, ◌<◌, List, Some, length, slice_get}
-use Rattle.hc_bits.specs.Bits.{bit_of}
+use Rattle.std.specs.Prelude.{All, ◌≡◌, ℕ, ◌+◌, ◌*◌, ◌<◌, List, Some, length, slice_get}
+use Rattle.hc_bits.specs.Bits.{AreBytes, bit_of}
 use Rattle.hc_records.specs.declared.records.Dir.TheVariants.{Out, In}
 use Rattle.hc_records.specs.Line.{Member, State, line}
 use Rattle.hc_machine.specs.declared.limits.TheConstants.{MEMORY_BITS}
 use Rattle.hc_programmed.specs.Laws.{IsConfigurable}
+use Rattle.hc_programmed.specs.Writing.{AreMachinesOf}
+use Rattle.hc_programmed.specs.WritingLaws.{machines_written}
 use Rattle.hc_carrying.specs.Carrying.{AreProgrammed, CarriesPair, data_through, memories_behind}
 
 -- a datagram from a logical bit on with these data meets the machines of a line; the k-th of them is that of a slave
@@ -49,3 +51,9 @@ pub record StaysProgrammed (line : List Member) (machines : List (List ℕ)) (fr
 abbrev pub LinesStayProgrammed : Type 0
 LinesStayProgrammed =
     (state : State) (machines : List (List ℕ)) (bytes : List ℕ) (from : ℕ) → IsConfigurable state → AreProgrammed (line state) machines → StaysProgrammed (line state) machines from bytes
+
+-- the machines of a line behind the frames that write all its blocks are programmed, where each number of their memories was a byte
+abbrev pub WrittenLinesAreProgrammed : Type 0
+WrittenLinesAreProgrammed =
+    (state : State) (machines : List (List ℕ)) → IsConfigurable state → AreMachinesOf (line state) machines → All AreBytes machines
+    → AreProgrammed (line state) (machines_written (line state) machines)

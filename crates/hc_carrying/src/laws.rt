@@ -1,5 +1,5 @@
 //! What a programmed line makes of process data: each function here does nothing, and its contract is a law. Nobody calls it.
-ghost use Rattle.hc_carrying.specs.Laws.{InputsAreBroughtBack, LinesStayProgrammed, OtherBitsComeBack, OtherMemoryStays, OutputsArrive};
+ghost use Rattle.hc_carrying.specs.Laws.{InputsAreBroughtBack, LinesStayProgrammed, OtherBitsComeBack, OtherMemoryStays, OutputsArrive, WrittenLinesAreProgrammed};
 ghost use Rattle.hc_carrying.specs.FrameLaws.{CountersAreExpected, LogicalFramesPass};
 ghost use Rattle.hc_carrying.specs.Variables.{VariablesAreCarried};
 
@@ -46,4 +46,9 @@ pub fn counters_are_expected()
 /// memory, which begin behind the first bit of the area's by the widths of the entries before it.
 pub fn variables_are_carried()
     ensures { VariablesAreCarried }
+{}
+
+/// The machines of a line behind an FPWR of each of its blocks are programmed.
+pub fn written_lines_are_programmed()
+    ensures { WrittenLinesAreProgrammed }
 {}

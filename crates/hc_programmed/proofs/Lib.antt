@@ -1,4 +1,5 @@
 pub mod Blocks
+pub mod Small
 pub mod Through
 pub mod Wrote
 pub mod lemmas

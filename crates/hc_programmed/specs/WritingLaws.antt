@@ -1,5 +1,6 @@
 -- What follows for the machines of a line once its blocks are written. Each is the contract of a function of `laws`.
-use Rattle.std.specs.Prelude.{◌≡◌, ℕ, ◌↔◌, Contains, List, Some, length, slice_get}
+use Rattle.std.specs.Prelude.{◌≡◌, ℕ, ◌↔◌, All, Contains, List, Some, length, slice_get}
+use Rattle.hc_bits.specs.Bits.{AreBytes}
 use Rattle.hc_records.specs.Line.{Member, State, line}
 use Rattle.hc_registers.specs.Blocks.{line_blocks}
 use Rattle.hc_segment.specs.Line.{machines_after}
@@ -35,3 +36,9 @@ abbrev pub ProgrammedSlavesPairTheirAreas : Type 0
 ProgrammedSlavesPairTheirAreas =
     (state : State) (member : Member) (memory : List ℕ) (x m : ℕ) → IsConfigurable state → Contains (line state) member → IsProgrammed (line state) member memory
     → SlavePairs memory x m ↔ AreasPair (line state) member.slave.station x m
+
+-- and where each number of the machines' memories is a byte, so is it behind the writes
+abbrev pub WritingKeepsBytes : Type 0
+WritingKeepsBytes =
+    (state : State) (machines : List (List ℕ)) → IsConfigurable state → AreMachinesOf (line state) machines → All AreBytes machines
+    → All AreBytes (machines_written (line state) machines)

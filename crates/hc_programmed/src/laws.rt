@@ -1,7 +1,7 @@
 //! What the register blocks of a line mean to the slaves: each function here does nothing, and its contract is a law. Nobody
 //! calls it.
 ghost use Rattle.hc_programmed.specs.Laws.{AreasWithBitsAreMapped, BlocksGoOneWay, BlocksPairTheirAreas, LinesPairTheirAreas, NoLogicalBitTwice, NoMemoryBitTwice, PairsAreOneToOne, UnmappedAreasPairNothing};
-ghost use Rattle.hc_programmed.specs.WritingLaws.{ProgrammedSlavesPairTheirAreas, WritingKeepsTheCount, WritingProgramsTheLine};
+ghost use Rattle.hc_programmed.specs.WritingLaws.{ProgrammedSlavesPairTheirAreas, WritingKeepsBytes, WritingKeepsTheCount, WritingProgramsTheLine};
 
 /// The pairs that the slave machine reads from the FMMU block of a mapped area are exactly these: the k-th bit of the area in
 /// its datagram with the k-th bit of its memory, for each k below the area's width in bits.
@@ -59,4 +59,9 @@ pub fn writing_keeps_the_count()
 /// The sixteen FMMUs of a slave that is programmed so pair the bits of its areas, where packing puts them, and no others.
 pub fn programmed_slaves_pair_their_areas()
     ensures { ProgrammedSlavesPairTheirAreas }
+{}
+
+/// Where each number of the machines' memories is a byte, so is it behind the writes.
+pub fn writing_keeps_bytes()
+    ensures { WritingKeepsBytes }
 {}

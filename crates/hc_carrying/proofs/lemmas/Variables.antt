@@ -1,33 +1,29 @@
 -- The variables of a line by the pairs of its areas.
-use Rattle.std.proofs.Common.{◌≡◌, ℕ, ◌+◌, ◌-◌, ◌*◌, ◌<◌, ◌≤◌, ◌⊎◌, ◌∙◌, inl, inr, true, Option, Some, None, List, [], ◌∷◌, ◌++◌, refl, sym, ap, ap₂, subst, arith}
+use Rattle.std.proofs.Common.{◌≡◌, ℕ, ◌+◌, ◌-◌, ◌*◌, ◌∙◌, inl, inr, Option, Some, None, List, [], ◌∷◌, ◌++◌, refl, sym, ap, ap₂, subst, arith}
 use Rattle.std.specs.Prelude.{All, Contains, find, map, nat_lt, slice_get, slice_index_or, ◌==◌, ◌&&◌}
-use Rattle.std.specs.List.{enumerate_from, flat_map, zip}
+use Rattle.std.specs.List.{enumerate_from, flat_map}
 use Rattle.std.specs.Option.{option_map_or}
 use Rattle.std.proofs.lemmas.Bool.{and_parts, eqb-true}
 use Rattle.std.proofs.lemmas.List.{map-append}
 use Rattle.std.proofs.lemmas.List.Elements.{All-contains, All-contains_itself, All-map, Contains-get_or}
 use Rattle.hc_records.specs.declared.keys.Key.{Key}
-use Rattle.hc_records.specs.declared.limits.TheConstants.{TASKS}
-use Rattle.hc_records.specs.declared.records.Area.{Area}
 use Rattle.hc_records.specs.declared.records.Dir.{Dir}
 use Rattle.hc_records.specs.Area.{Entry, assigned_entries, bits_of, width}
-use Rattle.hc_records.specs.Image.{VariablePlace, area_variables, logical_address, task_places, task_variables, tasks, variable_place, variables_from}
+use Rattle.hc_records.specs.Image.{VariablePlace, area_variables, logical_address, task_places, task_variables, tasks, variables_from}
 use Rattle.hc_records.specs.Keys.{same_dir}
 use Rattle.hc_records.specs.Line.{Member, State, line}
 use Rattle.hc_records.specs.Packing.{Placed}
-use Rattle.hc_records.specs.TaskList.{Listed, belongs, task_areas}
+use Rattle.hc_records.specs.TaskList.{Listed, task_areas}
 use Rattle.hc_records.proofs.lemmas.Entries.{task-areas-all}
 use Rattle.hc_records.proofs.lemmas.Finds.{all-tasks, found-all, mapped-some}
 use Rattle.hc_records.proofs.lemmas.Lists.{All-flat_map}
 use Rattle.hc_records.proofs.lemmas.Variables.{IsEntryVariable, IsPlaced, entry-variables, pairs-placed, place_of, task_pairs, zip-left, zip-right}
-use Rattle.hc_registers.specs.declared.fmmu.Mapping.{Mapping}
-use Rattle.hc_registers.specs.Blocks.{mapping_at, mapping_of}
+use Rattle.hc_registers.specs.Blocks.{mapping_at}
 use Rattle.hc_programmed.specs.Laws.{IsConfigurable}
 use Rattle.hc_programmed.specs.Pairs.{key_of}
 use Rattle.hc_programmed.proofs.lemmas.Elements.{contains-unmapped, numbered-at}
 use Rattle.hc_programmed.proofs.lemmas.Listed.{areas-mapped}
 use Rattle.hc_programmed.proofs.lemmas.Places.{found-passes}
-use Rattle.hc_carrying.specs.Carrying.{CarriesPair}
 use Rattle.hc_carrying.specs.Variables.{IsCarried, VariablesAreCarried}
 use Rattle.hc_carrying.proofs.Counts.{dir-same, one-key}
 

@@ -3,8 +3,9 @@ use Rattle.std.proofs.Common.{◌≡◌, ℕ, ◌+◌, ◌-◌, ◌*◌, ◌^◌
 use Rattle.std.specs.Prelude.{All, AllPairs, Contains, None, Some, map, option_map, replicate, slice_get, slice_index_or, slice_range}
 use Rattle.std.specs.List.{enumerate_from, flat_map}
 use Rattle.std.proofs.lemmas.List.{ext_get_or, get_or-drop, get_or-take, length-map}
-use Rattle.std.proofs.lemmas.List.Elements.{All-contains, All-head, All-tail, All-weaker}
+use Rattle.std.proofs.lemmas.List.Elements.{All-map, All-contains, All-head, All-tail, All-weaker}
 use Rattle.std.proofs.lemmas.Option.{get_or_from_slice_get, slice_get-get_or, slice_get-map, slice_get_cases, slice_get_within}
+use Rattle.hc_bits.specs.Bits.{AreBytes}
 use Rattle.hc_records.specs.declared.records.Area.{Area}
 use Rattle.hc_records.specs.Line.{IsCounted, Member, State, line}
 use Rattle.hc_records.proofs.lemmas.Slaves.{project-counted}
@@ -16,11 +17,12 @@ use Rattle.hc_machine.specs.Laws.{IsPair}
 use Rattle.hc_programmed.specs.Laws.{IsConfigurable}
 use Rattle.hc_programmed.specs.Pairs.{AreasPair, IsAreaPair, IsMapped, key_of}
 use Rattle.hc_programmed.specs.Writing.{AreMachinesOf, ChangesBlocksAlone, IsMachineOf, IsProgrammed, SlavePairs}
-use Rattle.hc_programmed.specs.WritingLaws.{ProgrammedSlavesPairTheirAreas, WritingKeepsTheCount, WritingProgramsTheLine, machines_written}
+use Rattle.hc_programmed.specs.WritingLaws.{ProgrammedSlavesPairTheirAreas, WritingKeepsBytes, WritingKeepsTheCount, WritingProgramsTheLine, machines_written}
 use Rattle.hc_programmed.proofs.Blocks.{Leaves, OwnApart, block-byte, blocks-stay, blocks_behind}
 use Rattle.hc_programmed.proofs.lemmas.Members.{KeepsLine, area-inside, keeps-line, one-station, slave-of}
 use Rattle.hc_programmed.proofs.lemmas.Shared.{Differ, all-share, length-fmmu}
 use Rattle.hc_programmed.proofs.lemmas.Sources.{IsOfLine, IsOfMember, Source, area-pair, block-in-line, fmmu-in-slave, line-sources, mapped-area, own_fmmu, slave-sources}
+use Rattle.hc_programmed.proofs.Small.{blocks-small, memory-small}
 use Rattle.hc_programmed.proofs.Through.{blocks-through}
 use Rattle.hc_programmed.proofs.Wrote.{IsPlain, Misses}
 
@@ -234,6 +236,15 @@ writing-programs state machines k member memory can are in_line in_machines =
 
 pub writing-counts : WritingKeepsTheCount
 writing-counts state machines can are = ap length (machines-behind state machines can are) ∙ length-map machines (λ (m : List ℕ). blocks_behind m (line_blocks (line state)))
+
+pub writing-bytes : WritingKeepsBytes
+writing-bytes state machines can are small =
+    let members = line state in
+    let blocks = line_blocks members in
+    let plain = all-plain members (keeps-line state can) (addresses-low members machines are) in
+    subst (All AreBytes) (sym (machines-behind state machines can are))
+    (All-map AreBytes (λ m. blocks_behind m blocks) machines
+    (λ k d low. memory-small (slice_index_or machines k d) blocks (machines-long members machines are k d low) plain (small k d low) (blocks-small members)))
 
 -- what the FMMUs of a slave pair that is programmed
 

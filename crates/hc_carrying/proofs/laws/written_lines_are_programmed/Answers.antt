@@ -1,0 +1,5 @@
+use Rattle.hc_carrying.proofs.Ready.{written-programmed}
+use Rattle.hc_carrying.proofs.laws.written_lines_are_programmed.Goals as goal
+
+pub returns : goal.returns
+returns c = written-programmed
