@@ -1,4 +1,5 @@
 pub mod Carrying
 pub mod Laws
 pub mod FrameLaws
+pub mod Sequences
 pub mod Variables

@@ -1,6 +1,7 @@
 //! What a programmed line makes of process data: each function here does nothing, and its contract is a law. Nobody calls it.
 ghost use Rattle.hc_carrying.specs.Laws.{InputsAreBroughtBack, LinesStayProgrammed, OtherBitsComeBack, OtherMemoryStays, OutputsArrive, WrittenLinesAreProgrammed};
 ghost use Rattle.hc_carrying.specs.FrameLaws.{CountersAreExpected, LogicalFramesPass};
+ghost use Rattle.hc_carrying.specs.Sequences.{AllInputsAreBroughtBack, AllOtherMemoryStays, AllOutputsArrive, SequencesKeepTheLine};
 ghost use Rattle.hc_carrying.specs.Variables.{VariablesAreCarried};
 
 /// Behind the machines of a programmed line, each bit of a logical datagram that is an input's is the bit of its slave's memory
@@ -51,4 +52,26 @@ pub fn variables_are_carried()
 /// The machines of a line behind an FPWR of each of its blocks are programmed.
 pub fn written_lines_are_programmed()
     ensures { WrittenLinesAreProgrammed }
+{}
+
+/// Datagrams one after another, each in a frame of its own: each input's bit of each datagram comes back as it was in its slave's
+/// memory before the first of them.
+pub fn all_inputs_are_brought_back()
+    ensures { AllInputsAreBroughtBack }
+{}
+
+/// Where no two of the datagrams have a logical bit in common, each output's bit of each of them stands in its slave's memory
+/// behind the last.
+pub fn all_outputs_arrive()
+    ensures { AllOutputsArrive }
+{}
+
+/// Every other bit of the memory is as it was before the first.
+pub fn all_other_memory_stays()
+    ensures { AllOtherMemoryStays }
+{}
+
+/// The line is programmed behind them.
+pub fn sequences_keep_the_line()
+    ensures { SequencesKeepTheLine }
 {}

@@ -128,7 +128,7 @@ ready-through line (first ∷ members) (own ∷ machines) zero member memory' fr
 ready-through line (first ∷ members) (own ∷ machines) (suc k) member memory' from bytes keeps stand is is' =
     ready-through line members machines k member memory' from (logical_data own from bytes) keeps stand.1 is is'
 
-length-behind : (machines : List (List ℕ)) (from : ℕ) (bytes : List ℕ) → length (memories_behind machines from bytes) ≡ length machines
+pub length-behind : (machines : List (List ℕ)) (from : ℕ) (bytes : List ℕ) → length (memories_behind machines from bytes) ≡ length machines
 length-behind [] from bytes = refl
 length-behind (memory ∷ machines) from bytes = ap suc (length-behind machines from (logical_data memory from bytes))
 

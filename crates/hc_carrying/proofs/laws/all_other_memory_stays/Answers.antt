@@ -1,0 +1,5 @@
+use Rattle.hc_carrying.proofs.Sequences.{all-others}
+use Rattle.hc_carrying.proofs.laws.all_other_memory_stays.Goals as goal
+
+pub returns : goal.returns
+returns c = all-others
