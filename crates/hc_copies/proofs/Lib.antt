@@ -1,0 +1,4 @@
+pub mod Legal
+pub mod Taken
+pub mod Read
+pub mod lemmas
