@@ -1,0 +1,31 @@
+use Rattle.std.proofs.Common.{◌∙◌, ap, drop, false, true, ◌≡◌}
+use Rattle.hc_publish.specs.Book.{top}
+use Rattle.hc_publish.specs.Rule.{changes_in}
+use Rattle.hc_publish.specs.Board.{published, pending}
+use Rattle.hc_publish.specs.Published.{board_in}
+use Rattle.hc_publish.proofs.Ruled.{changes-append, appended, stays_legal, stays_begun}
+use Rattle.hc_publish.proofs.publisher.Publisher.append.Goals as goal
+
+pub invariant_of-self : goal.invariant_of-self
+invariant_of-self c =
+    let p = c.self.inside in
+    let i = c.self.invariant in
+    let b = board_in p in
+    let same = c.append.ensures.desk in
+    let old = drop p.writer.behind p.writer.log.items in
+    let grown = appended c.append.result old _ c.args.change c.append.ensures.pending in
+    record {
+      legal = rw same (stays_legal b.shown.shown.groups (published b) (pending b) _ c.args.change grown i.legal (rw (← c.self.view_is) at c.requires));
+      knows = rw same i.knows;
+      is_sealed = rw same i.is_sealed;
+      head_is = i.head_is;
+      one_book = rw same i.one_book;
+      extends = rw same (stays_begun (top p.front.log) b.shown.shown old (drop c.append.new.self.behind c.append.new.self.log.items) c.args.change grown i.extends);
+      ready = λ (e : false ≡ true). absurd (cc e);
+    }
+
+pub returns-in-Ok-clause-pending : goal.returns-in-Ok-clause-pending
+returns-in-Ok-clause-pending c =
+    let w = c.self.inside.writer in
+    let old = drop w.behind w.log.items in
+    rw (← c.self.view_is) (ap changes_in c.in-Ok.ensures.pending ∙ changes-append old _)

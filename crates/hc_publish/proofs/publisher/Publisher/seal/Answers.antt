@@ -1,0 +1,46 @@
+use Rattle.std.proofs.Common.{◌≡◌, true, [], ◌∷◌, ◌++◌, drop, sym, ◌∙◌, ap}
+use Rattle.hc_publish.specs.Book.{head_of, top}
+use Rattle.hc_publish.specs.declared.absorb.Step.TheVariants.{Sealed}
+use Rattle.hc_publish.specs.Stories.{origin}
+use Rattle.hc_publish.specs.Board.{all_shown}
+use Rattle.hc_publish.specs.Published.{board_in}
+use Rattle.hc_publish.proofs.Rising.{extends_same, top-append}
+use Rattle.hc_publish.proofs.Ruled.{append_sealed}
+use Rattle.hc_publish.proofs.publisher.Publisher.seal.Goals as goal
+
+pub invariant_of-self : goal.invariant_of-self
+invariant_of-self c =
+    let p = c.self.inside in
+    let i = c.self.invariant in
+    let b = board_in p in
+    let same = c.append.ensures.desk in
+    let old = drop p.writer.behind p.writer.log.items in
+    let kept = append_sealed c.append.result old _ _ c.append.ensures.pending in
+    let next = c.in-Some.ensures in
+    let last : top c.in-Some.next.log ≡ all_shown b = ap top next.1 ∙ top-append p.front.log (all_shown b) in
+    record {
+      legal = rw (same, kept) i.legal;
+      knows = rw same i.knows;
+      is_sealed = rw same i.is_sealed;
+      head_is = i.head_is ∙ ap head_of (sym next.0);
+      one_book = rw same (i.one_book ∙ sym next.0);
+      extends = rw (same, kept) (extends_same _ _ last);
+      ready = λ (e : true ≡ true). record { before = old; ends = c.in-Ok.ensures.pending ∙ ap (λ f. old ++ Sealed f ∷ []) c.again.ensures; last = rw (same, kept) last };
+    }
+
+pub returns-in-Ok-clause-same : goal.returns-in-Ok-clause-same
+returns-in-Ok-clause-same c =
+    let w = c.self.inside.writer in
+    let old = drop w.behind w.log.items in
+    let same = c.append.ensures.desk in
+    rw (← c.self.view_is) (ap (λ d. d.shown.value.shown.changes) same, append_sealed c.append.result old _ _ c.append.ensures.pending, ap (λ d. origin d.shown.value) same)
+
+pub returns-in-Ok-clause-ready : goal.returns-in-Ok-clause-ready
+returns-in-Ok-clause-ready c =
+    let p = c.self.inside in
+    let b = board_in p in
+    let same = c.append.ensures.desk in
+    let old = drop p.writer.behind p.writer.log.items in
+    let kept = append_sealed c.append.result old _ _ c.append.ensures.pending in
+    let last : top c.in-Some.next.log ≡ all_shown b = ap top c.in-Some.ensures.1 ∙ top-append p.front.log (all_shown b) in
+    record { before = old; ends = c.in-Ok.ensures.pending ∙ ap (λ f. old ++ Sealed f ∷ []) c.again.ensures; last = rw (same, kept) last }

@@ -1,0 +1,7 @@
+-- What a copy tells.
+use Rattle.hc_publish.specs.declared.copies.Copy.TheInside.{Inside}
+use Rattle.hc_publish.specs.Stories.{Story}
+
+-- what it shows, and its last seal
+abbrev pub story_in : Inside → Story
+story_in c = record { shown = c.shown; token = c.front }

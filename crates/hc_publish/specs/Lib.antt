@@ -1,0 +1,10 @@
+pub mod Faults
+pub mod Book
+pub mod Stories
+pub mod Copies
+pub mod Rule
+pub mod Board
+pub mod Published
+pub mod Seats
+pub mod Views
+pub mod Looks

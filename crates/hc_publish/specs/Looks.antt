@@ -1,0 +1,20 @@
+-- What clauses see of a view.
+use Rattle.std.specs.Prelude.{ℕ, List}
+use Rattle.hc_events.specs.declared.change.Change.{Change}
+use Rattle.hc_copies.specs.Told.{Told}
+use Rattle.hc_publish.specs.Book.{TheSeen}
+use Rattle.hc_publish.specs.Stories.{Origin}
+
+-- the seat's task, what the copy that it looks at was told, and what was seen of the book at that copy's last seal
+pub record Look : Type 0 where
+  pub task : ℕ
+  pub told : Told
+  pub token : TheSeen
+
+-- the changes that the view shows
+abbrev pub shown : Look → List Change
+shown v = v.told.changes
+
+-- which publisher its seat belongs to
+abbrev pub view_origin : Look → Origin
+view_origin v = record { book = v.token.book; groups = v.told.groups }

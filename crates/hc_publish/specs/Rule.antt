@@ -1,0 +1,47 @@
+-- What the seats and the publisher know of the published copy.
+use Rattle.std.specs.Prelude.{◌≡◌, ℕ, List, [], ◌∷◌, ◌++◌, map}
+use mathlib.Core.Option.{some}
+use lib.ListN.{get_elem?}
+use Rattle.logbook.specs.Pages.{Book}
+use Rattle.hc_events.specs.declared.change.Change.{Change}
+use Rattle.hc_copies.specs.Told.{IsLegal, Told, with_change}
+use Rattle.hc_publish.specs.declared.absorb.Step.{Step}
+use Rattle.hc_publish.specs.declared.absorb.Step.TheVariants.{Changed, Sealed}
+use Rattle.hc_publish.specs.Book.{TheSeen, top}
+use Rattle.hc_publish.specs.Stories.{Story}
+
+-- a copy after a step
+abbrev pub taken : Story → Step → Story
+taken s (Changed c) = record s { shown = with_change s.shown c }
+taken s (Sealed f) = record s { token = f }
+
+-- the changes among the steps
+abbrev pub changes_in : List Step → List Change
+changes_in [] = []
+changes_in (Changed c ∷ steps) = c ∷ changes_in steps
+changes_in (Sealed f ∷ steps) = changes_in steps
+
+-- what is shown behind some steps
+abbrev pub behind_steps : Told → List Step → Told
+behind_steps s steps = record { groups = s.groups; changes = s.changes ++ changes_in steps }
+
+-- the books of some tokens
+abbrev pub books : List TheSeen → List Book
+books v = map (λ t. t.book) v
+
+-- each token is of the book of the copy
+abbrev pub Bound : List TheSeen → Story → Type 0
+Bound [] x = Unit {0}
+Bound (t ∷ v) x = (t.book ≡ x.token.book) × Bound v x
+
+-- what the copy shows is the last entry that its token has seen, and is legal
+abbrev pub IsSealed : Story → Type 0
+IsSealed x = (top x.token.log ≡ x.shown) × IsLegal x.shown
+
+-- the published copy is sealed, and each thread knows its book
+abbrev pub Holds : Story → List (List TheSeen) → Type 0
+Holds x views = IsSealed x × ((seat : ℕ) (v : List TheSeen) → get_elem? views seat ≡ some v → Bound v x)
+
+-- what a step tells: a sealed copy, of the book that was known
+abbrev pub Sees : List TheSeen → Story → Story → List TheSeen → Type 0
+Sees v x y w = (w ≡ y.token ∷ []) × Bound v y × IsSealed y

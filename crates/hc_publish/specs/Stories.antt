@@ -1,0 +1,20 @@
+-- What contracts see of a copy: what it shows, and the token of its last seal.
+use Rattle.std.specs.Prelude.{List}
+use Rattle.logbook.specs.Pages.{Book}
+use Rattle.hc_records.specs.declared.records.Group.{Group}
+use Rattle.hc_copies.specs.Told.{Told}
+use Rattle.hc_publish.specs.Book.{TheSeen}
+
+-- what it shows, and what was seen of the book at its last seal
+pub record Story : Type 0 where
+  pub shown : Told
+  pub token : TheSeen
+
+-- where a publisher, a seat, a view or a note comes from: a publisher's book, and the groups that were opened
+pub record Origin : Type 0 where
+  pub book : Book
+  pub groups : List Group
+
+-- that of a copy
+abbrev pub origin : Story → Origin
+origin s = record { book = s.token.book; groups = s.shown.groups }

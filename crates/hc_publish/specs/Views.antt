@@ -1,0 +1,15 @@
+-- A view shows a sealed copy.
+use Rattle.std.specs.Prelude.{◌≡◌, [], ◌∷◌}
+use Rattle.left_right.specs.Sides.{view}
+use Rattle.hc_publish.specs.declared.view.View.TheInside.{Inside}
+use Rattle.hc_publish.specs.Rule.{IsSealed}
+use Rattle.hc_publish.specs.Looks.{Look}
+
+-- what contracts see of it
+abbrev pub look_of : Inside → Look
+look_of v = record { task = v.task; told = v.reading.part.value.shown; token = v.reading.part.value.token }
+
+-- the copy is sealed, and the seat knows its book
+pub record Stands (v : Inside) : Type 0 where
+  pub is_sealed : IsSealed v.reading.part.value
+  pub knows : view v.reading.place ≡ v.reading.part.value.token ∷ []

@@ -1,0 +1,81 @@
+//! How it all begins.
+ghost use Rattle.std.specs.Prelude.{◌≡◌, ◌⊎◌, [], All, IfErr, IfOk, map};
+ghost use Rattle.std.specs.List.{range_with_len};
+ghost use Rattle.hc_records.specs.declared.limits.TheConstants.{TASKS};
+ghost use Rattle.hc_records.specs.Line.{groups_of};
+ghost use Rattle.hc_copies.specs.Told.{IsOpening};
+ghost use Rattle.hc_publish.specs.declared.faults.OpenFault.TheVariants.{Memory, NoSeat};
+ghost use Rattle.hc_publish.specs.Board.{published, pending, origin_of};
+ghost use Rattle.hc_publish.specs.Seats.{IsFresh, task_of};
+
+use crate::book::Front;
+use crate::copies::Copy;
+use crate::faults::OpenFault;
+use crate::publisher::{Copies, Publisher};
+use crate::rule::Looks;
+use crate::seat::Seat;
+use hc_copies::shown::Shown;
+use hc_plan::plan::Plan;
+use hc_records::limits::TASKS;
+use left_right::writer::Writer;
+use std::alloc::{AllocError, Global};
+use std::sync::Wait;
+
+// The publisher, with nothing published and nothing pending.
+fn opened<R: Wait>(rt: &R, alloc: Global, plan: &Plan) -> Result<Publisher, AllocError>
+    requires { IsOpening plan.now }
+    ensures { IfOk result (λ publisher. (published publisher ≡ []) × (pending publisher ≡ []) × ((origin_of publisher).groups ≡ groups_of plan.now.groups)) }
+{
+    let first = Shown::of(alloc, plan)?;
+    let second = Shown::of(alloc, plan)?;
+    let Some((head, front)) = Front::opened(&first) else {
+        return Err(AllocError);
+    };
+    let first = Copy {
+        shown: first,
+        front: front.again(),
+    };
+    let second = Copy {
+        shown: second,
+        front: front.again(),
+    };
+    let writer: Copies = Writer::new(alloc, first, second, usize::from(TASKS))?;
+    let (writer, shown) = writer.publish_as::<Looks, R>(rt);
+    if shown.is_err() {
+        writer.take(rt);
+        return Err(AllocError);
+    }
+    Ok(Publisher {
+        writer,
+        head,
+        front,
+        is_sealed: false,
+    })
+}
+
+/// A publisher of a plan at its opening, where nothing is published yet, and a seat for each of the eight tasks, that
+/// of task i at place i. All growths but those of later changes are made here, before the copies are shared.
+/// Otherwise `Memory` where a growth was refused, or `NoSeat` where a seat was; `TooManyDatagrams` never, since a
+/// plan's line is not crowded.
+pub fn open<R: Wait>(
+    rt: &R,
+    alloc: Global,
+    plan: &Plan,
+) -> Result<(Publisher, Vec<Seat>), OpenFault>
+    requires { IsOpening plan.now }
+    ensures published { IfOk result (λ opened. (published opened.0 ≡ []) × (pending opened.0 ≡ []) × ((origin_of opened.0).groups ≡ groups_of plan.now.groups)) }
+    ensures tasks { IfOk result (λ opened. map task_of opened.1.items ≡ range_with_len 0 TASKS) }
+    ensures fresh { IfOk result (λ opened. All (IsFresh (origin_of opened.0)) opened.1.items) }
+    ensures refused { IfErr result (λ fault. (fault ≡ Memory) ⊎ (fault ≡ NoSeat)) }
+{
+    let mut seats = Vec::with_capacity(alloc, usize::from(TASKS))?;
+    let mut publisher = opened(rt, alloc, plan)?;
+    for task in 0..TASKS {
+        let Ok(seat) = publisher.seat(task) else {
+            publisher.finish(rt);
+            return Err(OpenFault::NoSeat);
+        };
+        seats.push_reserved(seat);
+    }
+    Ok((publisher, seats))
+}

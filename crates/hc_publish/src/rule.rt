@@ -1,0 +1,44 @@
+//! The rule of the published copy, and the steps that keep it: `Looks` is a publish or an entry, `Binds` tells a new
+//! seat which book it is. What a seat saw, and what a note carries, is a front of that book, by which each of
+//! two lists begins the other.
+ghost use Rattle.std.specs.Prelude.{[], ◌++◌};
+ghost use Rattle.hc_publish.specs.Rule.{Holds, Sees};
+
+use crate::book::Token;
+use crate::copies::Copy;
+use atomic_table::{Join, Split};
+use crossbeam_utils::rule::{Outcome, Protocol};
+
+/// The tokens of the copies that a thread saw. No value of it is made: a clause reads an array as a list, of any length.
+pub type Known = [Token; 0];
+
+/// The rule.
+pub struct Image;
+
+impl Protocol<Copy, Known> for Image {
+    ghost holds = { Holds };
+
+    ghost first = { [] };
+}
+
+/// A step after which a thread knows the copy that is shown.
+pub struct Looks;
+
+impl Outcome<Copy, Known> for Looks {
+    ghost then = { Sees };
+}
+
+/// The publisher tells what it knows, and a seat learns it.
+pub struct Binds;
+
+impl Split<Known> for Binds {
+    ghost left = { λ known. known };
+
+    ghost right = { λ known. known };
+}
+
+impl Join<Known> for Binds {
+    ghost both = { λ known told. known ++ told };
+
+    ghost spent = { [] };
+}

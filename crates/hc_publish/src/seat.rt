@@ -1,0 +1,20 @@
+//! Seats.
+ghost use Rattle.std.specs.Prelude.{◌≡◌, [], ◌∷◌};
+ghost use Rattle.left_right.specs.Sides.{view};
+ghost use Rattle.hc_publish.specs.Rule.{books};
+
+use crate::book::Front;
+use crate::copies::Copy;
+use crate::rule::{Image, Known};
+use left_right::reader::Reader;
+
+mod steps;
+
+/// One task's seat, with all that it saw or learnt. A dropped seat holds nobody up.
+#[derive(Drop)]
+pub struct Seat {
+    pub(crate) task: u8,
+    pub(crate) reader: Reader<Copy, Known, Image>,
+    pub(crate) front: Front,
+    ghost bound: { books (view reader.place) ≡ front.book ∷ [] },
+}

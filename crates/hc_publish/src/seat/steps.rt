@@ -1,0 +1,60 @@
+//! What a seat does.
+ghost use Rattle.std.specs.Prelude.{◌≡◌, ◌⊎◌, MatchResult, IfOk};
+ghost use mathlib.Core.List.{IsPrefix};
+ghost use Rattle.hc_copies.specs.Told.{IsLegal};
+ghost use Rattle.hc_publish.specs.Seats.{known, seat_origin, carried, note_origin};
+ghost use Rattle.hc_publish.specs.Looks.{shown, view_origin};
+
+use super::Seat;
+use crate::publisher::Note;
+use crate::rule::Looks;
+use crate::view::View;
+
+impl Seat {
+    /// Looks at what is published now: a legal list that begins with all that the seat saw or learnt. The seat
+    /// comes back as it was where there was no entry. It waits for nobody and takes no memory.
+    pub fn view(self) -> Result<View, Seat>
+        ensures begins { MatchResult result (λ view. IsPrefix (known self) (shown view)) (λ seat. known seat ≡ known self) }
+        ensures legal { IfOk result (λ view. IsLegal view.told) }
+        ensures origin { MatchResult result (λ view. view_origin view ≡ seat_origin self) (λ seat. seat_origin seat ≡ seat_origin self) }
+        ensures task { MatchResult result (λ view. view.task ≡ self.task) (λ seat. seat.task ≡ self.task) }
+    {
+        let Seat {
+            task,
+            reader,
+            front,
+        } = self;
+        match reader.enter_as::<Looks>() {
+            Ok(reading) => {
+                if front.is_within(&reading.get().front) {
+                    Ok(View { task, reading })
+                } else {
+                    Err(Seat {
+                        task,
+                        reader: reading.leave(),
+                        front,
+                    })
+                }
+            }
+            Err(reader) => Err(Seat {
+                task,
+                reader,
+                front,
+            }),
+        }
+    }
+
+    /// Takes in what a note of the seat's publisher carries: the seat then knows the longer of the two lists, which
+    /// begins with the other. It waits for nobody and takes no memory.
+    pub fn learn(&mut self, note: Note)
+        requires { note_origin note ≡ seat_origin self.old }
+        ensures one { (known self.new ≡ known self.old) ⊎ (known self.new ≡ carried note) }
+        ensures own { IsPrefix (known self.old) (known self.new) }
+        ensures told { IsPrefix (carried note) (known self.new) }
+        ensures same { (seat_origin self.new ≡ seat_origin self.old) × (self.new.task ≡ self.old.task) }
+    {
+        if self.front.is_within(&note.front) {
+            self.front = note.front;
+        }
+    }
+}

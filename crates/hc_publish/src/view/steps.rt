@@ -1,0 +1,69 @@
+//! What a view shows: of its seat's task, at the end of the changes of the copy that it looks at.
+ghost use Rattle.std.specs.Prelude.{◌≡◌};
+ghost use Rattle.std.specs.Option.{option_copied};
+ghost use Rattle.hc_places.specs.Table.{part_in, place_in};
+ghost use Rattle.hc_copies.specs.Told.{data_shown, epoch_shown, table_shown};
+ghost use Rattle.hc_copies.specs.Values.{value_shown};
+ghost use Rattle.hc_publish.specs.Seats.{known, seat_origin};
+ghost use Rattle.hc_publish.specs.Looks.{shown, view_origin};
+
+use super::View;
+use crate::seat::Seat;
+use hc_copies::faults::ViewFault;
+use hc_places::table::Place;
+use hc_records::records::VarId;
+
+impl View {
+    /// The epoch: the number of swaps among the changes.
+    pub fn epoch(&self) -> u32
+        ensures { result ≡ epoch_shown self.now.told }
+    {
+        self.reading.get().shown.epoch()
+    }
+
+    /// The bytes of the outputs, which come first, and of the inputs of the task's image.
+    pub fn part(&self) -> (u16, u16)
+        ensures { result ≡ part_in (table_shown self.now.told) self.now.task }
+    {
+        self.reading.get().shown.part(self.task)
+    }
+
+    /// Where a variable stands, of any task; none where it has no place in the line.
+    pub fn place(&self, variable: VarId) -> Option<Place>
+        ensures { result ≡ place_in (table_shown self.now.told) variable }
+    {
+        self.reading.get().shown.place(variable)
+    }
+
+    /// The bytes of a datagram of the task, lent from the published copy: those of its last good answer in the
+    /// epoch, or none; none too where the line has no such datagram.
+    pub fn inputs(&self, datagram: u8) -> Option<&[u8]>
+        ensures { option_copied result ≡ data_shown self.now.told self.now.task datagram }
+    {
+        self.reading.get().shown.data(self.task, datagram)
+    }
+
+    /// The value of an input variable of the task: its bits in its datagram's bytes. Otherwise the first of these
+    /// that holds: `NoSuchVariable` where it has no place in the line, `IsOutput` where it is an output,
+    /// `OtherTask` where it lies in another task, `NotAnswered` where its datagram has no good answer in the epoch.
+    pub fn value(&self, variable: VarId) -> Result<u64, ViewFault>
+        ensures { result ≡ value_shown self.now.told self.now.task variable }
+    {
+        self.reading.get().shown.value(self.task, variable)
+    }
+
+    /// Gives the seat back, which has seen what the view showed.
+    pub fn leave(self) -> Seat
+        ensures known { known result ≡ shown self }
+        ensures origin { seat_origin result ≡ view_origin self }
+        ensures task { result.task ≡ self.task }
+    {
+        let View { task, reading } = self;
+        let front = reading.get().front.again();
+        Seat {
+            task,
+            reader: reading.leave(),
+            front,
+        }
+    }
+}
