@@ -1,0 +1,16 @@
+use Rattle.std.proofs.Common.{sym, ◌∙◌, ap}
+use Rattle.hc_events.specs.Changes.{news_of}
+use Rattle.hc_events.specs.Points.{opened_with, state_of}
+use Rattle.hc_conductor.proofs.Kept.{opened-sent}
+use Rattle.hc_conductor.proofs.conductor.Conductor.commit.Goals as goal
+
+pub invariant_of-self : goal.invariant_of-self
+invariant_of-self c =
+    let i = c.self.invariant in
+    let after = sym c.commit.ensures in
+    record {
+      groups = i.groups ∙ (sym (opened-sent _ c.args.frames.now) ∙ ap (λ s. opened_with s.past) after);
+      legal = i.legal;
+      told = i.told ∙ ap (λ s. news_of s.taken) after;
+      behind = i.behind ∙ ap (λ s. state_of s.taken) after;
+    }

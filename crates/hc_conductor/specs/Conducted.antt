@@ -1,0 +1,12 @@
+-- What contracts see of a conductor, by its fields.
+use Rattle.std.specs.Prelude.{reverse}
+use Rattle.hc_conductor.specs.declared.conductor.Conductor.TheInside.{Inside}
+use Rattle.hc_conductor.specs.Conducting.{Conducting, IsConducting}
+
+-- core, publisher, and the waiting changes with the oldest first
+abbrev pub conducting_in : Inside → Conducting
+conducting_in c = record { core = c.core; board = c.publisher; waiting = reverse c.waiting.items }
+
+-- what is true of every conductor
+abbrev pub Stands : Inside → Type 0
+Stands c = IsConducting (conducting_in c)

@@ -1,0 +1,5 @@
+pub mod Conducting
+pub mod Conducted
+pub mod Seats
+pub mod Views
+pub mod Openings

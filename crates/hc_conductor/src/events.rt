@@ -1,0 +1,64 @@
+//! The events that the core is given one by one.
+ghost use Rattle.std.specs.Prelude.{◌≡◌, IfErr, IfOk, None, OnErr, OnOk, Some, length};
+ghost use Rattle.hc_records.specs.Lists.{lowest};
+ghost use Rattle.hc_events.specs.Calls.{MayAnswer, write_into_faults};
+ghost use Rattle.hc_events.specs.Steps.{Arrives, Edits, SendsWrite, entries_after, step_of};
+ghost use Rattle.hc_core.specs.Early.{TellsEarly};
+ghost use Rattle.hc_core.specs.Serving.{IsAsked};
+ghost use Rattle.hc_core.specs.Written.{HoldsWrite};
+ghost use Rattle.hc_conductor.specs.Conducting.{SameLists, past_of};
+
+use crate::conductor::Conductor;
+use hc_events::answer::Answer;
+use hc_events::event::Event;
+use hc_events::faults::CoreFault;
+use hc_records::edit::Edit;
+use std::alloc::Global;
+
+impl Conductor {
+    // Hands the core an event.
+    fn step(&mut self, alloc: Global, event: Event<'_>) -> Answer
+        requires { IsAsked (step_of event) }
+        ensures answer { MayAnswer (past_of self.old) (step_of event.entry) result (past_of self.new) }
+        ensures early { TellsEarly (past_of self.old) (step_of event.entry) result }
+        ensures lists { SameLists self.old self.new }
+    {
+        self.core.step(alloc, event)
+    }
+
+    /// An edit of the line, answered and recorded as the core's `step` says: `Refused` tells the fault, 1 to 13, or
+    /// `Memory`, and then nothing changed. Views show it from the next publishing on.
+    pub fn edit(&mut self, alloc: Global, edit: &Edit) -> Answer
+        ensures answer { MayAnswer (past_of self.old) (Edits edit.now) result (past_of self.new) }
+        ensures early { TellsEarly (past_of self.old) (Edits edit.now) result }
+        ensures lists { SameLists self.old self.new }
+    {
+        self.step(alloc, Event::Edit(edit))
+    }
+
+    /// A frame arrived, any bytes, answered and recorded as the core's `step` says: `Refused` tells the fault, 20 to
+    /// 27, or `Memory`, and then nothing changed. Views show what it brought from the next publishing on.
+    pub fn arrive(&mut self, alloc: Global, bytes: &[u8]) -> Answer
+        ensures answer { MayAnswer (past_of self.old) (Arrives bytes.now) result (past_of self.new) }
+        ensures early { TellsEarly (past_of self.old) (Arrives bytes.now) result }
+        ensures lists { SameLists self.old self.new }
+    {
+        self.step(alloc, Event::Arrive(bytes))
+    }
+
+    /// The first owed register block is sent: its frame stands at the front of `out`, and its size in bytes is
+    /// answered. `NothingOwed` where no block is owed; `SerialsSpent` where no serial is left; `Room` with the size
+    /// needed where `out` is shorter; and of several the first of these. Then nothing changed, and no event is
+    /// recorded. It takes no memory.
+    pub fn next_write(&mut self, out: &mut [u8]) -> Result<usize, CoreFault>
+        ensures written { IfOk result (HoldsWrite (past_of self.old) out.old out.new) }
+        ensures accepted { OnOk result (lowest (write_into_faults (past_of self.old) (length out.old)) ≡ None) }
+        ensures entries { OnOk result (past_of self.new ≡ entries_after (past_of self.old) SendsWrite) }
+        ensures lists { SameLists self.old self.new }
+        ensures refused { IfErr result (λ fault. lowest (write_into_faults (past_of self.old) (length out.old)) ≡ Some fault) }
+        ensures unchanged { OnErr result (self.new ≡ self.old) }
+        ensures untouched { OnErr result (out.new ≡ out.old) }
+    {
+        self.core.write_into(out)
+    }
+}

@@ -1,0 +1,13 @@
+//! What a master embeds: one thread owns the conductor, with the core and the publisher; each task has a seat, which
+//! views what was published and waits for nobody.
+#![tactic(auto)]
+
+pub mod conductor;
+mod events;
+mod opening;
+mod publishing;
+pub mod seat;
+mod sending;
+pub mod view;
+
+pub use opening::open;

@@ -1,0 +1,136 @@
+//! Tasks are sent into one arena.
+ghost use Rattle.std.specs.Prelude.{◌≡◌, ◌≢◌, ◌+◌, ◌≤◌, ◌*◌, All, ◌++◌, Err, IfErr, IfOk, IfSome, None, OnErr, OnOk, Some, drop, length, sum_by};
+ghost use Rattle.std.specs.List.{flat_map};
+ghost use Rattle.hc_records.specs.Lists.{lowest};
+ghost use Rattle.hc_frames.specs.declared.limits.TheConstants.{SETUP_SERIAL};
+ghost use Rattle.hc_events.specs.declared.faults.CoreFault.TheVariants.{Memory};
+ghost use Rattle.hc_events.specs.Calls.{AreSentTogether, frames_size, send_into_faults};
+ghost use Rattle.hc_events.specs.Owed.{owed_blocks};
+ghost use Rattle.hc_events.specs.Sendings.{size_of};
+ghost use Rattle.hc_events.specs.Steps.{SendsTasks, entries_after, proposal, sent_text, task_faults, with_sent};
+ghost use Rattle.hc_sendings.specs.Refusals.{early_faults};
+ghost use Rattle.hc_core.specs.Filled.{CanBeFilled};
+ghost use Rattle.hc_core.specs.Proposed.{IsProposal};
+ghost use Rattle.hc_conductor.specs.Conducting.{SameLists, past_of};
+
+use crate::conductor::Conductor;
+use hc_core::keeping::Core;
+use hc_events::faults::CoreFault;
+use hc_events::sending::Sending;
+use std::alloc::Global;
+
+/// The most bytes that a frame has, as every Ethernet frame without its check sequence (ETG.1000.4, 5.3).
+pub const LARGEST_FRAME: usize = 1514;
+
+// The bytes of a frame.
+fn size_of(frame: &Sending) -> usize
+    ensures bytes { result ≡ size_of frame.now }
+    ensures most { result ≤ LARGEST_FRAME }
+{
+    let _ = frame.datagrams();
+    frame.size()
+}
+
+// The bytes of frames. A proposal has 128 frames at most, so deep is this recursion.
+fn size_of_all(frames: &[Sending]) -> usize
+    requires { length frames.now ≤ SETUP_SERIAL }
+    ensures bytes { result ≡ sum_by size_of frames.now }
+    ensures most { result ≤ LARGEST_FRAME * length frames.now }
+{
+    match frames {
+        [] => 0,
+        [frame, rest @ ..] => size_of(frame) + size_of_all(rest),
+    }
+}
+
+// Fills frames one after another into a slice of their exact size. A proposal has 128 frames at most, so deep is this
+// recursion.
+fn fill_all(core: &Core, frames: &[Sending], arena: &mut [u8])
+    requires can { All (CanBeFilled core.now.past) frames.now }
+    requires exact { length arena.old ≡ sum_by size_of frames.now }
+    ensures { arena.new ≡ flat_map (sent_text core.now.past) frames.now }
+{
+    let Some((frame, rest)) = frames.split_first() else {
+        return;
+    };
+    let (first, others) = arena.split_at_mut(frame.size());
+    core.fill(frame, first);
+    fill_all(core, rest, others);
+}
+
+// Fills frames at the front of the arena, where they have so many bytes.
+fn fill_front(core: &Core, frames: &[Sending], size: usize, arena: &mut [u8])
+    requires can { All (CanBeFilled core.now.past) frames.now }
+    requires size { size ≡ sum_by size_of frames.now }
+    requires room { size ≤ length arena.old }
+    ensures { arena.new ≡ flat_map (sent_text core.now.past) frames.now ++ drop size arena.old }
+{
+    let (front, _) = arena.split_at_mut(size);
+    fill_all(core, frames, front);
+}
+
+impl Conductor {
+    // The present proposal with its bytes, where the arena has room for it.
+    fn propose_into(
+        &self,
+        alloc: Global,
+        tasks: &[u8],
+        room: usize,
+    ) -> Result<(Vec<Sending>, usize), CoreFault>
+        requires { AreSentTogether tasks.now }
+        ensures frames { IfOk result (λ found. found.0.items ≡ proposal (past_of self.now) tasks.now) }
+        ensures present { IfOk result (λ found. IsProposal (past_of self.now) found.0.items) }
+        ensures filled { IfOk result (λ found. All (CanBeFilled (past_of self.now)) found.0.items) }
+        ensures few { IfOk result (λ found. length found.0.items ≤ SETUP_SERIAL) }
+        ensures size { IfOk result (λ found. found.1 ≡ sum_by size_of found.0.items) }
+        ensures room { IfOk result (λ found. found.1 ≤ room) }
+        ensures accepted { OnOk result (lowest (task_faults (past_of self.now) tasks.now) ≡ None) }
+        ensures refused { IfErr result (λ fault. fault ≢ Memory → lowest (send_into_faults (past_of self.now) tasks.now room) ≡ Some fault) }
+        ensures early { IfSome (lowest (early_faults (length (owed_blocks (past_of self.now))) tasks.now)) (λ fault. result ≡ Err fault) }
+    {
+        let frames = self.core.propose(alloc, tasks)?;
+        let needed = size_of_all(frames.as_slice());
+        if room < needed {
+            return Err(CoreFault::Room(needed));
+        }
+        Ok((frames, needed))
+    }
+
+    // The present proposal is sent.
+    fn commit(&mut self, frames: &[Sending])
+        requires { IsProposal (past_of self.old) frames.now }
+        ensures entries { past_of self.new ≡ with_sent (past_of self.old) frames.now }
+        ensures lists { SameLists self.old self.new }
+    {
+        self.core.commit(frames);
+    }
+
+    /// Tasks are sent, 1 to 8 distinct ones: the frames stand in the arena one after another, each of its own size,
+    /// and are answered in that order. Behind them the arena is as it was. `NoSuchTask` where a number is over 7;
+    /// `Unprogrammed` where register blocks are owed, with their number; `SerialsSpent` where too few serials are
+    /// left; `Room` with the size needed where the arena is shorter; and of several the first of these. `Memory`
+    /// where a growth was refused, and only behind the first two. Then nothing is sent, nothing changed, and the
+    /// arena is as it was.
+    pub fn send(
+        &mut self,
+        alloc: Global,
+        tasks: &[u8],
+        arena: &mut [u8],
+    ) -> Result<Vec<Sending>, CoreFault>
+        requires { AreSentTogether tasks.now }
+        ensures frames { IfOk result (λ frames. frames.items ≡ proposal (past_of self.old) tasks.now) }
+        ensures sent { OnOk result (arena.new ≡ flat_map (sent_text (past_of self.old)) (proposal (past_of self.old) tasks.now) ++ drop (frames_size (past_of self.old) tasks.now) arena.old) }
+        ensures accepted { OnOk result (lowest (send_into_faults (past_of self.old) tasks.now (length arena.old)) ≡ None) }
+        ensures entries { OnOk result (past_of self.new ≡ entries_after (past_of self.old) (SendsTasks tasks.now)) }
+        ensures lists { SameLists self.old self.new }
+        ensures refused { IfErr result (λ fault. fault ≢ Memory → lowest (send_into_faults (past_of self.old) tasks.now (length arena.old)) ≡ Some fault) }
+        ensures early { IfSome (lowest (early_faults (length (owed_blocks (past_of self.old))) tasks.now)) (λ fault. result ≡ Err fault) }
+        ensures unchanged { OnErr result (self.new ≡ self.old) }
+        ensures untouched { OnErr result (arena.new ≡ arena.old) }
+    {
+        let (frames, size) = self.propose_into(alloc, tasks, arena.len())?;
+        fill_front(&self.core, frames.as_slice(), size, arena);
+        self.commit(frames.as_slice());
+        Ok(frames)
+    }
+}
