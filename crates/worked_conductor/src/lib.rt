@@ -1,0 +1,9 @@
+//! A conductor with its seats: what the contracts of `hc_conductor` leave to tests, that all is opened, sent, published
+//! and seen with ample memory. There is nothing to call. The tests stand in a crate of their own since a crate that has
+//! tests is proved twice.
+#![tactic(auto)]
+
+#[cfg(test)]
+mod lines;
+#[cfg(test)]
+mod rows;

@@ -1,0 +1,121 @@
+//! One axis, its conductor and its seats.
+ghost use Rattle.std.specs.Prelude.{◌≡◌, ◌<◌, ◌∷◌, All, IfSome, List, map};
+ghost use Rattle.hc_publish.specs.Seats.{IsFresh};
+ghost use Rattle.hc_conductor.specs.Conducting.{origin_of};
+ghost use Rattle.hc_conductor.specs.Seats.{seat_of};
+ghost use Rattle.hc_conductor.specs.declared.seat.TaskSeat.{TaskSeat};
+
+use hc_conductor::conductor::Conductor;
+use hc_conductor::open;
+use hc_conductor::seat::TaskSeat;
+use hc_events::answer::{Answer, Outcome};
+use hc_project::read_project;
+use std::alloc::Global;
+use std::sync::Wait;
+
+/// An axis that is always there, with 2 output bits and 12 input bits in task 0.
+const LINE: &str = r#"
+[[slave]]
+station = 1001
+
+[[slave.area]]
+sm = 2
+dir = "out"
+phys = 0x1100
+task = 0
+assigned = [0x1600]
+pdo = [{ index = 0x1600, entries = [[1, 2]] }]
+
+[[slave.area]]
+sm = 3
+dir = "in"
+phys = 0x1180
+task = 0
+assigned = [0x1a00]
+pdo = [{ index = 0x1a00, entries = [[2, 12]] }]
+"#;
+
+/// The bytes of each frame of this line: no datagram fills more than the shortest frame.
+const FRAME: usize = 60;
+
+/// Where the counter stands behind the 26 bytes of headers and the 8 of a sync manager's block.
+const SYNC_MANAGER_COUNTER: usize = 34;
+
+/// The same behind the 16 bytes of an FMMU's block.
+const FMMU_COUNTER: usize = 42;
+
+/// The line at its opening.
+pub fn opened<R: Wait>(rt: &R, alloc: Global) -> Option<(Conductor, Vec<TaskSeat>)>
+    ensures { IfSome result (λ opened. All (IsFresh (origin_of opened.0)) (map seat_of opened.1.items)) }
+{
+    let project = read_project(alloc, LINE.as_bytes()).ok()?;
+    match open(rt, alloc, project) {
+        Ok(opened) => Some(opened),
+        Err(_) => None,
+    }
+}
+
+/// The seats of tasks 0 and 1.
+pub fn first_two(seats: Vec<TaskSeat>) -> Option<(TaskSeat, TaskSeat)>
+    ensures { IfSome result (λ two. (rest : List TaskSeat) × (seats.items ≡ two.0 ∷ two.1 ∷ rest)) }
+{
+    let mut seats = seats.into_iter();
+    let first = seats.next()?;
+    let second = seats.next()?;
+    Some((first, second))
+}
+
+/// Whether the first owed block is written, and answered by the slave that has it.
+fn is_written(alloc: Global, conductor: &mut Conductor, counter: usize) -> bool
+    requires { counter < FRAME }
+    ensures { origin_of conductor.new ≡ origin_of conductor.old }
+{
+    let mut frame = [0; FRAME];
+    let Ok(FRAME) = conductor.next_write(&mut frame) else {
+        return false;
+    };
+    frame[counter] = 1;
+    matches!(conductor.arrive(alloc, &frame), Answer::WriteDone)
+}
+
+/// Whether the four blocks of the axis are written: of each area the sync manager's, then the FMMU's.
+pub fn is_programmed(alloc: Global, conductor: &mut Conductor) -> bool
+    ensures { origin_of conductor.new ≡ origin_of conductor.old }
+{
+    is_written(alloc, conductor, SYNC_MANAGER_COUNTER)
+        && is_written(alloc, conductor, FMMU_COUNTER)
+        && is_written(alloc, conductor, SYNC_MANAGER_COUNTER)
+        && is_written(alloc, conductor, FMMU_COUNTER)
+}
+
+/// Whether the axis answers the frame of task 0 well: a byte of outputs and two of inputs, 0xa34, and the counter 3, 2
+/// for the outputs and 1 for the inputs.
+fn is_good(alloc: Global, conductor: &mut Conductor, frame: &mut [u8; FRAME]) -> bool
+    ensures { origin_of conductor.new ≡ origin_of conductor.old }
+{
+    frame[26] = 2;
+    frame[27] = 0x34;
+    frame[28] = 0x0a;
+    frame[29] = 3;
+    let Answer::Answered(outcomes) = conductor.arrive(alloc, frame) else {
+        return false;
+    };
+    matches!(
+        outcomes.as_slice(),
+        [Outcome::Inputs {
+            task: 0,
+            datagram: 0,
+        }]
+    )
+}
+
+/// Whether task 0 is sent, and answered well.
+pub fn is_answered(alloc: Global, conductor: &mut Conductor) -> bool
+    ensures { origin_of conductor.new ≡ origin_of conductor.old }
+{
+    let mut frame = [0; FRAME];
+    match conductor.send(alloc, &[0], &mut frame) {
+        Ok(frames) => frames.len() == 1 && is_good(alloc, conductor, &mut frame),
+        Err(_) => false,
+    }
+}
