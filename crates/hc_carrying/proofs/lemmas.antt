@@ -2,3 +2,7 @@
 pub mod Lines
 pub mod Slaves
 pub mod Variables
+pub mod Counts
+pub mod Frames
+pub mod Ready
+pub mod Sequences

@@ -1,1 +1,6 @@
 mod Written
+mod Collected
+mod Passing
+mod Packing
+mod Standing
+mod Meaning

@@ -34,7 +34,7 @@ take-next (z ∷ xs) (suc n) x is =
     let next : suc n + 1 ≡ suc (n + 1) = omega arith in
     ap (λ (k : ℕ). take k (z ∷ xs)) next ∙ ap (λ rest. z ∷ rest) (take-next xs n x is)
 
-take-all : {X : Type 0} (xs : List X) → take (length xs) xs ≡ xs
+pub take-all : {X : Type 0} (xs : List X) → take (length xs) xs ≡ xs
 take-all [] = refl
 take-all (x ∷ xs) = ap (λ rest. x ∷ rest) (take-all xs)
 

@@ -25,7 +25,7 @@ use Rattle.hc_programmed.proofs.lemmas.Elements.{contains-unmapped, numbered-at}
 use Rattle.hc_programmed.proofs.lemmas.Listed.{areas-mapped}
 use Rattle.hc_programmed.proofs.lemmas.Places.{found-passes}
 use Rattle.hc_carrying.specs.Variables.{IsCarried, VariablesAreCarried}
-use Rattle.hc_carrying.proofs.Counts.{dir-same, one-key}
+use Rattle.hc_carrying.proofs.lemmas.Counts.{dir-same, one-key}
 
 -- entries that begin later begin their variables as much later
 

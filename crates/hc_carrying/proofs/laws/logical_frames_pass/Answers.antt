@@ -1,4 +1,4 @@
-use Rattle.hc_carrying.proofs.Frames.{frames-pass}
+use Rattle.hc_carrying.proofs.lemmas.Frames.{frames-pass}
 use Rattle.hc_carrying.proofs.laws.logical_frames_pass.Goals as goal
 
 pub returns : goal.returns

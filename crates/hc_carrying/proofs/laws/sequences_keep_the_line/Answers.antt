@@ -1,4 +1,4 @@
-use Rattle.hc_carrying.proofs.Sequences.{all-keep}
+use Rattle.hc_carrying.proofs.lemmas.Sequences.{all-keep}
 use Rattle.hc_carrying.proofs.laws.sequences_keep_the_line.Goals as goal
 
 pub returns : goal.returns
