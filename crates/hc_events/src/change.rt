@@ -63,6 +63,18 @@ impl GoodAnswer {
     {
         self.bytes.as_slice()
     }
+
+    /// The data as a list of their own, in the same memory: who is done with an answer fills it with the next one's.
+    pub fn into_bytes(self) -> Items<u8>
+        ensures { result ≡ self.bytes }
+    {
+        let GoodAnswer {
+            task: _,
+            datagram: _,
+            bytes,
+        } = self;
+        bytes
+    }
 }
 
 /// A change of what tasks read.
