@@ -1,4 +1,6 @@
 //! How a copy takes in a step.
+ghost use Rattle.std.specs.Prelude.{◌≡◌, MatchResult};
+ghost use Rattle.hc_copies.specs.Told.{with_change};
 ghost use Rattle.hc_publish.specs.Rule.{taken};
 
 use crate::book::Front;
@@ -15,6 +17,33 @@ pub enum Step {
     Sealed(Front),
 }
 
+impl Copy {
+    // Keeps a good answer for the publisher, if there is room.
+    fn keep(&mut self, change: Change)
+        ensures { self.new ≡ self.old }
+    {
+        if let Change::Good(good) = change {
+            let used = self.used.get_mut();
+            if used.len() < used.capacity() {
+                used.push_reserved(good);
+            }
+        }
+    }
+
+    // A change that the other copy has taken in before. It comes back where a growth was refused.
+    fn take_over(&mut self, change: Change) -> Result<(), Change>
+        ensures { MatchResult result (λ _. self.new ≡ record self.old { shown = with_change self.old.shown change }) (λ back. (back ≡ change) × (self.new ≡ self.old)) }
+    {
+        match self.shown.take_in(&change) {
+            Ok(()) => {
+                self.keep(change);
+                Ok(())
+            }
+            Err(_) => Err(change),
+        }
+    }
+}
+
 impl Absorb<Step> for Copy {
     type State = Copy;
 
@@ -27,6 +56,16 @@ impl Absorb<Step> for Copy {
             Step::Changed(change) => self.shown.take_in(change),
             Step::Sealed(front) => {
                 self.front = front.again();
+                Ok(())
+            }
+        }
+    }
+
+    fn absorb_second(&mut self, operation: Step, _other: &Copy) -> Result<(), Step> {
+        match operation {
+            Step::Changed(change) => self.take_over(change).map_err(Step::Changed),
+            Step::Sealed(front) => {
+                self.front = front;
                 Ok(())
             }
         }

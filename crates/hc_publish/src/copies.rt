@@ -1,13 +1,18 @@
 //! One published copy.
 use crate::book::Front;
 use hc_copies::shown::Shown;
+use hc_events::change::GoodAnswer;
 use std::marker::Model;
+use std::sync::Mutex;
 
 /// What tasks see, and the front of the book at its last seal.
 #[derive(Drop)]
 pub struct Copy {
     pub(crate) shown: Shown,
     pub(crate) front: Front,
+    // good answers that both copies have taken in, until the publisher takes them out, which alone looks here: a lock,
+    // since the seats' threads have the copy at hand too
+    pub(crate) used: Mutex<Vec<GoodAnswer>>,
 }
 
 impl Model for Copy {

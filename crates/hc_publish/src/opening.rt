@@ -16,10 +16,13 @@ use crate::rule::Looks;
 use crate::seat::Seat;
 use hc_copies::shown::Shown;
 use hc_plan::plan::Plan;
-use hc_records::limits::TASKS;
+use hc_records::limits::{MOST_DATAGRAMS, TASKS};
 use left_right::writer::Writer;
 use std::alloc::{AllocError, Global};
-use std::sync::Wait;
+use std::sync::{Mutex, Wait};
+
+// as many good answers that were taken in are kept in each copy: one of each datagram that a line can have
+const MOST_USED: usize = TASKS as usize * MOST_DATAGRAMS;
 
 // The publisher, with nothing published and nothing pending.
 fn opened<R: Wait>(rt: &R, alloc: Global, plan: &Plan) -> Result<Publisher, AllocError>
@@ -34,10 +37,12 @@ fn opened<R: Wait>(rt: &R, alloc: Global, plan: &Plan) -> Result<Publisher, Allo
     let first = Copy {
         shown: first,
         front: front.again(),
+        used: Mutex::new(Vec::with_capacity(alloc, MOST_USED)?),
     };
     let second = Copy {
         shown: second,
         front: front.again(),
+        used: Mutex::new(Vec::with_capacity(alloc, MOST_USED)?),
     };
     let writer: Copies = Writer::new(alloc, first, second, usize::from(TASKS))?;
     let (writer, shown) = writer.publish_as::<Looks, R>(rt);

@@ -12,7 +12,7 @@ use crate::rule::{Binds, Looks};
 use crate::seat::Seat;
 use core::mem::replace_with;
 use hc_copies::shown::Shown;
-use hc_events::change::Change;
+use hc_events::change::{Change, GoodAnswer};
 use logbook::Plain;
 use std::alloc::AllocError;
 use std::sync::Wait;
@@ -144,6 +144,15 @@ impl Publisher {
         Note {
             front: self.writer.published().front.again(),
         }
+    }
+
+    /// A good answer that both copies have taken in, for its memory; none where none is left. Up to 128 of those that
+    /// the last publishing took in for the second time are there; who takes them out behind each publishing, and
+    /// fills them with the next answers, has a cycle of answers and one publishing that takes no memory. It waits for
+    /// nobody.
+    pub fn spare(&self) -> Option<GoodAnswer> {
+        let mut used = self.writer.published().used.try_lock()?;
+        used.pop()
     }
 
     /// A new seat of a task, which knows what is published.

@@ -3,7 +3,7 @@ use Rattle.std.proofs.lemmas.List.{append-nil}
 use Rattle.hc_events.specs.Changes.{AreLegal}
 use Rattle.hc_copies.specs.Told.{IsLegal}
 use Rattle.hc_publish.specs.Book.{top}
-use Rattle.hc_publish.specs.Rule.{IsSealed, behind_steps, taken}
+use Rattle.hc_publish.specs.Rule.{IsSealed, behind_steps, changes_in, taken}
 use Rattle.hc_publish.proofs.Rising.{extends_same}
 use Rattle.hc_publish.proofs.Ruled.{shows_again, of_ok, fold_shown}
 use Rattle.hc_publish.proofs.opening.opened.Goals as goal
@@ -35,3 +35,12 @@ invariant_of-result g c =
       extends = rw (values.1) (extends_same _ _ all);
       ready = λ (e : false ≡ true). absurd (cc e);
     }
+
+pub returns : goal.returns
+returns g c =
+    let x = c.in_ok-writer.writer.desk.shown.value in
+    let y = c.publish_as-writer.result.0.desk.shown.value in
+    let values = of_ok _ c.publish_as-writer.result.1 c.if-is_err.ensures.value c.publish_as-writer.ensures.values in
+    let same : y ≡ x = values.0 ∙ ap (λ z. fold taken x z) c.in_ok-writer.ensures.1 in
+    let told = ap (λ z. z.shown) (same ∙ c.in_ok-writer.ensures.0) ∙ c.in_ok-first.ensures in
+    (ap (λ s. s.changes) told, ap changes_in values.1, ap (λ s. s.groups) told)

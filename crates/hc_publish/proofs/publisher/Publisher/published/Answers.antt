@@ -1,8 +1,8 @@
-use Rattle.std.proofs.Common.{◌≡◌, ◌<◌, [], ◌++◌, length, ap, drop, sym, ◌∙◌}
+use Rattle.std.proofs.Common.{◌≡◌, ◌<◌, [], ◌++◌, length, ap, drop, subst, sym, ◌∙◌}
 use Rattle.std.proofs.lemmas.List.{append-nil}
 use Rattle.hc_publish.specs.Rule.{changes_in}
 use Rattle.hc_publish.specs.Board.{published}
-use Rattle.hc_publish.specs.Published.{board_in}
+use Rattle.hc_publish.specs.Published.{IsReady, board_in}
 use Rattle.hc_publish.proofs.Ruled.{none_in}
 use Rattle.hc_publish.proofs.publisher.Publisher.published.Goals as goal
 
@@ -13,3 +13,6 @@ returns-then-not-has_pending_operations-clause-lists g c =
     let shown = published (board_in c.self.inside) in
     let none : changes_in (drop w.behind w.log.items) ≡ [] = none_in (drop w.behind w.log.items) (λ (some : 0 < length (drop w.behind w.log.items)). absurd (cc (c.if-not-has_pending_operations.ensures.1 some))) in
     rw (← c.self.view_is) (sym (ap (λ z. shown ++ z) none ∙ append-nil shown), none)
+
+pub exchanged-requires : goal.exchanged-requires
+exchanged-requires g c = subst IsReady c.self.view_is (c.self.invariant.ready c.if-self.true)
