@@ -65,6 +65,19 @@ sweep_test() {
     done
 }
 
+# sweep_steady CRATE FEW MANY: the same test with few cycles and with many; these have to meet as many growths, and no more.
+sweep_steady() {
+    sweep_test "$1" "$2"
+    few=$number
+    refuse_each "$1 $3" test_ended_well alone /dev/null "crates/$1/out/$1_tests" "$3"
+    if [ "$number" -eq "$few" ]; then
+        passed=$((passed + 1))
+    else
+        echo "sweep: $1 $2 met $((few - 1)) growths, and $3 met $((number - 1))"
+        failed=$((failed + 1))
+    fi
+}
+
 # run_unrefused LINES NAME: what the program prints for the lines, and its status.
 run_unrefused() {
     timeout 60 "$program" <"$1" >"$scratch/$2"
@@ -158,6 +171,8 @@ sweep_test worked_threads buffers::a_buffer_begins_anew
 sweep_test worked_threads posts::posts_come_as_they_were_posted
 sweep_test worked_threads frames::frames_go_in_order
 sweep_test worked_threads chains::machines_stay_where_a_chain_is_refused
+sweep_test worked_views shown::a_view_shows_what_was_published
+sweep_steady worked_views steady::few_cycles steady::many_cycles
 sweep_program "alone lasting" "its first run" crates/hotline/stdin crates/hotline/stdout 0
 sweep_program "alone lasting" "every command" tools/commands.in tools/commands.out 2
 sweep_program "alone lasting" "frames" tools/frames.in tools/frames.out 0

@@ -11,3 +11,5 @@ mod lines;
 mod scopes;
 #[cfg(test)]
 mod shown;
+#[cfg(test)]
+mod steady;

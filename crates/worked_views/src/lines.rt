@@ -1,18 +1,21 @@
 //! A machine to which a module is docked, with the publisher of its edits.
-ghost use Rattle.std.specs.Prelude.{◌≡◌, All, IfSome};
+ghost use Rattle.std.specs.Prelude.{◌≡◌, [], ◌∷◌, ◌++◌, All, IfSome, List, OnOk};
 ghost use Rattle.hc_copies.specs.Told.{IsOpening};
-ghost use Rattle.hc_publish.specs.Board.{published, origin_of};
+ghost use Rattle.hc_events.specs.Changes.{AreLegal};
+ghost use Rattle.hc_publish.specs.Board.{published, pending, origin_of};
 ghost use Rattle.hc_publish.specs.Seats.{IsFresh, carried, note_origin};
+ghost use Rattle.hc_publish.specs.declared.seat.Seat.{Seat};
 ghost use Rattle.worked_views.specs.Lines.{LeadsTo};
 
-use hc_events::change::Change;
+use hc_events::change::{Change, GoodAnswer};
 use hc_plan::plan::Plan;
 use hc_project::read_project;
 use hc_publish::open;
-use hc_publish::publisher::{Note, Publisher};
+use hc_publish::publisher::{Kept, Note, Publisher};
 use hc_publish::seat::Seat;
 use hc_records::edit::Edit;
-use std::alloc::Global;
+use hc_records::items::Items;
+use std::alloc::{AllocError, Global};
 use std::sync::Wait;
 
 /// An axis that is always there, with 2 output bits and 12 input bits in task 0, and a feeder, alias 200, that can be
@@ -80,6 +83,79 @@ pub fn opened<R: Wait>(rt: &R, alloc: Global) -> Option<(Plan, Publisher, Vec<Se
     }
 }
 
+/// The first seat, that of task 0.
+pub fn first_seat(seats: Vec<Seat>) -> Option<Seat>
+    ensures { IfSome result (λ seat. (rest : List Seat) × (seats.items ≡ seat ∷ rest)) }
+{
+    seats.into_iter().next()
+}
+
+/// Appends a change. One that comes back is appended once more.
+fn append(publisher: &mut Publisher, change: Change) -> Result<(), AllocError>
+    requires { AreLegal (origin_of publisher.old).groups (published publisher.old ++ pending publisher.old ++ change ∷ []) }
+    ensures published { published publisher.new ≡ published publisher.old }
+    ensures pending { OnOk result (pending publisher.new ≡ pending publisher.old ++ change ∷ []) }
+    ensures same { origin_of publisher.new ≡ origin_of publisher.old }
+{
+    if let Err(Kept(change)) = publisher.append(change) {
+        if let Err(Kept(_)) = publisher.append(change) {
+            return Err(AllocError);
+        }
+    }
+    Ok(())
+}
+
+/// Carries an edit out, and appends its swap.
+pub fn append_edit(
+    alloc: Global,
+    plan: &mut Plan,
+    publisher: &mut Publisher,
+    edit: &Edit,
+) -> Result<(), AllocError>
+    requires { LeadsTo publisher.old plan.old }
+    ensures leads { OnOk result (LeadsTo publisher.new plan.new) }
+    ensures same { origin_of publisher.new ≡ origin_of publisher.old }
+{
+    match plan.apply(alloc, edit) {
+        Ok(report) => append(publisher, Change::Swapped(report.swap)),
+        Err(_) => Err(AllocError),
+    }
+}
+
+/// Appends a good answer of the only datagram of task 0, in this memory; it has to have the datagram's length.
+pub fn append_answer(
+    room: Vec<u8>,
+    plan: &Plan,
+    publisher: &mut Publisher,
+    bytes: &[u8],
+) -> Result<(), AllocError>
+    requires { LeadsTo publisher.old plan.now }
+    ensures leads { OnOk result (LeadsTo publisher.new plan.now) }
+    ensures same { origin_of publisher.new ≡ origin_of publisher.old }
+{
+    let Some(datagram) = plan.places().datagram(0, 0) else {
+        return Err(AllocError);
+    };
+    if bytes.len() != usize::from(datagram.length) {
+        return Err(AllocError);
+    }
+    let mut data = room;
+    data.clear();
+    data.extend_from_slice(bytes)?;
+    let good = GoodAnswer::of(0, 0, Items::of(data));
+    append(publisher, Change::Good(good))
+}
+
+/// Publishes what is pending, or want of memory, and then it stays so.
+pub fn publish<R: Wait>(rt: &R, plan: &Plan, publisher: &mut Publisher) -> Result<(), AllocError>
+    requires { LeadsTo publisher.old plan.now }
+    ensures leads { LeadsTo publisher.new plan.now }
+    ensures same { origin_of publisher.new ≡ origin_of publisher.old }
+{
+    let _ = plan;
+    publisher.publish(rt)
+}
+
 /// Carries an edit out and publishes its swap.
 pub fn publish_edit<R: Wait>(
     rt: &R,
@@ -94,14 +170,7 @@ pub fn publish_edit<R: Wait>(
     ensures origin { IfSome result (λ note. note_origin note ≡ origin_of publisher.old) }
     ensures same { origin_of publisher.new ≡ origin_of publisher.old }
 {
-    let Ok(report) = plan.apply(alloc, edit) else {
-        return None;
-    };
-    let Ok(()) = publisher.append(Change::Swapped(report.swap)) else {
-        return None;
-    };
-    let Ok(()) = publisher.publish(rt) else {
-        return None;
-    };
+    append_edit(alloc, plan, publisher, edit).ok()?;
+    publish(rt, plan, publisher).ok()?;
     Some(publisher.note())
 }

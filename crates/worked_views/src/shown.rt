@@ -1,9 +1,8 @@
 //! What one task's views show of the line: rows worked out by hand.
-ghost use Rattle.std.specs.Prelude.{IfSome};
+ghost use Rattle.std.specs.Prelude.{OnOk};
 ghost use Rattle.worked_views.specs.Lines.{LeadsTo};
 
-use crate::lines::{DOCK, opened, publish_edit};
-use hc_events::change::{Change, GoodAnswer};
+use crate::lines::{DOCK, UNDOCK, append_answer, append_edit, first_seat, opened, publish};
 use hc_plan::plan::Plan;
 use hc_publish::publisher::Publisher;
 use hc_publish::seat::Seat;
@@ -11,8 +10,9 @@ use hc_publish::view::View;
 use hc_records::edit::Edit;
 use hc_records::items::Items;
 use hc_records::records::VarId;
-use std::alloc::Global;
+use std::alloc::{AllocError, Global};
 use std::sync::Wait;
+use std::test::Fail;
 
 /// A variable's number, and what task 0 is told of it: its first bit, if it has a place, and its value or the number
 /// of a fault.
@@ -77,6 +77,55 @@ const WITHOUT_OUTPUTS: Moment = Moment {
     ],
 };
 
+/// Undocked again, and answered: the axis' inputs stand alone in the datagram.
+const UNDOCKED: Moment = Moment {
+    epoch: 3,
+    part: (0, 2),
+    data: Some(b"\x21\x03"),
+    told: &[(3, None, Err(1)), (1, None, Err(1)), (2, Some(0), Ok(801))],
+};
+
+/// Docked once more behind another answer, which was of the epoch before, and answered in the new one: 0x234.
+const DOCKED_AGAIN: Moment = Moment {
+    epoch: 4,
+    part: (0, 2),
+    data: Some(b"\x34\xf2"),
+    told: &[(3, Some(0), Err(3)), (2, Some(0), Ok(564))],
+};
+
+/// A change that is appended.
+#[derive(Clone, Copy)]
+enum Given {
+    /// A good answer with these data.
+    Answer(&'static [u8]),
+    /// The feeder joins the line.
+    Docking,
+    /// It leaves it.
+    Undocking,
+    /// The axis loses its outputs.
+    LosingOutputs,
+}
+
+/// What is appended before one publishing, and what a view shows behind it.
+type Row = (&'static [Given], &'static Moment);
+
+/// One publishing after another.
+const ROWS: &[Row] = &[
+    (&[Given::Answer(b"\x02\x34\x0a")], &ANSWERED),
+    (&[Given::Docking], &DOCKED),
+    (&[Given::LosingOutputs], &WITHOUT_OUTPUTS),
+    (&[Given::Undocking, Given::Answer(b"\x21\x03")], &UNDOCKED),
+    (
+        &[
+            Given::Answer(b"\x99\x09"),
+            Given::Docking,
+            Given::Answer(b"\x11\x01"),
+            Given::Answer(b"\x34\xf2"),
+        ],
+        &DOCKED_AGAIN,
+    ),
+];
+
 /// Whether a view tells this of a variable.
 fn tells(view: &View, row: &Told) -> bool {
     match VarId::new(row.0) {
@@ -121,37 +170,6 @@ fn sees(seat: Seat, moment: &Moment) -> (Seat, bool) {
     }
 }
 
-/// A good answer of the only datagram of task 0 is appended, and not yet published. None where the datagram has
-/// another length.
-fn append_answer(alloc: Global, plan: &Plan, publisher: &mut Publisher, bytes: &[u8]) -> Option<()>
-    requires { LeadsTo publisher.old plan.now }
-    ensures { IfSome result (λ _. LeadsTo publisher.new plan.now) }
-{
-    let datagram = plan.places().datagram(0, 0)?;
-    if bytes.len() != usize::from(datagram.length) {
-        return None;
-    }
-    let Ok(bytes) = Vec::from_slice(alloc, bytes) else {
-        return None;
-    };
-    let good = GoodAnswer::of(0, 0, Items::of(bytes));
-    let Ok(()) = publisher.append(Change::Good(good)) else {
-        return None;
-    };
-    Some(())
-}
-
-/// What is pending is published.
-fn publish<R: Wait>(rt: &R, plan: &Plan, publisher: &mut Publisher) -> Option<()>
-    requires { LeadsTo publisher.old plan.now }
-    ensures { IfSome result (λ _. LeadsTo publisher.new plan.now) }
-{
-    match publisher.publish(rt) {
-        Ok(()) => Some(()),
-        Err(_) => None,
-    }
-}
-
 /// The axis loses its outputs.
 fn without_outputs(alloc: Global) -> Edit {
     Edit::Remap {
@@ -161,41 +179,120 @@ fn without_outputs(alloc: Global) -> Edit {
     }
 }
 
-/// Whether a seat sees each moment, and nothing that is only appended.
-fn are_seen<R: Wait>(
+/// Appends a change that is given.
+fn append(
+    alloc: Global,
+    plan: &mut Plan,
+    publisher: &mut Publisher,
+    given: Given,
+) -> Result<(), AllocError>
+    requires { LeadsTo publisher.old plan.old }
+    ensures { OnOk result (LeadsTo publisher.new plan.new) }
+{
+    match given {
+        Given::Answer(bytes) => append_answer(Vec::new(alloc), plan, publisher, bytes),
+        Given::Docking => append_edit(alloc, plan, publisher, &DOCK),
+        Given::Undocking => append_edit(alloc, plan, publisher, &UNDOCK),
+        Given::LosingOutputs => append_edit(alloc, plan, publisher, &without_outputs(alloc)),
+    }
+}
+
+/// Appends all that is given, in order.
+fn append_all(
+    alloc: Global,
+    plan: &mut Plan,
+    publisher: &mut Publisher,
+    given: &[Given],
+) -> Result<(), AllocError>
+    requires { LeadsTo publisher.old plan.old }
+    ensures { OnOk result (LeadsTo publisher.new plan.new) }
+{
+    for one in given {
+        append(alloc, plan, publisher, *one)?;
+    }
+    Ok(())
+}
+
+/// Publishes what is pending. Where that is refused the seat has to see the moment before, and it is tried once more.
+fn published<R: Wait>(
+    rt: &R,
+    plan: &Plan,
+    publisher: &mut Publisher,
+    seat: Seat,
+    before: &Moment,
+) -> Result<(Seat, bool), AllocError>
+    requires { LeadsTo publisher.old plan.now }
+    ensures { LeadsTo publisher.new plan.now }
+{
+    match publish(rt, plan, publisher) {
+        Ok(()) => Ok((seat, true)),
+        Err(_) => {
+            let seen = sees(seat, before);
+            publish(rt, plan, publisher)?;
+            Ok(seen)
+        }
+    }
+}
+
+/// Whether a seat sees what is given once it is published, and the moment before until then.
+fn is_seen<R: Wait>(
     rt: &R,
     alloc: Global,
     plan: &mut Plan,
     publisher: &mut Publisher,
     seat: Seat,
-) -> Option<bool>
+    before: &Moment,
+    row: &Row,
+) -> Result<(Seat, bool), AllocError>
     requires { LeadsTo publisher.old plan.old }
+    ensures { OnOk result (LeadsTo publisher.new plan.new) }
 {
-    append_answer(alloc, plan, publisher, b"\x02\x34\x0a")?;
-    let (seat, opened) = sees(seat, &OPENED);
-    publish(rt, plan, publisher)?;
-    let (seat, answered) = sees(seat, &ANSWERED);
-    publish_edit(rt, alloc, plan, publisher, &DOCK)?;
-    let (seat, docked) = sees(seat, &DOCKED);
-    publish_edit(rt, alloc, plan, publisher, &without_outputs(alloc))?;
-    let (_, remapped) = sees(seat, &WITHOUT_OUTPUTS);
-    Some(opened && answered && docked && remapped)
+    append_all(alloc, plan, publisher, row.0)?;
+    let (seat, waits) = sees(seat, before);
+    let (seat, stays) = published(rt, plan, publisher, seat, before)?;
+    let (seat, seen) = sees(seat, row.1);
+    Ok((seat, waits && stays && seen))
 }
 
-/// Opens the line, and whether the seat of task 0 sees each moment.
-fn is_shown<R: Wait>(rt: &R, alloc: Global) -> bool {
+/// The number of the first row of which a seat doesn't see what it should; none where it sees all.
+fn first_unseen<R: Wait>(
+    rt: &R,
+    alloc: Global,
+    plan: &mut Plan,
+    publisher: &mut Publisher,
+    mut seat: Seat,
+) -> Result<Option<usize>, AllocError>
+    requires { LeadsTo publisher.old plan.old }
+{
+    let mut before = &OPENED;
+    let mut number = 0_usize;
+    for row in ROWS {
+        let (back, seen) = is_seen(rt, alloc, plan, publisher, seat, before, row)?;
+        if !seen {
+            return Ok(Some(number));
+        }
+        seat = back;
+        before = row.1;
+        number = number.saturating_add(1);
+    }
+    Ok(None)
+}
+
+/// The same of the seat of task 0 at a line's opening.
+fn first_unseen_of<R: Wait>(rt: &R, alloc: Global) -> Result<Option<usize>, AllocError> {
     let Some((mut plan, mut publisher, seats)) = opened(rt, alloc) else {
-        return false;
+        return Err(AllocError);
     };
-    let seen = match seats.into_iter().next() {
-        Some(seat) => are_seen(rt, alloc, &mut plan, &mut publisher, seat),
-        None => None,
+    let unseen = match first_seat(seats) {
+        Some(seat) => first_unseen(rt, alloc, &mut plan, &mut publisher, seat),
+        None => Ok(Some(0)),
     };
     publisher.finish(rt);
-    seen == Some(true)
+    unseen
 }
 
 #[test]
-fn a_view_shows_what_was_published(rt: HostRuntime) {
-    assert!(rt; is_shown(&rt, rt.alloc()));
+fn a_view_shows_what_was_published(rt: HostRuntime) -> Result<(), Fail> {
+    assert_eq!(rt; first_unseen_of(&rt, rt.alloc())?, None);
+    Ok(())
 }
