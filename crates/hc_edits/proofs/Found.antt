@@ -1,5 +1,5 @@
 -- The first element of a list at which a test passes, and a change of it alone.
-use Rattle.std.proofs.Common.{◌≡◌, ◌≢◌, subst, ℕ, zero, suc, ◌+◌, Bool, true, false, cond, List, [], ◌∷◌, Option, Some, None, refl, sym, ap, ◌∙◌, arith, if◌then◌else◌}
+use Rattle.std.proofs.Common.{◌≡◌, ◌≢◌, ℕ, zero, suc, ◌+◌, Bool, true, false, cond, List, [], ◌∷◌, Option, Some, None, refl, sym, ap, ◌∙◌, arith, if◌then◌else◌, rules}
 use Rattle.std.specs.Prelude.{All, AllPairs, ◌==◌, ◌||◌, map, position, slice_get}
 use Rattle.std.specs.List.{list_any, position_from}
 use Rattle.std.proofs.lemmas.Bool.{eqb-true, ne_eqb}
@@ -28,26 +28,18 @@ found-from test first n [] at = cc
 found-from test first n (x ∷ xs) at = found-by (test x) test first n x xs refl (found-from test (first + 1) n xs) at
 
 pub first-at : {X : Type 0} (test : X → Bool) (i : ℕ) (xs : List X) → position test xs ≡ Some i → IsFirstAt test i xs
-first-at test i xs at =
-    let found = found-from test 0 i xs (sym (position_from-zero test xs) ∙ at) in
-    let at_end = found.1 in
-    let same : found.0 ≡ i = omega (arith, at_end) in
-    subst (λ (n : ℕ). IsFirstAt test n xs) same found.2
+first-at test i xs at = search (rules, found-from, position_from-zero)
 
 -- where nothing is found, it passes nowhere
 none-by : (passes : Bool) (first : ℕ) (rest : Option ℕ) (others : Bool) → (rest ≡ None → others ≡ false) → cond passes (Some first) rest ≡ None → (passes || others) ≡ false
-none-by true first rest others later none = cc
-none-by false first rest others later none = later none
+none-by passes first rest others later none = search rules
 
 none-from : {X : Type 0} (test : X → Bool) (first : ℕ) (xs : List X) → position_from test first xs ≡ None → list_any test xs ≡ false
 none-from test first [] none = refl
 none-from test first (x ∷ xs) none = none-by (test x) first (position_from test (first + 1) xs) (list_any test xs) (none-from test (first + 1) xs) none
 
 pub some-found : {X : Type 0} (test : X → Bool) (xs : List X) → list_any test xs ≡ true → position test xs ≢ None
-some-found test xs some none =
-    let nowhere : list_any test xs ≡ false = none-from test 0 xs (sym (position_from-zero test xs) ∙ none) in
-    let both : true ≡ false = sym some ∙ nowhere in
-    cc
+some-found test xs some none = search (rules, none-from, position_from-zero)
 
 -- the element that is found
 pub record IsThere {X : Type 0} (P : X → Type 0) (test : X → Bool) (i : ℕ) (xs : List X) : Type 0 where
@@ -59,16 +51,12 @@ pub record IsThere {X : Type 0} (P : X → Type 0) (test : X → Bool) (i : ℕ)
 pub there : {X : Type 0} (P : X → Type 0) (test : X → Bool) (i : ℕ) (xs : List X) → All P xs → IsFirstAt test i xs → IsThere P test i xs
 there P test i [] all first = absurd first
 there P test zero (x ∷ xs) all first = record { found = x; at = refl; passes = first; holds = All-head P x xs all }
-there P test (suc i) (x ∷ xs) all first =
-    let rest = there P test i xs (All-tail P x xs all) first.1 in
-    record { found = rest.found; at = rest.at; passes = rest.passes; holds = rest.holds }
+there P test (suc i) (x ∷ xs) all first = search (rules, All-tail, there P test i xs (All-tail P x xs all) first.1)
 
 -- two changes that agree on the element at an index
 pub changed-alike : {X : Type 0} (i : ℕ) (change other : X → X) (xs : List X) (x : X) → slice_get xs i ≡ Some x → change x ≡ other x → changed_at i change xs ≡ changed_at i other xs
 changed-alike i change other [] x at same = refl
-changed-alike zero change other (first ∷ xs) x at same =
-    let is : first ≡ x = cc in
-    ap (λ y. y ∷ xs) (rw is same)
+changed-alike zero change other (first ∷ xs) x at same = search rules
 changed-alike (suc i) change other (first ∷ xs) x at same = ap (λ rest. first ∷ rest) (changed-alike i change other xs x at same)
 
 -- a change of those with a number
@@ -77,18 +65,15 @@ abbrev pub changed_by : {X : Type 0} → (X → ℕ) → ℕ → (X → X) → X
 changed_by key number change x = if key x == number then change x else x
 
 changed-here : {X : Type 0} (passes : Bool) (x y : X) → passes ≡ true → (if passes then y else x) ≡ y
-changed-here true x y is = refl
-changed-here false x y is = cc
+changed-here passes x y is = search rules
 
 unchanged-here : {X : Type 0} (passes : Bool) (x y : X) → passes ≡ false → (if passes then y else x) ≡ x
-unchanged-here true x y is = cc
-unchanged-here false x y is = refl
+unchanged-here passes x y is = search rules
 
 pub none-changed : {X : Type 0} (key : X → ℕ) (number : ℕ) (change : X → X) (xs : List X) → All (λ x. (key x == number) ≡ false) xs → map (changed_by key number change) xs ≡ xs
 none-changed key number change [] others = refl
 none-changed key number change (x ∷ xs) others =
-    ap (λ y. y ∷ map (changed_by key number change) xs) (unchanged-here (key x == number) x (change x) (All-head (λ x. (key x == number) ≡ false) x xs others))
-    ∙ ap (λ rest. x ∷ rest) (none-changed key number change xs (All-tail (λ x. (key x == number) ≡ false) x xs others))
+    search (rules, unchanged-here, All-head, All-tail, none-changed key number change xs (All-tail (λ x. (key x == number) ≡ false) x xs others))
 
 -- where it is that of one element alone
 pub once-changed : {X : Type 0} (key : X → ℕ) (number i : ℕ) (change : X → X) (xs : List X) → AllPairs (λ a b. key a ≢ key b) xs → IsFirstAt (λ x. key x == number) i xs →
@@ -102,5 +87,4 @@ once-changed key number zero change (x ∷ xs) once first =
     (All-weaker (λ b. key x ≢ key b) (λ b. (key b == number) ≡ false) (λ b other. ne_eqb (key b) number (λ is. other (same ∙ sym is))) xs
     (AllPairs-head (λ a b. key a ≢ key b) x xs once)))
 once-changed key number (suc i) change (x ∷ xs) once first =
-    ap (λ y. y ∷ map (changed_by key number change) xs) (unchanged-here (key x == number) x (change x) first.0)
-    ∙ ap (λ rest. x ∷ rest) (once-changed key number i change xs (AllPairs-tail (λ a b. key a ≢ key b) x xs once) first.1)
+    search (rules, unchanged-here, AllPairs-tail, once-changed key number i change xs (AllPairs-tail (λ a b. key a ≢ key b) x xs once) first.1)

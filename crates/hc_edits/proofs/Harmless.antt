@@ -1,19 +1,19 @@
 -- An area that an edit changes without a fault stays in its ranges, with offered PDOs, and no wider than a datagram.
-use Rattle.std.proofs.Common.{◌≡◌, ℕ, ◌≤◌, Bool, true, false, not, List, [], ◌∷◌, Option, Some, None, length, refl, arith}
-use Rattle.std.specs.Prelude.{◌+◌, ◌-◌, ◌||◌, is_none, nat_lt}
+use Rattle.std.proofs.Common.{◌≡◌, ℕ, ◌≤◌, Bool, false, not, List, [], ◌∷◌, Option, Some, None, length, arith, rules}
+use Rattle.std.specs.Prelude.{◌+◌, ◌-◌, is_none, nat_lt}
 use Rattle.std.specs.List.{list_any}
 use Rattle.std.specs.Option.{option_map_or}
-use Rattle.std.proofs.lemmas.Bool.{ltb-false, or_from, or_parts}
+use Rattle.std.proofs.lemmas.Bool.{ltb-false}
 use Rattle.std.proofs.lemmas.Bool.Decides.{nat_tests}
 use Rattle.hc_records.specs.declared.limits.TheConstants.{LAST_SYNC_MANAGER, MEMORY_END, MEMORY_START, MOST_PDOS, TASKS}
 use Rattle.hc_records.specs.declared.records.Area.{Area}
 use Rattle.hc_records.specs.declared.records.Declared.{Declared}
 use Rattle.hc_records.specs.declared.edit.Edit.TheVariants.{Remap, Move}
 use Rattle.hc_records.specs.declared.faults.EditFault.{EditFault}
-use Rattle.hc_records.specs.declared.faults.EditFault.TheVariants.{UnknownStation, Absent, NoSuchArea, NoSuchTask, UnknownPdo, RepeatedPdo, AreaTooBig, Memory}
-use Rattle.hc_records.specs.Lists.{has_repeat, lowest, some_pair}
-use Rattle.hc_records.specs.Edits.{area_at, has_unknown, is_declared_station, is_too_big, slave_at}
-use Rattle.hc_records.specs.Project.{area_outside, has_unknown_pdo, is_outside, is_wide, pdo_outside, reach, same_index}
+use Rattle.hc_records.specs.declared.faults.EditFault.TheVariants.{UnknownStation, Absent, NoSuchArea, NoSuchTask, UnknownPdo, RepeatedPdo, AreaTooBig}
+use Rattle.hc_records.specs.Lists.{has_repeat, lowest}
+use Rattle.hc_records.specs.Edits.{area_at, has_unknown, is_too_big}
+use Rattle.hc_records.specs.Project.{area_outside, has_unknown_pdo, is_outside, is_wide, pdo_outside, reach}
 use Rattle.hc_records.proofs.lemmas.Projects.{none-holds}
 use Rattle.hc_edits.specs.Edits.{own_fault, state_of}
 use Rattle.hc_edits.proofs.Repeats.{no-longer}
@@ -42,37 +42,10 @@ record IsInside (area : Area) : Type 0 where
   end : nat_lt MEMORY_END (area.phys + reach area) ≡ false
 
 inside-parts : (area : Area) → area_outside area ≡ false → IsInside area
-inside-parts area inside =
-    let a = nat_lt LAST_SYNC_MANAGER area.sm in
-    let b = is_outside MEMORY_START (MEMORY_END - 1) area.phys in
-    let c = not (nat_lt area.task TASKS) in
-    let d = nat_lt MOST_PDOS (length area.assigned) in
-    let e = nat_lt MOST_PDOS (length area.offered) in
-    let f = list_any pdo_outside area.offered in
-    let g = nat_lt MEMORY_END (area.phys + reach area) in
-    let six = or_parts (a || b || c || d || e || f) g inside in
-    let five = or_parts (a || b || c || d || e) f six.0 in
-    let four = or_parts (a || b || c || d) e five.0 in
-    let three = or_parts (a || b || c) d four.0 in
-    let two = or_parts (a || b) c three.0 in
-    let one = or_parts a b two.0 in
-    record { manager = one.0; start = one.1; task = two.1; assigned = three.1; offered = four.1; pdos = five.1; end = six.1 }
+inside-parts area inside = search rules
 
 inside-from : (area : Area) → IsInside area → area_outside area ≡ false
-inside-from area is =
-    let a = nat_lt LAST_SYNC_MANAGER area.sm in
-    let b = is_outside MEMORY_START (MEMORY_END - 1) area.phys in
-    let c = not (nat_lt area.task TASKS) in
-    let d = nat_lt MOST_PDOS (length area.assigned) in
-    let e = nat_lt MOST_PDOS (length area.offered) in
-    let f = list_any pdo_outside area.offered in
-    let g = nat_lt MEMORY_END (area.phys + reach area) in
-    or_from (a || b || c || d || e || f) g
-    (or_from (a || b || c || d || e) f
-    (or_from (a || b || c || d) e
-    (or_from (a || b || c) d
-    (or_from (a || b) c (or_from a b is.manager is.start) is.task)
-    is.assigned) is.offered) is.pdos) is.end
+inside-from area is = search rules
 
 few : (a b most : ℕ) → a ≤ b → nat_lt most b ≡ false → nat_lt most a ≡ false
 few a b most low within = let least : b ≤ most = ltb-false most b within in grind (arith, nat_tests)
@@ -97,28 +70,12 @@ pdos-harmless area pdos is = record {
         pdos = parts.pdos;
         end = parts.end;
       });
-  offered = λ offered.
-      let parts = or_parts (has_unknown area.assigned area || has_repeat area.assigned) (some_pair same_index area.offered) offered in
-      or_from (has_unknown pdos area || has_repeat pdos) (some_pair same_index area.offered) (or_from (has_unknown pdos area) (has_repeat pdos) is.known is.once) parts.1;
+  offered = search rules;
   narrow = λ narrow. is.narrow;
 }
 
 task-harmless : (area : Area) (task : ℕ) → not (nat_lt task TASKS) ≡ false → IsHarmless (in_task task) area
-task-harmless area task low = record {
-  inside = λ inside.
-      let parts = inside-parts area inside in
-      inside-from (in_task task area) (record {
-        manager = parts.manager;
-        start = parts.start;
-        task = low;
-        assigned = parts.assigned;
-        offered = parts.offered;
-        pdos = parts.pdos;
-        end = parts.end;
-      });
-  offered = λ offered. offered;
-  narrow = λ narrow. narrow;
-}
+task-harmless area task low = search rules
 
 -- the area that an edit without a fault judges
 pub record IsJudged (groups : List Declared) (station index : ℕ) (change : Area → Area) : Type 0 where
@@ -138,25 +95,10 @@ remap_faults unknown absent found pdos =
 
 judged-remap : (found : Option Area) (unknown absent : Bool) (groups : List Declared) (station index : ℕ) (pdos : List ℕ) → area_at (state_of groups) station index ≡ found →
     lowest (remap_faults unknown absent found pdos) ≡ None → IsJudged groups station index (with_pdos pdos)
-judged-remap None unknown absent groups station index pdos is none =
-    let some : true ≡ false = none-holds (remap_faults unknown absent None pdos) none 2 (false, Memory) (omega arith) in
-    cc
-judged-remap (Some area) unknown absent groups station index pdos is none =
-    let holds = none-holds (remap_faults unknown absent (Some area) pdos) none in
-    record {
-      area = area;
-      found = is;
-      harmless = pdos-harmless area pdos (record {
-        known = holds 3 (false, Memory) (omega arith);
-        once = holds 4 (false, Memory) (omega arith);
-        narrow = holds 5 (false, Memory) (omega arith);
-      });
-    }
+judged-remap found unknown absent groups station index pdos is none = search (rules, none-holds, pdos-harmless)
 
 pub remap-judged : (groups : List Declared) (station index : ℕ) (pdos : List ℕ) → own_fault groups (Remap station index pdos) ≡ None → IsJudged groups station index (with_pdos pdos)
-remap-judged groups station index pdos none =
-    let state = state_of groups in
-    judged-remap (area_at state station index) (not (is_declared_station state station)) (is_none (slave_at state station)) groups station index pdos refl none
+remap-judged groups station index pdos none = search (rules, judged-remap)
 
 abbrev move_faults : Bool → Bool → Option Area → ℕ → List (Bool × EditFault)
 move_faults unknown absent found task =
@@ -168,16 +110,7 @@ move_faults unknown absent found task =
 
 judged-move : (found : Option Area) (unknown absent : Bool) (groups : List Declared) (station index task : ℕ) → area_at (state_of groups) station index ≡ found →
     lowest (move_faults unknown absent found task) ≡ None → IsJudged groups station index (in_task task)
-judged-move None unknown absent groups station index task is none =
-    let some : true ≡ false = none-holds (move_faults unknown absent None task) none 2 (false, Memory) (omega arith) in
-    cc
-judged-move (Some area) unknown absent groups station index task is none = record {
-  area = area;
-  found = is;
-  harmless = task-harmless area task (none-holds (move_faults unknown absent (Some area) task) none 3 (false, Memory) (omega arith));
-}
+judged-move found unknown absent groups station index task is none = search rules
 
 pub move-judged : (groups : List Declared) (station index task : ℕ) → own_fault groups (Move station index task) ≡ None → IsJudged groups station index (in_task task)
-move-judged groups station index task none =
-    let state = state_of groups in
-    judged-move (area_at state station index) (not (is_declared_station state station)) (is_none (slave_at state station)) groups station index task refl none
+move-judged groups station index task none = search rules

@@ -1,5 +1,5 @@
 -- A declared group or slave that an edit names is found, and what becomes of it.
-use Rattle.std.proofs.Common.{◌≡◌, ◌≢◌, ℕ, Bool, true, List, [], Option, Some, None, Result, Ok, Err, refl, sym, ap, ◌∙◌}
+use Rattle.std.proofs.Common.{◌≡◌, ◌≢◌, ℕ, Bool, true, List, [], Option, Some, None, Result, refl, ap, ◌∙◌, rules}
 use Rattle.std.specs.Prelude.{IfOk, option_and_then, option_map, position}
 use Rattle.std.specs.Option.{option_map_or}
 use Rattle.std.specs.List.{list_any}
@@ -8,16 +8,14 @@ use Rattle.hc_records.specs.declared.records.Declared.{Declared}
 use Rattle.hc_records.specs.Line.{has_address}
 use Rattle.hc_edits.specs.declared.changes.AreasChange.{AreasChange}
 use Rattle.hc_edits.specs.declared.changes.SlavePlace.{SlavePlace}
-use Rattle.hc_edits.specs.Changes.{areas_change, areas_changed, has_alias, has_slave, place_at, place_in, presence_at, presence_change, slave_place, slaves_at}
+use Rattle.hc_edits.specs.Changes.{areas_change, areas_changed, has_alias, has_slave, place_in, presence_change, slave_place, slaves_at}
 use Rattle.hc_edits.proofs.Found.{first-at, some-found, there}
 
 pub mapped-none : {X Y : Type 0} (f : X → Y) (found : Option X) → option_map f found ≡ None → found ≡ None
-mapped-none f None is = refl
-mapped-none f (Some x) is = cc
+mapped-none f found is = search rules
 
 pub known-group : (groups : List Declared) (alias : ℕ) (present : Bool) → list_any (has_alias alias) groups ≡ true → presence_change groups alias present ≢ None
-known-group groups alias present some none =
-    some-found (has_alias alias) groups some (mapped-none (presence_at groups present) (position (has_alias alias) groups) none)
+known-group groups alias present some none = search (rules, some-found, mapped-none)
 
 known-by : (found : Option ℕ) (groups : List Declared) (station : ℕ) → list_any (has_slave station) groups ≡ true → position (has_slave station) groups ≡ found →
     option_and_then (place_in groups station) found ≢ None
@@ -26,13 +24,11 @@ known-by (Some group) groups station some at none =
     let it = there (λ d. d ≡ d) (has_slave station) group groups (λ i d within. refl) (first-at (has_slave station) group groups at) in
     let slaves : slaves_at groups group ≡ it.found.group.slaves = ap (λ (o : Option Declared). option_map_or (λ d. d.group.slaves) o []) it.at in
     let has : list_any (has_address station) (slaves_at groups group) ≡ true = ap (list_any (has_address station)) slaves ∙ it.passes in
-    some-found (has_address station) (slaves_at groups group) has
-    (mapped-none (place_at groups group) (position (has_address station) (slaves_at groups group)) none)
+    search (rules, some-found, mapped-none)
 
 pub known-slave : (groups : List Declared) (station : ℕ) → list_any (has_slave station) groups ≡ true → slave_place groups station ≢ None
 known-slave groups station some = known-by (position (has_slave station) groups) groups station some refl
 
 pub areas-known : {E : Type 0} (result : Result AreasChange E) (groups : List Declared) (station area : ℕ) (change : Area → Area) (place : SlavePlace) → slave_place groups station ≡ Some place →
     IfOk result (λ found. found ≡ areas_changed groups area change place) → IfOk result (λ found. areas_change groups station area change ≡ Some found)
-areas-known (Ok found) groups station area change place at is = ap (option_map (areas_changed groups area change)) at ∙ ap Some (sym is)
-areas-known (Err refused) groups station area change place at is = tt
+areas-known result groups station area change place at is = search rules

@@ -1,5 +1,5 @@
 -- Ranks of declared slaves.
-use Rattle.std.proofs.Common.{ℕ, zero, suc, ◌+◌, ◌<◌, ◌≤◌, List, [], ◌∷◌, length, take, arith}
+use Rattle.std.proofs.Common.{ℕ, zero, suc, ◌+◌, ◌<◌, ◌≤◌, List, [], ◌∷◌, length, take, arith, rules}
 use Rattle.std.specs.Prelude.{sum_by}
 use Rattle.std.proofs.lemmas.List.Sums.{sum_by-cons}
 use Rattle.hc_records.specs.declared.records.Declared.{Declared}
@@ -12,11 +12,5 @@ slave_count declared = length declared.group.slaves
 pub rank-low : (groups : List Declared) (group slave : ℕ) → group < length groups → slave ≤ length (slaves_at groups group) →
     sum_by (λ declared. length declared.group.slaves) (take group groups) + slave ≤ sum_by (λ declared. length declared.group.slaves) groups
 rank-low [] group slave within some = absurd (omega arith)
-rank-low (declared ∷ groups) zero slave within some =
-    let all = sum_by-cons slave_count declared groups in
-    omega (arith, some, all)
-rank-low (declared ∷ groups) (suc group) slave within some =
-    let all = sum_by-cons slave_count declared groups in
-    let front = sum_by-cons slave_count declared (take group groups) in
-    let rest = rank-low groups group slave (omega arith) some in
-    omega (arith, rest, all, front)
+rank-low (declared ∷ groups) zero slave within some = search (rules, sum_by-cons)
+rank-low (declared ∷ groups) (suc group) slave within some = search (rules, sum_by-cons, rank-low groups group slave (omega arith) some)

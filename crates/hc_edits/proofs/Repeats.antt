@@ -1,5 +1,5 @@
 -- A list without repeats, each member of which is a key of some items, is no longer than those are.
-use Rattle.std.proofs.Common.{◌≡◌, ◌≢◌, ℕ, suc, ◌<◌, ◌≤◌, Bool, true, false, not, cond, List, [], ◌∷◌, length, refl, sym, ap, ◌∙◌, arith}
+use Rattle.std.proofs.Common.{◌≡◌, ◌≢◌, ℕ, suc, ◌<◌, ◌≤◌, Bool, true, false, not, cond, List, [], ◌∷◌, length, refl, ap, arith, rules}
 use Rattle.std.specs.Prelude.{◌==◌, ◌||◌, filter}
 use Rattle.std.specs.List.{list_any}
 use Rattle.std.proofs.lemmas.Bool.{eqb-true, eqb-false, ne_eqb, or_parts}
@@ -18,21 +18,18 @@ abbrev without : {X : Type 0} → (X → ℕ) → ℕ → List X → List X
 without key number items = filter (λ item. not (has_key key number item)) items
 
 left-most : {X : Type 0} (same : Bool) (item : X) (kept rest : List X) → length kept ≤ length rest → length (cond (not same) (item ∷ kept) kept) ≤ suc (length rest)
-left-most true item kept rest most = omega arith
-left-most false item kept rest most = omega arith
+left-most same item kept rest most = search rules
 
 without-most : {X : Type 0} (key : X → ℕ) (number : ℕ) (items : List X) → length (without key number items) ≤ length items
 without-most key number [] = omega arith
 without-most key number (item ∷ items) = left-most (has_key key number item) item (without key number items) items (without-most key number items)
 
 second : (a b : Bool) → (a || b) ≡ true → a ≡ false → b ≡ true
-second true b one other = cc
-second false b one other = one
+second a b one other = search rules
 
 left-fewer : {X : Type 0} (same : Bool) (item : X) (kept rest : List X) → length kept ≤ length rest → (same ≡ false → length kept < length rest) →
     length (cond (not same) (item ∷ kept) kept) < suc (length rest)
-left-fewer true item kept rest most fewer = omega arith
-left-fewer false item kept rest most fewer = let less = fewer refl in omega arith
+left-fewer same item kept rest most fewer = search rules
 
 -- where an item has the key, they are fewer
 without-fewer : {X : Type 0} (key : X → ℕ) (number : ℕ) (items : List X) → list_any (has_key key number) items ≡ true → length (without key number items) < length items
@@ -50,10 +47,7 @@ kept-any false test item kept rest miss same = ap (λ (b : Bool). test item || b
 without-other : {X : Type 0} (key : X → ℕ) (number other : ℕ) (items : List X) → other ≢ number →
     list_any (has_key key other) (without key number items) ≡ list_any (has_key key other) items
 without-other key number other [] apart = refl
-without-other key number other (item ∷ items) apart =
-    kept-any (has_key key number item) (has_key key other) item (without key number items) items
-    (λ same. ne_eqb (key item) other (λ is. apart (sym is ∙ eqb-true (key item) number same)))
-    (without-other key number other items apart)
+without-other key number other (item ∷ items) apart = search (rules, kept-any, ne_eqb, eqb-true, without-other key number other items apart)
 
 -- so what is left has the keys of numbers that don't repeat it
 none-foreign : {X : Type 0} (key : X → ℕ) (number : ℕ) (numbers : List ℕ) (items : List X) → list_any (λ y. y == number) numbers ≡ false →
@@ -65,8 +59,7 @@ none-foreign key number (other ∷ numbers) items once known =
     rw (without-other key number other items (eqb-false other number apart.0), here.0) (none-foreign key number numbers items apart.1 here.1)
 
 not-not : (b : Bool) → not b ≡ false → b ≡ true
-not-not true none = refl
-not-not false none = cc
+not-not b none = search rules
 
 pub no-longer : {X : Type 0} (key : X → ℕ) (numbers : List ℕ) (items : List X) → has_repeat numbers ≡ false → list_any (is_foreign key items) numbers ≡ false →
     length numbers ≤ length items
@@ -74,6 +67,4 @@ no-longer key [] items once known = omega arith
 no-longer key (number ∷ numbers) items once known =
     let alone = or_parts (list_any (λ y. y == number) numbers) (has_repeat numbers) once in
     let here = or_parts (is_foreign key items number) (list_any (is_foreign key items) numbers) known in
-    let fewer = without-fewer key number items (not-not (list_any (has_key key number) items) here.0) in
-    let rest = no-longer key numbers (without key number items) alone.1 (none-foreign key number numbers items alone.0 here.1) in
-    omega arith
+    search (rules, or_parts, without-fewer, not-not, none-foreign, no-longer key numbers (without key number items) alone.1 (none-foreign key number numbers items alone.0 here.1))

@@ -1,6 +1,6 @@
 -- What a remapped or moved area, its slave and its group keep.
-use Rattle.std.proofs.Common.{◌≡◌, ℕ, zero, suc, Bool, true, false, List, [], ◌∷◌, ◌++◌, refl, sym, ap, ◌∙◌, if◌then◌else◌}
-use Rattle.std.specs.Prelude.{◌==◌, ◌||◌, map}
+use Rattle.std.proofs.Common.{◌≡◌, ℕ, zero, suc, Bool, List, [], ◌∷◌, refl, ap, if◌then◌else◌, rules}
+use Rattle.std.specs.Prelude.{map}
 use Rattle.std.specs.List.{flat_map, list_any}
 use Rattle.std.proofs.lemmas.List.{map-append}
 use Rattle.std.proofs.lemmas.List.Folds.{list_any-append}
@@ -35,16 +35,14 @@ changed-same key (suc index) change same (x ∷ xs) = ap (λ rest. key x ∷ res
 -- a slave with an area changed keeps what its areas keep
 
 with-by : {Y : Type 0} (here : Bool) (look : Slave → Y) (slave after : Slave) → look after ≡ look slave → look (if here then after else slave) ≡ look slave
-with-by true look slave after same = same
-with-by false look slave after same = refl
+with-by here look slave after same = search rules
 
 abbrev pub with_areas : Slave → List Area → Slave
 with_areas slave areas = record slave { areas = areas }
 
 pub with-same : {Y : Type 0} (look : Slave → Y) (station index : ℕ) (change : Area → Area) →
     ((slave : Slave) → look (with_areas slave (changed_at index change slave.areas)) ≡ look slave) → (slave : Slave) → look (with_area station index change slave) ≡ look slave
-with-same look station index change same slave =
-    with-by (slave.station == station) look slave (with_areas slave (changed_at index change slave.areas)) (same slave)
+with-same look station index change same slave = search rules
 
 -- the groups with each slave changed
 
@@ -57,23 +55,17 @@ groups-with_slaves change (declared ∷ groups) = ap (λ rest. on_group change d
 
 pub slaves-on_group : (change : Slave → Slave) (groups : List Group) → slaves_of (map (on_group change) groups) ≡ map change (slaves_of groups)
 slaves-on_group change [] = refl
-slaves-on_group change (group ∷ groups) =
-    ap (λ rest. map change group.slaves ++ rest) (slaves-on_group change groups)
-    ∙ sym (map-append change group.slaves (slaves_of groups))
+slaves-on_group change (group ∷ groups) = search (rules, map-append, slaves-on_group change groups)
 
 pub some-slave : (test : Slave → Bool) (groups : List Group) → some_slave test groups ≡ list_any test (slaves_of groups)
 some-slave test [] = refl
-some-slave test (group ∷ groups) =
-    ap (λ (rest : Bool). list_any test group.slaves || rest) (some-slave test groups)
-    ∙ sym (list_any-append test group.slaves (slaves_of groups))
+some-slave test (group ∷ groups) = search (rules, list_any-append, some-slave test groups)
 
 -- the groups of declared groups whose presence is set
 
 presence-by : (here present : Bool) (declared : Declared) → (if here then record declared { present = present } else declared).group ≡ declared.group
-presence-by true present declared = refl
-presence-by false present declared = refl
+presence-by here present declared = search rules
 
 pub groups-with_presence : (alias : ℕ) (present : Bool) (groups : List Declared) → groups_of (map (with_presence alias present) groups) ≡ groups_of groups
 groups-with_presence alias present [] = refl
-groups-with_presence alias present (declared ∷ groups) =
-    rw (presence-by (declared.group.alias == alias) present declared, groups-with_presence alias present groups) refl
+groups-with_presence alias present (declared ∷ groups) = search (rules, presence-by, groups-with_presence alias present groups)

@@ -1,5 +1,5 @@
 -- What an accepted edit leaves.
-use Rattle.std.proofs.Common.{◌≡◌, Option, Some, None, Ok, refl, sym, ap, subst, ◌∙◌}
+use Rattle.std.proofs.Common.{◌≡◌, Option, None, Ok, refl, sym, ap, subst, rules}
 use Rattle.hc_records.specs.declared.edit.Edit.{Edit}
 use Rattle.hc_records.specs.declared.faults.EditFault.{EditFault}
 use Rattle.hc_records.specs.Lists.{lowest}
@@ -9,11 +9,9 @@ use Rattle.hc_records.specs.Project.{lowest_fault}
 use Rattle.hc_edits.specs.Edits.{own_fault}
 use Rattle.hc_edits.specs.Laws.{AcceptedEditsKeepProjects}
 use Rattle.hc_edits.proofs.Kept.{project-kept}
-use Rattle.hc_edits.proofs.lemmas.Refusals.{own-refuses}
 
 left-by : (fault : Option EditFault) (next new : State) → refused_by fault next ≡ Ok new → new ≡ next
-left-by None next new is = cc
-left-by (Some fault) next new is = cc
+left-by fault next new is = search rules
 
 pub accepted-state : (old new : State) (edit : Edit) → edited old edit ≡ Ok new → new ≡ changed old edit
 accepted-state old new edit accepted = left-by (lowest (edit_faults old edit)) (changed old edit) new accepted
@@ -23,10 +21,7 @@ pub accepted-groups : (old new : State) (edit : Edit) → edited old edit ≡ Ok
 accepted-groups old new edit accepted = ap (λ (state : State). state.groups) (accepted-state old new edit accepted)
 
 none-own : (old new : State) (edit : Edit) (own : Option EditFault) → own_fault old.groups edit ≡ own → edited old edit ≡ Ok new → own ≡ None
-none-own old new edit None is accepted = refl
-none-own old new edit (Some fault) is accepted =
-    let refused = sym (own-refuses old edit fault is) ∙ accepted in
-    cc
+none-own old new edit own is accepted = search rules
 
 -- which are a project's where the old ones are
 pub accepted-project : AcceptedEditsKeepProjects

@@ -1,5 +1,5 @@
 -- What an edit changes, carried out in the groups of a project, leaves the groups that the edit leaves.
-use Rattle.std.proofs.Common.{◌≡◌, ◌≢◌, ℕ, zero, suc, Bool, true, false, List, [], ◌∷◌, Option, Some, None, refl, sym, ap, ◌∙◌}
+use Rattle.std.proofs.Common.{◌≡◌, ◌≢◌, ℕ, zero, suc, Bool, false, List, [], ◌∷◌, Option, Some, None, refl, sym, ap, ◌∙◌, rules}
 use Rattle.std.specs.Prelude.{All, AllPairs, ◌==◌, map, option_and_then, position, slice_get}
 use Rattle.std.specs.Option.{option_map_or}
 use Rattle.std.proofs.lemmas.Bool.{eqb-true, ne_eqb}
@@ -9,7 +9,6 @@ use Rattle.hc_records.specs.declared.records.Slave.{Slave}
 use Rattle.hc_records.specs.declared.records.Group.{Group}
 use Rattle.hc_records.specs.declared.records.Declared.{Declared}
 use Rattle.hc_records.specs.declared.edit.Edit.{Edit}
-use Rattle.hc_records.specs.declared.edit.Edit.TheVariants.{Connect, Disconnect, Remap, Move}
 use Rattle.hc_records.specs.Lists.{changed_at}
 use Rattle.hc_records.specs.Edits.{groups_after, with_area, with_presence, with_slaves}
 use Rattle.hc_records.specs.Line.{groups_of, has_address}
@@ -90,8 +89,7 @@ groups-with station area change (declared ∷ groups) (suc group) slave apart fi
     (sym (none-changed (λ (s : Slave). s.station) station (on_areas area change) slaves (All-from_none (has_address station) slaves first.0)))
 
 pub joined-some : {X Y : Type 0} (f : X → Option Y) (found : Option X) (y : Y) → option_and_then f found ≡ Some y → (x : X) × (found ≡ Some x) × (f x ≡ Some y)
-joined-some f None y is = cc
-joined-some f (Some x) y is = (x, refl, is)
+joined-some f found y is = search rules
 
 areas-carried : (groups : List Declared) (station area : ℕ) (change : Area → Area) (found : AreasChange) → lowest_fault (groups_of groups) ≡ None → areas_change groups station area change ≡ Some found →
     carried (Areas found) groups ≡ map (with_slaves (with_area station area change)) groups
@@ -107,15 +105,4 @@ areas-carried groups station area change found none is =
 
 pub carried-after : (groups : List Declared) (edit : Edit) (change : Prepared) → lowest_fault (groups_of groups) ≡ None → change_by groups edit ≡ Some change →
     carried change groups ≡ groups_after groups edit
-carried-after groups (Connect alias) change none is =
-    let at = mapped-some Presence (presence_change groups alias true) change is in
-    ap (λ (c : Prepared). carried c groups) (sym at.2) ∙ presence-carried groups alias true at.0 none at.1
-carried-after groups (Disconnect alias) change none is =
-    let at = mapped-some Presence (presence_change groups alias false) change is in
-    ap (λ (c : Prepared). carried c groups) (sym at.2) ∙ presence-carried groups alias false at.0 none at.1
-carried-after groups (Remap station area pdos) change none is =
-    let at = mapped-some Areas (areas_change groups station area (λ a. record a { assigned = pdos })) change is in
-    ap (λ (c : Prepared). carried c groups) (sym at.2) ∙ areas-carried groups station area (λ a. record a { assigned = pdos }) at.0 none at.1
-carried-after groups (Move station area task) change none is =
-    let at = mapped-some Areas (areas_change groups station area (λ a. record a { task = task })) change is in
-    ap (λ (c : Prepared). carried c groups) (sym at.2) ∙ areas-carried groups station area (λ a. record a { task = task }) at.0 none at.1
+carried-after groups edit change none is = search (rules, mapped-some, presence-carried, areas-carried)

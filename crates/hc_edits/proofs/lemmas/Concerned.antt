@@ -1,5 +1,5 @@
 -- The slaves that a change concerns have ranks that follow one another, and the others stay as they were.
-use Rattle.std.proofs.Common.{◌≡◌, subst, ℕ, zero, suc, ◌+◌, Bool, true, false, List, [], ◌∷◌, ◌++◌, Option, Some, None, drop, length, take, refl, sym, ap, ◌∙◌, arith, length-append}
+use Rattle.std.proofs.Common.{◌≡◌, subst, ℕ, zero, suc, Bool, List, [], ◌∷◌, ◌++◌, Option, Some, drop, length, take, refl, sym, ap, ◌∙◌, arith, length-append, rules}
 use Rattle.std.specs.Prelude.{option_map, option_to_list, position, slice_get, sum_by}
 use Rattle.std.specs.Option.{option_map_or}
 use Rattle.std.proofs.lemmas.Grind.{flat_map-append}
@@ -10,7 +10,6 @@ use Rattle.hc_records.specs.declared.records.Area.{Area}
 use Rattle.hc_records.specs.declared.records.Slave.{Slave}
 use Rattle.hc_records.specs.declared.records.Declared.{Declared}
 use Rattle.hc_records.specs.declared.edit.Edit.{Edit}
-use Rattle.hc_records.specs.declared.edit.Edit.TheVariants.{Connect, Disconnect, Remap, Move}
 use Rattle.hc_records.specs.Line.{has_address}
 use Rattle.hc_records.specs.Lists.{changed_at}
 use Rattle.hc_records.proofs.lemmas.Finds.{mapped-some}
@@ -18,7 +17,7 @@ use Rattle.hc_edits.specs.declared.changes.AreasChange.{AreasChange}
 use Rattle.hc_edits.specs.declared.changes.PresenceChange.{PresenceChange}
 use Rattle.hc_edits.specs.declared.prepared.Prepared.{Prepared}
 use Rattle.hc_edits.specs.declared.prepared.Prepared.TheVariants.{Presence, Areas}
-use Rattle.hc_edits.specs.Changes.{areas_change, areas_changed, areas_at, carried, change_by, has_alias, has_slave, place_at, place_in, presence_at, presence_change, slave_place, slaves_at, with_areas, with_present, with_slave}
+use Rattle.hc_edits.specs.Changes.{areas_change, areas_changed, carried, change_by, has_alias, has_slave, place_at, place_in, presence_at, presence_change, slave_place, slaves_at, with_areas, with_present, with_slave}
 use Rattle.hc_edits.specs.Rows.{ChangesRow, Ranked, by_rank, given_row, ranked, row}
 use Rattle.hc_edits.proofs.lemmas.CarriedOut.{joined-some}
 use Rattle.hc_edits.proofs.Found.{first-at, there}
@@ -26,17 +25,13 @@ use Rattle.hc_edits.proofs.Found.{first-at, there}
 -- a list is what stands before an element, the element, and what stands behind it
 split-at : {X : Type 0} (i : ℕ) (xs : List X) (x : X) → slice_get xs i ≡ Some x → xs ≡ take i xs ++ x ∷ drop (suc i) xs
 split-at i [] x at = cc
-split-at zero (first ∷ xs) x at =
-    let is : first ≡ x = cc in
-    ap (λ y. y ∷ xs) is
+split-at zero (first ∷ xs) x at = search rules
 split-at (suc i) (first ∷ xs) x at = ap (λ rest. first ∷ rest) (split-at i xs x at)
 
 -- a change of the element leaves the others
 changed-split : {X : Type 0} (i : ℕ) (change : X → X) (xs : List X) (x : X) → slice_get xs i ≡ Some x → changed_at i change xs ≡ take i xs ++ change x ∷ drop (suc i) xs
 changed-split i change [] x at = cc
-changed-split zero change (first ∷ xs) x at =
-    let is : first ≡ x = cc in
-    ap (λ y. change y ∷ xs) is
+changed-split zero change (first ∷ xs) x at = search rules
 changed-split (suc i) change (first ∷ xs) x at = ap (λ rest. first ∷ rest) (changed-split i change xs x at)
 
 get-changed : {X : Type 0} (i : ℕ) (change : X → X) (xs : List X) → slice_get (changed_at i change xs) i ≡ option_map change (slice_get xs i)
@@ -47,28 +42,20 @@ get-changed (suc i) change (x ∷ xs) = get-changed i change xs
 -- what becomes of the slaves that a change concerns
 
 or-mapped : {X Y Z : Type 0} (f : X → Y) (g : Y → Z) (found : Option X) (z : Z) → option_map_or g (option_map f found) z ≡ option_map_or (λ x. g (f x)) found z
-or-mapped f g None z = refl
-or-mapped f g (Some x) z = refl
+or-mapped f g found z = search rules
 
 pub presence-row : (change : PresenceChange) (groups : List Declared) →
     row (Presence change) (carried (Presence change) groups) ≡ option_map_or (λ (d : Declared). ranked change.present d.group.slaves) (slice_get groups change.group) []
-presence-row change groups =
-    ap (λ (found : Option Declared). option_map_or (λ (d : Declared). ranked d.present d.group.slaves) found []) (get-changed change.group (with_present change.present) groups)
-    ∙ or-mapped (with_present change.present) (λ (d : Declared). ranked d.present d.group.slaves) (slice_get groups change.group) []
+presence-row change groups = search (rules, get-changed, or-mapped)
 
 given-alike : (change : AreasChange) (found : Option Declared) →
     option_map_or (λ (d : Declared). ranked d.present (option_to_list (slice_get d.group.slaves change.place.slave))) (option_map (with_slave change.place.slave change.areas) found) []
     ≡ option_map_or (given_row change) found []
-given-alike change None = refl
-given-alike change (Some declared) =
-    ap (λ (found : Option Slave). ranked declared.present (option_to_list found)) (get-changed change.place.slave (with_areas change.areas) declared.group.slaves)
+given-alike change found = search (rules, get-changed)
 
 pub areas-row : (change : AreasChange) (groups : List Declared) →
     row (Areas change) (carried (Areas change) groups) ≡ option_map_or (given_row change) (slice_get groups change.place.group) []
-areas-row change groups =
-    ap (λ (found : Option Declared). option_map_or (λ (d : Declared). ranked d.present (option_to_list (slice_get d.group.slaves change.place.slave))) found [])
-    (get-changed change.place.group (with_slave change.place.slave change.areas) groups)
-    ∙ given-alike change (slice_get groups change.place.group)
+areas-row change groups = search (rules, get-changed, given-alike)
 
 -- where they stand
 
@@ -80,11 +67,7 @@ by_rank-around front behind declared = flat_map-append rank_all front (declared 
 
 rank-count : (groups : List Declared) → length (by_rank groups) ≡ sum_by (λ declared. length declared.group.slaves) groups
 rank-count [] = refl
-rank-count (declared ∷ groups) =
-    length-append (rank_all declared) (by_rank groups)
-    ∙ ap (λ (n : ℕ). n + length (by_rank groups)) (length-map declared.group.slaves (λ slave. record { present = declared.present; slave = slave }))
-    ∙ ap (λ (n : ℕ). length declared.group.slaves + n) (rank-count groups)
-    ∙ sym (sum_by-cons (λ d. length d.group.slaves) declared groups)
+rank-count (declared ∷ groups) = search (rules, length-append, length-map, sum_by-cons, rank-count groups)
 
 presence-concerned : (groups : List Declared) (group : ℕ) (present : Bool) (found : Declared) → slice_get groups group ≡ Some found →
     ChangesRow (Presence (presence_at groups present group)) groups
@@ -111,8 +94,7 @@ presence-concerned groups group present found at =
     }
 
 among : (before front behind after : List Ranked) (one : Ranked) → before ++ ((front ++ one ∷ behind) ++ after) ≡ (before ++ front) ++ one ∷ (behind ++ after)
-among before front behind after one =
-    ap (λ (rest : List Ranked). before ++ rest) (append_assoc front (one ∷ behind) after) ∙ sym (append_assoc before front (one ∷ (behind ++ after)))
+among before front behind after one = search (rules, append_assoc)
 
 -- a group's slaves around one of them
 ranked-around : (present : Bool) (front behind : List Slave) (slave : Slave) →
@@ -129,9 +111,7 @@ areas-concerned groups group slave areas found one at stands =
     let slaves = found.group.slaves in
     let before = take slave slaves in
     let after = drop (suc slave) slaves in
-    let was : row (Areas change) groups ≡ record { present = present; slave = one } ∷ [] =
-    ap (λ (found : Option Declared). option_map_or (λ (d : Declared). ranked d.present (option_to_list (slice_get d.group.slaves slave))) found []) at
-    ∙ ap (λ (found : Option Slave). ranked present (option_to_list found)) stands in
+    let was : row (Areas change) groups ≡ record { present = present; slave = one } ∷ [] = search rules in
     let is : row (Areas change) (carried (Areas change) groups) ≡ record { present = present; slave = with_areas areas one } ∷ [] =
     areas-row change groups
     ∙ ap (λ (found : Option Declared). option_map_or (given_row change) found []) at
@@ -176,20 +156,7 @@ areas-changes groups station area change made is =
     let slaves : slaves_at groups among.0 ≡ group.found.group.slaves = ap (λ (found : Option Declared). option_map_or (λ (d : Declared). d.group.slaves) found []) group.at in
     let slave = there (λ s. s ≡ s) (has_address station) own.0 (slaves_at groups among.0) (λ i s within. refl) (first-at (has_address station) own.0 (slaves_at groups among.0) own.1) in
     let place = place_at groups among.0 own.0 in
-    subst (λ (c : AreasChange). ChangesRow (Areas c) groups) (ap (areas_changed groups area change) own.2 ∙ at.2)
-    (areas-concerned groups among.0 own.0 (changed_at area change (areas_at groups place)) group.found slave.found group.at
-    (sym (ap (λ (list : List Slave). slice_get list own.0) slaves) ∙ slave.at))
+    search (rules, areas-concerned)
 
 pub change-of-row : (groups : List Declared) (edit : Edit) (change : Prepared) → change_by groups edit ≡ Some change → ChangesRow change groups
-change-of-row groups (Connect alias) change is =
-    let at = mapped-some Presence (presence_change groups alias true) change is in
-    subst (λ (c : Prepared). ChangesRow c groups) at.2 (presence-changes groups alias true at.0 at.1)
-change-of-row groups (Disconnect alias) change is =
-    let at = mapped-some Presence (presence_change groups alias false) change is in
-    subst (λ (c : Prepared). ChangesRow c groups) at.2 (presence-changes groups alias false at.0 at.1)
-change-of-row groups (Remap station area pdos) change is =
-    let at = mapped-some Areas (areas_change groups station area (λ a. record a { assigned = pdos })) change is in
-    subst (λ (c : Prepared). ChangesRow c groups) at.2 (areas-changes groups station area (λ a. record a { assigned = pdos }) at.0 at.1)
-change-of-row groups (Move station area task) change is =
-    let at = mapped-some Areas (areas_change groups station area (λ a. record a { task = task })) change is in
-    subst (λ (c : Prepared). ChangesRow c groups) at.2 (areas-changes groups station area (λ a. record a { task = task }) at.0 at.1)
+change-of-row groups edit change is = search (rules, mapped-some, presence-changes, areas-changes)

@@ -1,22 +1,18 @@
 -- The own faults of an edit are the same in every epoch, and come before those of the new line.
-use Rattle.std.proofs.Common.{◌≡◌, Bool, true, false, List, [], ◌∷◌, ◌++◌, Option, Some, None, Err, refl, ap, ◌∙◌}
+use Rattle.std.proofs.Common.{◌≡◌, Bool, true, false, List, [], ◌∷◌, ◌++◌, Some, None, Err, refl, ap, ◌∙◌, rules}
 use Rattle.std.specs.Prelude.{◌==◌, is_some, unwrap_or}
 use Rattle.hc_records.specs.declared.limits.TheConstants.{LAST_EPOCH}
 use Rattle.hc_records.specs.declared.edit.Edit.{Edit}
-use Rattle.hc_records.specs.declared.edit.Edit.TheVariants.{Connect, Disconnect, Remap, Move}
 use Rattle.hc_records.specs.declared.faults.EditFault.{EditFault}
 use Rattle.hc_records.specs.declared.faults.EditFault.TheVariants.{TooManyDatagrams, EpochsSpent}
 use Rattle.hc_records.specs.Line.{State, line}
 use Rattle.hc_records.specs.Lists.{lowest}
-use Rattle.hc_records.specs.Edits.{changed, crowded_task, edit_faults, edited, own_faults, refused_by}
+use Rattle.hc_records.specs.Edits.{changed, crowded_task, edit_faults, edited, own_faults}
 use Rattle.hc_edits.specs.Edits.{own_fault, state_of}
 
 -- those of a state are those over its groups
 pub any-epoch : (state : State) (edit : Edit) → own_faults state edit ≡ own_faults (state_of state.groups) edit
-any-epoch state (Connect alias) = refl
-any-epoch state (Disconnect alias) = refl
-any-epoch state (Remap station area pdos) = refl
-any-epoch state (Move station area task) = refl
+any-epoch state edit = search rules
 
 lowest-behind : {F : Type 0} (faults others : List (Bool × F)) → lowest faults ≡ None → lowest (faults ++ others) ≡ lowest others
 lowest-behind [] others none = refl
@@ -37,9 +33,7 @@ line_faults state edit =
 
 -- an own fault refuses the edit
 pub own-refuses : (state : State) (edit : Edit) (fault : EditFault) → own_fault state.groups edit ≡ Some fault → edited state edit ≡ Err fault
-own-refuses state edit fault own =
-    ap (λ (first : Option EditFault). refused_by first (changed state edit))
-    (lowest-before (own_faults state edit) (line_faults state edit) fault (ap lowest (any-epoch state edit) ∙ own))
+own-refuses state edit fault own = search rules
 
 -- where there is none, the others decide
 pub line-decides : (state : State) (edit : Edit) → own_fault state.groups edit ≡ None → lowest (edit_faults state edit) ≡ lowest (line_faults state edit)

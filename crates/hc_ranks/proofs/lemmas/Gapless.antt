@@ -1,8 +1,7 @@
 -- The blocks at the places of a line are its blocks, in line and block order.
-use Rattle.std.proofs.Common.{◌≡◌, ℕ, zero, suc, ◌+◌, ◌*◌, ◌≤◌, true, false, Bool, cond, List, [], ◌∷◌, ◌++◌, length, map, refl, sym, ap, ◌∙◌, arith}
+use Rattle.std.proofs.Common.{◌≡◌, ℕ, zero, suc, ◌+◌, ◌*◌, ◌≤◌, true, false, Bool, cond, List, [], ◌∷◌, length, map, refl, ap, ◌∙◌, arith, rules}
 use Rattle.std.specs.Prelude.{All, None, Option, slice_get}
 use Rattle.std.specs.List.{enumerate_from, flat_map, range_with_len}
-use Rattle.std.specs.Option.{option_to_list}
 use Rattle.std.proofs.lemmas.List.{length-map}
 use Rattle.std.proofs.lemmas.List.FromFn.{length-enumerate_from}
 use Rattle.std.proofs.lemmas.List.Elements.{All-head, All-tail, All-weaker}
@@ -12,11 +11,11 @@ use Rattle.hc_records.specs.declared.records.Area.{Area}
 use Rattle.hc_records.specs.declared.records.Declared.{Declared}
 use Rattle.hc_records.specs.declared.records.Slave.{Slave}
 use Rattle.hc_records.specs.Limits.{IsSlaveInside}
-use Rattle.hc_records.specs.Line.{Member, groups_of, line_from, members_from, present_slaves}
+use Rattle.hc_records.specs.Line.{Member, groups_of, line_from, members_from}
 use Rattle.hc_records.specs.Project.{lowest_fault}
 use Rattle.hc_records.proofs.lemmas.Limits.{project-inside}
 use Rattle.hc_records.proofs.lemmas.Lines.{declared_slaves, each-group}
-use Rattle.hc_registers.specs.Blocks.{LineBlock, area_blocks, member_blocks, slave_blocks}
+use Rattle.hc_registers.specs.Blocks.{LineBlock, area_blocks, member_blocks}
 use Rattle.hc_ranks.specs.Laws.{PlacesHoldTheLine, standing}
 use Rattle.hc_ranks.specs.Places.{numbers, places_from, slave_places}
 
@@ -37,18 +36,13 @@ length-areas line rank first [] = refl
 length-areas line rank first (area ∷ areas) = let rest = length-areas line rank (first + 1) areas in omega (arith, rest)
 
 pub length-member : (line : List Member) (member : Member) → length (member_blocks line member) ≡ 2 * length member.slave.areas
-length-member line member =
-    length-map (enumerate_from 0 (slave_blocks line member)) (λ e. let found : LineBlock = record { station = member.slave.station; number = e.0; block = e.1 } in found)
-    ∙ length-enumerate_from 0 (slave_blocks line member) ∙ length-areas line member.rank 0 member.slave.areas
+length-member line member = search (rules, length-map, length-enumerate_from, length-areas)
 
 -- the places of one slave
 
 shifted : (x : LineBlock) (xs : List LineBlock) (a n : ℕ) → map (slice_get (x ∷ xs)) (range_with_len (a + 1) n) ≡ map (slice_get xs) (range_with_len a n)
 shifted x xs a zero = refl
-shifted x xs a (suc n) =
-    let next : a + 1 ≡ suc a = omega arith in
-    ap (λ (k : ℕ). slice_get (x ∷ xs) k ∷ map (slice_get (x ∷ xs)) (range_with_len (a + 1 + 1) n)) next
-    ∙ ap (λ (rest : List (Option LineBlock)). slice_get xs a ∷ rest) (shifted x xs (a + 1) n)
+shifted x xs a (suc n) = search (rules, shifted x xs (a + 1) n)
 
 none-stands : (a n : ℕ) → standing (map (slice_get []) (range_with_len a n)) ≡ []
 none-stands a zero = refl
@@ -75,29 +69,17 @@ members-stand : (line : List Member) (rank : ℕ) (present : Bool) (slaves : Lis
 members-stand line rank true [] few = refl
 members-stand line rank false [] few = refl
 members-stand line rank true (slave ∷ slaves) few =
-    let member : Member = record { rank = rank; slave = slave } in
-    let rest = flat_map (slave_places line true) (members_from (rank + 1) slaves) in
-    flat_map-append option_to_list (slave_places line true member) rest
-    ∙ ap (λ (own : List LineBlock). own ++ standing rest) (slave-stands line member (All-head Few slave slaves few))
-    ∙ ap (λ (more : List LineBlock). member_blocks line member ++ more) (members-stand line (rank + 1) true slaves (All-tail Few slave slaves few))
+    search (rules, flat_map-append, slave-stands, All-head, members-stand line (rank + 1) true slaves (All-tail Few slave slaves few))
 members-stand line rank false (slave ∷ slaves) few =
-    let member : Member = record { rank = rank; slave = slave } in
-    let rest = flat_map (slave_places line false) (members_from (rank + 1) slaves) in
-    flat_map-append option_to_list (slave_places line false member) rest
-    ∙ ap (λ (own : List LineBlock). own ++ standing rest) (absent-stands line member)
-    ∙ members-stand line (rank + 1) false slaves (All-tail Few slave slaves few)
+    search (rules, flat_map-append, absent-stands, members-stand line (rank + 1) false slaves (All-tail Few slave slaves few))
 
 groups-stand : (line : List Member) (rank : ℕ) (groups : List Declared) → HaveFewAreas groups → standing (places_from line rank groups) ≡ flat_map (member_blocks line) (line_from rank groups)
 groups-stand line rank [] few = refl
 groups-stand line rank (declared ∷ groups) few =
     let slaves = declared.group.slaves in
-    let own = flat_map (slave_places line declared.present) (members_from rank slaves) in
     let next = rank + length slaves in
     let all = λ (d : Declared). All Few d.group.slaves in
-    flat_map-append option_to_list own (places_from line next groups)
-    ∙ ap (λ (first : List LineBlock). first ++ standing (places_from line next groups)) (members-stand line rank declared.present slaves (All-head all declared groups few))
-    ∙ ap (λ (more : List LineBlock). flat_map (member_blocks line) (members_from rank (present_slaves declared)) ++ more) (groups-stand line next groups (All-tail all declared groups few))
-    ∙ sym (flat_map-append (member_blocks line) (members_from rank (present_slaves declared)) (line_from next groups))
+    search (rules, flat_map-append, members-stand, All-head, groups-stand line next groups (All-tail all declared groups few))
 
 pub places-hold : PlacesHoldTheLine
 places-hold state none = groups-stand (line_from 1 state.groups) 1 state.groups (few-areas state.groups none)

@@ -1,5 +1,5 @@
 -- The moved blocks with their ranks are the moved blocks.
-use Rattle.std.proofs.Common.{◌≡◌, ℕ, Bool, true, false, cond, List, [], ◌∷◌, ◌++◌, map, refl, ap, ◌∙◌}
+use Rattle.std.proofs.Common.{◌≡◌, ℕ, Bool, cond, List, [], ◌∷◌, map, refl, ap, ◌∙◌, rules}
 use Rattle.std.specs.Prelude.{filter, not}
 use Rattle.std.specs.List.{flat_map, list_any}
 use Rattle.std.proofs.lemmas.List.{map-append}
@@ -17,24 +17,18 @@ own-founds rank (block ∷ blocks) = ap (λ (rest : List LineBlock). block ∷ r
 
 members-founds : (line members : List Member) → founds (flat_map (member_ranked line) members) ≡ flat_map (member_blocks line) members
 members-founds line [] = refl
-members-founds line (member ∷ members) =
-    map-append (λ (block : RankedBlock). block.found) (member_ranked line member) (flat_map (member_ranked line) members)
-    ∙ ap (λ (own : List LineBlock). own ++ founds (flat_map (member_ranked line) members)) (own-founds member.rank (member_blocks line member))
-    ∙ ap (λ (rest : List LineBlock). member_blocks line member ++ rest) (members-founds line members)
+members-founds line (member ∷ members) = search (rules, map-append, own-founds, members-founds line members)
 
 -- the blocks of a line with their ranks are its blocks
 pub ranked-are-blocks : (line : List Member) → founds (ranked_blocks line) ≡ line_blocks line
 ranked-are-blocks line = members-founds line line
 
 kept-by : (passes : Bool) (block : RankedBlock) (kept : List RankedBlock) → founds (cond passes (block ∷ kept) kept) ≡ cond passes (block.found ∷ founds kept) (founds kept)
-kept-by true block kept = refl
-kept-by false block kept = refl
+kept-by passes block kept = search rules
 
 filter-founds : (test : LineBlock → Bool) (blocks : List RankedBlock) → founds (filter (λ block. test block.found) blocks) ≡ filter test (founds blocks)
 filter-founds test [] = refl
-filter-founds test (block ∷ blocks) =
-    kept-by (test block.found) block (filter (λ block. test block.found) blocks)
-    ∙ ap (λ (kept : List LineBlock). cond (test block.found) (block.found ∷ kept) kept) (filter-founds test blocks)
+filter-founds test (block ∷ blocks) = search (rules, filter-founds test blocks)
 
 pub ranked-are-moved : RankedAreMoved
 ranked-are-moved old new =

@@ -1,11 +1,11 @@
 -- What stands at a place: a slave's block by its number, and of which slave a standing block is.
-use Rattle.std.proofs.Common.{◌≡◌, ℕ, zero, suc, ◌+◌, ◌-◌, ◌*◌, ◌<◌, ◌≤◌, Bool, true, false, cond, Contains, List, [], ◌∷◌, ◌++◌, length, ◌⊎◌, inl, inr, refl, sym, ap, ◌∙◌, arith, length-append}
-use Rattle.std.specs.Prelude.{All, Some, Option, option_map, slice_get}
-use Rattle.std.specs.List.{flat_map, range_with_len}
+use Rattle.std.proofs.Common.{◌≡◌, ℕ, zero, suc, ◌+◌, ◌-◌, ◌*◌, ◌<◌, ◌≤◌, Bool, true, false, cond, Contains, List, [], ◌∷◌, ◌++◌, length, ◌⊎◌, inl, inr, refl, sym, ap, ◌∙◌, arith, length-append, rules}
+use Rattle.std.specs.Prelude.{All, Some, Option, slice_get}
+use Rattle.std.specs.List.{flat_map}
 use Rattle.std.proofs.lemmas.List.{length-map}
-use Rattle.std.proofs.lemmas.List.FromFn.{get_or-range_with_len, length-range_with_len}
+use Rattle.std.proofs.lemmas.List.FromFn.{length-range_with_len}
 use Rattle.std.proofs.lemmas.List.Elements.{All-append, All-cons, All-nil, All-weaker, Contains-append_left, Contains-append_right}
-use Rattle.std.proofs.lemmas.Option.{same_Some, slice_get-get_or, slice_get-map, slice_get_within}
+use Rattle.std.proofs.lemmas.Option.{same_Some, slice_get-map, slice_get_within}
 use Rattle.hc_records.specs.declared.records.Declared.{Declared}
 use Rattle.hc_records.specs.declared.records.Slave.{Slave}
 use Rattle.hc_records.specs.Line.{Member, State, line, line_from, members_from, present_slaves}
@@ -34,11 +34,7 @@ length-groups : (line : List Member) (rank : ℕ) (groups : List Declared) → l
 length-groups line rank [] = refl
 length-groups line rank (d ∷ groups) =
     let slaves = d.group.slaves in
-    let own = length-slaves line d.present rank slaves in
-    let rest = length-groups line (rank + length slaves) groups in
-    let both = length-append (flat_map (slave_places line d.present) (members_from rank slaves)) (places_from line (rank + length slaves) groups) in
-    let all = length-append slaves (declared_slaves groups) in
-    omega (arith, own, rest, both, all)
+    search (rules, length-slaves, length-append, length-groups line (rank + length slaves) groups)
 
 -- sixteen for each declared slave
 pub length-places : (state : State) → length (places state) ≡ 16 * length (declared_slaves state.groups)
@@ -48,14 +44,11 @@ length-places state = length-groups (line state) 1 state.groups
 
 own-number : (number : ℕ) → number < 16 → slice_get numbers number ≡ Some number
 unfolding numbers
-own-number number low =
-    slice_get-get_or (range_with_len 0 16) number 0 (let size = length-range_with_len 0 16 in omega (arith, low, size)) ∙ ap Some (get_or-range_with_len 0 16 number 0 low ∙ omega arith)
+own-number number low = search rules
 
 pub at-number : (line : List Member) (present : Bool) (member : Member) (number : ℕ) → number < 16
     → slice_get (slave_places line present member) number ≡ Some (slice_get (cond present (member_blocks line member) []) number)
-at-number line present member number low =
-    let own = slice_get (cond present (member_blocks line member) []) in
-    slice_get-map own numbers number ∙ ap (option_map own) (own-number number low)
+at-number line present member number low = search (rules, slice_get-map, own-number)
 
 -- each slave of a line has its places, which are counted from those of a first rank
 record StandsFrom (line : List Member) (rank : ℕ) (all : List (Option LineBlock)) (member : Member) : Type 0 where
@@ -72,22 +65,10 @@ own-stands line member behind =
     }
 
 stands-behind : (line : List Member) (rank count : ℕ) (xs ys : List (Option LineBlock)) (member : Member) → length xs ≡ 16 * count → StandsFrom line (rank + count) ys member → StandsFrom line rank (xs ++ ys) member
-stands-behind line rank count xs ys member size stands =
-    let from = stands.from in
-    record {
-      from = omega (arith, from);
-      at = λ number low.
-          get-back xs ys (16 * (member.rank - rank) + number) (omega (arith, from, size)) ∙ ap (slice_get ys) (omega (arith, from, size)) ∙ stands.at number low;
-    }
+stands-behind line rank count xs ys member size stands = search (rules, get-back)
 
 stands-front : (line : List Member) (rank : ℕ) (xs ys : List (Option LineBlock)) (member : Member) → StandsFrom line rank xs member → StandsFrom line rank (xs ++ ys) member
-stands-front line rank xs ys member stands = record {
-  from = stands.from;
-  at = λ number low.
-      let place = 16 * (member.rank - rank) + number in
-      let here = stands.at number low in
-      get-front xs ys place (slice_get_within xs place (slice_get (member_blocks line member) number) here) ∙ here;
-}
+stands-front line rank xs ys member stands = search (rules, get-front, slice_get_within)
 
 slaves-stand : (line : List Member) (rank : ℕ) (slaves : List Slave) → All (StandsFrom line rank (flat_map (slave_places line true) (members_from rank slaves))) (members_from rank slaves)
 slaves-stand line rank [] = All-nil (StandsFrom line rank [])
@@ -102,20 +83,14 @@ slaves-stand line rank (slave ∷ slaves) =
 group-stands : (line : List Member) (present : Bool) (rank : ℕ) (slaves : List Slave) (behind : List (Option LineBlock))
     → All (StandsFrom line rank (flat_map (slave_places line present) (members_from rank slaves) ++ behind)) (members_from rank (cond present slaves []))
 group-stands line false rank slaves behind = All-nil (StandsFrom line rank (flat_map (slave_places line false) (members_from rank slaves) ++ behind))
-group-stands line true rank slaves behind =
-    let own = flat_map (slave_places line true) (members_from rank slaves) in
-    All-weaker (StandsFrom line rank own) (StandsFrom line rank (own ++ behind)) (λ m stands. stands-front line rank own behind m stands) (members_from rank slaves) (slaves-stand line rank slaves)
+group-stands line true rank slaves behind = search (rules, stands-front, slaves-stand)
 
 groups-stand : (line : List Member) (rank : ℕ) (groups : List Declared) → All (StandsFrom line rank (places_from line rank groups)) (line_from rank groups)
 groups-stand line rank [] = All-nil (StandsFrom line rank [])
 groups-stand line rank (d ∷ groups) =
     let slaves = d.group.slaves in
-    let own = flat_map (slave_places line d.present) (members_from rank slaves) in
     let next = rank + length slaves in
-    let behind = places_from line next groups in
-    All-append (StandsFrom line rank (own ++ behind)) (members_from rank (present_slaves d)) (line_from next groups) (group-stands line d.present rank slaves behind)
-    (All-weaker (StandsFrom line next behind) (StandsFrom line rank (own ++ behind)) (λ m stands. stands-behind line rank (length slaves) own behind m (length-slaves line d.present rank slaves) stands) (line_from next groups)
-    (groups-stand line next groups))
+    search (rules, All-append, group-stands, All-weaker, stands-behind, length-slaves, groups-stand line next groups)
 
 pub members-stand : MembersHavePlaces
 members-stand state k d within = (groups-stand (line state) 1 state.groups k d within).at
@@ -134,10 +109,7 @@ pub record StandsOf (line members : List Member) (rank n : ℕ) (block : LineBlo
 split-get : {X : Type 0} (xs ys : List X) (n : ℕ) (x : X) → slice_get (xs ++ ys) n ≡ Some x → (slice_get xs n ≡ Some x) ⊎ ((length xs ≤ n) × (slice_get ys (n - length xs) ≡ Some x))
 split-get [] ys n x is = inr (omega arith, ap (slice_get ys) (omega arith) ∙ is)
 split-get (y ∷ xs) ys zero x is = inl is
-split-get (y ∷ xs) ys (suc n) x is = elim (split-get xs ys n x is) [
-  | inl own ↦ inl own
-  | inr more ↦ inr (let few = more.0 in omega (arith, few), ap (slice_get ys) (omega arith) ∙ more.1)
-]
+split-get (y ∷ xs) ys (suc n) x is = search (rules, split-get xs ys n x is)
 
 slave-place : (line : List Member) (present : Bool) (member : Member) (n : ℕ) (block : LineBlock) → slice_get (slave_places line present member) n ≡ Some (Some block)
     → (n < 16) × (slice_get (cond present (member_blocks line member) []) n ≡ Some block)
@@ -170,24 +142,21 @@ slaves-place line rank (slave ∷ slaves) n block is =
       | inr more ↦
           let rest = slaves-place line (rank + 1) slaves (n - length first) block more.1 in
           let size = length-slave line true member in
-          let few = more.0 in
           let from = rest.from in
-          let at = rest.is in
           record {
             member = rest.member;
             number = rest.number;
             on = Contains-append_right (member ∷ []) (members_from (rank + 1) slaves) rest.member rest.on;
             low = rest.low;
             from = omega (arith, from);
-            is = omega (arith, at, from, few, size);
+            is = omega arith;
             stands = rest.stands;
           }
     ]
 
 group-place : (line : List Member) (present : Bool) (rank : ℕ) (slaves : List Slave) (n : ℕ) (block : LineBlock) → slice_get (flat_map (slave_places line present) (members_from rank slaves)) n ≡ Some (Some block)
     → StandsOf line (members_from rank (cond present slaves [])) rank n block
-group-place line true rank slaves n block is = slaves-place line rank slaves n block is
-group-place line false rank slaves n block is = absurd (none-absent line rank slaves n block is)
+group-place line present rank slaves n block is = search (rules, slaves-place, none-absent)
 
 groups-place : (line : List Member) (rank : ℕ) (groups : List Declared) (n : ℕ) (block : LineBlock) → slice_get (places_from line rank groups) n ≡ Some (Some block) → StandsOf line (line_from rank groups) rank n block
 groups-place line rank [] n block is = cc
@@ -202,16 +171,14 @@ groups-place line rank (d ∷ groups) n block is =
       | inr more ↦
           let rest = groups-place line next groups (n - length first) block more.1 in
           let size = length-slaves line d.present rank slaves in
-          let few = more.0 in
           let from = rest.from in
-          let at = rest.is in
           record {
             member = rest.member;
             number = rest.number;
             on = Contains-append_right (members_from rank (present_slaves d)) (line_from next groups) rest.member rest.on;
             low = rest.low;
             from = omega (arith, from);
-            is = omega (arith, at, from, few, size);
+            is = omega arith;
             stands = rest.stands;
           }
     ]
