@@ -1,6 +1,6 @@
 -- A width set in a row: the areas, the sums that stay, and those that are made anew.
 use Rattle.std.specs.Prelude.{All}
-use Rattle.std.proofs.Common.{◌≡◌, ◌≢◌, ℕ, zero, suc, ◌+◌, ◌-◌, ◌*◌, ◌/◌, ◌%◌, ◌<◌, ◌≤◌, List, [], ◌∷◌, ◌++◌, length, drop, get_or, set, Bool, true, false, ◌==◌, refl, sym, ap, ◌∙◌, arith, length-set, get_or-set_other, get_or-set_same}
+use Rattle.std.proofs.Common.{◌≡◌, ◌≢◌, ℕ, zero, suc, ◌+◌, ◌-◌, ◌*◌, ◌/◌, ◌%◌, ◌<◌, ◌≤◌, List, [], ◌∷◌, ◌++◌, length, drop, get_or, set, refl, sym, ap, ◌∙◌, arith, length-set, get_or-set_other, get_or-set_same}
 use Rattle.std.proofs.lemmas.List.Elements.{All-get_or, All-set}
 use Rattle.std.proofs.Math.Seq.{drop-append-add}
 use Rattle.std.proofs.lemmas.List.{drop-append-le}
@@ -16,7 +16,6 @@ use Rattle.hc_bitsum.specs.Sums.{joined, sum_of}
 use Rattle.hc_bitsum.proofs.Parts.{length-part, part-one, part-same, part-split}
 use Rattle.hc_bitsum.proofs.Read.{bits-back, bits-front}
 use Rattle.hc_bitsum.proofs.Shape.{set_at-back, set_at-front}
-use Rattle.hc_bitsum.proofs.Sums.{top-node}
 
 row-set : (dir : Dir) (place j bits : ℕ) (row : List ℕ) → j < length row → row_areas dir place (set row j bits) ≡ set_at j bits (row_areas dir place row)
 row-set dir place j bits [] h = absurd (omega arith)
@@ -29,10 +28,7 @@ set-row row j bits is h = record { many = simp length-set is.many; narrow = All-
 
 split : (dir : Dir) (rows : List (List ℕ)) (r rest : ℕ) → length rows ≡ r + (1 + rest)
     → part dir rows 0 (length rows) ≡ part dir rows 0 r ++ (part dir rows r 1 ++ part dir rows (r + 1) rest)
-split dir rows r rest all =
-    let none : 0 + r ≡ r = omega arith in
-    ap (part dir rows 0) all ∙ part-split dir rows 0 r (1 + rest)
-    ∙ rw none (ap (λ areas. part dir rows 0 r ++ areas) (part-split dir rows r 1 rest))
+split dir rows r rest all = grind (arith, part-split)
 
 set-split : (at j bits : ℕ) (front middle back : List Keyed) → at ≡ length front + j → j < length middle
     → set_at at bits (front ++ (middle ++ back)) ≡ front ++ (set_at j bits middle ++ back)
@@ -68,55 +64,23 @@ part-set dir rows at bits each h =
 -- a row's sum is put
 pub leaves-put : (dir : Dir) (rows : List (List ℕ)) (sums : List Sum) (r : ℕ) (own : Sum) → length sums ≡ 2 * length rows → r < length rows
     → AreRowSums (λ i. i ≢ r) dir rows sums → own ≡ sum_of (part dir rows r 1) → AreRowSums (λ i. Unit {0}) dir rows (set sums (length rows + r) own)
-leaves-put dir rows sums r own nodes inside others is i h some = by (i == r) refl
-  where
-    by : (same : Bool) → (i == r) ≡ same → get_or (set sums (length rows + r) own) (length rows + i) Empty ≡ sum_of (part dir rows i 1)
-    by true test =
-        let here : i ≡ r = grind (arith, nat_tests) in
-        rw here (get_or-set_same sums (length rows + r) own Empty (omega arith) ∙ is)
-    by false test =
-        let other : i ≢ r = grind (arith, nat_tests) in
-        let apart : length rows + i ≢ length rows + r = omega arith in
-        get_or-set_other sums (length rows + r) (length rows + i) own Empty apart ∙ others i h other
+leaves-put dir rows sums r own nodes inside others is i h some =
+    grind (arith, nat_tests, get_or-set_same, get_or-set_other)
 
 -- the forks that don't stand above a node stay
 pub forks-stay : (last : ℕ) (sums : List Sum) (node : ℕ) (own : Sum) → AreForks (λ k. Unit {0}) last sums → last ≤ node → AreForks (λ k. k ≢ node / 2) last (set sums node own)
-forks-stay last sums node own forks behind k some less other =
-    let apart : k ≢ node = omega arith in
-    let left : 2 * k ≢ node = omega arith in
-    let right : 2 * k + 1 ≢ node = omega arith in
-    get_or-set_other sums node k own Empty apart ∙ forks k some less tt
-    ∙ rw (get_or-set_other sums node (2 * k) own Empty left, get_or-set_other sums node (2 * k + 1) own Empty right) refl
+forks-stay last sums node own forks behind k some less other = grind (arith, get_or-set_other)
 
 -- a fork is made anew
 pub forks-put : (last : ℕ) (sums : List Sum) (node : ℕ) → AreForks (λ k. k ≢ node) last sums → 1 ≤ node → node < length sums
     → AreForks (λ k. k ≢ node / 2) last (set sums node (joined (get_or sums (2 * node) Empty) (get_or sums (2 * node + 1) Empty)))
-forks-put last sums node forks top inside k some less other = by (k == node) refl
-  where
-    own : Sum
-    own = joined (get_or sums (2 * node) Empty) (get_or sums (2 * node + 1) Empty)
-
-    by : (same : Bool) → (k == node) ≡ same → get_or (set sums node own) k Empty ≡ joined (get_or (set sums node own) (2 * k) Empty) (get_or (set sums node own) (2 * k + 1) Empty)
-    by true test =
-        let here : k ≡ node = grind (arith, nat_tests) in
-        let left : 2 * node ≢ node = omega arith in
-        let right : 2 * node + 1 ≢ node = omega arith in
-        rw here
-        (get_or-set_same sums node own Empty inside
-        ∙ rw (get_or-set_other sums node (2 * node) own Empty left, get_or-set_other sums node (2 * node + 1) own Empty right) refl)
-    by false test =
-        let apart : k ≢ node = grind (arith, nat_tests) in
-        let left : 2 * k ≢ node = omega arith in
-        let right : 2 * k + 1 ≢ node = omega arith in
-        get_or-set_other sums node k own Empty apart ∙ forks k some less apart
-        ∙ rw (get_or-set_other sums node (2 * k) own Empty left, get_or-set_other sums node (2 * k + 1) own Empty right) refl
+forks-put last sums node forks top inside k some less other =
+    grind (arith, nat_tests, get_or-set_same, get_or-set_other)
 
 -- a node above the rows changes none of their sums
 pub leaves-stay : (dir : Dir) (rows : List (List ℕ)) (sums : List Sum) (node : ℕ) (own : Sum) → AreRowSums (λ i. Unit {0}) dir rows sums → node < length rows
     → AreRowSums (λ i. Unit {0}) dir rows (set sums node own)
-leaves-stay dir rows sums node own leaves above i h some =
-    let apart : length rows + i ≢ node = omega arith in
-    get_or-set_other sums node (length rows + i) own Empty apart ∙ leaves i h tt
+leaves-stay dir rows sums node own leaves above i h some = grind (arith, get_or-set_other)
 
 -- from some forks to fewer
 pub fewer-forks : (last : ℕ) (sums : List Sum) (node : ℕ) → AreForks (λ k. k ≢ node) last sums → AreForks (λ k. node < k) last sums
@@ -124,9 +88,7 @@ fewer-forks last sums node forks k some less behind = forks k some less (omega a
 
 -- no node stands above the root
 pub all-forks : (last levels : ℕ) (sums : List Sum) (node : ℕ) → IsNode levels levels node → AreForks (λ k. k ≢ node / 2) last sums → AreForks (λ k. Unit {0}) last sums
-all-forks last levels sums node is forks k some less all =
-    let root = top-node levels node is in
-    forks k some less (omega arith)
+all-forks last levels sums node is forks k some less all = grind arith
 
 bits-row : (dir : Dir) (place j : ℕ) (row : List ℕ) → j < length row → get_or row j 0 ≡ bits_at j (row_areas dir place row)
 bits-row dir place j [] h = absurd (omega arith)

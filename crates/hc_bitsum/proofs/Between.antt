@@ -1,39 +1,24 @@
 -- The areas with a width between two keys, one row or place after another.
-use Rattle.std.specs.Prelude.{filter, nat_lt}
-use Rattle.std.proofs.Common.{◌≡◌, ℕ, ◌+◌, ◌-◌, ◌*◌, ◌<◌, ◌≤◌, ◌==◌, Bool, true, false, List, [], ◌∷◌, ◌++◌, length, refl, sym, ap, ◌∙◌, arith, if◌then◌else◌, append_assoc, append-nil}
-use Rattle.std.proofs.lemmas.Bool.Decides.{nat_tests}
+use Rattle.std.specs.Prelude.{filter}
+use Rattle.std.proofs.Common.{◌≡◌, ℕ, ◌+◌, ◌-◌, ◌*◌, ◌<◌, ◌≤◌, List, [], ◌∷◌, ◌++◌, length, refl, sym, ap, ◌∙◌, arith, append_assoc, append-nil}
 use Rattle.std.proofs.lemmas.List.Elements.{filter-append}
-use Rattle.hc_records.specs.declared.records.Dir.{Dir}
 use Rattle.hc_records.specs.declared.keys.Key.{Key}
 use Rattle.hc_records.specs.TaskList.{Keyed}
 use Rattle.hc_bitsum.specs.declared.branch.Branch.{Branch}
-use Rattle.hc_bitsum.specs.declared.sum.Sum.{Sum}
-use Rattle.hc_bitsum.specs.declared.sum.Sum.TheVariants.{Empty, Run}
+use Rattle.hc_bitsum.specs.declared.sum.Sum.TheVariants.{Empty}
 use Rattle.hc_bitsum.specs.Branch.{IsBranch, slots_of}
 use Rattle.hc_bitsum.specs.Filling.{areas_between}
 use Rattle.hc_bitsum.specs.Rows.{part}
 use Rattle.hc_bitsum.specs.Slots.{bits_at, key_at, stretch}
-use Rattle.hc_bitsum.specs.Sums.{area_end, ends_by, joined, sum_of}
+use Rattle.hc_bitsum.specs.Sums.{sum_of}
 use Rattle.hc_bitsum.specs.Tree.{has_width}
 use Rattle.hc_bitsum.proofs.Stretches.{between-append, between-wide, branch-keys, part-stretch, stretch-one, stretch-split}
 
 -- no area of an empty sum has a width
 
-run-some : (first last : Dir) (ends : List ℕ) (later : Sum) → joined (Run first last ends) later ≡ Empty → ⊥
-run-some first last ends Empty is = cc
-run-some first last ends (Run next end laters) is = cc
-
-none-by : (none : Bool) (area : Keyed) (areas : List Keyed) → (area.1 == 0) ≡ none
-    → joined (if none then Empty else Run area.0.dir area.0.dir (ends_by (area_end area.1))) (sum_of areas) ≡ Empty
-    → (sum_of areas ≡ Empty → filter has_width areas ≡ []) → filter has_width (area ∷ areas) ≡ []
-none-by true area areas test is rest =
-    let narrow : nat_lt 0 area.1 ≡ false = grind (arith, nat_tests) in
-    rw narrow (rest is)
-none-by false area areas test is rest = absurd (run-some area.0.dir area.0.dir (ends_by (area_end area.1)) (sum_of areas) is)
-
 pub sum-none : (areas : List Keyed) → sum_of areas ≡ Empty → filter has_width areas ≡ []
 sum-none [] is = refl
-sum-none (area ∷ areas) is = none-by (area.1 == 0) area areas refl is (sum-none areas)
+sum-none (area ∷ areas) is = grind (arith, sum-none areas)
 
 -- the areas with a width up to a place, and then one more, or a row without any
 
@@ -76,7 +61,4 @@ none-between from until areas none = sym (between-wide from until areas) ∙ ap 
 -- in both directions
 pub both-between : (from until : Key) (outputs inputs : List Keyed)
     → filter has_width (areas_between from until outputs) ++ filter has_width (areas_between from until inputs) ≡ areas_between from until (filter has_width (outputs ++ inputs))
-both-between from until outputs inputs =
-    sym (between-wide from until (outputs ++ inputs)
-    ∙ ap (filter has_width) (between-append from until outputs inputs)
-    ∙ filter-append has_width (areas_between from until outputs) (areas_between from until inputs))
+both-between from until outputs inputs = grind (arith, between-wide, between-append, filter-append)

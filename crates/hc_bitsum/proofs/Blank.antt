@@ -1,6 +1,6 @@
 -- Rows of no bits.
 use Rattle.std.specs.Prelude.{All, filter, replicate}
-use Rattle.std.proofs.Common.{◌≡◌, ℕ, zero, suc, ◌+◌, ◌*◌, ◌^◌, ◌≤◌, false, List, [], ◌∷◌, length, get_or, refl, sym, ap, subst, ◌∙◌, arith}
+use Rattle.std.proofs.Common.{◌≡◌, ℕ, zero, suc, ◌+◌, ◌*◌, ◌^◌, ◌≤◌, List, [], ◌∷◌, length, get_or, refl, sym, ap, subst, ◌∙◌, arith}
 use Rattle.std.proofs.lemmas.Bool.Decides.{nat_tests}
 use Rattle.std.proofs.lemmas.List.{length-replicate}
 use Rattle.std.proofs.lemmas.List.Elements.{All-append, All-cons, All-get_or, All-head, All-nil, All-replicate, All-tail, All-weaker}
@@ -8,7 +8,6 @@ use Rattle.hc_records.specs.declared.records.Dir.{Dir}
 use Rattle.hc_records.specs.TaskList.{Keyed}
 use Rattle.hc_bitsum.specs.Places.{IsPlaced, KeepsSlaves, StandFrom}
 use Rattle.hc_bitsum.specs.Rows.{IsRow, blank_slots, part, row_areas}
-use Rattle.hc_bitsum.specs.Slots.{key_at}
 use Rattle.hc_bitsum.specs.Tree.{has_width}
 use Rattle.hc_bitsum.proofs.Nodes.{eight}
 use Rattle.hc_bitsum.proofs.Parts.{length-part, narrow-part, stand-part}
@@ -20,8 +19,7 @@ IsNone area = area.1 ≡ 0
 none-row : (dir : Dir) (place : ℕ) (row : List ℕ) → All (λ bits. bits ≡ 0) row → All IsNone (row_areas dir place row)
 none-row dir place [] all = All-nil IsNone
 none-row dir place (bits ∷ row) all =
-    All-cons IsNone (key_at dir place, bits) (row_areas dir (place + 1) row) (All-head (λ b. b ≡ 0) bits row all)
-    (none-row dir (place + 1) row (All-tail (λ b. b ≡ 0) bits row all))
+    grind (arith, All-cons, All-head, All-tail, none-row dir (place + 1) row (All-tail (λ b. b ≡ 0) bits row all))
 
 none-part : (dir : Dir) (rows : List (List ℕ)) (first more : ℕ) → All (All (λ bits. bits ≡ 0)) rows → first + more ≤ length rows → All IsNone (part dir rows first more)
 none-part dir rows first zero each h = All-nil IsNone
@@ -33,9 +31,7 @@ none-part dir rows first (suc more) each h =
 none-wide : (areas : List Keyed) → All IsNone areas → filter has_width areas ≡ []
 none-wide [] all = refl
 none-wide (area ∷ areas) all =
-    let none = All-head IsNone area areas all in
-    let narrow : has_width area ≡ false = grind (arith, nat_tests) in
-    rw narrow (none-wide areas (All-tail IsNone area areas all))
+    grind (arith, All-head, nat_tests, All-tail, none-wide areas (All-tail IsNone area areas all))
 
 abbrev pub blank_rows : ℕ → List (List ℕ)
 blank_rows levels = replicate (2 ^ levels) (replicate 8 0)

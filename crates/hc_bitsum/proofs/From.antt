@@ -1,7 +1,6 @@
 -- The areas of a list from a key on, and a scan of them.
 use Rattle.std.specs.Prelude.{filter, not}
-use Rattle.std.proofs.Common.{◌≡◌, ℕ, zero, suc, ◌+◌, ◌<◌, ◌≤◌, ◌==◌, nat_le, Bool, true, false, List, [], ◌∷◌, ◌++◌, length, drop, refl, sym, ap, ◌∙◌, arith, if◌then◌else◌}
-use Rattle.std.proofs.lemmas.Bool.Decides.{nat_tests}
+use Rattle.std.proofs.Common.{◌≡◌, ℕ, zero, suc, ◌+◌, ◌<◌, ◌≤◌, nat_le, Bool, false, List, [], ◌∷◌, ◌++◌, length, drop, refl, sym, ap, ◌∙◌, arith, if◌then◌else◌}
 use Rattle.std.proofs.lemmas.List.{drop-append-le}
 use Rattle.std.proofs.lemmas.List.Elements.{filter-append}
 use Rattle.hc_records.specs.declared.records.Dir.{Dir}
@@ -18,14 +17,11 @@ use Rattle.hc_bitsum.specs.Search.{first_beyond, key_or_end, scan}
 use Rattle.hc_bitsum.specs.Slots.{key_at}
 use Rattle.hc_bitsum.specs.Tree.{has_width}
 use Rattle.hc_bitsum.specs.Places.{StandFrom}
-use Rattle.hc_records.proofs.lemmas.KeyOrder.{before-apart, within-else}
 use Rattle.hc_bitsum.proofs.Listed.{before-not, before-place, drops-by, keeps-by}
-use Rattle.hc_bitsum.proofs.Scan.{le-yes, yes-le}
 
 beyond-by : (fits : Bool) (room : ℕ) (filled : Filled) (x : Keyed) (xs : List Keyed) → key_or_end (scan room filled xs) ≡ first_beyond room filled xs
     → key_or_end (if fits then scan room filled xs else Found x.0) ≡ (if fits then first_beyond room filled xs else x.0)
-beyond-by true room filled x xs rest = rest
-beyond-by false room filled x xs rest = refl
+beyond-by fits room filled x xs rest = grind arith
 
 -- a scan tells the first area that would end past the room
 pub scan-beyond : (room : ℕ) (filled : Filled) (xs : List Keyed) → key_or_end (scan room filled xs) ≡ first_beyond room filled xs
@@ -40,36 +36,19 @@ list_from key list = filter (λ area. not (is_before area.0 key)) list
 
 -- a key that doesn't come before another is that one or comes behind it
 pub reached-by : (before : Bool) (a b : Key) → is_before a b ≡ before → not before ≡ is_within b a
-reached-by true a b test = sym (before-apart a b test)
-reached-by false a b test = sym (within-else a b test)
-
-from-by : (before within : Bool) (x : Keyed) (xs ys : List Keyed) → not before ≡ within → xs ≡ ys → (if not before then x ∷ xs else xs) ≡ (if within then x ∷ ys else ys)
-from-by before true x xs ys test rest = rw test (ap (λ zs. x ∷ zs) rest)
-from-by before false x xs ys test rest = rw test rest
+reached-by before a b test = grind arith
 
 -- they are those from the key on
 list-areas : (key : Key) (list : List Keyed) → list_from key list ≡ areas_from key list
 list-areas key [] = refl
-list-areas key (area ∷ areas) =
-    from-by (is_before area.0 key) (is_within key area.0) area (list_from key areas) (areas_from key areas)
-    (reached-by (is_before area.0 key) area.0 key refl) (list-areas key areas)
+list-areas key (area ∷ areas) = grind (arith, reached-by, list-areas key areas)
 
 -- an area without a width changes no scan
-
-without-by : (fits : Bool) (room : ℕ) (filled : Filled) (x : Keyed) (xs : List Keyed) → nat_le (with_area filled x).bit room ≡ fits
-    → (fits ≡ true → scan room (with_area filled x) (filter has_width xs) ≡ scan room (with_area filled x) xs)
-    → (if fits then scan room (with_area filled x) (filter has_width xs) else Found x.0) ≡ (if fits then scan room (with_area filled x) xs else Found x.0)
-without-by true room filled x xs e h = h refl
-without-by false room filled x xs e h = refl
 
 wide-by : (wide : Bool) (room : ℕ) (filled : Filled) (x : Keyed) (xs : List Keyed) → has_width x ≡ wide → filled.bit ≤ room
     → ((next : Filled) → next.bit ≤ room → scan room next (filter has_width xs) ≡ scan room next xs)
     → scan room filled (if wide then x ∷ filter has_width xs else filter has_width xs) ≡ scan room filled (x ∷ xs)
-wide-by true room filled x xs e h rest =
-    without-by (nat_le (with_area filled x).bit room) room filled x xs refl (λ fits. rest (with_area filled x) (yes-le _ _ fits))
-wide-by false room filled x xs e h rest =
-    let none : (x.1 == 0) ≡ true = grind (arith, nat_tests) in
-    rw (none, le-yes filled.bit room h) (rest filled h)
+wide-by wide room filled x xs e h rest = grind arith
 
 pub scan-wide : (room : ℕ) (filled : Filled) (xs : List Keyed) → filled.bit ≤ room → scan room filled (filter has_width xs) ≡ scan room filled xs
 scan-wide room filled [] h = refl
@@ -81,25 +60,17 @@ all-from : (dir : Dir) (place behind : ℕ) (areas : List Keyed) → StandFrom d
     → list_from (key_at dir place) (filter has_width areas) ≡ filter has_width areas
 all-from dir place behind [] stand h = refl
 all-from dir place behind (area ∷ areas) stand h =
-    keeps-by (has_width area) (λ other. not (is_before other.0 (key_at dir place))) area (filter has_width areas)
-    (rw (stand.0, before-not dir behind place h) refl) (all-from dir place (behind + 1) areas stand.1 (omega arith))
+    grind (arith, keeps-by, before-not, all-from dir place (behind + 1) areas stand.1 (omega arith))
 
 gone-by : (wide : Bool) (p : Keyed → Bool) (x : Keyed) (xs : List Keyed) → p x ≡ false → filter p (if wide then x ∷ xs else xs) ≡ filter p xs
-gone-by true p x xs own = rw own refl
-gone-by false p x xs own = refl
+gone-by wide p x xs own = grind arith
 
 wide-drop : (dir : Dir) (place skip : ℕ) (areas : List Keyed) → StandFrom dir place areas
     → filter has_width (drop skip areas) ≡ list_from (key_at dir (place + skip)) (filter has_width areas)
-wide-drop dir place zero areas stand =
-    let here : place + 0 ≡ place = omega arith in
-    rw here (sym (all-from dir place place areas stand (omega arith)))
+wide-drop dir place zero areas stand = grind (arith, all-from)
 wide-drop dir place (suc skip) [] stand = refl
 wide-drop dir place (suc skip) (area ∷ areas) stand =
-    let there : place + suc skip ≡ place + 1 + skip = omega arith in
-    rw there
-    (wide-drop dir (place + 1) skip areas stand.1
-    ∙ sym (gone-by (has_width area) (λ other. not (is_before other.0 (key_at dir (place + 1 + skip)))) area (filter has_width areas)
-    (rw (stand.0, before-place dir place (place + 1 + skip) (omega arith)) refl)))
+    grind (arith, gone-by, before-place, wide-drop dir (place + 1) skip areas stand.1)
 
 inputs-from : (place behind : ℕ) (areas : List Keyed) → StandFrom In behind areas → list_from (key_at Out place) (filter has_width areas) ≡ filter has_width areas
 inputs-from place behind [] stand = refl
@@ -145,26 +116,11 @@ pub input-from : (place : ℕ) (outputs inputs : List Keyed) → StandFrom Out 0
 input-from place outputs inputs out into =
     input-listed place outputs inputs out into ∙ list-areas (key_at In place) (filter has_width (outputs ++ inputs))
 
-not-before_start : (dir : Dir) (place : ℕ) → is_before (key_at dir place) START ≡ false
-not-before_start Out place = grind (arith, nat_tests)
-not-before_start In place = refl
-
 start-from : (dir : Dir) (behind : ℕ) (areas : List Keyed) → StandFrom dir behind areas → list_from START (filter has_width areas) ≡ filter has_width areas
 start-from dir behind [] stand = refl
 start-from dir behind (area ∷ areas) stand =
-    keeps-by (has_width area) (λ other. not (is_before other.0 START)) area (filter has_width areas)
-    (rw (stand.0, not-before_start dir behind) refl) (start-from dir (behind + 1) areas stand.1)
-
-all-listed : (outputs inputs : List Keyed) → StandFrom Out 0 outputs → StandFrom In 0 inputs
-    → filter has_width (outputs ++ inputs) ≡ list_from START (filter has_width (outputs ++ inputs))
-all-listed outputs inputs out into =
-    filter-append has_width outputs inputs
-    ∙ sym (ap (list_from START) (filter-append has_width outputs inputs)
-    ∙ filter-append (λ area. not (is_before area.0 START)) (filter has_width outputs) (filter has_width inputs)
-    ∙ ap (λ xs. xs ++ list_from START (filter has_width inputs)) (start-from Out 0 outputs out)
-    ∙ ap (λ xs. filter has_width outputs ++ xs) (start-from In 0 inputs into))
+    grind (arith, keeps-by, start-from dir (behind + 1) areas stand.1)
 
 pub all-from_start : (outputs inputs : List Keyed) → StandFrom Out 0 outputs → StandFrom In 0 inputs
     → filter has_width (outputs ++ inputs) ≡ areas_from START (filter has_width (outputs ++ inputs))
-all-from_start outputs inputs out into =
-    all-listed outputs inputs out into ∙ list-areas START (filter has_width (outputs ++ inputs))
+all-from_start outputs inputs out into = grind (arith, list-areas, filter-append, start-from)

@@ -68,15 +68,11 @@ outputs-not_behind place behind (area ∷ areas) stand =
 
 width-front : (key : Key) (bits : ℕ) (xs ys : List Keyed) → filter (λ area. is_before area.0 key) ys ≡ [] → filter (λ area. is_before key area.0) ys ≡ ys
     → with_width key bits (xs ++ ys) ≡ with_width key bits xs ++ ys
-width-front key bits xs ys below above =
-    rw (filter-append (λ area. is_before area.0 key) xs ys, filter-append (λ area. is_before key area.0) xs ys, below, above)
-    (simp (append-nil, append_assoc))
+width-front key bits xs ys below above = grind (arith, filter-append, append-nil, append_assoc)
 
 width-back : (key : Key) (bits : ℕ) (xs ys : List Keyed) → filter (λ area. is_before area.0 key) xs ≡ xs → filter (λ area. is_before key area.0) xs ≡ []
     → with_width key bits (xs ++ ys) ≡ xs ++ with_width key bits ys
-width-back key bits xs ys below above =
-    rw (filter-append (λ area. is_before area.0 key) xs ys, filter-append (λ area. is_before key area.0) xs ys, below, above)
-    (simp append_assoc)
+width-back key bits xs ys below above = grind (arith, filter-append, append_assoc)
 
 -- a width set among the outputs, or among the inputs, is set in the list of both
 pub wide-outputs : (at bits : ℕ) (outputs inputs : List Keyed) → StandFrom Out 0 outputs → StandFrom In 0 inputs → at < length outputs

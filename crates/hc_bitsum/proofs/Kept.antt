@@ -1,7 +1,6 @@
 -- The areas with a width of a tree are the list of a task.
-use Rattle.std.specs.Prelude.{All, IsTrue, filter, nat_lt, ◌&&◌, ◌==◌}
+use Rattle.std.specs.Prelude.{All, IsTrue, filter}
 use Rattle.std.proofs.Common.{◌≡◌, ℕ, ◌+◌, ◌<◌, ◌≤◌, true, List, [], ◌∷◌, ◌++◌, refl, arith}
-use Rattle.std.proofs.lemmas.Bool.{lt-ltb, or_left}
 use Rattle.std.proofs.lemmas.Bool.Decides.{nat_tests}
 use Rattle.std.proofs.lemmas.List.Elements.{All-nil, All-cons, All-append, All-weaker}
 use Rattle.std.proofs.lemmas.List.Kept.{AllPairs-cons, AllPairs-filter}
@@ -26,8 +25,7 @@ Precedes a b = IsTrue (is_before a.0 b.0)
 all-behind : (dir : Dir) (place behind : ℕ) (areas : List Keyed) → StandFrom dir behind areas → place < behind → All (λ area. IsTrue (is_before (key_at dir place) area.0)) areas
 all-behind dir place behind [] stand h = All-nil (λ area. IsTrue (is_before (key_at dir place) area.0))
 all-behind dir place behind (area ∷ areas) stand h =
-    All-cons (λ other. IsTrue (is_before (key_at dir place) other.0)) area areas
-    (rw stand.0 (before-place dir place behind h)) (all-behind dir place (behind + 1) areas stand.1 (omega arith))
+    grind (arith, All-cons, before-place, all-behind dir place (behind + 1) areas stand.1 (omega arith))
 
 direction-ascends : (dir : Dir) (place : ℕ) (areas : List Keyed) → StandFrom dir place areas → Ascends areas
 direction-ascends dir place [] stand = AllPairs-nil Precedes
@@ -49,12 +47,10 @@ outputs-first place (output ∷ outputs) inputs out into =
 -- a key with a place lies between START and END
 
 above-start : (dir : Dir) (rank area : ℕ) → 1 ≤ rank → IsTrue (is_before START (record { dir = dir; rank = rank; area = area }))
-above-start Out rank area some = or_left (nat_lt 0 rank) ((0 == rank) && nat_lt 0 area) (lt-ltb 0 rank some)
-above-start In rank area some = refl
+above-start dir rank area some = grind arith
 
 below-end : (dir : Dir) (rank area : ℕ) → rank < 65535 → IsTrue (is_before (record { dir = dir; rank = rank; area = area }) END)
-below-end Out rank area low = refl
-below-end In rank area low = or_left (nat_lt rank 65535) ((rank == 65535) && nat_lt area 255) (lt-ltb rank 65535 low)
+below-end dir rank area low = grind arith
 
 -- an area with a width is packable
 wide-packable : (areas : List Keyed) → All IsNarrow areas → All IsPackable (filter has_width areas)
@@ -67,8 +63,6 @@ pub holds-list : (slaves : ℕ) (outputs inputs : Slots) → KeepsSlaves Out sla
 holds-list slaves outputs inputs out into =
     let all = outputs.areas ++ inputs.areas in
     let many = few outputs out.shape in
-    let room = out.room in
-    let low : slaves < 65535 = omega arith in
     let places = All-passing (λ area. HasPlace slaves area.0) has_width all (All-append (IsPlaced slaves) outputs.areas inputs.areas out.places into.places) in
     record {
       list = record {

@@ -1,30 +1,20 @@
 -- The areas with a width among those of one direction.
-use Rattle.std.proofs.Common.{◌≡◌, ℕ, zero, suc, ◌+◌, ◌/◌, ◌%◌, ◌<◌, ◌≤◌, ◌==◌, Bool, true, false, ◌&&◌, ◌||◌, nat_lt, List, [], ◌∷◌, ◌++◌, length, refl, ap, subst, arith, if◌then◌else◌}
+use Rattle.std.proofs.Common.{◌≡◌, ℕ, zero, suc, ◌+◌, ◌<◌, ◌≤◌, ◌==◌, Bool, true, false, nat_lt, List, [], ◌∷◌, ◌++◌, length, refl, subst, arith, if◌then◌else◌}
 use Rattle.std.specs.Prelude.{filter}
-use Rattle.std.proofs.lemmas.Bool.Decides.{nat_tests}
 use Rattle.hc_records.specs.declared.records.Dir.{Dir}
-use Rattle.hc_records.specs.declared.records.Dir.TheVariants.{Out, In}
 use Rattle.hc_records.specs.declared.keys.Key.{Key}
 use Rattle.hc_records.specs.Keys.{is_before}
 use Rattle.hc_records.specs.TaskList.{Keyed}
 use Rattle.hc_bitsum.specs.Slots.{key_at, set_at}
 use Rattle.hc_bitsum.specs.Tree.{has_width, with_width}
 use Rattle.hc_bitsum.specs.Places.{StandFrom}
-use Rattle.hc_bitsum.specs.Sums.{joined, sum_of, sum_of_area}
-
-first-by : (a b : ℕ) → a < b → (nat_lt (a / 8 + 1) (b / 8 + 1) || ((a / 8 + 1 == b / 8 + 1) && nat_lt (a % 8) (b % 8))) ≡ true
-first-by a b h = grind (arith, nat_tests)
-
-last-by : (a b : ℕ) → b ≤ a → (nat_lt (a / 8 + 1) (b / 8 + 1) || ((a / 8 + 1 == b / 8 + 1) && nat_lt (a % 8) (b % 8))) ≡ false
-last-by a b h = grind (arith, nat_tests)
+use Rattle.hc_bitsum.specs.Sums.{sum_of}
 
 pub before-place : (dir : Dir) (a b : ℕ) → a < b → is_before (key_at dir a) (key_at dir b) ≡ true
-before-place Out a b h = first-by a b h
-before-place In a b h = first-by a b h
+before-place dir a b h = grind arith
 
 pub before-not : (dir : Dir) (a b : ℕ) → b ≤ a → is_before (key_at dir a) (key_at dir b) ≡ false
-before-not Out a b h = last-by a b h
-before-not In a b h = last-by a b h
+before-not dir a b h = grind arith
 
 pub StandFrom-append : (dir : Dir) (place : ℕ) (xs ys : List Keyed) → StandFrom dir place xs → StandFrom dir (place + length xs) ys → StandFrom dir place (xs ++ ys)
 StandFrom-append dir place [] ys front back = let none : place + 0 ≡ place = omega arith in subst (λ p. StandFrom dir p ys) none back
@@ -37,53 +27,41 @@ StandFrom-set_at dir place at bits [] stand = stand
 StandFrom-set_at dir place zero bits (area ∷ areas) stand = stand
 StandFrom-set_at dir place (suc at) bits (area ∷ areas) stand = (stand.0, StandFrom-set_at dir (place + 1) at bits areas stand.1)
 
-total-by : (wide : Bool) (x : Keyed) (xs : List Keyed) → has_width x ≡ wide → sum_of (filter has_width xs) ≡ sum_of xs
-    → sum_of (if wide then x ∷ filter has_width xs else filter has_width xs) ≡ joined (sum_of_area x.0.dir x.1) (sum_of xs)
-total-by true x xs e h = ap (joined (sum_of_area x.0.dir x.1)) h
-total-by false x xs e h = let none : (x.1 == 0) ≡ true = grind (arith, nat_tests) in rw none h
-
 -- an area without a width adds nothing
 pub total-wide : (xs : List Keyed) → sum_of (filter has_width xs) ≡ sum_of xs
 total-wide [] = refl
-total-wide (x ∷ xs) = total-by (has_width x) x xs refl (total-wide xs)
+total-wide (x ∷ xs) = grind (arith, total-wide xs)
 
 -- a test that fails on each of a list, or passes on each
 
 pub drops-by : (wide : Bool) (p : Keyed → Bool) (x : Keyed) (xs : List Keyed) → p x ≡ false → filter p xs ≡ [] → filter p (if wide then x ∷ xs else xs) ≡ []
-drops-by true p x xs own rest = rw own rest
-drops-by false p x xs own rest = rest
+drops-by wide p x xs own rest = grind arith
 
 pub keeps-by : (wide : Bool) (p : Keyed → Bool) (x : Keyed) (xs : List Keyed) → p x ≡ true → filter p xs ≡ xs → filter p (if wide then x ∷ xs else xs) ≡ (if wide then x ∷ xs else xs)
-keeps-by true p x xs own rest = rw own (ap (λ ys. x ∷ ys) rest)
-keeps-by false p x xs own rest = rest
+keeps-by wide p x xs own rest = grind arith
 
 -- areas that stand behind a place aren't before it, and it is before them
 pub none-before : (dir : Dir) (place behind : ℕ) (areas : List Keyed) → StandFrom dir behind areas → place ≤ behind
     → filter (λ area. is_before area.0 (key_at dir place)) (filter has_width areas) ≡ []
 none-before dir place behind [] stand h = refl
 none-before dir place behind (area ∷ areas) stand h =
-    drops-by (has_width area) (λ other. is_before other.0 (key_at dir place)) area (filter has_width areas)
-    (rw stand.0 (before-not dir behind place h)) (none-before dir place (behind + 1) areas stand.1 (omega arith))
+    grind (arith, drops-by, before-not, none-before dir place (behind + 1) areas stand.1 (omega arith))
 
 pub all-behind : (dir : Dir) (place behind : ℕ) (areas : List Keyed) → StandFrom dir behind areas → place < behind
     → filter (λ area. is_before (key_at dir place) area.0) (filter has_width areas) ≡ filter has_width areas
 all-behind dir place behind [] stand h = refl
 all-behind dir place behind (area ∷ areas) stand h =
-    keeps-by (has_width area) (λ other. is_before (key_at dir place) other.0) area (filter has_width areas)
-    (rw stand.0 (before-place dir place behind h)) (all-behind dir place (behind + 1) areas stand.1 (omega arith))
+    grind (arith, keeps-by, before-place, all-behind dir place (behind + 1) areas stand.1 (omega arith))
 
 own-first : (wide : Bool) (key : Key) (bits : ℕ) (xs : List Keyed) → nat_lt 0 bits ≡ wide → (if wide then (key, bits) ∷ xs else xs) ≡ (if bits == 0 then [] else (key, bits) ∷ []) ++ xs
-own-first true key bits xs e = let some : (bits == 0) ≡ false = grind (arith, nat_tests) in rw some refl
-own-first false key bits xs e = let none : (bits == 0) ≡ true = grind (arith, nat_tests) in rw none refl
+own-first wide key bits xs e = grind arith
 
 above-by : (wide : Bool) (p : Keyed → Bool) (x : Keyed) (xs : List Keyed) → p x ≡ false → filter p xs ≡ xs → filter p (if wide then x ∷ xs else xs) ≡ xs
-above-by true p x xs own rest = rw own rest
-above-by false p x xs own rest = rest
+above-by wide p x xs own rest = grind arith
 
 before-by : (wide : Bool) (key : Key) (bits : ℕ) (x : Keyed) (xs changed : List Keyed) → is_before x.0 key ≡ true → is_before key x.0 ≡ false → changed ≡ with_width key bits xs
     → (if wide then x ∷ changed else changed) ≡ with_width key bits (if wide then x ∷ xs else xs)
-before-by true key bits x xs changed first last h = rw (first, last) (ap (λ ys. x ∷ ys) h)
-before-by false key bits x xs changed first last h = h
+before-by wide key bits x xs changed first last h = grind arith
 
 -- a width that is set at a place stands in the list under the place's key
 pub wide-set_at : (dir : Dir) (place at bits : ℕ) (areas : List Keyed) → StandFrom dir place areas → at < length areas
@@ -98,9 +76,4 @@ wide-set_at dir place zero bits (area ∷ areas) stand h =
     (rw stand.0 (before-not dir place place (omega arith))) (all-behind dir place (place + 1) areas stand.1 (omega arith)) in
     rw (here, below, above, stand.0) (own-first (nat_lt 0 bits) key bits (filter has_width areas) refl)
 wide-set_at dir place (suc at) bits (area ∷ areas) stand h =
-    let there : place + suc at ≡ place + 1 + at = omega arith in
-    let key = key_at dir (place + 1 + at) in
-    rw there (before-by (has_width area) key bits area (filter has_width areas) (filter has_width (set_at at bits areas))
-    (rw stand.0 (before-place dir place (place + 1 + at) (omega arith)))
-    (rw stand.0 (before-not dir (place + 1 + at) place (omega arith)))
-    (wide-set_at dir (place + 1) at bits areas stand.1 (omega arith)))
+    grind (arith, before-by, before-place, before-not, wide-set_at dir (place + 1) at bits areas stand.1 (omega arith))

@@ -1,6 +1,6 @@
 -- What a branch's nodes stand for, and what a search comes to at them.
 use Rattle.std.specs.Prelude.{All}
-use Rattle.std.proofs.Common.{◌≡◌, ℕ, suc, ◌+◌, ◌-◌, ◌*◌, ◌/◌, ◌%◌, ◌^◌, ◌<◌, ◌≤◌, List, [], ◌++◌, length, get_or, refl, sym, ap, subst, ◌∙◌, arith}
+use Rattle.std.proofs.Common.{◌≡◌, ℕ, suc, ◌+◌, ◌-◌, ◌*◌, ◌/◌, ◌%◌, ◌^◌, ◌<◌, ◌≤◌, List, [], ◌++◌, length, get_or, sym, ap, subst, ◌∙◌, arith}
 use Rattle.std.proofs.Math.Nat.{two-pow-succ}
 use Rattle.std.proofs.Math.Pow.{pow_mono}
 use Rattle.hc_records.specs.declared.records.Dir.{Dir}
@@ -57,14 +57,9 @@ forked-low dir rows sums levels height node low many each leaves forks is some t
 
 -- in a branch
 
-any-forks : (last : ℕ) (sums : List Sum) → AreForks (λ k. Unit {0}) last sums → AreForks (λ k. 0 < k) last sums
-any-forks last sums forks k some less above = forks k some less tt
-
 pub is-node-sum : (branch : Branch) (height node : ℕ) → IsBranch branch → IsNode branch.levels height node → 0 < node
     → get_or branch.sums.items node Empty ≡ sum_of (node_areas branch height node)
-is-node-sum branch height node is at some =
-    node-sum branch.dir branch.rows.items branch.sums.items 0 branch.levels height node is.many is.are.leaves
-    (any-forks (length branch.rows.items) branch.sums.items is.are.forks) at some
+is-node-sum branch height node is at some = grind (arith, node-sum)
 
 -- what its sum tells of an end
 pub node-end : (branch : Branch) (height node : ℕ) (filled : Filled) → IsBranch branch → IsNode branch.levels height node → 0 < node
@@ -109,26 +104,20 @@ pub into-left : (branch : Branch) (height node room : ℕ) (filled : Filled) →
     → room < (with_areas filled (node_areas branch (height - 1) (2 * node))).bit
     → scan room filled (node_areas branch (height - 1) (2 * node)) ≡ scan room filled (node_areas branch height node)
 into-left branch height node room filled some at here beyond =
-    rw (node-parts branch.dir branch.rows.items branch.levels height node some at)
-    (found-both room filled (node_areas branch (height - 1) (2 * node)) (node_areas branch (height - 1) (2 * node + 1)) (scan room filled (node_areas branch (height - 1) (2 * node)))
-    (not-through room filled (node_areas branch (height - 1) (2 * node)) (scan room filled (node_areas branch (height - 1) (2 * node))) here beyond refl) refl)
+    grind (arith, node-parts, found-both, not-through)
 
 pub into-right : (branch : Branch) (height node room : ℕ) (filled end : Filled) → 0 < height → IsNode branch.levels height node
     → end ≡ with_areas filled (node_areas branch (height - 1) (2 * node)) → end.bit ≤ room
     → scan room end (node_areas branch (height - 1) (2 * node + 1)) ≡ scan room filled (node_areas branch height node)
 into-right branch height node room filled end some at is within =
-    let low : (with_areas filled (node_areas branch (height - 1) (2 * node))).bit ≤ room = subst (λ (r : Filled). r.bit ≤ room) is within in
-    let all = scan-all room filled (node_areas branch (height - 1) (2 * node)) low in
-    rw (node-parts branch.dir branch.rows.items branch.levels height node some at, is)
-    (sym (scan-append-through room filled (node_areas branch (height - 1) (2 * node)) (node_areas branch (height - 1) (2 * node + 1)) _ all))
+    grind (arith, scan-all, node-parts, scan-append-through)
 
 -- what is beyond the room lies in the right part then
 pub beyond-right : (branch : Branch) (height node room : ℕ) (filled end : Filled) → 0 < height → IsNode branch.levels height node
     → end ≡ with_areas filled (node_areas branch (height - 1) (2 * node)) → room < (with_areas filled (node_areas branch height node)).bit
     → room < (with_areas end (node_areas branch (height - 1) (2 * node + 1))).bit
 beyond-right branch height node room filled end some at is beyond =
-    let both = node-parts branch.dir branch.rows.items branch.levels height node some at in
-    rw (is, ← with_areas-append filled (node_areas branch (height - 1) (2 * node)) (node_areas branch (height - 1) (2 * node + 1)), ← both) beyond
+    grind (arith, node-parts, with_areas-append)
 
 -- the areas behind some rows, part by part
 pub behind-parts : (branch : Branch) (first more : ℕ) → first + more ≤ length branch.rows.items
@@ -139,33 +128,20 @@ behind-parts branch first more within =
 
 -- the row of an area
 pub row-inside : (branch : Branch) (at : ℕ) → IsBranch branch → at < length (slots_of branch).areas → at / 8 < length branch.rows.items
-row-inside branch at is within =
-    let size = length-part branch.dir branch.rows.items 0 (length branch.rows.items) is.each (omega arith) in
-    omega arith
+row-inside branch at is within = grind (arith, length-part)
 
 -- a node of the last level stands for a row
 pub leaf-row : (branch : Branch) (node : ℕ) → IsBranch branch → IsNode branch.levels 0 node → node - length branch.rows.items < length branch.rows.items
-leaf-row branch node is at =
-    let many = is.many in
-    let here : branch.levels - 0 ≡ branch.levels = omega arith in
-    let below : node < 2 * 2 ^ branch.levels = rw here at at.below in
-    let from : 2 ^ branch.levels ≤ node = rw here at at.from in
-    omega arith
+leaf-row branch node is at = grind arith
 
 pub leaf-areas : (branch : Branch) (node : ℕ) → IsBranch branch → IsNode branch.levels 0 node
     → row_areas branch.dir (8 * (node - length branch.rows.items)) (get_or branch.rows.items (node - length branch.rows.items) []) ≡ node_areas branch 0 node
-leaf-areas branch node is at =
-    let here : branch.levels - 0 ≡ branch.levels = omega arith in
-    let many = is.many in
-    let row = node - length branch.rows.items in
-    let first : first_of branch.levels 0 node ≡ row = rw here (omega arith) in
-    sym (part-one branch.dir branch.rows.items row) ∙ ap (λ n. part branch.dir branch.rows.items n 1) (sym first)
+leaf-areas branch node is at = grind (arith, part-one)
 
 -- what is read of a node
 
 pub node-index : (branch : Branch) (height node : ℕ) → IsBranch branch → IsNode branch.levels height node → node < length branch.sums.items
 node-index branch height node is at =
-    let nodes = is.nodes in
     let below = node-inside branch.levels height node at in
     omega arith
 
@@ -185,25 +161,14 @@ behind-split : (branch : Branch) (height node : ℕ) → IsBranch branch → hei
     → areas_behind branch (first_of branch.levels height node + 2 ^ height)
     ≡ node_areas branch height (node + 1) ++ areas_behind branch (first_of branch.levels (height + 1) (node / 2) + 2 ^ (height + 1))
 behind-split branch height node is less even at =
-    let many = is.many in
-    let next = next-node branch.levels height node less even at in
-    let first = next-first branch.levels height node at in
-    let within = node-within branch.levels height (node + 1) next in
-    let above = up-left branch.levels height node less even at in
-    behind-parts branch (first_of branch.levels height node + 2 ^ height) (2 ^ height) (omega arith)
-    ∙ rw (first, above) refl
+    grind (arith, next-node, next-first, node-within, up-left, behind-parts)
 
 pub behind-through : (branch : Branch) (height node room : ℕ) (filled end : Filled) → IsBranch branch → height < branch.levels → node % 2 ≡ 0
     → IsNode branch.levels height node → end ≡ with_areas filled (node_areas branch height (node + 1)) → end.bit ≤ room
     → scan room end (areas_behind branch (first_of branch.levels (height + 1) (node / 2) + 2 ^ (height + 1)))
     ≡ scan room filled (areas_behind branch (first_of branch.levels height node + 2 ^ height))
 behind-through branch height node room filled end is less even at ends within =
-    let low : (with_areas filled (node_areas branch height (node + 1))).bit ≤ room = subst (λ (r : Filled). r.bit ≤ room) ends within in
-    let all = scan-all room filled (node_areas branch height (node + 1)) low in
-    let behind = areas_behind branch (first_of branch.levels (height + 1) (node / 2) + 2 ^ (height + 1)) in
-    ap (λ (r : Filled). scan room r behind) ends
-    ∙ sym (ap (scan room filled) (behind-split branch height node is less even at)
-    ∙ scan-append-through room filled (node_areas branch height (node + 1)) behind (with_areas filled (node_areas branch height (node + 1))) all)
+    grind (arith, scan-all, behind-split, scan-append-through)
 
 pub behind-same : (branch : Branch) (height node room : ℕ) (filled : Filled) → height < branch.levels → node % 2 ≡ 1 → IsNode branch.levels height node
     → scan room filled (areas_behind branch (first_of branch.levels (height + 1) (node / 2) + 2 ^ (height + 1)))
@@ -215,9 +180,7 @@ pub behind-found : (branch : Branch) (height node room : ℕ) (filled : Filled) 
     → answer ≡ scan room filled (node_areas branch height (node + 1))
     → answer ≡ scan room filled (areas_behind branch (first_of branch.levels height node + 2 ^ height))
 behind-found branch height node room filled answer is less even at here beyond found =
-    found-both room filled (node_areas branch height (node + 1)) (areas_behind branch (first_of branch.levels (height + 1) (node / 2) + 2 ^ (height + 1))) answer
-    (not-through room filled (node_areas branch height (node + 1)) answer here beyond found) found
-    ∙ sym (ap (scan room filled) (behind-split branch height node is less even at))
+    grind (arith, found-both, not-through, behind-split)
 
 -- where a search beyond the room ends, an area is found
 pub beyond-in : (room : ℕ) (filled : Filled) (areas : List Keyed) (answer : Fit) → filled.bit ≤ room → room < (with_areas filled areas).bit

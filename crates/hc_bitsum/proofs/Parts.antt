@@ -1,11 +1,11 @@
 -- The areas of some rows.
 use Rattle.std.specs.Prelude.{All}
-use Rattle.std.proofs.Common.{◌≡◌, ℕ, zero, suc, ◌+◌, ◌*◌, ◌<◌, ◌≤◌, List, [], ◌∷◌, ◌++◌, length, get_or, refl, sym, ap, subst, ◌∙◌, arith, append_assoc, append-nil, length-append}
+use Rattle.std.proofs.Common.{◌≡◌, ℕ, zero, suc, ◌+◌, ◌*◌, ◌<◌, ◌≤◌, List, [], ◌∷◌, ◌++◌, length, get_or, refl, sym, ap, ◌∙◌, arith, append_assoc, append-nil, length-append}
 use Rattle.std.proofs.lemmas.List.Elements.{All-nil, All-cons, All-head, All-tail, All-append, All-get_or}
 use Rattle.hc_records.specs.declared.records.Dir.{Dir}
 use Rattle.hc_bitsum.specs.Places.{StandFrom}
 use Rattle.hc_bitsum.specs.Rows.{IsRow, part, row_areas}
-use Rattle.hc_bitsum.specs.Slots.{IsNarrow, key_at}
+use Rattle.hc_bitsum.specs.Slots.{IsNarrow}
 use Rattle.hc_bitsum.proofs.Listed.{StandFrom-append}
 
 pub length-row : (dir : Dir) (place : ℕ) (row : List ℕ) → length (row_areas dir place row) ≡ length row
@@ -15,8 +15,7 @@ length-row dir place (bits ∷ row) = ap suc (length-row dir (place + 1) row)
 narrow-row : (dir : Dir) (place : ℕ) (row : List ℕ) → All (λ bits. bits ≤ 11888) row → All IsNarrow (row_areas dir place row)
 narrow-row dir place [] all = All-nil IsNarrow
 narrow-row dir place (bits ∷ row) all =
-    All-cons IsNarrow (key_at dir place, bits) (row_areas dir (place + 1) row) (All-head (λ b. b ≤ 11888) bits row all)
-    (narrow-row dir (place + 1) row (All-tail (λ b. b ≤ 11888) bits row all))
+    grind (arith, All-cons, All-head, All-tail, narrow-row dir (place + 1) row (All-tail (λ b. b ≤ 11888) bits row all))
 
 stand-row : (dir : Dir) (place : ℕ) (row : List ℕ) → StandFrom dir place (row_areas dir place row)
 stand-row dir place [] = tt
@@ -40,12 +39,7 @@ row-of rows i each h = All-get_or IsRow rows i [] h each
 pub length-part : (dir : Dir) (rows : List (List ℕ)) (first more : ℕ) → All IsRow rows → first + more ≤ length rows → length (part dir rows first more) ≡ 8 * more
 length-part dir rows first zero each h = refl
 length-part dir rows first (suc more) each h =
-    let row = get_or rows first [] in
-    let own = length-row dir (8 * first) row in
-    let many = (row-of rows first each (omega arith)).many in
-    let rest = length-part dir rows (first + 1) more each (omega arith) in
-    let both = length-append (row_areas dir (8 * first) row) (part dir rows (first + 1) more) in
-    omega arith
+    grind (arith, length-row, row-of, length-append, length-part dir rows (first + 1) more each (omega arith))
 
 pub narrow-part : (dir : Dir) (rows : List (List ℕ)) (first more : ℕ) → All IsRow rows → first + more ≤ length rows → All IsNarrow (part dir rows first more)
 narrow-part dir rows first zero each h = All-nil IsNarrow
@@ -57,17 +51,11 @@ narrow-part dir rows first (suc more) each h =
 pub stand-part : (dir : Dir) (rows : List (List ℕ)) (first more : ℕ) → All IsRow rows → first + more ≤ length rows → StandFrom dir (8 * first) (part dir rows first more)
 stand-part dir rows first zero each h = tt
 stand-part dir rows first (suc more) each h =
-    let row = get_or rows first [] in
-    let own = length-row dir (8 * first) row in
-    let many = (row-of rows first each (omega arith)).many in
-    let next : 8 * (first + 1) ≡ 8 * first + length (row_areas dir (8 * first) row) = omega arith in
-    StandFrom-append dir (8 * first) (row_areas dir (8 * first) row) (part dir rows (first + 1) more)
-    (stand-row dir (8 * first) row) (subst (λ p. StandFrom dir p (part dir rows (first + 1) more)) next (stand-part dir rows (first + 1) more each (omega arith)))
+    grind (arith, length-row, row-of, StandFrom-append, stand-row, stand-part dir rows (first + 1) more each (omega arith))
 
 -- rows that agree have the same areas
 pub part-same : (dir : Dir) (rows others : List (List ℕ)) (first more : ℕ)
     → ((i : ℕ) → first ≤ i → i < first + more → get_or rows i [] ≡ get_or others i []) → part dir rows first more ≡ part dir others first more
 part-same dir rows others first zero same = refl
 part-same dir rows others first (suc more) same =
-    let own = same first (omega arith) (omega arith) in
-    rw (own) (ap (λ areas. row_areas dir (8 * first) (get_or others first []) ++ areas) (part-same dir rows others (first + 1) more (λ i low high. same i (omega arith) (omega arith))))
+    grind (arith, part-same dir rows others (first + 1) more (λ i low high. same i (omega arith) (omega arith)))

@@ -1,10 +1,9 @@
 -- The sum of a row, area by area, and its areas.
 use Rattle.std.specs.Prelude.{slice_index}
-use Rattle.std.proofs.Common.{◌≡◌, ℕ, zero, suc, ◌+◌, ◌*◌, ◌/◌, ◌%◌, ◌<◌, ◌≤◌, ◌==◌, nat_le, Bool, true, false, List, [], ◌∷◌, ◌++◌, length, take, drop, get_or, refl, sym, ap, ◌∙◌, arith, add-one, if◌then◌else◌}
+use Rattle.std.proofs.Common.{◌≡◌, ℕ, zero, suc, ◌+◌, ◌*◌, ◌<◌, ◌≤◌, nat_le, Bool, true, false, List, [], ◌∷◌, ◌++◌, length, take, drop, get_or, refl, sym, ap, ◌∙◌, arith, add-one, if◌then◌else◌}
 use Rattle.std.proofs.Math.Seq.{take-suc}
 use Rattle.std.proofs.lemmas.Bool.Decides.{nat_tests}
 use Rattle.hc_records.specs.declared.records.Dir.{Dir}
-use Rattle.hc_records.specs.declared.records.Dir.TheVariants.{Out, In}
 use Rattle.hc_records.specs.Keys.{is_turn}
 use Rattle.hc_records.specs.TaskList.{Keyed}
 use Rattle.hc_bitsum.specs.declared.sum.Sum.{Sum}
@@ -24,21 +23,13 @@ abbrev pub run_of : Bool → Dir → List ℕ → Sum
 run_of is_run dir ends = if is_run then Run dir dir ends else Empty
 
 ends_by-below : (f g : ℕ → ℕ) → ((bit : ℕ) → bit < 8 → f bit ≡ g bit) → ends_by f ≡ ends_by g
-ends_by-below f g h =
-    let a = h 0 (omega arith) in let b = h 1 (omega arith) in let c = h 2 (omega arith) in let d = h 3 (omega arith) in
-    let e = h 4 (omega arith) in let i = h 5 (omega arith) in let j = h 6 (omega arith) in let k = h 7 (omega arith) in
-    cc
+ends_by-below f g h = grind arith
 
 no-turn : (dir : Dir) → is_turn dir dir ≡ false
-no-turn Out = refl
-no-turn In = refl
+no-turn dir = grind arith
 
 small-end : (ends : List ℕ) (bit : ℕ) → bit < 8 → end_from ends bit ≡ slice_index ends bit
-small-end ends bit h =
-    let small : bit % 8 ≡ bit = omega arith in
-    let none : 8 * (bit / 8) ≡ 0 = omega arith in
-    let moved : slice_index ends (bit % 8) ≡ slice_index ends bit = ap (slice_index ends) small in
-    omega arith
+small-end ends bit h = grind arith
 
 -- an area of a run's direction behind it
 with-run : (dir : Dir) (ends : List ℕ) (bits : ℕ)
@@ -53,18 +44,11 @@ with-run dir ends bits =
 
 pub behind-by : (is_run : Bool) (dir : Dir) (ends : List ℕ) (bits : ℕ) → 0 < bits → (is_run ≡ false → ends ≡ 0 ∷ 1 ∷ 2 ∷ 3 ∷ 4 ∷ 5 ∷ 6 ∷ 7 ∷ [])
     → joined (run_of is_run dir ends) (sum_of_area dir bits) ≡ run_of true dir (ends_by (λ bit. area_end bits (slice_index ends bit)))
-behind-by true dir ends bits some fresh =
-    let wide : (bits == 0) ≡ false = grind (arith, nat_tests) in
-    rw wide (with-run dir ends bits)
-behind-by false dir ends bits some fresh =
-    let wide : (bits == 0) ≡ false = grind (arith, nat_tests) in
-    rw (wide, fresh refl) refl
+behind-by is_run dir ends bits some fresh = grind (arith, nat_tests, with-run)
 
 pub row_areas-append : (dir : Dir) (place : ℕ) (xs ys : List ℕ) → row_areas dir place (xs ++ ys) ≡ row_areas dir place xs ++ row_areas dir (place + length xs) ys
 row_areas-append dir place [] ys = let none : place + 0 ≡ place = omega arith in rw none refl
-row_areas-append dir place (x ∷ xs) ys =
-    let next : place + suc (length xs) ≡ place + 1 + length xs = omega arith in
-    rw next (ap (λ areas. (key_at dir place, x) ∷ areas) (row_areas-append dir (place + 1) xs ys))
+row_areas-append dir place (x ∷ xs) ys = grind (arith, row_areas-append dir (place + 1) xs ys)
 
 -- one more area of a row
 pub run-step : (dir : Dir) (row : List ℕ) (i place : ℕ) (before after : Sum) → i < length row → before ≡ sum_of (row_areas dir place (take i row))
@@ -83,23 +67,16 @@ pub row-drop : (dir : Dir) (place i : ℕ) (row : List ℕ) → i < length row
 row-drop dir place i [] h = absurd (omega arith)
 row-drop dir place zero (bits ∷ row) h = let none : place + 0 ≡ place = omega arith in rw none refl
 row-drop dir place (suc i) (bits ∷ row) h =
-    let next : place + suc i ≡ place + 1 + i = omega arith in
-    let more : suc i + 1 ≡ suc (i + 1) = omega arith in
-    rw (next, more) (row-drop dir (place + 1) i row (omega arith))
+    grind (arith, row-drop dir (place + 1) i row (omega arith))
 
 -- ends grow by no more than an area and the bits before a byte
 area-low : (bits x : ℕ) → bits ≤ 11888 → area_end bits x ≤ x + 11895
-area-low bits x h = by (nat_le 8 bits) refl
-  where
-    by : (wide : Bool) → nat_le 8 bits ≡ wide → area_end bits x ≤ x + 11895
-    by true test = rw test (omega arith)
-    by false test = rw test (omega arith)
+area-low bits x h = grind arith
 
 pub low-behind : (ends : List ℕ) (bits count : ℕ) → bits ≤ 11888 → ((k : ℕ) → k < 8 → slice_index ends k ≤ k + 11895 * count)
     → (k : ℕ) → k < 8 → slice_index (ends_by (λ bit. area_end bits (slice_index ends bit))) k ≤ k + 11895 * (count + 1)
 low-behind ends bits count narrow low k h =
     let own = ends_by-at (λ bit. area_end bits (slice_index ends bit)) k h in
-    let before = low k h in
     let more = area-low bits (slice_index ends k) narrow in
     omega arith
 

@@ -25,16 +25,13 @@ yes-le a b h = grind (arith, nat_tests)
 pub with_areas-le : (areas : List Keyed) (filled : Filled) → filled.bit ≤ (with_areas filled areas).bit
 with_areas-le [] filled = omega arith
 with_areas-le (area ∷ areas) filled =
-    let one = with_area-le filled area in
-    let rest = with_areas-le areas (with_area filled area) in
-    omega arith
+    grind (arith, with_area-le, with_areas-le areas (with_area filled area))
 
 -- where all end within the room, the scan goes through
 pub scan-all : (room : ℕ) (filled : Filled) (areas : List Keyed) → (with_areas filled areas).bit ≤ room → scan room filled areas ≡ Through (with_areas filled areas)
 scan-all room filled [] h = refl
 scan-all room filled (area ∷ areas) h =
-    let one : (with_area filled area).bit ≤ room = (let rest = with_areas-le areas (with_area filled area) in omega arith) in
-    rw (le-yes _ _ one) (scan-all room (with_area filled area) areas h)
+    grind (arith, with_areas-le, le-yes, scan-all room (with_area filled area) areas h)
 
 -- the next area ends within the room, and the rest goes through
 record Step (room : ℕ) (filled : Filled) (area : Keyed) (areas : List Keyed) (end : Filled) : Type 0 where
@@ -43,8 +40,7 @@ record Step (room : ℕ) (filled : Filled) (area : Keyed) (areas : List Keyed) (
 
 step-by : (fits : Bool) (room : ℕ) (filled : Filled) (area : Keyed) (areas : List Keyed) (end : Filled) → nat_le (with_area filled area).bit room ≡ fits
     → (if fits then scan room (with_area filled area) areas else Found area.0) ≡ Through end → Step room filled area areas end
-step-by true room filled area areas end e h = record { fits = yes-le _ _ e; rest = h }
-step-by false room filled area areas end e h = cc
+step-by fits room filled area areas end e h = grind arith
 
 -- where it goes through, all stand in the datagram
 pub scan-through : (room : ℕ) (filled : Filled) (areas : List Keyed) (end : Filled) → filled.bit ≤ room → scan room filled areas ≡ Through end
@@ -54,16 +50,11 @@ scan-through room filled (area ∷ areas) end h e =
     let step = step-by (nat_le (with_area filled area).bit room) room filled area areas end refl e in
     scan-through room (with_area filled area) areas end step.fits step.rest
 
-found-by : (fits : Bool) (rest more : Fit) (own key : Key) → (rest ≡ Found key → more ≡ Found key) → (if fits then rest else Found own) ≡ Found key → (if fits then more else Found own) ≡ Found key
-found-by true rest more own key f h = f h
-found-by false rest more own key f h = h
-
 -- what is found in the first list is found in both
 scan-append-found : (room : ℕ) (filled : Filled) (xs ys : List Keyed) (key : Key) → scan room filled xs ≡ Found key → scan room filled (xs ++ ys) ≡ Found key
 scan-append-found room filled [] ys key h = cc
 scan-append-found room filled (x ∷ xs) ys key h =
-    found-by (nat_le (with_area filled x).bit room) (scan room (with_area filled x) xs) (scan room (with_area filled x) (xs ++ ys)) x.0 key
-    (scan-append-found room (with_area filled x) xs ys key) h
+    grind (arith, scan-append-found room (with_area filled x) xs ys key)
 
 -- where the first list goes through, the second is scanned from there
 pub scan-append-through : (room : ℕ) (filled : Filled) (xs ys : List Keyed) (end : Filled) → scan room filled xs ≡ Through end → scan room filled (xs ++ ys) ≡ scan room end ys
@@ -92,12 +83,7 @@ IsFound (Through end) = ⊥
 
 pub not-through : (room : ℕ) (filled : Filled) (areas : List Keyed) (answer : Fit) → filled.bit ≤ room → room < (with_areas filled areas).bit
     → answer ≡ scan room filled areas → IsFound answer
-not-through room filled areas (Found key) h more e = tt
-not-through room filled areas (Through end) h more e =
-    let through = scan-through room filled areas end h (sym e) in
-    let bits : end.bit ≡ (with_areas filled areas).bit = ap (λ (r : Filled). r.bit) through.0 in
-    let low = through.1 in
-    absurd (omega arith)
+not-through room filled areas answer h more e = grind (arith, scan-through)
 
 -- what the kept sum says of the end
 pub kept-end : (sum : Sum) (areas : List Keyed) (filled : Filled) → sum ≡ sum_of areas → ended sum filled ≡ with_areas filled areas
@@ -105,10 +91,8 @@ kept-end sum areas filled h = ap (λ (x : Sum). ended x filled) h ∙ ended-sum_
 
 -- an area that is found leaves no question of room
 pub found-in : (room : ℕ) (answer : Fit) → IsFound answer → IsInRoom room answer
-found-in room (Found key) found = tt
-found-in room (Through end) found = absurd found
+found-in room answer found = grind arith
 
 -- what is found in the first part of two is found in both
 pub found-both : (room : ℕ) (filled : Filled) (xs ys : List Keyed) (answer : Fit) → IsFound answer → answer ≡ scan room filled xs → answer ≡ scan room filled (xs ++ ys)
-found-both room filled xs ys (Found key) found is = sym (scan-append-found room filled xs ys key (sym is))
-found-both room filled xs ys (Through end) found is = absurd found
+found-both room filled xs ys answer found is = grind (arith, scan-append-found)

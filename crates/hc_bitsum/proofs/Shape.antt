@@ -1,6 +1,6 @@
 -- What keeps the shape of a branch.
 use Rattle.std.specs.Prelude.{All}
-use Rattle.std.proofs.Common.{◌≡◌, ℕ, ◌+◌, ◌^◌, ◌<◌, ◌≤◌, zero, suc, List, [], ◌∷◌, ◌++◌, length, refl, ap, ◌∙◌, arith, length-append}
+use Rattle.std.proofs.Common.{◌≡◌, ℕ, ◌+◌, ◌^◌, ◌<◌, ◌≤◌, zero, suc, List, [], ◌∷◌, ◌++◌, length, refl, ap, arith, length-append}
 use Rattle.std.proofs.Math.Pow.{pow_mono}
 use Rattle.std.proofs.lemmas.List.Elements.{All-head, All-tail, All-cons, All-append}
 use Rattle.hc_records.specs.TaskList.{Keyed}
@@ -27,11 +27,7 @@ set_at-narrow (suc at) bits (area ∷ areas) h all =
     All-cons IsNarrow area (set_at at bits areas) (All-head IsNarrow area areas all) (set_at-narrow at bits areas h (All-tail IsNarrow area areas all))
 
 pub with_bits-shaped : (slots : Slots) (at bits : ℕ) → IsShaped slots → bits ≤ 11888 → IsShaped (with_bits slots at bits)
-with_bits-shaped slots at bits p h = record {
-  many = length-set_at at bits slots.areas ∙ p.many;
-  low = p.low;
-  narrow = set_at-narrow at bits slots.areas h p.narrow;
-}
+with_bits-shaped slots at bits p h = grind (arith, length-set_at, set_at-narrow)
 
 pub set_at-front : (xs ys : List Keyed) (at bits : ℕ) → at < length xs → set_at at bits (xs ++ ys) ≡ set_at at bits xs ++ ys
 set_at-front [] ys at bits h = absurd (omega arith)
@@ -40,9 +36,7 @@ set_at-front (x ∷ xs) ys (suc at) bits h = ap (λ zs. x ∷ zs) (set_at-front 
 
 pub set_at-back : (xs ys : List Keyed) (at bits : ℕ) → set_at (length xs + at) bits (xs ++ ys) ≡ xs ++ set_at at bits ys
 set_at-back [] ys at bits = ap (λ n. set_at n bits ys) (omega arith)
-set_at-back (x ∷ xs) ys at bits =
-    let more : suc (length xs) + at ≡ suc (length xs + at) = omega arith in
-    rw more (ap (λ zs. x ∷ zs) (set_at-back xs ys at bits))
+set_at-back (x ∷ xs) ys at bits = grind (arith, set_at-back xs ys at bits)
 
 -- two parts in a row end low, whatever their heights
 pub both-low : (left right : Slots) → IsShaped left → IsShaped right → EndsBelow (2 ^ 31) (joined (sum_of left.areas) (sum_of right.areas))

@@ -64,18 +64,13 @@ stands-down levels height node row some at =
 -- where its rows are some of all, it is one of the nodes
 pub stands-node : (levels height node row : ℕ) → StandsAt levels height node row → row + 2 ^ height ≤ 2 ^ levels → IsNode levels height node
 stands-node levels height node row at within =
-    let here = at.here in
     let some : 0 < 2 ^ height = pow_mono {i = 0} (omega arith) in
-    let end : row + 2 ^ height ≡ (at.index + 1) * 2 ^ height = ap (λ n. n + 2 ^ height) at.first ∙ sym (more-by at.index (2 ^ height)) in
     let all = level levels height at.high in
     let less : at.index + 1 ≤ 2 ^ (levels - height) = le_of_mul-le-mul_right {k = 2 ^ height} (omega arith) some in
     record { high = at.high; from = omega arith; below = omega arith }
 
 stands-first : (levels height node row : ℕ) → StandsAt levels height node row → first_of levels height node ≡ row
-stands-first levels height node row at =
-    let here = at.here in
-    let index : node - 2 ^ (levels - height) ≡ at.index = omega arith in
-    ap (λ n. n * 2 ^ height) index ∙ sym at.first
+stands-first levels height node row at = grind arith
 
 -- the rows up to one are filled in, and then those of a node
 pub taken : (branch : Branch) (height node first row : ℕ) (filled so_far end : Filled) → IsBranch branch → StandsAt branch.levels height node row
@@ -83,7 +78,6 @@ pub taken : (branch : Branch) (height node first row : ℕ) (filled so_far end :
     → end ≡ ended (get_or branch.sums.items node Empty) so_far
     → end ≡ with_areas filled (part branch.dir branch.rows.items first (row + 2 ^ height - first))
 taken branch height node first row filled so_far end is at low within before reads =
-    let many = is.many in
     let own = stands-node branch.levels height node row at (omega arith) in
     let all : row + 2 ^ height - first ≡ (row - first) + 2 ^ height = omega arith in
     let there : first + (row - first) ≡ row = omega arith in
@@ -123,13 +117,8 @@ power-some height = pow_mono {i = 0} (omega arith)
 
 -- no row fills nothing
 pub no-rows : (branch : Branch) (first : ℕ) (filled : Filled) → filled ≡ with_areas filled (part branch.dir branch.rows.items first (first - first))
-no-rows branch first filled =
-    let none : first - first ≡ 0 = omega arith in
-    sym (ap (λ n. with_areas filled (part branch.dir branch.rows.items first n)) none)
+no-rows branch first filled = grind arith
 
 -- a node has few rows
 pub stands-small : (levels height node row : ℕ) → levels ≤ 11 → StandsAt levels height node row → 2 ^ height ≤ 2048
-stands-small levels height node row low at =
-    let few = few-rows levels low in
-    let most : 2 ^ height ≤ 2 ^ levels = pow_mono at.high in
-    omega arith
+stands-small levels height node row low at = grind (arith, few-rows, pow_mono)

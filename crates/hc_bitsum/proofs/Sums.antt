@@ -1,5 +1,5 @@
 -- What the nodes of an array of sums stand for.
-use Rattle.std.proofs.Common.{◌≡◌, ℕ, zero, suc, ◌+◌, ◌-◌, ◌*◌, ◌/◌, ◌%◌, ◌^◌, ◌<◌, ◌≤◌, List, ◌++◌, length, get_or, refl, sym, ap, ◌∙◌, arith}
+use Rattle.std.proofs.Common.{◌≡◌, ℕ, zero, suc, ◌+◌, ◌-◌, ◌*◌, ◌/◌, ◌%◌, ◌^◌, ◌<◌, ◌≤◌, List, ◌++◌, length, get_or, sym, ap, ◌∙◌, arith}
 use Rattle.std.proofs.Math.Nat.{mul-le-mul_right, two-pow-succ}
 use Rattle.std.proofs.Math.Pow.{pow_mono}
 use Rattle.std.proofs.lemmas.Nat.{pow-add}
@@ -26,17 +26,12 @@ more-by i s = grind arith
 at-index : (dir : Dir) (rows : List (List ℕ)) (sums : List Sum) (above height depth i : ℕ) → length rows ≡ 2 ^ (height + depth)
     → AreRowSums (λ j. Unit {0}) dir rows sums → AreForks (λ k. above < k) (length rows) sums → i < 2 ^ depth → above < 2 ^ depth + i
     → get_or sums (2 ^ depth + i) Empty ≡ sum_of (part dir rows (i * 2 ^ height) (2 ^ height))
-at-index dir rows sums above zero depth i many leaves forks h low =
-    let none : 0 + depth ≡ depth = omega arith in
-    let all : length rows ≡ 2 ^ depth = many ∙ ap (λ n. 2 ^ n) none in
-    let one : i * 1 ≡ i = omega arith in
-    rw one (rw (← all) (leaves i (omega arith) tt))
+at-index dir rows sums above zero depth i many leaves forks h low = grind arith
 at-index dir rows sums above (suc height) depth i many leaves forks h low =
     let all : length rows ≡ 2 ^ (height + (depth + 1)) = many ∙ ap (λ n. 2 ^ n) (omega arith) in
     let wide : 2 ^ suc depth ≡ 2 ^ depth + 2 ^ depth = two-pow-succ depth in
     let next : 2 ^ (depth + 1) ≡ 2 ^ depth + 2 ^ depth = ap (λ n. 2 ^ n) (omega arith) ∙ wide in
     let most : 2 ^ (depth + 1) ≤ 2 ^ (height + (depth + 1)) = pow_mono (omega arith) in
-    let some : 1 ≤ 2 ^ depth = pow_mono {i = 0} (omega arith) in
     let left : 2 * (2 ^ depth + i) ≡ 2 ^ (depth + 1) + 2 * i = omega arith in
     let right : 2 * (2 ^ depth + i) + 1 ≡ 2 ^ (depth + 1) + (2 * i + 1) = omega arith in
     let both : 2 ^ suc height ≡ 2 ^ height + 2 ^ height = two-pow-succ height in
@@ -56,9 +51,6 @@ pub node-sum : (dir : Dir) (rows : List (List ℕ)) (sums : List Sum) (above lev
     → AreRowSums (λ j. Unit {0}) dir rows sums → AreForks (λ k. above < k) (length rows) sums → IsNode levels height node → above < node
     → get_or sums node Empty ≡ sum_of (part dir rows (first_of levels height node) (2 ^ height))
 node-sum dir rows sums above levels height node many leaves forks is low =
-    let high = is.high in
-    let from = is.from in
-    let below = is.below in
     let depth = levels - height in
     let all : length rows ≡ 2 ^ (height + depth) = many ∙ ap (λ n. 2 ^ n) (omega arith) in
     let whole : 2 ^ depth + (node - 2 ^ depth) ≡ node = omega arith in
@@ -72,20 +64,15 @@ level levels height h = sym (pow-add 2 (levels - height) height) ∙ ap (λ n. 2
 pub node-within : (levels height node : ℕ) → IsNode levels height node → first_of levels height node + 2 ^ height ≤ 2 ^ levels
 node-within levels height node is =
     let high = is.high in
-    let from = is.from in
-    let below = is.below in
     let all = level levels height high in
     let i = node - 2 ^ (levels - height) in
-    let next = more-by i (2 ^ height) in
     let less : (i + 1) * 2 ^ height ≤ 2 ^ (levels - height) * 2 ^ height = mul-le-mul_right (2 ^ height) (omega arith) in
     omega arith
 
 -- the node of a row
 
 pub row-node : (levels row : ℕ) → row < 2 ^ levels → IsNode levels 0 (2 ^ levels + row)
-row-node levels row h =
-    let here : levels - 0 ≡ levels = omega arith in
-    record { high = omega arith; from = rw here (omega arith); below = rw here (omega arith) }
+row-node levels row h = grind arith
 
 -- the nodes below a node
 
@@ -96,25 +83,14 @@ pub halves : (height : ℕ) → 0 < height → 2 ^ height ≡ 2 ^ (height - 1) +
 halves height some = ap (λ n. 2 ^ n) (omega arith) ∙ two-pow-succ (height - 1)
 
 pub left-node : (levels height node : ℕ) → 0 < height → IsNode levels height node → IsNode levels (height - 1) (2 * node)
-left-node levels height node some is =
-    let high = is.high in
-    let from = is.from in
-    let below = is.below in
-    let more = down levels height some high in
-    record { high = omega arith; from = omega arith; below = omega arith }
+left-node levels height node some is = grind (arith, down)
 
 pub right-node : (levels height node : ℕ) → 0 < height → IsNode levels height node → IsNode levels (height - 1) (2 * node + 1)
-right-node levels height node some is =
-    let high = is.high in
-    let from = is.from in
-    let below = is.below in
-    let more = down levels height some high in
-    record { high = omega arith; from = omega arith; below = omega arith }
+right-node levels height node some is = grind (arith, down)
 
 pub left-first : (levels height node : ℕ) → 0 < height → IsNode levels height node → first_of levels (height - 1) (2 * node) ≡ first_of levels height node
 left-first levels height node some is =
     let high = is.high in
-    let from = is.from in
     let more = down levels height some high in
     let i = node - 2 ^ (levels - height) in
     let twice : 2 * node - 2 ^ (levels - (height - 1)) ≡ 2 * i = omega arith in
@@ -124,7 +100,6 @@ pub right-first : (levels height node : ℕ) → 0 < height → IsNode levels he
     → first_of levels (height - 1) (2 * node + 1) ≡ first_of levels height node + 2 ^ (height - 1)
 right-first levels height node some is =
     let high = is.high in
-    let from = is.from in
     let more = down levels height some high in
     let i = node - 2 ^ (levels - height) in
     let twice : 2 * node + 1 - 2 ^ (levels - (height - 1)) ≡ 2 * i + 1 = omega arith in
@@ -135,9 +110,7 @@ pub node-parts : (dir : Dir) (rows : List (List ℕ)) (levels height node : ℕ)
     → part dir rows (first_of levels height node) (2 ^ height)
     ≡ part dir rows (first_of levels (height - 1) (2 * node)) (2 ^ (height - 1)) ++ part dir rows (first_of levels (height - 1) (2 * node + 1)) (2 ^ (height - 1))
 node-parts dir rows levels height node some is =
-    ap (part dir rows (first_of levels height node)) (halves height some)
-    ∙ part-split dir rows (first_of levels height node) (2 ^ (height - 1)) (2 ^ (height - 1))
-    ∙ rw (left-first levels height node some is, right-first levels height node some is) refl
+    grind (arith, halves, part-split, left-first, right-first)
 
 -- the node above a node, and the one beside it
 
@@ -145,23 +118,13 @@ up : (levels height : ℕ) → height < levels → 2 ^ (levels - height) ≡ 2 ^
 up levels height less = ap (λ n. 2 ^ n) (omega arith) ∙ two-pow-succ (levels - (height + 1))
 
 pub up-node : (levels height node : ℕ) → height < levels → IsNode levels height node → IsNode levels (height + 1) (node / 2)
-up-node levels height node less is =
-    let from = is.from in
-    let below = is.below in
-    let more = up levels height less in
-    record { high = omega arith; from = omega arith; below = omega arith }
+up-node levels height node less is = grind (arith, up)
 
 pub next-node : (levels height node : ℕ) → height < levels → node % 2 ≡ 0 → IsNode levels height node → IsNode levels height (node + 1)
-next-node levels height node less even is =
-    let high = is.high in
-    let from = is.from in
-    let below = is.below in
-    let more = up levels height less in
-    record { high = high; from = omega arith; below = omega arith }
+next-node levels height node less even is = omega arith
 
 pub next-first : (levels height node : ℕ) → IsNode levels height node → first_of levels height (node + 1) ≡ first_of levels height node + 2 ^ height
 next-first levels height node is =
-    let from = is.from in
     let i = node - 2 ^ (levels - height) in
     let next : node + 1 - 2 ^ (levels - height) ≡ i + 1 = omega arith in
     ap (λ n. n * 2 ^ height) next ∙ more-by i (2 ^ height)
@@ -195,40 +158,24 @@ up-right levels height node less odd is =
 -- the root
 
 pub root-node : (levels : ℕ) → IsNode levels levels 1
-root-node levels =
-    let none : levels - levels ≡ 0 = omega arith in
-    record { high = omega arith; from = rw none (omega arith); below = rw none (omega arith) }
+root-node levels = grind arith
 
 pub top-node : (levels node : ℕ) → IsNode levels levels node → node ≡ 1
-top-node levels node is =
-    let none : levels - levels ≡ 0 = omega arith in
-    let from : 1 ≤ node = rw none at is.from in
-    let below : node < 2 = rw none at is.below in
-    omega arith
+top-node levels node is = grind arith
 
 pub root-first : (levels : ℕ) → first_of levels levels 1 ≡ 0
-root-first levels =
-    let none : levels - levels ≡ 0 = omega arith in
-    rw none (omega arith)
+root-first levels = grind arith
 
 -- a node has a number, and below the last level one in the first half
 
 pub node-some : (levels height node : ℕ) → IsNode levels height node → 0 < node
-node-some levels height node is =
-    let from = is.from in
-    let some : 1 ≤ 2 ^ (levels - height) = pow_mono {i = 0} (omega arith) in
-    omega arith
+node-some levels height node is = omega arith
 
 pub node-low_half : (levels height node : ℕ) → IsNode levels (height + 1) node → node < 2 ^ levels
 node-low_half levels height node is =
-    let high = is.high in
-    let below = is.below in
     let most : 2 ^ (levels - (height + 1) + 1) ≤ 2 ^ levels = pow_mono (omega arith) in
     let twice : 2 ^ (levels - (height + 1) + 1) ≡ 2 ^ (levels - (height + 1)) + 2 ^ (levels - (height + 1)) = ap (λ n. 2 ^ n) (omega arith) ∙ two-pow-succ (levels - (height + 1)) in
     omega arith
 
 pub node-inside : (levels height node : ℕ) → IsNode levels height node → node < 2 * 2 ^ levels
-node-inside levels height node is =
-    let below = is.below in
-    let most : 2 ^ (levels - height) ≤ 2 ^ levels = pow_mono (omega arith) in
-    omega arith
+node-inside levels height node is = grind (arith, pow_mono)

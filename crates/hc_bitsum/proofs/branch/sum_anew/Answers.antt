@@ -2,7 +2,7 @@ use Rattle.std.proofs.Common.{◌≡◌, ◌≢◌, ◌+◌, ◌-◌, ◌*◌, �
 use Rattle.hc_bitsum.specs.declared.sum.Sum.{Sum}
 use Rattle.hc_bitsum.specs.Branch.{AreForks, IsNode}
 use Rattle.hc_bitsum.specs.Sums.{sum_of}
-use Rattle.hc_bitsum.proofs.Anew.{all-forks, fewer-forks, forks-put, forks-stay, leaves-put, leaves-stay}
+use Rattle.hc_bitsum.proofs.Anew.{fewer-forks, forks-put, forks-stay, leaves-put, leaves-stay}
 use Rattle.hc_bitsum.proofs.Nodes.{few-rows, forked-low, node-low}
 use Rattle.hc_bitsum.proofs.Parts.{part-one}
 use Rattle.hc_bitsum.proofs.Sums.{left-node, node-low_half, node-some, row-node, up-node}
@@ -29,7 +29,6 @@ join-requires-clause-own c =
     let node = c.loop-level.node / 2 in
     let inv = c.loop-level.invariant in
     let up = up-node levels c.loop-level.level c.loop-level.node c.loop-level-test.true inv.node in
-    let some = node-some levels (c.loop-level.level + 1) node up in
     node-low c.args.dir c.args.rows.now c.loop-level.sums node levels (c.loop-level.level + 1 - 1) (2 * node) c.requires.low c.requires.many c.requires.each
     inv.leaves (fewer-forks (length c.args.rows.now) c.loop-level.sums node inv.forks) (left-node levels (c.loop-level.level + 1) node (omega arith) up) (omega arith)
 
@@ -45,7 +44,6 @@ join-requires-clause-both c =
 pub slice_copy_out-join : goal.slice_copy_out-join
 slice_copy_out-join c =
     let inv = c.loop-level.invariant in
-    let many = inv.many in
     let up = up-node c.args.levels c.loop-level.level c.loop-level.node c.loop-level-test.true inv.node in
     let low = node-low_half c.args.levels c.loop-level.level (c.loop-level.node / 2) up in
     omega arith
@@ -53,7 +51,6 @@ slice_copy_out-join c =
 pub slice_copy_out-join-in-loop-level : goal.slice_copy_out-join-in-loop-level
 slice_copy_out-join-in-loop-level c =
     let inv = c.loop-level.invariant in
-    let many = inv.many in
     let up = up-node c.args.levels c.loop-level.level c.loop-level.node c.loop-level-test.true inv.node in
     let low = node-low_half c.args.levels c.loop-level.level (c.loop-level.node / 2) up in
     omega arith
@@ -61,34 +58,18 @@ slice_copy_out-join-in-loop-level c =
 pub bounds-sums-node-in-loop-level : goal.bounds-sums-node-in-loop-level
 bounds-sums-node-in-loop-level c =
     let inv = c.loop-level.invariant in
-    let many = inv.many in
     let up = up-node c.args.levels c.loop-level.level c.loop-level.node c.loop-level-test.true inv.node in
     let low = node-low_half c.args.levels c.loop-level.level (c.loop-level.node / 2) up in
     omega arith
 
 pub offset_bounds-sums-node-in-loop-level : goal.offset_bounds-sums-node-in-loop-level
-offset_bounds-sums-node-in-loop-level c =
-    let inv = c.loop-level.invariant in
-    let few = few-rows c.args.levels c.requires.low in
-    let up = up-node c.args.levels c.loop-level.level c.loop-level.node c.loop-level-test.true inv.node in
-    let low = node-low_half c.args.levels c.loop-level.level (c.loop-level.node / 2) up in
-    omega arith
+offset_bounds-sums-node-in-loop-level c = grind (arith, few-rows, up-node, node-low_half)
 
 pub offset_bounds-sums-node-in-loop-level-2 : goal.offset_bounds-sums-node-in-loop-level-2
-offset_bounds-sums-node-in-loop-level-2 c =
-    let inv = c.loop-level.invariant in
-    let few = few-rows c.args.levels c.requires.low in
-    let up = up-node c.args.levels c.loop-level.level c.loop-level.node c.loop-level-test.true inv.node in
-    let low = node-low_half c.args.levels c.loop-level.level (c.loop-level.node / 2) up in
-    omega arith
+offset_bounds-sums-node-in-loop-level-2 c = grind (arith, few-rows, up-node, node-low_half)
 
 pub offset_bounds-sums-node-in-loop-level-3 : goal.offset_bounds-sums-node-in-loop-level-3
-offset_bounds-sums-node-in-loop-level-3 c =
-    let inv = c.loop-level.invariant in
-    let few = few-rows c.args.levels c.requires.low in
-    let up = up-node c.args.levels c.loop-level.level c.loop-level.node c.loop-level-test.true inv.node in
-    let low = node-low_half c.args.levels c.loop-level.level (c.loop-level.node / 2) up in
-    omega arith
+offset_bounds-sums-node-in-loop-level-3 c = grind (arith, few-rows, up-node, node-low_half)
 
 pub loop-level-preserved : goal.loop-level-preserved
 loop-level-preserved c =
@@ -97,7 +78,6 @@ loop-level-preserved c =
     let sums = c.loop-level.sums in
     let node = c.loop-level.node / 2 in
     let many = inv.many in
-    let all = c.requires.many in
     let up = up-node c.args.levels c.loop-level.level c.loop-level.node c.loop-level-test.true inv.node in
     let low = node-low_half c.args.levels c.loop-level.level node up in
     let some = node-some c.args.levels (c.loop-level.level + 1) node up in
@@ -109,10 +89,4 @@ loop-level-preserved c =
     }
 
 pub returns-clause-sums : goal.returns-clause-sums
-returns-clause-sums c =
-    let inv = c.loop-level.invariant in
-    let end : c.loop-level.level ≡ c.args.levels = (let past = c.loop-level-test.false in let within = c.loop-level.auto.level-end in omega arith) in
-    record {
-      leaves = inv.leaves;
-      forks = all-forks (length c.args.rows.now) c.args.levels c.loop-level.sums c.loop-level.node (subst (λ n. IsNode c.args.levels n c.loop-level.node) end inv.node) inv.forks;
-    }
+returns-clause-sums c = grind arith

@@ -1,4 +1,4 @@
-use Rattle.std.proofs.Common.{◌≡◌, ◌+◌, ◌<◌, [], drop, get_or, length, ap, sym, ◌∙◌, arith}
+use Rattle.std.proofs.Common.{◌+◌, ◌<◌, drop, get_or, length, ap, sym, ◌∙◌, arith}
 use Rattle.std.proofs.Math.ListN.{drop_of_length-le}
 use Rattle.hc_bitsum.specs.declared.row.Fit.TheVariants.{Found}
 use Rattle.hc_records.specs.TaskList.{Keyed}
@@ -34,11 +34,4 @@ loop-area-preserved g c =
     }
 
 pub returns-clause-fit : goal.returns-clause-fit
-returns-clause-fit g c =
-    let row = c.args.row.now in
-    let i = c.loop-area.area in
-    let size = length-row c.args.dir c.args.place row in
-    let many = c.requires.row.many in
-    let past = c.loop-area-test.false in
-    let none : drop i (row_areas c.args.dir c.args.place row) ≡ [] = drop_of_length-le (row_areas c.args.dir c.args.place row) (omega arith) in
-    sym (ap (scan c.args.room c.loop-area.so_far) none) ∙ c.loop-area.invariant.fit
+returns-clause-fit g c = grind (arith, length-row, drop_of_length-le)

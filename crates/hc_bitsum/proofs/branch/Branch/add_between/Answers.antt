@@ -1,9 +1,8 @@
-use Rattle.std.proofs.Common.{◌≡◌, ◌++◌, List, OnOk, length, append-nil, refl, sym, subst, ap, ◌∙◌, arith}
+use Rattle.std.proofs.Common.{◌≡◌, ◌++◌, List, length, append-nil, refl, sym, ap, ◌∙◌, arith}
 use Rattle.std.specs.Prelude.{filter}
 use Rattle.hc_records.specs.TaskList.{Keyed}
 use Rattle.hc_bitsum.specs.Branch.{slots_of}
 use Rattle.hc_bitsum.specs.Tree.{has_width}
-use Rattle.hc_bitsum.specs.Slots.{stretch}
 use Rattle.hc_bitsum.proofs.Between.{none-between}
 use Rattle.hc_bitsum.proofs.Nodes.{few-rows}
 use Rattle.hc_bitsum.proofs.Stretches.{branch-between, branch-size, stretch-none}
@@ -11,18 +10,10 @@ use Rattle.hc_bitsum.proofs.branch.Branch.add_between.Goals as goal
 use Rattle.hc_bitsum.proofs.branch.Branch.add_between.Goals.{then-end-first-via-then-end-first, then-end-first-via-else-end-first+then-is_empty}
 
 pub places_before-first-requires : goal.places_before-first-requires
-places_before-first-requires c =
-    let few = few-rows c.args.self.now.levels c.requires.low in
-    let many = c.requires.many in
-    let len = c.len.ensures in
-    omega (arith, c.args.self.now.rows.ok.0)
+places_before-first-requires c = grind (arith, few-rows)
 
 pub places_before-end-requires : goal.places_before-end-requires
-places_before-end-requires c =
-    let few = few-rows c.args.self.now.levels c.requires.low in
-    let many = c.requires.many in
-    let len = c.len.ensures in
-    omega (arith, c.args.self.now.rows.ok.0)
+places_before-end-requires c = grind (arith, few-rows)
 
 pub returns-then-end-first : goal.returns-then-end-first
 returns-then-end-first c =
@@ -41,22 +32,7 @@ returns-then-end-first c =
     ]
 
 pub add_stretch-requires-clause-within : goal.add_stretch-requires-clause-within
-add_stretch-requires-clause-within c =
-    let branch = c.args.self.now in
-    let size = branch-size branch c.requires in
-    let len : c.len.result ≡ length branch.rows.items = let len = c.len.ensures in omega (arith, branch.rows.ok.0) in
-    let within = c.places_before-end.ensures.within in
-    omega arith
+add_stretch-requires-clause-within c = grind (arith, branch-size)
 
 pub returns : goal.returns
-returns c =
-    let branch = c.args.self.now in
-    let areas = (slots_of branch).areas in
-    let old = c.args.areas.now.items in
-    let first = c.places_before-first.result in
-    let end = c.places_before-end.result in
-    let len : c.len.result ≡ length branch.rows.items = let len = c.len.ensures in omega (arith, branch.rows.ok.0) in
-    let own = branch-between branch c.len.result first end c.args.from c.args.until c.requires len c.places_before-first.ensures.parts c.places_before-end.ensures.parts in
-    subst (λ (xs : List Keyed). OnOk c.add_stretch.result (c.add_stretch.new.areas.items ≡ xs))
-    (ap (λ (xs : List Keyed). xs ++ filter has_width (stretch first end areas)) c.in_ok-reserve.ensures.items ∙ ap (λ (xs : List Keyed). old ++ filter has_width xs) (sym own))
-    c.add_stretch.ensures
+returns c = grind (arith, branch-between)

@@ -11,59 +11,39 @@ pub filled_by-so_far-requires-clause-node : goal.filled_by-so_far-requires-claus
 filled_by-so_far-requires-clause-node c =
     let branch = c.args.self.now in
     let small = stands-small branch.levels c.levels.height c.levels.node c.levels.row c.requires.branch.low c.levels.invariant.stands in
-    let within = c.requires.within in
-    let many = c.requires.branch.many in
-    let test = c.if-row-height.true in
     let own = stands-node branch.levels c.levels.height c.levels.node c.levels.row c.levels.invariant.stands (omega arith) in
     node-index branch c.levels.height c.levels.node c.requires.branch own
 
 pub filled_by-so_far-requires-clause-here : goal.filled_by-so_far-requires-clause-here
-filled_by-so_far-requires-clause-here c =
-    let branch = c.args.self.now in
-    let small = stands-small branch.levels c.levels.height c.levels.node c.levels.row c.requires.branch.low c.levels.invariant.stands in
-    let inv = c.levels.invariant in
-    let low = rows-low branch c.args.from.row c.levels.row c.args.end c.args.from.filled inv.from inv.within in
-    let there = c.requires.there in
-    let bit = ap (λ (r : Filled). r.bit) inv.so_far in
-    omega arith
+filled_by-so_far-requires-clause-here c = grind (arith, stands-small, rows-low)
 
 pub filled_by-so_far-requires-clause-there : goal.filled_by-so_far-requires-clause-there
 filled_by-so_far-requires-clause-there c =
     let branch = c.args.self.now in
     let small = stands-small branch.levels c.levels.height c.levels.node c.levels.row c.requires.branch.low c.levels.invariant.stands in
     let inv = c.levels.invariant in
-    let within = c.requires.within in
-    let many = c.requires.branch.many in
-    let test = c.if-row-height.true in
     let own = stands-node branch.levels c.levels.height c.levels.node c.levels.row inv.stands (omega arith) in
     let low = rows-low branch c.args.from.row c.levels.row c.args.end c.args.from.filled inv.from inv.within in
-    let there = c.requires.there in
     let bit = ap (λ (r : Filled). r.bit) inv.so_far in
     read-low branch c.levels.height c.levels.node c.levels.so_far c.requires.branch own (omega arith)
 
 pub returns-then-height-eq0 : goal.returns-then-height-eq0
 returns-then-height-eq0 c =
     let branch = c.args.self.now in
-    let small = stands-small branch.levels c.levels.height c.levels.node c.levels.row c.requires.branch.low c.levels.invariant.stands in
     let height = c.levels.height in
     let node = c.levels.node in
     let row = c.levels.row in
     let inv = c.levels.invariant in
-    let within = c.requires.within in
     let from = inv.from in
-    let low = inv.within in
-    let near = inv.near in
     let wide = wider height in
     let none = c.if-height-eq0.true in
     let one : 2 ^ height ≡ 1 = ap (λ n. 2 ^ n) none in
     elim c.if-row-height.branch [
       | then-row-height w ↦
-          let test = w.if-row-height.true in
           let filled = taken branch height node c.args.from.row row c.args.from.filled c.levels.so_far w.filled_by-so_far.result c.requires.branch inv.stands from (omega arith) inv.so_far w.filled_by-so_far.ensures in
           let end : row + 2 ^ height - c.args.from.row ≡ c.args.end - c.args.from.row = omega arith in
           w.so_far-is ∙ filled ∙ ap (λ n. with_areas c.args.from.filled (part branch.dir branch.rows.items c.args.from.row n)) end
       | else-row-height w ↦
-          let test = w.if-row-height.false in
           let end : row - c.args.from.row ≡ c.args.end - c.args.from.row = omega arith in
           w.so_far-is ∙ inv.so_far ∙ ap (λ n. with_areas c.args.from.filled (part branch.dir branch.rows.items c.args.from.row n)) end
     ]
@@ -85,7 +65,6 @@ levels-preserved c =
     let same : 2 ^ (height - 1 + 1) ≡ 2 ^ height = ap (λ n. 2 ^ n) (omega arith) in
     elim c.if-row-height.branch [
       | then-row-height w ↦
-          let test = w.if-row-height.true in
           let filled = taken branch height node c.args.from.row row c.args.from.filled c.levels.so_far w.filled_by-so_far.result c.requires.branch inv.stands from (omega arith) inv.so_far w.filled_by-so_far.ensures in
           let row-is : c.if-row-height.row ≡ row + 2 ^ height = let is = w.row-is in omega arith in
           rw (row-is, w.node-is, w.so_far-is) (record {
@@ -96,7 +75,6 @@ levels-preserved c =
             so_far = filled;
           })
       | else-row-height w ↦
-          let test = w.if-row-height.false in
           rw (w.row-is, w.node-is, w.so_far-is) (record {
             stands = stands-down branch.levels height node row some inv.stands;
             from = from;

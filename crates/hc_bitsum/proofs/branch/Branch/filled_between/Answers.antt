@@ -1,5 +1,4 @@
 use Rattle.std.proofs.Common.{◌≡◌, length, sym, ap, ◌∙◌, arith}
-use Rattle.hc_bitsum.specs.declared.filled.Filled.{Filled}
 use Rattle.hc_bitsum.specs.Branch.{slots_of}
 use Rattle.hc_bitsum.specs.Filling.{with_areas}
 use Rattle.hc_bitsum.proofs.Nodes.{few-rows}
@@ -7,18 +6,10 @@ use Rattle.hc_bitsum.proofs.Stretches.{branch-between, branch-size, stretch-none
 use Rattle.hc_bitsum.proofs.branch.Branch.filled_between.Goals as goal
 
 pub places_before-first-requires : goal.places_before-first-requires
-places_before-first-requires c =
-    let few = few-rows c.args.self.now.levels c.requires.branch.low in
-    let many = c.requires.branch.many in
-    let len = c.len.ensures in
-    omega (arith, c.args.self.now.rows.ok.0)
+places_before-first-requires c = grind (arith, few-rows)
 
 pub places_before-end-requires : goal.places_before-end-requires
-places_before-end-requires c =
-    let few = few-rows c.args.self.now.levels c.requires.branch.low in
-    let many = c.requires.branch.many in
-    let len = c.len.ensures in
-    omega (arith, c.args.self.now.rows.ok.0)
+places_before-end-requires c = grind (arith, few-rows)
 
 pub returns-then-end-first : goal.returns-then-end-first
 returns-then-end-first c =
@@ -31,29 +22,10 @@ returns-then-end-first c =
     sym (ap (with_areas c.args.filled) (own ∙ stretch-none first end areas c.if-end-first.true))
 
 pub filled_by_stretch-requires-clause-within : goal.filled_by_stretch-requires-clause-within
-filled_by_stretch-requires-clause-within c =
-    let branch = c.args.self.now in
-    let size = branch-size branch c.requires.branch in
-    let len : c.len.result ≡ length branch.rows.items = let len = c.len.ensures in omega (arith, branch.rows.ok.0) in
-    let within = c.places_before-end.ensures.within in
-    omega arith
+filled_by_stretch-requires-clause-within c = grind (arith, branch-size)
 
 pub filled_by_stretch-requires-clause-there : goal.filled_by_stretch-requires-clause-there
-filled_by_stretch-requires-clause-there c =
-    let branch = c.args.self.now in
-    let first = c.places_before-first.result in
-    let end = c.places_before-end.result in
-    let len : c.len.result ≡ length branch.rows.items = let len = c.len.ensures in omega (arith, branch.rows.ok.0) in
-    let own = branch-between branch c.len.result first end c.args.from c.args.until c.requires.branch len c.places_before-first.ensures.parts c.places_before-end.ensures.parts in
-    let bit = ap (λ (r : Filled). r.bit) (ap (with_areas c.args.filled) own) in
-    let there = c.requires.there in
-    omega arith
+filled_by_stretch-requires-clause-there c = grind (arith, branch-between)
 
 pub returns : goal.returns
-returns c =
-    let branch = c.args.self.now in
-    let first = c.places_before-first.result in
-    let end = c.places_before-end.result in
-    let len : c.len.result ≡ length branch.rows.items = let len = c.len.ensures in omega (arith, branch.rows.ok.0) in
-    let own = branch-between branch c.len.result first end c.args.from c.args.until c.requires.branch len c.places_before-first.ensures.parts c.places_before-end.ensures.parts in
-    c.filled_by_stretch.ensures ∙ sym (ap (with_areas c.args.filled) own)
+returns c = grind (arith, branch-between)

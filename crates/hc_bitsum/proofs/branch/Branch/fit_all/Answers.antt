@@ -1,9 +1,6 @@
-use Rattle.std.proofs.Common.{◌≤◌, ap, subst, sym, ◌∙◌, arith}
-use Rattle.hc_bitsum.specs.declared.filled.Filled.{Filled}
-use Rattle.hc_bitsum.specs.Branch.{node_areas, slots_of}
-use Rattle.hc_bitsum.specs.Filling.{with_areas}
+use Rattle.std.proofs.Common.{ap, ◌∙◌, arith}
+use Rattle.hc_bitsum.specs.Branch.{node_areas}
 use Rattle.hc_bitsum.specs.Search.{scan}
-use Rattle.hc_bitsum.specs.declared.row.Fit.TheVariants.{Through}
 use Rattle.hc_bitsum.proofs.Nodes.{beyond-in, end-beyond, node-index, read-end, read-low, root-areas}
 use Rattle.hc_bitsum.proofs.Scan.{scan-all}
 use Rattle.hc_bitsum.proofs.Sums.{root-node}
@@ -14,22 +11,13 @@ behind_node-end-requires-clause-node g c = node-index c.args.self.now c.args.sel
 
 pub behind_node-end-requires-clause-there : goal.behind_node-end-requires-clause-there
 behind_node-end-requires-clause-there g c =
-    let here = c.requires.here in
-    let room = c.requires.room in
     read-low c.args.self.now c.args.self.now.levels 1 c.args.filled c.requires.branch (root-node c.args.self.now.levels) (omega arith)
 
 pub returns-then-end-room-clause-fit : goal.returns-then-end-room-clause-fit
-returns-then-end-room-clause-fit g c =
-    let branch = c.args.self.now in
-    let end = read-end branch branch.levels 1 c.args.filled c.behind_node-end.result c.requires.branch (root-node branch.levels) c.behind_node-end.ensures.end
-    ∙ ap (with_areas c.args.filled) (root-areas branch c.requires.branch) in
-    ap Through end ∙ sym (scan-all c.args.room c.args.filled (slots_of branch).areas (subst (λ (r : Filled). r.bit ≤ c.args.room) end c.if-end-room.true))
+returns-then-end-room-clause-fit g c = grind (arith, read-end, root-node, root-areas, scan-all)
 
 pub fit_below-requires-clause-beyond : goal.fit_below-requires-clause-beyond
-fit_below-requires-clause-beyond g c =
-    let branch = c.args.self.now in
-    let end = read-end branch branch.levels 1 c.args.filled c.behind_node-end.result c.requires.branch (root-node branch.levels) c.behind_node-end.ensures.end in
-    end-beyond c.args.filled c.behind_node-end.result (node_areas branch branch.levels 1) c.args.room end c.if-end-room.false
+fit_below-requires-clause-beyond g c = grind (arith, read-end, root-node, end-beyond)
 
 pub returns-clause-fit : goal.returns-clause-fit
 returns-clause-fit g c = c.fit_below.ensures.fit ∙ ap (scan c.args.room c.args.filled) (root-areas c.args.self.now c.requires.branch)

@@ -1,4 +1,4 @@
-use Rattle.std.proofs.Common.{◌≡◌, ◌+◌, ◌%◌, ◌∙◌, arith}
+use Rattle.std.proofs.Common.{◌+◌, arith}
 use Rattle.hc_bitsum.specs.Branch.{node_areas}
 use Rattle.hc_bitsum.proofs.Nodes.{behind-found, behind-same, behind-through, beyond-in, end-beyond, node-index, read-end, read-low}
 use Rattle.hc_bitsum.proofs.Sums.{next-node, up-node}
@@ -12,32 +12,17 @@ behind_node-end-requires-clause-node g c =
     inside
 
 pub behind_node-end-requires-clause-there : goal.behind_node-end-requires-clause-there
-behind_node-end-requires-clause-there g c =
-    let next = next-node c.args.self.now.levels c.loop-height.height c.loop-height.node c.loop-height-test.true c.if-node-eq0.true c.loop-height.invariant.node in
-    let here = c.loop-height.invariant.here in
-    let room = c.requires.room in
-    read-low c.args.self.now c.loop-height.height (c.loop-height.node + 1) c.loop-height.so_far c.requires.branch next (omega arith)
+behind_node-end-requires-clause-there g c = grind (arith, next-node, read-low)
 
 pub fit_below-requires-clause-node : goal.fit_below-requires-clause-node
 fit_below-requires-clause-node g c =
     next-node c.args.self.now.levels c.loop-height.height c.loop-height.node c.loop-height-test.true c.if-node-eq0.true c.loop-height.invariant.node
 
 pub fit_below-requires-clause-beyond : goal.fit_below-requires-clause-beyond
-fit_below-requires-clause-beyond g c =
-    let branch = c.args.self.now in
-    let next = next-node branch.levels c.loop-height.height c.loop-height.node c.loop-height-test.true c.if-node-eq0.true c.loop-height.invariant.node in
-    let end = read-end branch c.loop-height.height (c.loop-height.node + 1) c.loop-height.so_far c.behind_node-end.result c.requires.branch next c.behind_node-end.ensures.end in
-    end-beyond c.loop-height.so_far c.behind_node-end.result (node_areas branch c.loop-height.height (c.loop-height.node + 1)) c.args.room end c.if-end-room.true
+fit_below-requires-clause-beyond g c = grind (arith, next-node, read-end, end-beyond)
 
 pub returns-then-end-room-clause-fit : goal.returns-then-end-room-clause-fit
-returns-then-end-room-clause-fit g c =
-    let branch = c.args.self.now in
-    let next = next-node branch.levels c.loop-height.height c.loop-height.node c.loop-height-test.true c.if-node-eq0.true c.loop-height.invariant.node in
-    let end = read-end branch c.loop-height.height (c.loop-height.node + 1) c.loop-height.so_far c.behind_node-end.result c.requires.branch next c.behind_node-end.ensures.end in
-    let beyond = end-beyond c.loop-height.so_far c.behind_node-end.result (node_areas branch c.loop-height.height (c.loop-height.node + 1)) c.args.room end c.if-end-room.true in
-    behind-found branch c.loop-height.height c.loop-height.node c.args.room c.loop-height.so_far c.fit_below.result c.requires.branch c.loop-height-test.true c.if-node-eq0.true
-    c.loop-height.invariant.node c.loop-height.invariant.here beyond c.fit_below.ensures.fit
-    ∙ c.loop-height.invariant.fit
+returns-then-end-room-clause-fit g c = grind (arith, next-node, read-end, end-beyond, behind-found)
 
 pub returns-then-end-room-clause-end : goal.returns-then-end-room-clause-end
 returns-then-end-room-clause-end g c =
@@ -48,36 +33,4 @@ returns-then-end-room-clause-end g c =
     (end-beyond c.loop-height.so_far c.behind_node-end.result (node_areas branch c.loop-height.height (c.loop-height.node + 1)) c.args.room end c.if-end-room.true) c.fit_below.ensures.fit
 
 pub loop-height-preserved : goal.loop-height-preserved
-loop-height-preserved g c =
-    let branch = c.args.self.now in
-    let height = c.loop-height.height in
-    let node = c.loop-height.node in
-    let inv = c.loop-height.invariant in
-    let less = c.loop-height-test.true in
-    let least = inv.least in
-    let most = inv.most in
-    elim c.if-node-eq0.branch [
-      | then-node-eq0+else-end-room w ↦
-          let even = w.if-node-eq0.true in
-          let next = next-node branch.levels height node less even inv.node in
-          let end = read-end branch height (node + 1) c.loop-height.so_far w.behind_node-end.result c.requires.branch next w.behind_node-end.ensures.end in
-          let tick = w.behind_node-end.ensures.step in
-          let steps = w.steps-is in
-          record {
-            node = up-node branch.levels height node less inv.node;
-            fit = rw (w.so_far-is) (behind-through branch height node c.args.room c.loop-height.so_far w.behind_node-end.result c.requires.branch less even inv.node end w.if-end-room.false ∙ inv.fit);
-            here = rw (w.so_far-is) (w.if-end-room.false);
-            least = omega arith;
-            most = omega arith;
-          }
-      | else-node-eq0 w ↦
-          let odd : node % 2 ≡ 1 = let other = w.if-node-eq0.false in omega arith in
-          let steps = w.steps-is in
-          record {
-            node = up-node branch.levels height node less inv.node;
-            fit = rw (w.so_far-is) (behind-same branch height node c.args.room c.loop-height.so_far less odd inv.node ∙ inv.fit);
-            here = rw (w.so_far-is) (inv.here);
-            least = omega arith;
-            most = omega arith;
-          }
-    ]
+loop-height-preserved g c = grind (arith, next-node, read-end, up-node, behind-through, behind-same)

@@ -1,8 +1,6 @@
-use Rattle.std.proofs.Common.{◌≡◌, ◌-◌, ◌*◌, [], get_or, length, ap, subst, sym, ◌∙◌, arith}
+use Rattle.std.proofs.Common.{◌-◌, ◌*◌, ◌∙◌, arith}
 use Rattle.std.proofs.lemmas.List.{get_or_default}
-use Rattle.hc_bitsum.specs.Branch.{IsNode, node_areas}
-use Rattle.hc_bitsum.specs.Rows.{row_areas}
-use Rattle.hc_bitsum.specs.Search.{scan}
+use Rattle.hc_bitsum.specs.Branch.{node_areas}
 use Rattle.hc_bitsum.proofs.Nodes.{beyond-right, end-beyond, few-rows, into-left, into-right, leaf-areas, leaf-row, node-index, read-end, read-low}
 use Rattle.hc_bitsum.proofs.Sums.{left-node, right-node}
 use Rattle.hc_bitsum.proofs.branch.Branch.fit_below.Goals as goal
@@ -16,8 +14,6 @@ behind_node-end-requires-clause-node g c =
 pub behind_node-end-requires-clause-there : goal.behind_node-end-requires-clause-there
 behind_node-end-requires-clause-there g c =
     let left = left-node c.args.self.now.levels c.loop-height.height c.loop-height.node c.loop-height-test.true c.loop-height.invariant.node in
-    let here = c.loop-height.invariant.here in
-    let room = c.requires.room in
     read-low c.args.self.now (c.loop-height.height - 1) (2 * c.loop-height.node) c.loop-height.so_far c.requires.branch left (omega arith)
 
 pub loop-height-preserved-then-end-room : goal.loop-height-preserved-then-end-room
@@ -29,7 +25,6 @@ loop-height-preserved-then-end-room g c =
     let some = c.loop-height-test.true in
     let left = left-node branch.levels height node some inv.node in
     let end = read-end branch (height - 1) (2 * node) c.loop-height.so_far c.behind_node-end.result c.requires.branch left c.behind_node-end.ensures.end in
-    let tick = c.behind_node-end.ensures.step in
     let least = inv.least in
     let most = inv.most in
     record {
@@ -51,7 +46,6 @@ loop-height-preserved g c =
     let left = left-node branch.levels height node some inv.node in
     let end = read-end branch (height - 1) (2 * node) c.loop-height.so_far c.behind_node-end.result c.requires.branch left c.behind_node-end.ensures.end in
     let beyond = end-beyond c.loop-height.so_far c.behind_node-end.result (node_areas branch (height - 1) (2 * node)) c.args.room end c.if-end-room.false in
-    let tick = c.behind_node-end.ensures.step in
     let least = inv.least in
     let most = inv.most in
     record {
@@ -64,29 +58,7 @@ loop-height-preserved g c =
     }
 
 pub fit_row-requires-clause-place : goal.fit_row-requires-clause-place
-fit_row-requires-clause-place g c =
-    let branch = c.args.self.now in
-    let none : c.loop-height.height ≡ 0 = let low = c.loop-height-test.false in omega arith in
-    let leaf = subst (λ n. IsNode branch.levels n c.loop-height.node) none c.loop-height.invariant.node in
-    let inside = leaf-row branch c.loop-height.node c.requires.branch leaf in
-    let few = few-rows branch.levels c.requires.branch.low in
-    let many = c.requires.branch.many in
-    let len = c.len.ensures in
-    omega (arith, branch.rows.ok.0)
+fit_row-requires-clause-place g c = grind (arith, leaf-row, few-rows)
 
 pub returns-clause-fit : goal.returns-clause-fit
-returns-clause-fit g c =
-    let branch = c.args.self.now in
-    let none : c.loop-height.height ≡ 0 = let low = c.loop-height-test.false in omega arith in
-    let leaf = subst (λ n. IsNode branch.levels n c.loop-height.node) none c.loop-height.invariant.node in
-    let inside = leaf-row branch c.loop-height.node c.requires.branch leaf in
-    let len : c.len.result ≡ length branch.rows.items = let len = c.len.ensures in omega (arith, branch.rows.ok.0) in
-    let fit = rw len at c.fit_row.ensures.fit in
-    let own = rw len at c.index.ensures in
-    let row : c.index.result.now ≡ get_or branch.rows.items (c.loop-height.node - length branch.rows.items) [] =
-    own ∙ get_or_default branch.rows.items (c.loop-height.node - length branch.rows.items) c.index.result.now [] inside in
-    fit
-    ∙ ap (λ xs. scan c.args.room c.loop-height.so_far (row_areas branch.dir (8 * (c.loop-height.node - length branch.rows.items)) xs)) row
-    ∙ ap (scan c.args.room c.loop-height.so_far) (leaf-areas branch c.loop-height.node c.requires.branch leaf)
-    ∙ ap (λ n. scan c.args.room c.loop-height.so_far (node_areas branch n c.loop-height.node)) (sym none)
-    ∙ c.loop-height.invariant.fit
+returns-clause-fit g c = grind (arith, leaf-row, get_or_default, leaf-areas)

@@ -1,40 +1,21 @@
-use Rattle.std.proofs.Common.{◌≡◌, ◌+◌, ◌/◌, ◌%◌, ℕ, List, [], get_or, length, set, ap, subst, sym, ◌∙◌, arith, length-set}
+use Rattle.std.proofs.Common.{◌≡◌, ◌/◌, ◌%◌, ℕ, List, [], get_or, length, set, ap, subst, sym, ◌∙◌, arith, length-set}
 use Rattle.std.specs.Vec.{with_items}
 use Rattle.std.proofs.lemmas.List.{get_or_default, with_items_is}
 use Rattle.std.proofs.lemmas.List.Elements.{All-get_or, All-set}
-use Rattle.hc_records.specs.TaskList.{Keyed}
 use Rattle.hc_bitsum.specs.Branch.{AreSums}
-use Rattle.hc_bitsum.specs.Rows.{IsRow, part}
-use Rattle.hc_bitsum.specs.Slots.{Slots}
+use Rattle.hc_bitsum.specs.Rows.{IsRow}
 use Rattle.hc_bitsum.proofs.Anew.{part-set, set-row}
 use Rattle.hc_bitsum.proofs.Nodes.{row-inside}
 use Rattle.hc_bitsum.proofs.branch.Branch.set.Goals as goal
 
 pub index_mut-requires : goal.index_mut-requires
-index_mut-requires c =
-    let inside = row-inside c.args.self.now c.args.at c.requires.branch c.requires.within in
-    omega (arith, c.args.self.now.rows.ok.0)
+index_mut-requires c = grind (arith, row-inside)
 
 pub sum_anew-requires-clause-row : goal.sum_anew-requires-clause-row
-sum_anew-requires-clause-row c =
-    let rows = c.args.self.now.rows.items in
-    let inside = row-inside c.args.self.now c.args.at c.requires.branch c.requires.within in
-    let still = length-set rows (c.args.at / 8) (set c.index_mut.result.now (c.args.at % 8) c.args.bits) in
-    let many = ap length c.deref.ensures.value in
-    omega arith
+sum_anew-requires-clause-row c = grind (arith, row-inside, length-set)
 
 pub returns-clause-slots : goal.returns-clause-slots
-returns-clause-slots c =
-    let branch = c.args.self.now in
-    let rows = branch.rows.items in
-    let r = c.args.at / 8 in
-    let j = c.args.at % 8 in
-    let inside = row-inside branch c.args.at c.requires.branch c.requires.within in
-    let own : c.index_mut.result.now ≡ get_or rows r [] = c.index_mut.ensures.value ∙ get_or_default rows r c.index_mut.result.now [] inside in
-    let still : length (set rows r (set (get_or rows r []) j c.args.bits)) ≡ length rows = length-set rows r (set (get_or rows r []) j c.args.bits) in
-    ap (λ (xs : List ℕ). let slots : Slots = record { height = branch.levels + 3; areas = part branch.dir (set rows r (set xs j c.args.bits)) 0 (length (set rows r (set xs j c.args.bits))) } in slots) own
-    ∙ ap (λ (n : ℕ). let slots : Slots = record { height = branch.levels + 3; areas = part branch.dir (set rows r (set (get_or rows r []) j c.args.bits)) 0 n } in slots) still
-    ∙ ap (λ (areas : List Keyed). let slots : Slots = record { height = branch.levels + 3; areas = areas } in slots) (part-set branch.dir rows c.args.at c.args.bits c.requires.branch.each (omega arith))
+returns-clause-slots c = grind (arith, row-inside, get_or_default, length-set, part-set)
 
 pub returns-clause-branch : goal.returns-clause-branch
 returns-clause-branch c =

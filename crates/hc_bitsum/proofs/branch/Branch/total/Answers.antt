@@ -10,7 +10,6 @@ pub returns-clause-sum : goal.returns-clause-sum
 returns-clause-sum c =
     let branch = c.args.self.now in
     let root = root-node branch.levels in
-    let nodes = c.requires.nodes in
     let below = node-inside branch.levels branch.levels 1 root in
     let inside : 1 < length branch.sums.items = omega arith in
     c.index.ensures ∙ get_or_default branch.sums.items 1 c.index.result.now Empty inside

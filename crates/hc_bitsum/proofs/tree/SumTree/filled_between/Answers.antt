@@ -1,8 +1,6 @@
-use Rattle.std.proofs.Common.{◌∙◌, ap, arith}
+use Rattle.std.proofs.Common.{ap, arith}
 use Rattle.hc_bitsum.specs.declared.filled.Filled.{Filled}
 use Rattle.hc_bitsum.specs.Branch.{slots_of}
-use Rattle.hc_bitsum.specs.Filling.{areas_between, with_areas}
-use Rattle.hc_bitsum.specs.Tree.{Tree}
 use Rattle.hc_bitsum.proofs.Shape.{few}
 use Rattle.hc_bitsum.proofs.Stretches.{filled-both, filled-few}
 use Rattle.hc_bitsum.proofs.tree.SumTree.filled_between.Goals as goal
@@ -12,7 +10,6 @@ filled_between-outputs-requires-clause-there c =
     let shape = c.self.invariant.outs.shape in
     let many = few (slots_of c.self.inside.outputs) shape in
     let end = filled-few c.args.from c.args.until c.args.filled (slots_of c.self.inside.outputs).areas shape.narrow in
-    let here = c.requires in
     omega arith
 
 pub filled_between-requires-clause-there : goal.filled_between-requires-clause-there
@@ -28,10 +25,4 @@ filled_between-requires-clause-there c =
     omega arith
 
 pub returns : goal.returns
-returns c =
-    let outputs = (slots_of c.self.inside.outputs).areas in
-    let inputs = (slots_of c.self.inside.inputs).areas in
-    c.filled_between.ensures
-    ∙ ap (λ (f : Filled). with_areas f (areas_between c.args.from c.args.until inputs)) c.filled_between-outputs.ensures
-    ∙ filled-both c.args.from c.args.until c.args.filled outputs inputs
-    ∙ ap (λ (tree : Tree). with_areas c.args.filled (areas_between c.args.from c.args.until tree.list)) c.self.view_is
+returns c = grind (arith, filled-both)

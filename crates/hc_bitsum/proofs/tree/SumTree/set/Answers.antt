@@ -1,8 +1,7 @@
-use Rattle.std.proofs.Common.{◌≡◌, ◌<◌, ◌∙◌, ℕ, List, length, ap, subst, sym, arith}
+use Rattle.std.proofs.Common.{◌≡◌, ◌∙◌, ℕ, ap, subst, sym, arith}
 use Rattle.hc_records.specs.declared.records.Dir.{Dir}
 use Rattle.hc_records.specs.declared.records.Dir.TheVariants.{Out, In}
 use Rattle.hc_records.specs.declared.keys.Key.{Key}
-use Rattle.hc_records.specs.TaskList.{Keyed}
 use Rattle.hc_bitsum.specs.Branch.{slots_of}
 use Rattle.hc_bitsum.specs.Slots.{Slots, key_at, set_at, with_bits}
 use Rattle.hc_bitsum.specs.Tree.{HasPlace, Tree}
@@ -41,34 +40,10 @@ invariant_of-self-in-In c =
     }
 
 pub returns-in-Out-clause-set : goal.returns-in-Out-clause-set
-returns-in-Out-clause-set c =
-    let place = c.place_of-place.result in
-    let key : c.args.key ≡ key_at Out place = c.place_of-place.ensures.value ∙ ap (λ (d : Dir). key_at d place) c.in-Out.is in
-    let slaves : c.self.inside.slaves ≡ c.args.self.now.slaves = ap (λ (tree : Tree). tree.slaves) c.self.view_is in
-    let room = c.self.invariant.outs.room in
-    let within = c.place_of-place.ensures.within in
-    let last = c.requires.place.last in
-    let area = c.requires.place.area in
-    let inside : place < length (slots_of c.self.inside.outputs).areas = omega arith in
-    let set = wide-outputs place c.args.bits (slots_of c.self.inside.outputs).areas (slots_of c.self.inside.inputs).areas c.self.invariant.outs.keys c.self.invariant.ins.keys inside in
-    let areas : (slots_of c.set.new.self).areas ≡ set_at place c.args.bits (slots_of c.self.inside.outputs).areas = ap (λ (s : Slots). s.areas) c.set.ensures.slots in
-    rw (← c.self.view_is, areas, key)
-    (ap (λ (list : List Keyed). let tree : Tree = record { slaves = c.self.inside.slaves; list = list } in tree) set)
+returns-in-Out-clause-set c = grind (arith, wide-outputs)
 
 pub returns-in-In-clause-set : goal.returns-in-In-clause-set
-returns-in-In-clause-set c =
-    let place = c.place_of-place.result in
-    let key : c.args.key ≡ key_at In place = c.place_of-place.ensures.value ∙ ap (λ (d : Dir). key_at d place) c.in-In.is in
-    let slaves : c.self.inside.slaves ≡ c.args.self.now.slaves = ap (λ (tree : Tree). tree.slaves) c.self.view_is in
-    let room = c.self.invariant.ins.room in
-    let within = c.place_of-place.ensures.within in
-    let last = c.requires.place.last in
-    let area = c.requires.place.area in
-    let inside : place < length (slots_of c.self.inside.inputs).areas = omega arith in
-    let set = wide-inputs place c.args.bits (slots_of c.self.inside.outputs).areas (slots_of c.self.inside.inputs).areas c.self.invariant.outs.keys c.self.invariant.ins.keys inside in
-    let areas : (slots_of c.set-in-In.new.self).areas ≡ set_at place c.args.bits (slots_of c.self.inside.inputs).areas = ap (λ (s : Slots). s.areas) c.set-in-In.ensures.slots in
-    rw (← c.self.view_is, areas, key)
-    (ap (λ (list : List Keyed). let tree : Tree = record { slaves = c.self.inside.slaves; list = list } in tree) set)
+returns-in-In-clause-set c = grind (arith, wide-inputs)
 
 pub returns-in-Out-clause-holds : goal.returns-in-Out-clause-holds
 returns-in-Out-clause-holds c =
