@@ -2,11 +2,13 @@
 use Rattle.std.specs.Prelude.{All, filter, replicate}
 use Rattle.std.proofs.Common.{◌≡◌, ℕ, zero, suc, ◌+◌, ◌*◌, ◌^◌, ◌≤◌, List, [], ◌∷◌, length, get_or, refl, sym, ap, subst, ◌∙◌, arith}
 use Rattle.std.proofs.lemmas.Bool.Decides.{nat_tests}
-use Rattle.std.proofs.lemmas.List.{length-replicate}
+use Rattle.std.proofs.lemmas.List.{get_or-replicate, length-replicate}
 use Rattle.std.proofs.lemmas.List.Elements.{All-append, All-cons, All-get_or, All-head, All-nil, All-replicate, All-tail, All-weaker}
 use Rattle.hc_records.specs.declared.records.Dir.{Dir}
 use Rattle.hc_records.specs.TaskList.{Keyed}
 use Rattle.hc_bitsum.specs.Places.{IsPlaced, KeepsSlaves, StandFrom}
+use Rattle.hc_bitsum.specs.declared.sum.Sum.TheVariants.{Empty}
+use Rattle.hc_bitsum.specs.Branch.{AreSums}
 use Rattle.hc_bitsum.specs.Rows.{IsRow, blank_slots, part, row_areas}
 use Rattle.hc_bitsum.specs.Tree.{has_width}
 use Rattle.hc_bitsum.proofs.Nodes.{eight}
@@ -65,3 +67,10 @@ blank-keeps dir slaves levels room low =
           All-weaker IsNone (IsPlaced slaves) (λ area none wide. absurd (grind (arith, nat_tests))) (part dir (blank_rows levels) 0 (2 ^ levels))
           (blank-none dir levels 0 (2 ^ levels) (omega arith));
     }
+
+-- their sums are none
+pub blank-sums : (dir : Dir) (levels : ℕ) → AreSums dir (blank_rows levels) (replicate (2 * 2 ^ levels) Empty)
+blank-sums dir levels = record {
+  leaves = λ i h some. grind (arith, get_or-replicate, blank-many);
+  forks = λ k some h all. grind (arith, get_or-replicate, blank-many);
+}
