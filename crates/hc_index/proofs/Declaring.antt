@@ -1,5 +1,5 @@
 -- The addresses of the declared slaves, and the slaves of the line among them.
-use Rattle.std.proofs.Common.{◌≡◌, ◌≢◌, ℕ, ◌+◌, ◌<◌, ◌==◌, ◌||◌, Bool, true, false, List, [], ◌∷◌, ◌++◌, length, refl, sym, ap, subst, ◌∙◌, if◌then◌else◌}
+use Rattle.std.proofs.Common.{◌≡◌, ◌≢◌, ℕ, ◌+◌, ◌<◌, ◌==◌, ◌||◌, Bool, true, false, List, [], ◌∷◌, ◌++◌, length, refl, sym, ap, subst, if◌then◌else◌, rules}
 use Rattle.std.specs.Prelude.{All, AllPairs, Contains, None, map}
 use Rattle.std.specs.List.{list_any}
 use Rattle.std.proofs.lemmas.List.{map-append}
@@ -27,8 +27,7 @@ own_addresses rank slaves = map address_of (members_from rank slaves)
 -- those of a group, then those of the groups behind it
 pub addresses-group : (rank : ℕ) (declared : Declared) (groups : List Declared)
     → addresses_from rank (declared ∷ groups) ≡ own_addresses rank declared.group.slaves ++ addresses_from (rank + length declared.group.slaves) groups
-addresses-group rank declared groups =
-    map-append address_of (members_from rank declared.group.slaves) (line_from (rank + length declared.group.slaves) (all_present groups))
+addresses-group rank declared groups = search (rules, map-append)
 
 -- the address of each slave of the line is among them
 
@@ -85,8 +84,4 @@ any-station station rank [] = refl
 any-station station rank (declared ∷ groups) =
     let slaves = declared.group.slaves in
     let next = rank + length slaves in
-    let test : Address → Bool = λ address. address.station == station in
-    ap (list_any test) (addresses-group rank declared groups)
-    ∙ list_any-append test (own_addresses rank slaves) (addresses_from next groups)
-    ∙ ap (λ (own : Bool). own || list_any test (addresses_from next groups)) (own-any station rank slaves)
-    ∙ ap (λ (behind : Bool). has_station station slaves || behind) (any-station station next groups)
+    search (rules, addresses-group, list_any-append, own-any, any-station station next groups)

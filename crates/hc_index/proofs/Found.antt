@@ -1,5 +1,5 @@
 -- What is found where one element at most passes a test, and what a search by halves finds.
-use Rattle.std.proofs.Common.{◌≡◌, ◌≢◌, ℕ, zero, suc, ◌<◌, ◌≤◌, ◌==◌, ◌||◌, Bool, true, false, cond, List, [], ◌∷◌, length, get_or, Some, None, refl, sym, ap, subst, ◌∙◌, arith}
+use Rattle.std.proofs.Common.{◌≡◌, ◌≢◌, ℕ, zero, suc, ◌<◌, ◌≤◌, ◌==◌, ◌||◌, Bool, true, false, cond, List, [], ◌∷◌, length, get_or, Some, None, refl, sym, ap, subst, ◌∙◌, arith, rules}
 use Rattle.std.specs.Prelude.{All, AllPairs, Contains, find, nat_lt, map, position, slice_get}
 use Rattle.std.specs.List.{list_any, position_or_len}
 use Rattle.std.specs.List.Sorted.{IsNonDecreasingBy, IsPartitionPoint}
@@ -26,10 +26,7 @@ module _ {X : Type 0} (p : X → Bool) where
       position_or_len_is p xs i x (omega arith) (λ k low. alone k i x low within is) (λ low. is)
 
   pub position-at : (xs : List X) (i : ℕ) (x : X) → AllPairs (λ a b. p b ≡ true → p a ≡ false) xs → slice_get xs i ≡ Some x → p x ≡ true → position p xs ≡ Some i
-  position-at xs i x alone at passes =
-      let is = first-at xs i x alone at passes in
-      let low = lt-ltb i (length xs) (slice_get_within xs i x at) in
-      rw (is, low) refl
+  position-at xs i x alone at passes = search (rules, first-at, lt-ltb, slice_get_within)
 
   -- and where none does
 
@@ -38,10 +35,7 @@ module _ {X : Type 0} (p : X → Bool) where
 
   pub position-none : (xs : List X) → All (λ x. p x ≡ false) xs → position p xs ≡ None
   position-none [] none = refl
-  position-none (x ∷ xs) none =
-      let is = none-passes (x ∷ xs) x none in
-      let past = le-ltb (length (x ∷ xs)) (length (x ∷ xs)) (omega arith) in
-      rw (is, past) refl
+  position-none (x ∷ xs) none = search (rules, none-passes, le-ltb)
 
 -- a place at which there is nothing is past the end
 
@@ -62,11 +56,7 @@ module _ {X : Type 0} (number : X → ℕ) (query : ℕ) (xs : List X) (place : 
   -- none has the query's where the list ends there
 
   behind : (x : X) → slice_get xs place ≡ Some x → number x ≢ query → (k : ℕ) (d : X) → place ≤ k → k < length xs → number (get_or xs k d) ≢ query
-  behind x at other k d low within same =
-      let is : number (get_or xs place d) ≡ number x = ap number (get_or_from_slice_get xs place x d at) in
-      let reached = ltb-false (number (get_or xs place d)) query (parts.1 place d (omega arith) (slice_get_within xs place x at)) in
-      let up = rises place k d low within in
-      other (omega (arith, is, reached, up, same))
+  behind x at other k d low within same = search (rules, get_or_from_slice_get, ltb-false, slice_get_within)
 
   by-place : (x : X) → slice_get xs place ≡ Some x → number x ≢ query → (k : ℕ) (d : X) (front : Bool) → nat_lt k place ≡ front → k < length xs → number (get_or xs k d) ≢ query
   by-place x at other k d true is within = in-front k d (ltb-true k place is)
@@ -79,8 +69,7 @@ module _ {X : Type 0} (number : X → ℕ) (query : ℕ) (xs : List X) (place : 
 -- two elements of a list that have one number are one, where no two places have one
 
 same-place : {X : Type 0} (xs : List X) (i j : ℕ) (a b : X) → i ≡ j → i < length xs → get_or xs i a ≡ a → get_or xs j b ≡ b → a ≡ b
-same-place xs i j a b same within first second =
-    sym first ∙ get_or_default xs i a b within ∙ ap (λ (k : ℕ). get_or xs k b) same ∙ second
+same-place xs i j a b same within first second = search (rules, get_or_default)
 
 apart : {X : Type 0} (number : X → ℕ) (xs : List X) (i j : ℕ) (a b : X) → AllPairs (λ x y. number x ≢ number y) xs → i < j → j < length xs → get_or xs i a ≡ a → get_or xs j b ≡ b → number a ≢ number b
 apart number xs i j a b distinct low within first second same =
@@ -91,10 +80,7 @@ one-by : {X : Type 0} (number : X → ℕ) (xs : List X) (i j : ℕ) (a b : X) (
     → i < length xs → j < length xs → get_or xs i a ≡ a → get_or xs j b ≡ b → number a ≡ number b → a ≡ b
 one-by number xs i j a b true behind is other distinct within inside first second same = absurd (apart number xs i j a b distinct (ltb-true i j is) inside first second same)
 one-by number xs i j a b false true is other distinct within inside first second same = absurd (apart number xs j i b a distinct (ltb-true j i other) within second first (sym same))
-one-by number xs i j a b false false is other distinct within inside first second same =
-    let low = ltb-false i j is in
-    let high = ltb-false j i other in
-    same-place xs i j a b (omega (arith, low, high)) within first second
+one-by number xs i j a b false false is other distinct within inside first second same = search (rules, ltb-false, same-place)
 
 pub only-one : {X : Type 0} (number : X → ℕ) (xs : List X) (a b : X) → AllPairs (λ x y. number x ≢ number y) xs → Contains xs a → Contains xs b → number a ≡ number b → a ≡ b
 only-one number xs a b distinct first second same =
@@ -109,12 +95,10 @@ contains-map f xs k d within =
 
 pub any-none : {X : Type 0} (p : X → Bool) (xs : List X) → All (λ x. p x ≡ false) xs → list_any p xs ≡ false
 any-none p [] none = refl
-any-none p (x ∷ xs) none =
-    ap (λ (here : Bool). here || list_any p xs) (All-head (λ x. p x ≡ false) x xs none) ∙ any-none p xs (All-tail (λ x. p x ≡ false) x xs none)
+any-none p (x ∷ xs) none = search (rules, All-head, All-tail, any-none p xs (All-tail (λ x. p x ≡ false) x xs none))
 
 any-else : (a b : Bool) → b ≡ true → (a || b) ≡ true
-any-else true b is = refl
-any-else false b is = is
+any-else a b is = search rules
 
 pub any-some : {X : Type 0} (p : X → Bool) (xs : List X) (k : ℕ) (d : X) → k < length xs → p (get_or xs k d) ≡ true → list_any p xs ≡ true
 any-some p [] k d low is = absurd (omega arith)
@@ -125,16 +109,14 @@ any-some p (x ∷ xs) (suc k) d low is = any-else (p x) (list_any p xs) (any-som
 
 found-by : {X : Type 0} (p : X → Bool) (xs : List X) (i : ℕ) (inside : Bool) → nat_lt (position_or_len p xs) (length xs) ≡ inside
     → cond inside (Some (position_or_len p xs)) None ≡ Some i → find p xs ≡ slice_get xs i
-found-by p xs i true is at = let same : position_or_len p xs ≡ i = cc in find_at p xs ∙ ap (slice_get xs) same
-found-by p xs i false is at = cc
+found-by p xs i inside is at = search (rules, find_at)
 
 pub find-position : {X : Type 0} (p : X → Bool) (xs : List X) (i : ℕ) → position p xs ≡ Some i → find p xs ≡ slice_get xs i
 find-position p xs i at = found-by p xs i (nat_lt (position_or_len p xs) (length xs)) refl at
 
 absent-by : {X : Type 0} (p : X → Bool) (xs : List X) (inside : Bool) → nat_lt (position_or_len p xs) (length xs) ≡ inside
     → cond inside (Some (position_or_len p xs)) None ≡ None → find p xs ≡ None
-absent-by p xs true is none = cc
-absent-by p xs false is none = find_at p xs ∙ slice_get_past xs (position_or_len p xs) (ltb-false (position_or_len p xs) (length xs) is)
+absent-by p xs inside is none = search (rules, find_at, slice_get_past, ltb-false)
 
 pub find-none : {X : Type 0} (p : X → Bool) (xs : List X) → position p xs ≡ None → find p xs ≡ None
 find-none p xs none = absent-by p xs (nat_lt (position_or_len p xs) (length xs)) refl none

@@ -1,5 +1,5 @@
 -- What an index of a project's groups finds in their line.
-use Rattle.std.proofs.Common.{◌≡◌, ◌≢◌, ℕ, ◌+◌, ◌-◌, ◌<◌, ◌≤◌, ◌==◌, Bool, true, false, List, [], length, get_or, take, Option, Some, None, refl, sym, ap, subst, ◌∙◌, arith, if◌then◌else◌}
+use Rattle.std.proofs.Common.{◌≡◌, ◌≢◌, ℕ, ◌+◌, ◌-◌, ◌<◌, ◌≤◌, ◌==◌, Bool, true, false, List, [], length, get_or, take, Option, Some, None, refl, sym, ap, subst, ◌∙◌, arith, if◌then◌else◌, rules}
 use Rattle.std.specs.Prelude.{All, AllPairs, Contains, MatchOption, find, is_some, option_and_then, option_map, position, slice_get, sum_by}
 use Rattle.std.specs.List.{list_any}
 use Rattle.std.proofs.lemmas.Bool.{eq-eqb, eqb-true}
@@ -34,25 +34,18 @@ pub seen : {own groups : List Declared} {index : Index} → own ≡ groups → I
 seen {index} same is = subst (λ (g : List Declared). IsIndexOf g index) same is
 
 pub line-low : (groups : List Declared) → lowest_fault (groups_of groups) ≡ None → length (line_from 1 groups) < 65535
-line-low groups none =
-    let few = length-line 1 groups in
-    let counted : sum_by declared_count groups < 65535 = project-counted groups none in
-    omega (arith, few, counted)
+line-low groups none = search (rules, length-line, project-counted)
 
 -- the slave with a station address
 
 alone : (groups : List Declared) (station : ℕ) → lowest_fault (groups_of groups) ≡ None → AllPairs (λ a b. is_at station b ≡ true → is_at station a ≡ false) (line_from 1 groups)
-alone groups station none =
-    AllPairs-weaker (λ (a b : Member). a.slave.station ≢ b.slave.station) (λ a b. is_at station b ≡ true → is_at station a ≡ false)
-    (λ a b other is. differs-behind a.slave.station b.slave.station station other is) (line_from 1 groups) (line-stations groups none)
+alone groups station none = search (rules, AllPairs-weaker, differs-behind, line-stations)
 
 declared-among : (groups : List Declared) (index : Index) (address : Address) → IsIndexOf groups index → Contains index.addresses address → Contains (addresses groups) address
-declared-among groups index address is at =
-    Contains-permutation index.addresses (addresses groups) address (IsPermutation-sym (addresses groups) index.addresses is.declared.addresses) at
+declared-among groups index address is at = search (rules, Contains-permutation, IsPermutation-sym)
 
 ranked-apart : (groups : List Declared) → AllPairs (λ a b. a.rank ≢ b.rank) (addresses groups)
-ranked-apart groups =
-    AllPairs-weaker (λ (a b : Address). a.rank < b.rank) (λ a b. a.rank ≢ b.rank) (λ a b below same. omega arith) (addresses groups) (addresses-ranked groups)
+ranked-apart groups = search (rules, AllPairs-weaker, addresses-ranked)
 
 -- its rank is at least 1
 pub rank-some : (groups : List Declared) (index : Index) (address : Address) → IsIndexOf groups index → Contains index.addresses address → 1 ≤ address.rank
@@ -65,12 +58,10 @@ rank-some groups index address is at =
 -- a slave of a group that is present, in the line
 
 present-own : (present : Bool) (slaves : List Slave) → present ≡ true → (if present then slaves else []) ≡ slaves
-present-own true slaves is = refl
-present-own false slaves is = cc
+present-own present slaves is = search rules
 
 is-present : (present : Bool) (slaves : List Slave) (place : ℕ) → place < length (if present then slaves else []) → present ≡ true
-is-present true slaves place inside = refl
-is-present false slaves place inside = absurd (omega arith)
+is-present present slaves place inside = search rules
 
 pub found-in : (groups : List Declared) (group place : ℕ) (declared : Declared) (slave : Slave) → slice_get groups group ≡ Some declared → slice_get declared.group.slaves place ≡ Some slave
     → slave_in groups group place ≡ Some slave
@@ -79,8 +70,7 @@ found-in groups group place declared slave here own = ap (option_and_then (λ (d
 -- and its member of a line
 pub member-in : (groups : List Declared) (group place rank : ℕ) (slave : Slave) → rank ≡ rank_in groups group place → slave_in groups group place ≡ Some slave
     → option_map {U = Member} (λ slave. record { rank = rank_in groups group place; slave = slave }) (slave_in groups group place) ≡ Some (record { rank = rank; slave = slave })
-member-in groups group place rank slave is found =
-    ap (option_map {U = Member} (λ (s : Slave). record { rank = rank_in groups group place; slave = s })) found ∙ ap (λ (r : ℕ). Some (record { rank = r; slave = slave })) (sym is)
+member-in groups group place rank slave is found = search rules
 
 pub no-member : {M : Type 0} (o : Option M) (member : M) → o ≡ None → o ≡ Some member → ⊥
 no-member o member none some = let bad : None ≡ Some member = sym none ∙ some in cc
@@ -97,16 +87,11 @@ stands-at groups group place declared here present inside =
     record {
       slave = own.0;
       found = found-in groups group place declared own.0 here own.1;
-      at =
-          line-at 1 groups group place declared own.0 here
-          (ap (λ (slaves : List Slave). slice_get slaves place) (present-own declared.present declared.group.slaves present) ∙ own.1);
+      at = search (rules, line-at, present-own);
     }
 
 pub falls-at : (groups : List Declared) (position group place : ℕ) → FallsIn present_count groups position group place → StandsAt groups group place
-falls-at groups position group place falls =
-    let present = is-present falls.x.present falls.x.group.slaves place falls.low in
-    stands-at groups group place falls.x falls.at present
-    (subst (λ (slaves : List Slave). place < length slaves) (present-own falls.x.present falls.x.group.slaves present) falls.low)
+falls-at groups position group place falls = search (rules, is-present, falls, stands-at, present-own)
 
 pub position-found : (groups : List Declared) (index : Index) (station rank group place : ℕ) → IsIndexOf groups index → Contains index.addresses (record { station = station; rank = rank })
     → IsMember groups rank group place → position (is_at station) (line_from 1 groups) ≡ Some (sum_by present_count (take group groups) + place)
@@ -166,8 +151,7 @@ pub record OwnerOf (groups : List Declared) (n group place number : ℕ) : Type 
   pub owned : owned_by (line_from 1 groups) n ≡ Some (record { rank = rank_in groups group place; slave = stands.slave }, number)
 
 own-present : (present : Bool) (slaves : List Slave) (offset : ℕ) → offset < block_sum (if present then slaves else []) → present ≡ true
-own-present true slaves offset low = refl
-own-present false slaves offset low = absurd (omega arith)
+own-present present slaves offset low = search rules
 
 owner : (groups : List Declared) (n group offset place number : ℕ) → lowest_fault (groups_of groups) ≡ None → (falls : FallsIn own_sum groups n group offset)
     → FallsIn blocks_of falls.x.group.slaves offset place number → OwnerOf groups n group place number
@@ -179,7 +163,6 @@ owner groups n group offset place number none falls own =
     let stands = stands-at groups group place falls.x falls.at present inside in
     let position = sum_by present_count (take group groups) + place in
     let of : Member = record { rank = rank_in groups group place; slave = stands.slave } in
-    let found = found-in groups group place falls.x own.x falls.at own.at in
     let same : own.x ≡ stands.slave = let also = stands.found in cc in
     let count = ap blocks_of same in
     let low : number < own_blocks of = let few = own.low in omega (arith, few, count) in
@@ -197,10 +180,7 @@ module _ (groups : List Declared) (index : Index) (is : IsIndexOf groups index) 
 
   -- no slave has a block that is behind all
   pub blocks-behind : (n : ℕ) → All (λ sum. sum ≤ n) index.blocks → owned_by (line_from 1 groups) n ≡ None
-  blocks-behind n all =
-      let sum = line-sum 1 groups in
-      let past = falls-behind own_sum index.blocks groups n is.blocks all in
-      owned-past (line_from 1 groups) n (omega (arith, sum, past))
+  blocks-behind n all = search (rules, line-sum, falls-behind, owned-past)
 
   -- the group whose block it is, and that group's own sums
 
@@ -225,8 +205,7 @@ module _ (groups : List Declared) (index : Index) (is : IsIndexOf groups index) 
       let here = falls n group offset spot in
       let past = falls-behind blocks_of own here.x.group.slaves offset (front-is n group offset own spot at) all in
       let most = ap block_sum (present-own here.x.present here.x.group.slaves (own-present here.x.present here.x.group.slaves offset here.low)) in
-      let low = here.low in
-      omega (arith, past, most, low)
+      omega (arith, past, most)
 
   pub owner-of : (n group offset place number : ℕ) (own : List ℕ) → IsSpot index.blocks n group offset → slice_get index.fronts group ≡ Some own → IsSpot own offset place number
       → OwnerOf groups n group place number
@@ -268,12 +247,7 @@ blocks-total groups index is =
 -- where a rank or a position falls
 
 falls-here : {X : Type 0} (count : X → ℕ) (xs : List X) (n index offset : ℕ) (x : X) → FallsIn count xs n index offset → slice_get xs index ≡ Some x → (n ≡ sum_by count (take index xs) + offset) × (offset < count x)
-falls-here count xs n index offset x falls at =
-    let own = falls.at in
-    let same : falls.x ≡ x = cc in
-    let low = falls.low in
-    let count_is = ap count same in
-    (falls.sum, omega (arith, low, count_is))
+falls-here count xs n index offset x falls at = search rules
 
 module _ (groups : List Declared) (index : Index) (is : IsIndexOf groups index) where
   pub ranks-sums : AreSums index.ranks
@@ -288,15 +262,13 @@ module _ (groups : List Declared) (index : Index) (is : IsIndexOf groups index) 
   pub rank-behind : (rank : ℕ) → 1 ≤ rank → All (λ sum. sum ≤ rank - 1) index.ranks → All (λ member. member.rank ≢ rank) (line_from 1 groups)
   rank-behind rank some all =
       let past = falls-behind declared_count index.ranks groups (rank - 1) is.declared.ranks all in
-      All-weaker (λ (member : Member). member.rank < 1 + sum_by declared_count groups) (λ member. member.rank ≢ rank) (λ member low same. omega (arith, past, some, low, same)) (line_from 1 groups)
-      (line-ranks 1 groups)
+      search (rules, All-weaker, line-ranks)
 
   rank-falls : (rank group place : ℕ) (declared : Declared) → 1 ≤ rank → IsSpot index.ranks (rank - 1) group place → slice_get groups group ≡ Some declared
       → (rank ≡ rank_in groups group place) × (place < declared_count declared)
   rank-falls rank group place declared some spot at =
       let here = falls-here declared_count groups (rank - 1) group place declared (falls-in declared_count index.ranks groups (rank - 1) group place is.declared.ranks spot) at in
-      let sum = here.0 in
-      (omega (arith, some, sum), here.1)
+      (omega (arith, some), here.1)
 
   pub rank-member : (rank group place : ℕ) (declared : Declared) → 1 ≤ rank → IsSpot index.ranks (rank - 1) group place → slice_get groups group ≡ Some declared → declared.present ≡ true
       → IsMember groups rank group place
@@ -318,10 +290,7 @@ module _ (groups : List Declared) (index : Index) (is : IsIndexOf groups index) 
       member-in groups group place (rank_in groups group place) stands.slave refl stands.found ∙ sym stands.at ∙ ap (slice_get (line_from 1 groups)) (sym falls.sum)
 
   pub nth-past : (position : ℕ) → All (λ sum. sum ≤ position) index.slaves → slice_get (line_from 1 groups) position ≡ None
-  nth-past position all =
-      let past = falls-behind present_count index.slaves groups position is.slaves all in
-      let long = line-length 1 groups in
-      slice_get_past (line_from 1 groups) position (omega (arith, past, long))
+  nth-past position all = search (rules, falls-behind, line-length, slice_get_past)
 
 -- the slave of the line with a rank stands at this position
 pub record Fronts (groups : List Declared) (index : Index) (group place : ℕ) : Type 0 where

@@ -1,5 +1,5 @@
 -- The slaves and the blocks of a line, group by group.
-use Rattle.std.proofs.Common.{◌≡◌, ◌≢◌, ℕ, zero, suc, ◌+◌, ◌<◌, ◌≤◌, Bool, true, false, List, [], ◌∷◌, length, take, refl, sym, ap, subst, ◌∙◌, arith, if◌then◌else◌, length-append}
+use Rattle.std.proofs.Common.{◌≡◌, ◌≢◌, ℕ, zero, suc, ◌+◌, ◌<◌, ◌≤◌, Bool, true, false, List, [], ◌∷◌, length, take, refl, arith, if◌then◌else◌, length-append, rules}
 use Rattle.std.specs.Prelude.{All, Some, slice_get, sum_by}
 use Rattle.std.specs.List.{enumerate_from}
 use Rattle.std.proofs.Math.Seq.{take-append-add}
@@ -10,77 +10,47 @@ use Rattle.std.proofs.lemmas.Option.{slice_get_within}
 use Rattle.hc_records.specs.declared.records.Declared.{Declared}
 use Rattle.hc_records.specs.declared.records.Slave.{Slave}
 use Rattle.hc_records.specs.Line.{Member, line_from, members_from, present_slaves}
-use Rattle.hc_records.proofs.lemmas.Lines.{RankWithin, declared_slaves, line-within}
+use Rattle.hc_records.proofs.lemmas.Lines.{line-within}
 use Rattle.hc_records.proofs.lemmas.Lists.{All-numbers}
 use Rattle.hc_records.proofs.lemmas.Walks.{get-back, get-front, length-members_from}
-use Rattle.hc_index.specs.Index.{block_sum, blocks_of, declared_count, own_blocks, own_sum, present_count}
+use Rattle.hc_index.specs.Index.{block_sum, declared_count, own_blocks, own_sum, present_count}
 use Rattle.hc_index.proofs.Owners.{members-sum}
 
 pub line-length : (rank : ℕ) (groups : List Declared) → length (line_from rank groups) ≡ sum_by present_count groups
 line-length rank [] = refl
 line-length rank (declared ∷ groups) =
     let next = rank + length declared.group.slaves in
-    length-append (members_from rank (present_slaves declared)) (line_from next groups)
-    ∙ ap (λ (n : ℕ). n + length (line_from next groups)) (length-members_from rank (present_slaves declared))
-    ∙ ap (λ (n : ℕ). present_count declared + n) (line-length next groups)
-    ∙ sym (sum_by-cons present_count declared groups)
+    search (rules, length-append, length-members_from, sum_by-cons, line-length next groups)
 
 members-at : (rank : ℕ) (slaves : List Slave) (place : ℕ) (slave : Slave) → slice_get slaves place ≡ Some slave
     → slice_get (members_from rank slaves) place ≡ Some (record { rank = rank + place; slave = slave })
 members-at rank [] place slave at = cc
-members-at rank (first ∷ slaves) zero slave at =
-    let same : first ≡ slave = cc in
-    ap (λ (s : Slave). Some (record { rank = rank; slave = s })) same ∙ ap (λ (r : ℕ). Some (record { rank = r; slave = slave })) (omega arith)
-members-at rank (first ∷ slaves) (suc place) slave at =
-    members-at (rank + 1) slaves place slave at ∙ ap (λ (r : ℕ). Some (record { rank = r; slave = slave })) (omega arith)
+members-at rank (first ∷ slaves) zero slave at = search rules
+members-at rank (first ∷ slaves) (suc place) slave at = search (rules, members-at (rank + 1) slaves place slave at)
 
 -- the slave at a place of a group that is present
 pub line-at : (rank : ℕ) (groups : List Declared) (group place : ℕ) (declared : Declared) (slave : Slave) → slice_get groups group ≡ Some declared → slice_get (present_slaves declared) place ≡ Some slave
     → slice_get (line_from rank groups) (sum_by present_count (take group groups) + place) ≡ Some (record { rank = rank + sum_by declared_count (take group groups) + place; slave = slave })
 line-at rank [] group place declared slave here at = cc
-line-at rank (first ∷ groups) zero place declared slave here at =
-    let same : declared ≡ first = cc in
-    let own = subst (λ (d : Declared). slice_get (present_slaves d) place ≡ Some slave) same at in
-    let long = length-members_from rank (present_slaves first) in
-    let inside = slice_get_within (present_slaves first) place slave own in
-    get-front (members_from rank (present_slaves first)) (line_from (rank + declared_count first) groups) (0 + place) (omega (arith, long, inside))
-    ∙ ap (slice_get (members_from rank (present_slaves first))) (omega arith)
-    ∙ members-at rank (present_slaves first) place slave own
-    ∙ ap (λ (r : ℕ). Some (record { rank = r; slave = slave })) (omega arith)
+line-at rank (first ∷ groups) zero place declared slave here at = search (rules, length-members_from, slice_get_within, get-front, members-at)
 line-at rank (first ∷ groups) (suc group) place declared slave here at =
     let next = rank + declared_count first in
     let long = length-members_from rank (present_slaves first) in
     let count = sum_by-cons present_count first (take group groups) in
     let ranks = sum_by-cons declared_count first (take group groups) in
-    get-back (members_from rank (present_slaves first)) (line_from next groups) (sum_by present_count (first ∷ take group groups) + place) (omega (arith, long, count))
-    ∙ ap (slice_get (line_from next groups)) (omega (arith, long, count))
-    ∙ line-at next groups group place declared slave here at
-    ∙ ap (λ (r : ℕ). Some (record { rank = r; slave = slave })) (omega (arith, ranks))
+    search (rules, get-back, line-at next groups group place declared slave here at)
 
 -- the blocks in front of it
 
 front-sum : (rank : ℕ) (slaves : List Slave) (place : ℕ) → sum_by own_blocks (take place (members_from rank slaves)) ≡ block_sum (take place slaves)
 front-sum rank slaves zero = refl
 front-sum rank [] (suc place) = refl
-front-sum rank (slave ∷ slaves) (suc place) =
-    sum_by-cons own_blocks (record { rank = rank; slave = slave }) (take place (members_from (rank + 1) slaves))
-    ∙ ap (λ (n : ℕ). blocks_of slave + n) (front-sum (rank + 1) slaves place)
-    ∙ sym (sum_by-cons blocks_of slave (take place slaves))
+front-sum rank (slave ∷ slaves) (suc place) = search (rules, sum_by-cons, front-sum (rank + 1) slaves place)
 
 pub line-front : (rank : ℕ) (groups : List Declared) (group place : ℕ) (declared : Declared) → slice_get groups group ≡ Some declared → place < present_count declared
     → sum_by own_blocks (take (sum_by present_count (take group groups) + place) (line_from rank groups)) ≡ sum_by own_sum (take group groups) + block_sum (take place (present_slaves declared))
 line-front rank [] group place declared here inside = cc
-line-front rank (first ∷ groups) zero place declared here inside =
-    let same : declared ≡ first = cc in
-    let own = subst (λ (d : Declared). place < present_count d) same inside in
-    let members = members_from rank (present_slaves first) in
-    let long = length-members_from rank (present_slaves first) in
-    let none : 0 + place ≡ place = omega arith in
-    ap (λ (k : ℕ). sum_by own_blocks (take k (line_from rank (first ∷ groups)))) none
-    ∙ ap (sum_by own_blocks) (take-append-le place members (line_from (rank + declared_count first) groups) (omega (arith, long, own)))
-    ∙ front-sum rank (present_slaves first) place
-    ∙ ap (λ (d : Declared). block_sum (take place (present_slaves d))) (sym same)
-    ∙ omega arith
+line-front rank (first ∷ groups) zero place declared here inside = search (rules, length-members_from, take-append-le, front-sum)
 line-front rank (first ∷ groups) (suc group) place declared here inside =
     let next = rank + declared_count first in
     let members = members_from rank (present_slaves first) in
@@ -92,15 +62,12 @@ line-front rank (first ∷ groups) (suc group) place declared here inside =
     let whole : sum_by present_count (first ∷ take group groups) + place ≡ length members + behind = omega (arith, long, count) in
     let sum = sum_by-append own_blocks members (take behind (line_from next groups)) in
     let own = members-sum rank (present_slaves first) in
-    ap (λ (k : ℕ). sum_by own_blocks (take k (line_from rank (first ∷ groups)))) whole
-    ∙ ap (sum_by own_blocks) (take-append-add members (line_from next groups) behind)
-    ∙ omega (arith, sum, own, front, rest)
+    search (rules, take-append-add)
 
 -- a slave of a group that isn't present is not in the line
 
 none-present : (P : Member → Type 0) (present : Bool) (rank : ℕ) (slaves : List Slave) → present ≡ false → All P (members_from rank (if present then slaves else []))
-none-present P false rank slaves absent = All-nil P
-none-present P true rank slaves absent = cc
+none-present P present rank slaves absent = search rules
 
 own-ranks : (present : Bool) (rank : ℕ) (slaves : List Slave) → All (λ member. member.rank < rank + length slaves) (members_from rank (if present then slaves else []))
 own-ranks true rank slaves =
@@ -121,14 +88,7 @@ line-ranks rank (declared ∷ groups) =
 pub line-absent : (rank : ℕ) (groups : List Declared) (group place : ℕ) (declared : Declared) → slice_get groups group ≡ Some declared → declared.present ≡ false → place < length declared.group.slaves
     → All (λ member. member.rank ≢ rank + sum_by declared_count (take group groups) + place) (line_from rank groups)
 line-absent rank [] group place declared here absent inside = cc
-line-absent rank (first ∷ groups) zero place declared here absent inside =
-    let same : declared ≡ first = cc in
-    let next = rank + declared_count first in
-    let low = subst (λ (d : Declared). place < declared_count d) same inside in
-    let Other : Member → Type 0 = λ member. member.rank ≢ rank + 0 + place in
-    All-append Other (members_from rank (present_slaves first)) (line_from next groups)
-    (none-present Other first.present rank first.group.slaves (ap (λ (d : Declared). d.present) (sym same) ∙ absent))
-    (All-weaker (RankWithin next (next + length (declared_slaves groups))) Other (λ member within is. omega (arith, low, within, is)) (line_from next groups) (line-within next groups))
+line-absent rank (first ∷ groups) zero place declared here absent inside = search (rules, All-append, none-present, All-weaker, line-within)
 line-absent rank (first ∷ groups) (suc group) place declared here absent inside =
     let next = rank + declared_count first in
     let count = sum_by-cons declared_count first (take group groups) in

@@ -1,5 +1,5 @@
 -- Sums along a list, and the element that a number falls in.
-use Rattle.std.proofs.Common.{◌≡◌, ℕ, zero, suc, ◌+◌, ◌<◌, ◌≤◌, List, [], ◌∷◌, length, drop, get_or, take, refl, sym, ap, subst, ◌∙◌, arith}
+use Rattle.std.proofs.Common.{◌≡◌, ℕ, zero, suc, ◌+◌, ◌<◌, ◌≤◌, List, [], ◌∷◌, length, drop, get_or, take, refl, sym, ap, subst, ◌∙◌, arith, rules}
 use Rattle.std.specs.Prelude.{All, Some, map, slice_get, sum_by}
 use Rattle.std.specs.List.Sorted.{IsNonDecreasing}
 use Rattle.std.proofs.lemmas.List.{drop_more, get_or-map, length-map, take_all}
@@ -33,23 +33,18 @@ module _ {X : Type 0} (count : X → ℕ) where
   sums-at front [] zero low = ap Some (omega arith)
   sums-at front [] (suc k) low = absurd (omega arith)
   sums-at front (x ∷ xs) zero low = ap Some (omega arith)
-  sums-at front (x ∷ xs) (suc k) low =
-      let sum = sum_by-cons count x (take k xs) in
-      sums-at (front + count x) xs k (omega arith) ∙ ap Some (omega (arith, sum))
+  sums-at front (x ∷ xs) (suc k) low = search (rules, sum_by-cons, sums-at (front + count x) xs k (omega arith))
 
   sums-first : (front : ℕ) (xs : List X) → slice_get (sums_from count front xs) 0 ≡ Some front
   sums-first front [] = refl
   sums-first front (x ∷ xs) = refl
 
   pub sums-last : (front : ℕ) (xs : List X) → slice_get (sums_from count front xs) (length xs) ≡ Some (front + sum_by count xs)
-  sums-last front xs =
-      sums-at front xs (length xs) (omega arith) ∙ ap (λ (all : List X). Some (front + sum_by count all)) (take_all (length xs) xs (omega arith))
+  sums-last front xs = search (rules, sums-at, take_all)
 
   sums-above : (front : ℕ) (xs : List X) → All (λ sum. front ≤ sum) (sums_from count front xs)
   sums-above front [] = All-cons (λ sum. front ≤ sum) front [] (omega arith) (All-nil (λ sum. front ≤ sum))
-  sums-above front (x ∷ xs) =
-      All-cons (λ sum. front ≤ sum) front (sums_from count (front + count x) xs) (omega arith)
-      (All-weaker (λ sum. front + count x ≤ sum) (λ sum. front ≤ sum) (λ sum above. omega arith) (sums_from count (front + count x) xs) (sums-above (front + count x) xs))
+  sums-above front (x ∷ xs) = search (rules, All-cons, All-weaker, sums-above (front + count x) xs)
 
   sums-rise : (front : ℕ) (xs : List X) → IsNonDecreasing (sums_from count front xs)
   sums-rise front [] zero zero d low inside = omega arith
@@ -84,8 +79,7 @@ module _ {X : Type 0} (count : X → ℕ) where
       let more = sum_by_more count xs index here.0 low in
       let own = ap count (get_or_from_slice_get xs index here.0 here.0 here.1) in
       let sum = spot.sum in
-      let below = spot.below in
-      record { x = here.0; at = here.1; sum = omega (arith, front, sum); low = omega (arith, own, more, front, next, sum, below) }
+      record { x = here.0; at = here.1; sum = omega (arith, front, sum); low = omega (arith, own, more, front, next, sum) }
 
   -- or it is behind all
   pub falls-behind : (sums : List ℕ) (xs : List X) (n : ℕ) → sums ≡ sums_from count 0 xs → All (λ sum. sum ≤ n) sums → sum_by count xs ≤ n
@@ -94,15 +88,12 @@ module _ {X : Type 0} (count : X → ℕ) where
       omega (arith, most)
 
   pub left-step : (xs : List X) (i : ℕ) (x : X) → i < length xs → x ≡ get_or xs i x → sum_by count (drop i xs) ≡ count x + sum_by count (drop (i + 1) xs)
-  left-step xs i x inside is =
-      ap (sum_by count) (drop_more xs i x inside ∙ ap (λ (y : X). y ∷ drop (i + 1) xs) (sym is)) ∙ sum_by-cons count x (drop (i + 1) xs)
+  left-step xs i x inside is = search (rules, drop_more, sum_by-cons)
 
   -- elements that are changed and count for as many have the same sums
   pub sums-kept : (change : X → X) → ((x : X) → count (change x) ≡ count x) → (front : ℕ) (xs : List X) → sums_from count front (map change xs) ≡ sums_from count front xs
   sums-kept change keeps front [] = refl
-  sums-kept change keeps front (x ∷ xs) =
-      ap (λ (own : ℕ). front ∷ sums_from count (front + own) (map change xs)) (keeps x)
-      ∙ ap (λ (rest : List ℕ). front ∷ rest) (sums-kept change keeps (front + count x) xs)
+  sums-kept change keeps front (x ∷ xs) = search (rules, sums-kept change keeps (front + count x) xs)
 
 -- elements at one place of lists of which something is the same
 pub mapped-at : {X Y Z : Type 0} (f : X → Z) (g : Y → Z) (xs : List X) (ys : List Y) (i : ℕ) (x : X) (y : Y) → map f xs ≡ map g ys → i < length ys → x ≡ get_or xs i x → y ≡ get_or ys i y → f x ≡ g y

@@ -1,13 +1,11 @@
-use Rattle.std.proofs.Common.{ℕ, ◌+◌, ◌∙◌, Bool, List, [], length, get_or, ap, sym, arith, if◌then◌else◌}
+use Rattle.std.proofs.Common.{ℕ, ◌+◌, ◌∙◌, Bool, List, [], length, get_or, ap, sym, arith, if◌then◌else◌, rules}
 use Rattle.std.proofs.lemmas.Option.{get_or_from_slice_get}
 use Rattle.hc_index.specs.Index.{block_sum, block_sums, blocks_of}
 use Rattle.hc_index.proofs.Summed.{sums-last, sums-length}
 use Rattle.hc_index.proofs.sums.line_counts.Goals as goal
 
 pub bounds-sums-count : goal.bounds-sums-count
-bounds-sums-count c =
-    let long = ap length c.requires.sums ∙ sums-length blocks_of 0 c.args.declared.now.group.slaves in
-    omega (arith, long, c.len-count.ensures)
+bounds-sums-count c = search (rules, sums-length)
 
 pub returns-clause-blocks : goal.returns-clause-blocks
 returns-clause-blocks c =

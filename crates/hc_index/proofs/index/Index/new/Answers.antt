@@ -1,7 +1,6 @@
-use Rattle.std.proofs.Common.{length, ap, arith}
+use Rattle.std.proofs.Common.{rules}
 use Rattle.std.proofs.lemmas.List.{length-map}
 use Rattle.hc_records.proofs.lemmas.Slaves.{project-counted}
-use Rattle.hc_index.specs.Index.{block_sums}
 use Rattle.hc_index.proofs.Owners.{few-declared, few-present}
 use Rattle.hc_index.proofs.index.Index.new.Goals as goal
 
@@ -21,15 +20,4 @@ pub sum_line-requires-clause-few : goal.sum_line-requires-clause-few
 sum_line-requires-clause-few c = few-present c.args.groups.now c.requires
 
 pub invariant_of-result : goal.invariant_of-result
-invariant_of-result c =
-    let fronts = length-map c.in_ok-fronts.fronts.items (λ v. v.items) in
-    let groups = length-map c.args.groups.now block_sums in
-    let same = ap length c.in_ok-fronts.ensures in
-    let slaves = c.in_ok-slaves.ensures.exact in
-    let blocks = c.in_ok-blocks.ensures.exact in
-    let room = c.sum_line.ensures.room in (
-      c.in_ok-aliases.ensures.order,
-      c.in_ok-addresses.ensures.order,
-      omega (arith, fronts, groups, same, slaves, room),
-      omega (arith, fronts, groups, same, blocks, room),
-    )
+invariant_of-result c = search (rules, length-map)

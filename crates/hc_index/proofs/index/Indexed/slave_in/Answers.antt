@@ -1,8 +1,8 @@
-use Rattle.std.proofs.Common.{◌≡◌, Some, sym, arith}
+use Rattle.std.proofs.Common.{◌≡◌, Some, arith, rules}
 use Rattle.std.specs.Prelude.{slice_get}
 use Rattle.std.proofs.lemmas.Grind.{common_steps}
 use Rattle.std.proofs.lemmas.Option.{gets, slice_get_within}
-use Rattle.hc_index.proofs.Indexes.{found-in, member-in, ranked, seen}
+use Rattle.hc_index.proofs.Indexes.{ranked, seen}
 use Rattle.hc_index.proofs.index.Indexed.slave_in.Goals as goal
 
 pub number_at-requires-clause-inside : goal.number_at-requires-clause-inside
@@ -23,5 +23,4 @@ returns c =
     let here : slice_get groups c.args.group ≡ Some declared = grind (arith, common_steps, gets) in
     let own : slice_get declared.group.slaves c.args.place ≡ Some slave = grind (arith, common_steps, gets) in
     let rank = (ranked groups _ c.args.group c.args.place declared (seen c.self.view_is c.self.invariant.0) here (slice_get_within _ c.args.place slave own)).rank in
-    sym (member-in groups c.args.group c.args.place _ slave (omega (arith, rank, c.number_at.ensures.value))
-    (found-in groups c.args.group c.args.place declared slave here own))
+    search rules

@@ -1,4 +1,4 @@
-use Rattle.std.proofs.Common.{◌∙◌, List, length, ap, arith}
+use Rattle.std.proofs.Common.{◌∙◌, List, length, ap, rules}
 use Rattle.hc_records.specs.declared.records.Declared.{Declared}
 use Rattle.hc_records.specs.Line.{line_from}
 use Rattle.hc_index.proofs.Indexes.{line-low, slaves-total}
@@ -11,7 +11,4 @@ pub returns-clause-value : goal.returns-clause-value
 returns-clause-value c = (slaves-total c.self.inside.groups.now _ c.self.invariant.0).1 ∙ ap (λ (g : List Declared). length (line_from 1 g)) c.self.view_is
 
 pub returns-clause-few : goal.returns-clause-few
-returns-clause-few c =
-    let total = (slaves-total c.self.inside.groups.now _ c.self.invariant.0).1 in
-    let low = line-low c.self.inside.groups.now c.self.invariant.0.declared.project in
-    omega (arith, total, low)
+returns-clause-few c = search (rules, slaves-total, line-low)
