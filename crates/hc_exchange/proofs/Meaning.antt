@@ -34,7 +34,7 @@ use Rattle.hc_carrying.proofs.lemmas.Ready.{written-programmed}
 use Rattle.hc_carrying.proofs.lemmas.Sequences.{all-inputs, all-keep, all-others, all-outputs}
 use Rattle.hc_carrying.proofs.lemmas.Slaves.{output-high}
 use Rattle.hc_carrying.proofs.lemmas.Variables.{variables-carried}
-use Rattle.hc_exchange.specs.Exchanged.{CameBack, HasInMemory, IsExchanged, IsGapBit, IsOutputBit}
+use Rattle.hc_exchange.specs.Exchanged.{CameBack, HasInMemory, IsExchanged, IsGapBit, IsOutputBit, StandsInMemory}
 use Rattle.hc_exchange.specs.Sent.{IsSent, IsVariable, count_of}
 use Rattle.hc_exchange.proofs.Packing.{count-listed, counter-low, datagram-early, datagram-there, length-there}
 use Rattle.hc_exchange.proofs.Passing.{IsSendable, Returned, frame_with, logical_of, passed-frames, passed-machines}
@@ -232,49 +232,63 @@ carried-bit state task image machines frames machines' dir variable place k g ow
 at-position : (line : List Member) (member : Member) → (has : Contains line member) → slice_get line has.0 ≡ Some member
 at-position line member (k, within, is) = slice_get-get_or line k member within ∙ ap Some is
 
+-- the slave of a variable, with its machine
+record AtVariable (state : State) (machines machines' : List (List ℕ)) (variable : ℕ) (place : VariablePlace) (c : IsCarried (line state) variable place) : Type 0 where
+  position : ℕ
+  at : AtSlave state machines machines' position c.member
+  stands : StandsInMemory (line state) variable place.bits position (8 * c.area.phys + c.offset)
+
+at-variable : (state : State) (task : ℕ) (image : List ℕ) (machines frames machines' : List (List ℕ)) (variable : ℕ) (place : VariablePlace) → Given state task image machines frames machines'
+    → (c : IsCarried (line state) variable place) → AtVariable state machines machines' variable place c
+at-variable state task image machines frames machines' variable place g c =
+    let is = at-position (line state) c.member c.in_line in
+    record {
+      position = c.in_line.0;
+      at = at-slave state task image machines frames machines' c.in_line.0 c.member g is;
+      stands = record { member = c.member; index = c.index; area = c.area; offset = c.offset; in_line = is; in_record = c.in_record; entry = c.entry; at = refl };
+    }
+
 input-brought : (state : State) (task : ℕ) (image : List ℕ) (machines frames machines' : List (List ℕ)) (variable : ℕ) (place : VariablePlace) → (g : Given state task image machines frames machines')
     → IsVariable (line state) task In variable place
     → HasInMemory (line state) machines variable place.bits (λ k. bit_of (came_of state task g.sent.bytes machines place.datagram) (place.bit + k))
 input-brought state task image machines frames machines' variable place g own =
-    let members = line state in
     let bytes = g.sent.bytes in
     let c = variables-carried state variable place g.can own.there in
-    let position = c.in_line.0 in
-    let at = at-slave state task image machines frames machines' position c.member g (at-position members c.member c.in_line) in
+    let own_slave = at-variable state task image machines frames machines' variable place g c in
+    let at = own_slave.at in
     let m = 8 * c.area.phys + c.offset in
     record {
-      position = position;
+      position = own_slave.position;
       m = m;
       memory = at.memory;
-      stands = record { member = c.member; index = c.index; area = c.area; offset = c.offset; in_line = at-position members c.member c.in_line; in_record = c.in_record; entry = c.entry; at = refl };
+      stands = own_slave.stands;
       machine = at.before;
       same = λ k below.
           let bit = carried-bit state task image machines frames machines' In variable place k g own c below in
-          sym (bit-kept members c.member at.memory position machines (m + k) at.own bit.high)
-          ∙ sym (all-inputs state (machines_written members machines) position c.member at.own.written (sent_logicals state task bytes) place.datagram (logical_of task bytes place.datagram) (place.bit + k) (m + k)
+          sym (bit-kept (line state) c.member at.memory own_slave.position machines (m + k) at.own bit.high)
+          ∙ sym (all-inputs state (machines_written (line state) machines) own_slave.position c.member at.own.written (sent_logicals state task bytes) place.datagram (logical_of task bytes place.datagram) (place.bit + k) (m + k)
           (came_of state task bytes machines place.datagram) at.meets bit.has bit.carries (came-there state task bytes machines place.datagram bit.low));
     }
 
 output-arrived : (state : State) (task : ℕ) (image : List ℕ) (machines frames machines' : List (List ℕ)) (variable : ℕ) (place : VariablePlace) → (g : Given state task image machines frames machines')
     → IsVariable (line state) task Out variable place → HasInMemory (line state) machines' variable place.bits (λ k. bit_of image (place_bit (line state) place + k))
 output-arrived state task image machines frames machines' variable place g own =
-    let members = line state in
     let bytes = g.sent.bytes in
     let c = variables-carried state variable place g.can own.there in
-    let position = c.in_line.0 in
-    let at = at-slave state task image machines frames machines' position c.member g (at-position members c.member c.in_line) in
+    let own_slave = at-variable state task image machines frames machines' variable place g c in
+    let at = own_slave.at in
     let m = 8 * c.area.phys + c.offset in
-    let left = subst (λ (ms : List (List ℕ)). slice_get ms position ≡ Some at.memory') (left-are state task image machines frames machines' g) at.behind in
+    let left = subst (λ (ms : List (List ℕ)). slice_get ms own_slave.position ≡ Some at.memory') (left-are state task image machines frames machines' g) at.behind in
     record {
-      position = position;
+      position = own_slave.position;
       m = m;
       memory = at.memory';
-      stands = record { member = c.member; index = c.index; area = c.area; offset = c.offset; in_line = at-position members c.member c.in_line; in_record = c.in_record; entry = c.entry; at = refl };
+      stands = own_slave.stands;
       machine = at.behind;
       same = λ k below.
           let bit = carried-bit state task image machines frames machines' Out variable place k g own c below in
-          all-outputs state (machines_written members machines) position c.member at.own.written at.memory' (sent_logicals state task bytes) place.datagram (logical_of task bytes place.datagram) (place.bit + k) (m + k)
-          at.meets (all-apart state task image machines frames machines' g) bit.has bit.carries left
+          all-outputs state (machines_written (line state) machines) own_slave.position c.member at.own.written at.memory' (sent_logicals state task bytes) place.datagram (logical_of task bytes place.datagram) (place.bit + k)
+          (m + k) at.meets (all-apart state task image machines frames machines' g) bit.has bit.carries left
           ∙ (g.sent.packed place.datagram bit.low).values variable k place own refl below;
     }
 

@@ -17,9 +17,10 @@ use Rattle.hc_registers.specs.Blocks.{mapping_at, mapping_of}
 use Rattle.hc_programmed.specs.Laws.{IsConfigurable}
 use Rattle.hc_programmed.specs.Pairs.{AreasPair, key_of}
 use Rattle.hc_programmed.proofs.lemmas.Listed.{areas-mapped}
-use Rattle.hc_programmed.proofs.lemmas.Members.{KeepsLine, area-inside, keeps-line, one-index, one-rank, one-station}
-use Rattle.hc_programmed.proofs.lemmas.Places.{logical-told, mapped-place, one-area}
+use Rattle.hc_programmed.proofs.lemmas.Members.{KeepsLine, area-inside, keeps-line, one-index, one-station}
+use Rattle.hc_programmed.proofs.lemmas.Places.{logical-told, mapped-place}
 use Rattle.hc_carrying.specs.Carrying.{CarriesPair}
+use Rattle.hc_carrying.proofs.lemmas.Slaves.{one-owner}
 use Rattle.hc_exchange.specs.Exchanged.{IsGapBit, IsOutputBit}
 use Rattle.hc_exchange.proofs.Packing.{datagram-early, length-there}
 
@@ -34,18 +35,12 @@ bits-same first k l x is is' = omega arith
 
 same-bit : (line : List Member) (station other x m n : ℕ) → KeepsLine line → (p : AreasPair line station x m) → (q : AreasPair line other x n) → SameBit line station other x m n p q
 same-bit line station other x m n keeps p q =
-    let is = p.is_mapped in
-    let is' = q.is_mapped in
-    let same =
-    one-area line p.member q.member p.index q.index p.area q.area p.mapping q.mapping x p.pair.k q.pair.k
-    (mapped-place line p.member p.index p.area p.mapping keeps is.in_line is.in_record is.mapped) (mapped-place line q.member q.index q.area q.mapping keeps is'.in_line is'.in_record is'.mapped)
-    p.pair.below p.pair.logical q.pair.below q.pair.logical in
-    let one : p.member ≡ q.member = one-rank line p.member q.member keeps is.in_line is'.in_line same.0 in
-    let areas : Some p.area ≡ Some q.area = sym is.in_record ∙ ap₂ (λ (slave : Member) (i : ℕ). slice_get slave.slave.areas i) one same.1 ∙ is'.in_record in
-    let area : p.area ≡ q.area = cc in
+    let owner = one-owner line station other x m n keeps p q in
+    let one = owner.0 in
+    let area = owner.2 in
     let keys : mapping_of line p.area.task (key_of p.member p.index p.area) ≡ mapping_of line q.area.task (key_of q.member q.index q.area) =
-    ap (λ (a : Area). mapping_of line a.task (key_of p.member p.index a)) area ∙ ap₂ (λ (slave : Member) (i : ℕ). mapping_of line q.area.task (key_of slave i q.area)) one same.1 in
-    let mappings : Some p.mapping ≡ Some q.mapping = sym is.mapped ∙ keys ∙ is'.mapped in
+    ap (λ (a : Area). mapping_of line a.task (key_of p.member p.index a)) area ∙ ap₂ (λ (slave : Member) (i : ℕ). mapping_of line q.area.task (key_of slave i q.area)) one owner.1 in
+    let mappings : Some p.mapping ≡ Some q.mapping = sym p.is_mapped.mapped ∙ keys ∙ q.is_mapped.mapped in
     let mapping : p.mapping ≡ q.mapping = cc in
     let first : 8 * p.mapping.address + p.mapping.bit ≡ 8 * q.mapping.address + q.mapping.bit = ap (λ (at : Mapping). 8 * at.address + at.bit) mapping in
     let bit : p.pair.k ≡ q.pair.k = bits-same (8 * q.mapping.address + q.mapping.bit) p.pair.k q.pair.k x (p.pair.logical ∙ ap (λ (i : ℕ). i + p.pair.k) first) q.pair.logical in

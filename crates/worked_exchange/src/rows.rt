@@ -50,6 +50,12 @@ struct Row {
     after: &'static [Piece],
 }
 
+/// What comes back of the first slave's datagram, up to its working counter.
+const RETURNED: &[u8] = &[
+    255, 255, 255, 255, 255, 255, 2, 0, 0, 0, 0, 4, 0x88, 0xa4, 15, 0x10, 12, 4, 0, 0, 0, 1, 3, 0,
+    0, 0, 0x02, 0x34, 0x0a, 3, 0,
+];
+
 /// An output and an input; the output's byte keeps its other bits; 9 bits in three areas; gaps are 0.
 const ROWS: &[Row] = &[
     Row {
@@ -57,10 +63,7 @@ const ROWS: &[Row] = &[
         before: &[(0, 0x1180, &[0x34, 0x0a])],
         task: 0,
         outputs: &[0x02],
-        frame: &[
-            255, 255, 255, 255, 255, 255, 2, 0, 0, 0, 0, 4, 0x88, 0xa4, 15, 0x10, 12, 4, 0, 0, 0,
-            1, 3, 0, 0, 0, 0x02, 0x34, 0x0a, 3, 0,
-        ],
+        frame: RETURNED,
         after: &[(0, 0x1100, &[0x02]), (0, 0x1180, &[0x34, 0x0a])],
     },
     Row {
@@ -68,10 +71,7 @@ const ROWS: &[Row] = &[
         before: &[(0, 0x1100, &[0xfc]), (0, 0x1180, &[0x34, 0x0a])],
         task: 0,
         outputs: &[0x02],
-        frame: &[
-            255, 255, 255, 255, 255, 255, 2, 0, 0, 0, 0, 4, 0x88, 0xa4, 15, 0x10, 12, 4, 0, 0, 0,
-            1, 3, 0, 0, 0, 0x02, 0x34, 0x0a, 3, 0,
-        ],
+        frame: RETURNED,
         after: &[(0, 0x1100, &[0xfe]), (0, 0x1180, &[0x34, 0x0a])],
     },
     Row {

@@ -23,11 +23,11 @@ use Rattle.hc_programmed.proofs.lemmas.Sources.{mapped-area}
 use Rattle.hc_carrying.specs.Carrying.{CarriesPair, IsReady}
 use Rattle.hc_machine.proofs.lemmas.Memories.{length-memory, memory-bytes, same-byte}
 
--- a logical bit has one slave, and one direction
+-- a logical bit has one area of one slave
 
-pub one-carrier : (line : List Member) (station other x m n : ℕ) → KeepsLine line → (p : AreasPair line station x m) → (q : AreasPair line other x n)
-    → (station ≡ other) × (p.area.dir ≡ q.area.dir)
-one-carrier line station other x m n keeps p q =
+pub one-owner : (line : List Member) (station other x m n : ℕ) → KeepsLine line → (p : AreasPair line station x m) → (q : AreasPair line other x n)
+    → (p.member ≡ q.member) × (p.index ≡ q.index) × (p.area ≡ q.area)
+one-owner line station other x m n keeps p q =
     let is = p.is_mapped in
     let is' = q.is_mapped in
     let same =
@@ -36,8 +36,14 @@ one-carrier line station other x m n keeps p q =
     p.pair.below p.pair.logical q.pair.below q.pair.logical in
     let one : p.member ≡ q.member = one-rank line p.member q.member keeps is.in_line is'.in_line same.0 in
     let areas : Some p.area ≡ Some q.area = sym is.in_record ∙ ap₂ (λ (slave : Member) (n : ℕ). slice_get slave.slave.areas n) one same.1 ∙ is'.in_record in
-    let area : p.area ≡ q.area = cc in
-    (sym p.station_is ∙ ap (λ (slave : Member). slave.slave.station) one ∙ q.station_is, ap (λ (a : Area). a.dir) area)
+    (one, same.1, cc)
+
+-- and so one direction
+pub one-carrier : (line : List Member) (station other x m n : ℕ) → KeepsLine line → (p : AreasPair line station x m) → (q : AreasPair line other x n)
+    → (station ≡ other) × (p.area.dir ≡ q.area.dir)
+one-carrier line station other x m n keeps p q =
+    let owner = one-owner line station other x m n keeps p q in
+    (sym p.station_is ∙ ap (λ (slave : Member). slave.slave.station) owner.0 ∙ q.station_is, ap (λ (a : Area). a.dir) owner.2)
 
 pub no-two-ways : (line : List Member) (station other x m n : ℕ) → KeepsLine line → CarriesPair line Out station x m → CarriesPair line In other x n → ⊥
 no-two-ways line station other x m n keeps output input =
