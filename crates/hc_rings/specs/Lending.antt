@@ -27,9 +27,13 @@ LendsBuffer place lent = Lends (option.the_row buffer.the_row) buffer.the_row pl
 abbrev pub LendsBytes : MutBor (Option Post) → MutBor (List ℕ) → Fml
 LendsBytes place lent = Lends (option.the_row buffer.the_row) (Array u8 0) place lent (λ written. option_map (λ post. with_written post written) place.now)
 
+-- the sender with these written over the bytes of the buffer that it holds, if any
+abbrev pub held_written : PostSender → List ℕ → PostSender
+held_written s written = record s { held = option_map (λ post. with_written post written) s.held }
+
 -- the sender, whose buffer for the next post has what was left written over its bytes
 abbrev pub LendsHeld : MutBor PostSender → MutBor (List ℕ) → Fml
-LendsHeld s lent = Lends sender.the_row (Array u8 0) s lent (λ written. record s.now { held = option_map (λ post. with_written post written) s.now.held })
+LendsHeld s lent = Lends sender.the_row (Array u8 0) s lent (held_written s.now)
 
 -- the sender, which holds a post for this epoch with what was left written over `size` zeros; or, where none was held and
 -- no spare was found, it is as it was before

@@ -1,7 +1,7 @@
 //! Makes a ring of posts with its spare buffers.
-ghost use Rattle.std.specs.Prelude.{◌≡◌, [], length, IfOk};
+ghost use Rattle.std.specs.Prelude.{◌≡◌, [], length, IfOk, None};
 ghost use Rattle.rtrb.specs.Ring.{sent, received, known_items, IsPair};
-ghost use Rattle.hc_rings.specs.Ring.{posted, handed_out, taken, left, given_back, ArePostEnds};
+ghost use Rattle.hc_rings.specs.Ring.{posted, handed_out, held, taken, left, given_back, ArePostEnds};
 
 use super::{POSTS_WAITING, PostReceiver, PostSender, SPARE_BUFFERS};
 use crate::incoming::IncomingPosts;
@@ -18,7 +18,7 @@ use std::collections::VecDeque;
 /// after it no call of the two ends takes any. `AllocError` where a growth was refused, or a ring that `rtrb` would not make.
 pub fn post_ring(alloc: Global) -> Result<(PostSender, PostReceiver), AllocError>
     ensures ends { IfOk result (λ r. ArePostEnds r.0 r.1) }
-    ensures sender { IfOk result (λ r. (posted r.0 ≡ []) × (handed_out r.0 ≡ 0)) }
+    ensures sender { IfOk result (λ r. (posted r.0 ≡ []) × (handed_out r.0 ≡ 0) × (held r.0 ≡ None)) }
     ensures receiver { IfOk result (λ r. (taken r.1 ≡ []) × (left r.1 ≡ []) × (length (given_back r.1) ≡ SPARE_BUFFERS)) }
 {
     // One place is for the end that the sender leaves.

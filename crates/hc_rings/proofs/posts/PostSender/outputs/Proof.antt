@@ -1,12 +1,12 @@
 -- `outputs` hands on what `held_mut` lends of the buffer that is then held, or ends the sender as it was.
-use Rattle.hc_rings.proofs.Steps.{◌≡◌, ℕ, ◌≤◌, Bool, true, false, List, [], ◌∷◌, refl, ap, lit<, w32, w64, MutBor, proved, ftrue, flft, full_share, id⊢, emp, fact, fact_i, tables, Array, u8, u32, usize, bool, yes, no, shows, lends_again, comes_back, LentAgain, uint_vals, uint_Tells, uint_Makes, owns, MutRef, mut_vals, mut_Tells, makes_shadow, plain, mut_ref_to, MutSlice, slice_val, nothing, owned, heard, peeks, only, calls_at, Lasts, lasts, triple_of, framed, Stays, stay_dropped, walk_of, ends_at, Goes-dropped, Goes-spent_ref, named, Val, vstruct, vnil, of_list, alloc_all, pass_all, free_all, look_at, get, through, sets, lands_as, env, at_ret, ‵, raw, ◌⊛◌, some, later, ◌$◌, ◌∵◌, !, qed, move, keep, drop, use0, use1, use2, use3, split, join, fsplit, fsplit3, fjoin, feq_l, rewrite, await, pick, suffices, frame, by, live, stop, lit, addr, agg, and_then, no_more, returns, returns_within, enter, first, branches, skips, exec, name_done, lft_new, lft_end}
+use Rattle.hc_rings.proofs.lemmas.Steps.{◌≡◌, ℕ, ◌≤◌, Bool, true, false, List, [], ◌∷◌, refl, ap, lit<, w32, w64, MutBor, proved, ftrue, flft, full_share, id⊢, emp, fact, fact_i, tables, Array, u8, u32, usize, bool, yes, no, shows, lends_again, comes_back, LentAgain, uint_vals, uint_Tells, uint_Makes, owns, MutRef, mut_vals, mut_Tells, makes_shadow, plain, mut_ref_to, MutSlice, slice_val, nothing, owned, heard, peeks, only, calls_at, Lasts, lasts, triple_of, framed, Stays, stay_dropped, walk_of, ends_at, Goes-dropped, Goes-spent_ref, named, Val, vstruct, vnil, of_list, alloc_all, pass_all, free_all, look_at, get, through, sets, lands_as, env, at_ret, ‵, raw, ◌⊛◌, some, later, ◌$◌, ◌∵◌, !, qed, move, keep, drop, use0, use1, use2, use3, split, join, fsplit, fsplit3, fjoin, feq_l, rewrite, await, pick, suffices, frame, by, live, stop, lit, addr, agg, and_then, no_more, returns, returns_within, enter, first, branches, skips, exec, name_done, lft_new, lft_end}
 use denote.Follow.{follows_by, such_by}
 use mathlib.Core.Option as maybe
 use Rattle.std.specs.Prelude.{length, Result, IsOk, OnErr, IsSome, IfSome}
 use Rattle.std.specs.declared.result.Result.TheVariants.{Ok, Err}
 use Rattle.std.specs.contracts.result.Result as result
-use Rattle.hc_rings.proofs.Results.{says_three, makes_ok, makes_err}
-use Rattle.hc_rings.proofs.Outputs.{is_true, is_false, left_outputs, zeros, never, lends_so}
+use Rattle.hc_rings.proofs.lemmas.Results.{says_three, makes_ok, makes_err}
+use Rattle.hc_rings.proofs.lemmas.Outputs.{is_true, is_false, left_outputs, zeros, never, lends_so}
 use Rattle.hc_rings.specs.Post.{blank_post, with_written}
 use Rattle.hc_rings.specs.Lending.{LendsHeld, LendsOutputs}
 use Rattle.hc_rings.specs.Ring.{handed_out, held, posted, HoldsPost, HoldsNothing, PostsEach}
