@@ -5,9 +5,9 @@ use Rattle.hc_events.specs.declared.answer.Answer.{Answer}
 use Rattle.hc_events.specs.Entries.{Record, Opened, Edited, Posted, Sent, Wrote, Came}
 use Rattle.hc_events.specs.Points.{opened_with}
 use Rattle.hc_events.specs.Sendings.{Frame}
-use Rattle.hc_events.specs.Steps.{Step, entries_after, with_sent}
+use Rattle.hc_events.specs.Steps.{Step, entries_after, entries_after_all, with_sent}
 use Rattle.hc_events.specs.Calls.{IsAnswered, IsWanting, MayAnswer}
-use Rattle.hc_events.proofs.lemmas.Accepted.{Keeps, kept-after}
+use Rattle.hc_events.proofs.lemmas.Accepted.{Keeps, kept-after, kept-after_all}
 
 abbrev OpenedWith : List Group → Record → Type 0
 OpenedWith groups past = opened_with past ≡ groups
@@ -30,3 +30,6 @@ opened-answered past next step told may =
 pub opened-sent : (past : Record) (frames : List Frame) → opened_with (with_sent past frames) ≡ opened_with past
 opened-sent past [] = refl
 opened-sent past (frame ∷ frames) = opened-sent (Sent frame.datagrams ∷ past) frames
+
+pub opened-after_all : (past : Record) (steps : List Step) → opened_with (entries_after_all past steps) ≡ opened_with past
+opened-after_all past steps = kept-after_all (OpenedWith (opened_with past)) (opened_more (opened_with past)) past steps refl

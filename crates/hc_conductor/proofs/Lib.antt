@@ -1,2 +1,6 @@
+pub mod Ends
+pub mod Images
 pub mod Kept
 pub mod Lists
+pub mod Seatings
+pub mod Takings

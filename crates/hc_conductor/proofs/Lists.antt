@@ -1,7 +1,8 @@
 -- Lists of changes one behind another.
-use Rattle.std.proofs.Common.{◌≡◌, List, [], ◌∷◌, ◌++◌, map, sym, subst, ◌∙◌, ap, append_assoc}
+use Rattle.std.proofs.Common.{◌≡◌, List, [], ◌∷◌, ◌++◌, length, map, sym, subst, ◌∙◌, ap, append_assoc}
 use Rattle.std.specs.Prelude.{reverse}
 use Rattle.std.proofs.lemmas.List.{append-nil, map-append, reverse-append}
+use Rattle.hc_records.specs.declared.limits.TheConstants.{TASKS}
 use Rattle.hc_records.specs.declared.records.Group.{Group}
 use Rattle.hc_records.specs.Line.{State, opened}
 use Rattle.hc_events.specs.declared.change.Change.{Change}
@@ -50,17 +51,18 @@ same-all p q pend pends turned turns e all =
     append_assoc q pends turns ∙ (ap (λ z. z ++ (pends ++ turns)) e ∙ (ap (λ w. p ++ w) all ∙ sym (append_assoc p pend turned)))
 
 -- a conductor stands as long as its lists in a row and its core are the same
-pub stands-same : (p q : Conducting) → IsConducting p → q.core ≡ p.core → origin_of q ≡ origin_of p → all_taken q ≡ all_taken p → IsConducting q
-stands-same p q i core origin all = record {
+pub stands-same : (p q : Conducting) → IsConducting p → q.core ≡ p.core → origin_of q ≡ origin_of p → all_taken q ≡ all_taken p → q.rings ≡ p.rings → IsConducting q
+stands-same p q i core origin all rings = record {
   groups = ap (λ o. o.groups) origin ∙ (i.groups ∙ ap (λ s. opened_with s.past) (sym core));
   legal = subst (λ (g : List Group). AreLegal g (all_taken q)) (sym (ap (λ o. o.groups) origin)) (subst (AreLegal (origin_of p).groups) (sym all) i.legal);
   told = ap (map told_by) all ∙ (i.told ∙ ap (λ s. news_of s.taken) (sym core));
   behind = ap (λ o. state_behind (opened o.groups) (all_taken q)) origin ∙ (ap (state_behind (opened (origin_of p).groups)) all ∙ (i.behind ∙ ap (λ s. state_of s.taken) (sym core)));
+  rings = ap length rings ∙ i.rings;
 }
 
 -- a conductor stands at its opening
-pub stands-opened : (c : Conducting) (groups : List Group) → c.core ≡ record { past = just_opened groups; taken = just_opened groups } → (origin_of c).groups ≡ groups → published c ≡ [] → pending c ≡ [] → c.waiting ≡ [] → IsConducting c
-stands-opened c groups core same shown none empty =
+pub stands-opened : (c : Conducting) (groups : List Group) → c.core ≡ record { past = just_opened groups; taken = just_opened groups } → (origin_of c).groups ≡ groups → published c ≡ [] → pending c ≡ [] → c.waiting ≡ [] → length c.rings ≡ TASKS → IsConducting c
+stands-opened c groups core same shown none empty rings =
     let all : all_taken c ≡ [] =
     ap (λ w. published c ++ pending c ++ w) empty ∙ (append-nil (published c ++ pending c) ∙ (ap (λ w. published c ++ w) none ∙ (append-nil (published c) ∙ shown))) in
     record {
@@ -68,4 +70,5 @@ stands-opened c groups core same shown none empty =
       legal = subst (AreLegal (origin_of c).groups) (sym all) tt;
       told = ap (map told_by) all ∙ sym (ap (λ s. news_of s.taken) core);
       behind = ap (state_behind (opened (origin_of c).groups)) all ∙ (ap opened same ∙ sym (ap (λ s. state_of s.taken) core));
+      rings = rings;
     }

@@ -3,9 +3,9 @@ use Rattle.std.specs.Prelude.{reverse}
 use Rattle.hc_conductor.specs.declared.conductor.Conductor.TheInside.{Inside}
 use Rattle.hc_conductor.specs.Conducting.{Conducting, IsConducting}
 
--- core, publisher, and the waiting changes with the oldest first
+-- core, publisher, the waiting changes with the oldest first, and the rings of posts
 abbrev pub conducting_in : Inside → Conducting
-conducting_in c = record { core = c.core; board = c.publisher; waiting = reverse c.waiting.items }
+conducting_in c = record { core = c.core; board = c.publisher; waiting = reverse c.waiting.items; rings = c.rings.items }
 
 -- what is true of every conductor
 abbrev pub Stands : Inside → Type 0

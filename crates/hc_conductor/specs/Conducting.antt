@@ -1,5 +1,6 @@
--- What contracts see of a conductor: its core, its publisher, and the changes on their way from the one to the other.
-use Rattle.std.specs.Prelude.{◌≡◌, List, ◌++◌, map}
+-- What contracts see of a conductor: its core, its publisher, the changes on their way from the one to the other, and where posts come in.
+use Rattle.std.specs.Prelude.{◌≡◌, List, ◌++◌, length, map}
+use Rattle.hc_records.specs.declared.limits.TheConstants.{TASKS}
 use Rattle.hc_records.specs.Line.{opened}
 use Rattle.hc_events.specs.declared.change.Change.{Change}
 use Rattle.hc_events.specs.Changes.{AreLegal, news_of, told_by}
@@ -10,12 +11,14 @@ use Rattle.hc_core.specs.State.{CoreState}
 use Rattle.hc_publish.specs.Board as board
 use Rattle.hc_publish.specs.Board.{Board}
 use Rattle.hc_publish.specs.Stories.{Origin}
+use Rattle.hc_rings.specs.declared.posts.PostReceiver.{PostReceiver}
 
--- what is seen of the core and of the publisher, and the changes that were taken from the one and not appended to the other, the oldest first
+-- what is seen of the core and of the publisher, and the changes that were taken from the one and not appended to the other, the oldest first; and the ends at which the tasks' posts come in, task i's at place i
 pub record Conducting : Type 0 where
   pub core : CoreState
   pub board : Board
   pub waiting : List Change
+  pub rings : List PostReceiver
 
 -- the record of what the core accepted
 abbrev pub past_of : Conducting → Record
@@ -37,16 +40,21 @@ origin_of c = board.origin_of c.board
 abbrev pub all_taken : Conducting → List Change
 all_taken c = published c ++ pending c ++ c.waiting
 
--- what is true of every conductor: its groups are those of the project that was opened; all changes in a row are legal for it, tell the news of the record as it was when changes were last taken, and lead to the state that it had then
+-- what is true of every conductor: its groups are those of the project that was opened; all changes in a row are legal for it, tell the news of the record as it was when changes were last taken, and lead to the state that it had then; it has a ring for each task
 pub record IsConducting (c : Conducting) : Type 0 where
   pub groups : (origin_of c).groups ≡ opened_with (past_of c)
   pub legal : AreLegal (origin_of c).groups (all_taken c)
   pub told : map told_by (all_taken c) ≡ news_of c.core.taken
   pub behind : state_behind (opened (origin_of c).groups) (all_taken c) ≡ state_of c.core.taken
+  pub rings : length c.rings ≡ TASKS
 
--- nothing but the core's record has changed: no change was taken, appended or published
+-- no change was taken, appended or published
+abbrev pub SameChanges : Conducting → Conducting → Type 0
+SameChanges p q = (q.core.taken ≡ p.core.taken) × (q.board ≡ p.board) × (q.waiting ≡ p.waiting)
+
+-- nothing but the core's record has changed: no change was taken, appended or published, and no post taken
 abbrev pub SameLists : Conducting → Conducting → Type 0
-SameLists p q = (q.core.taken ≡ p.core.taken) × (q.board ≡ p.board) × (q.waiting ≡ p.waiting)
+SameLists p q = SameChanges p q × (q.rings ≡ p.rings)
 
 -- the published list is all that the record tells
 pub record TellsAll (c : Conducting) : Type 0 where

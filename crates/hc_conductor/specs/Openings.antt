@@ -1,13 +1,37 @@
--- Why nothing is opened.
-use Rattle.std.specs.Prelude.{◌≡◌, List, Some}
+-- What is opened, and why nothing is.
+use Rattle.std.specs.Prelude.{◌≡◌, ℕ, List, [], ◌∷◌, None, Some}
 use Rattle.hc_records.specs.declared.records.Group.{Group}
 use Rattle.hc_records.specs.Edits.{crowded_task}
 use Rattle.hc_records.specs.Line.{line, opened}
+use Rattle.hc_records.specs.Project.{lowest_fault}
+use Rattle.hc_places.specs.Table.{Table, part_in}
 use Rattle.hc_publish.specs.declared.faults.OpenFault.{OpenFault}
 use Rattle.hc_publish.specs.declared.faults.OpenFault.TheVariants.{TooManyDatagrams, Memory, NoSeat}
+use Rattle.hc_rings.specs.declared.posts.PostReceiver.{PostReceiver}
+use Rattle.hc_rings.specs.declared.posts.PostSender.{PostSender}
+use Rattle.hc_rings.specs.Ring.{ArePostEnds, PostsEach, held, posted}
+
+-- the groups are a project's, and no task of its opened line needs more than 16 datagrams
+pub record IsOpenable (groups : List Group) : Type 0 where
+  pub project : lowest_fault groups ≡ None
+  pub uncrowded : crowded_task (line (opened groups)) ≡ None
 
 -- a fault with a task names the lowest task of the opened line that needs more than 16 datagrams
 abbrev pub IsOpenFault : List Group → OpenFault → Type 0
 IsOpenFault groups (TooManyDatagrams task) = crowded_task (line (opened groups)) ≡ Some task
 IsOpenFault groups Memory = Unit {0}
 IsOpenFault groups NoSeat = Unit {0}
+
+-- the output bytes of a task
+abbrev pub output_bytes : Table → ℕ → ℕ
+output_bytes table task = (part_in table task).0
+
+-- nothing was posted, and nothing is held
+abbrev pub IsUnused : PostSender → Type 0
+IsUnused s = (posted s ≡ []) × (held s ≡ None) × PostsEach s
+
+-- one by one the two ends of rings, and as many of both
+abbrev pub AreEnds : List PostSender → List PostReceiver → Type 0
+AreEnds [] [] = Unit {0}
+AreEnds (s ∷ ss) (r ∷ rs) = ArePostEnds s r × AreEnds ss rs
+AreEnds ss rs = ⊥

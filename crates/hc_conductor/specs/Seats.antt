@@ -1,23 +1,54 @@
 -- What clauses see of a task's seat.
-use Rattle.std.specs.Prelude.{ℕ, List}
+use Rattle.std.specs.Prelude.{◌≡◌, ℕ, List, Option}
 use Rattle.hc_events.specs.declared.change.Change.{Change}
 use Rattle.hc_publish.specs.declared.seat.Seat.{Seat}
 use Rattle.hc_publish.specs.Seats as inner
 use Rattle.hc_publish.specs.Stories.{Origin}
+use Rattle.hc_rings.specs.declared.posts.PostSender.{PostSender}
+use Rattle.hc_rings.specs.Post.{Post}
+use Rattle.hc_rings.specs.Ring as ring
 use Rattle.hc_conductor.specs.declared.seat.TaskSeat.{TaskSeat}
 
 -- its seat at the published copies
 abbrev pub seat_of : TaskSeat → Seat
-seat_of s = s.seat
+seat_of s = s.viewer.seat
 
 -- the longest list that it saw or learnt
 abbrev pub known : TaskSeat → List Change
-known s = inner.known s.seat
+known s = inner.known (seat_of s)
 
 -- which conductor it belongs to
 abbrev pub seat_origin : TaskSeat → Origin
-seat_origin s = inner.seat_origin s.seat
+seat_origin s = inner.seat_origin (seat_of s)
 
 -- its task
 abbrev pub task_of : TaskSeat → ℕ
-task_of s = s.seat.task
+task_of s = (seat_of s).task
+
+-- the epoch that it viewed last, 0 before any view
+abbrev pub epoch_of : TaskSeat → ℕ
+epoch_of s = s.viewer.epoch
+
+-- the bytes of the task's outputs in that epoch, in the opening's before any view
+abbrev pub size_of : TaskSeat → ℕ
+size_of s = s.viewer.size
+
+-- its end of the ring of its posts
+abbrev pub sender : TaskSeat → PostSender
+sender s = s.posts
+
+-- every post that it made, oldest first
+abbrev pub posted : TaskSeat → List Post
+posted s = ring.posted s.posts
+
+-- the outputs that wait to be posted, as they stand now
+abbrev pub held : TaskSeat → Option Post
+held s = ring.held s.posts
+
+-- each buffer that was handed out was posted or is held: so it is of every seat that was opened
+abbrev pub PostsEach : TaskSeat → Type 0
+PostsEach s = ring.PostsEach s.posts
+
+-- nothing of its posts has changed, nor what was viewed last
+abbrev pub SamePosts : TaskSeat → TaskSeat → Type 0
+SamePosts s t = (sender t ≡ sender s) × (epoch_of t ≡ epoch_of s) × (size_of t ≡ size_of s)

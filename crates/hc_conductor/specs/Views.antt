@@ -4,6 +4,7 @@ use Rattle.hc_events.specs.declared.change.Change.{Change}
 use Rattle.hc_copies.specs.Told.{Told}
 use Rattle.hc_publish.specs.Looks as inner
 use Rattle.hc_publish.specs.Stories.{Origin}
+use Rattle.hc_rings.specs.declared.posts.PostSender.{PostSender}
 use Rattle.hc_conductor.specs.declared.view.TaskView.{TaskView}
 
 -- what the copy was told that it looks at
@@ -21,3 +22,7 @@ view_origin v = inner.view_origin v.view
 -- its task
 abbrev pub task_of : TaskView → ℕ
 task_of v = v.view.task
+
+-- its seat's end of the ring of its posts
+abbrev pub sender : TaskView → PostSender
+sender v = v.posts

@@ -1,5 +1,5 @@
 //! What a master embeds: one thread owns the conductor, with the core and the publisher; each task has a seat, which
-//! views what was published and waits for nobody.
+//! views what was published, posts what is to be sent, and waits for nobody.
 #![tactic(auto)]
 
 pub mod conductor;
@@ -8,6 +8,8 @@ mod opening;
 mod publishing;
 pub mod seat;
 mod sending;
+pub mod taking;
 pub mod view;
+mod viewer;
 
 pub use opening::open;

@@ -1,31 +1,35 @@
 //! How it all begins.
-ghost use Rattle.std.specs.Prelude.{◌≡◌, ◌≢◌, [], All, IfErr, IfOk, None, OnOk, map, vec_len, vec_capacity, ◌≤◌};
+ghost use Rattle.std.specs.Prelude.{◌≡◌, ◌≤◌, ℕ, [], All, IfErr, IfOk, None, OnOk, length, map, vec_len, vec_capacity};
 ghost use Rattle.std.specs.List.{range_with_len};
 ghost use Rattle.hc_records.specs.declared.limits.TheConstants.{TASKS};
-ghost use Rattle.hc_records.specs.Edits.{crowded_task};
 ghost use Rattle.hc_records.specs.Line.{line, opened};
-ghost use Rattle.hc_places.specs.Layout.{NamesCrowded};
+ghost use Rattle.hc_places.specs.Table.{table_of};
 ghost use Rattle.hc_events.specs.Accepted.{just_opened};
-ghost use Rattle.hc_publish.specs.Seats.{IsFresh, task_of};
+ghost use Rattle.hc_publish.specs.Seats as inner;
+ghost use Rattle.hc_publish.specs.Seats.{IsFresh};
+ghost use Rattle.hc_rings.specs.declared.post_buffer.TheConstants.{LARGEST_IMAGE};
 ghost use Rattle.hc_conductor.specs.Conducting.{origin_of, pending, published};
-ghost use Rattle.hc_conductor.specs.Openings.{IsOpenFault};
-ghost use Rattle.hc_conductor.specs.Seats.{seat_of};
+ghost use Rattle.hc_conductor.specs.Openings.{AreEnds, IsOpenFault, IsOpenable, IsUnused, output_bytes};
+ghost use Rattle.hc_conductor.specs.Seats.{epoch_of, seat_of, sender, size_of};
 
 use crate::conductor::Conductor;
 use crate::seat::TaskSeat;
+use crate::viewer::Viewer;
 use hc_core::keeping::Core;
+use hc_places::table::Places;
 use hc_publish::faults::OpenFault;
 use hc_publish::seat::Seat;
 use hc_records::faults::EditFault;
 use hc_records::limits::TASKS;
 use hc_records::project::Project;
-use std::alloc::Global;
+use hc_rings::{PostReceiver, PostSender, post_ring};
+use std::alloc::{AllocError, Global};
 use std::sync::Wait;
 
 // The core at the opening.
 fn core_of(alloc: Global, project: Project) -> Result<Core, OpenFault>
     ensures opened { IfOk result (λ core. core ≡ record { past = just_opened project; taken = just_opened project }) }
-    ensures accepted { OnOk result (crowded_task (line (opened project)) ≡ None) }
+    ensures openable { OnOk result (IsOpenable project) }
     ensures refused { IfErr result (IsOpenFault project) }
 {
     match Core::new(alloc, project) {
@@ -35,22 +39,61 @@ fn core_of(alloc: Global, project: Project) -> Result<Core, OpenFault>
     }
 }
 
-// Each seat for its task.
-fn task_seats(room: Vec<TaskSeat>, seats: Vec<Seat>) -> Vec<TaskSeat>
+// Both ends of a ring of posts for each task.
+fn rings(alloc: Global) -> Result<(Vec<PostSender>, Vec<PostReceiver>), AllocError>
+    ensures count { IfOk result (λ ends. (length ends.0.items ≡ TASKS) × (length ends.1.items ≡ TASKS)) }
+    ensures ends { IfOk result (λ ends. AreEnds ends.0.items ends.1.items) }
+    ensures unused { IfOk result (λ ends. All IsUnused ends.0.items) }
+{
+    let mut senders = Vec::with_capacity(alloc, usize::from(TASKS))?;
+    let mut receivers = Vec::with_capacity(alloc, usize::from(TASKS))?;
+    for _ in 0..TASKS {
+        let (sender, receiver) = post_ring(alloc)?;
+        senders.push_reserved(sender);
+        receivers.push_reserved(receiver);
+    }
+    Ok((senders, receivers))
+}
+
+// Each seat for its task, with its end of the task's ring.
+fn task_seats(
+    room: Vec<TaskSeat>,
+    seats: Vec<Seat>,
+    senders: Vec<PostSender>,
+    places: &Places,
+) -> Vec<TaskSeat>
     requires empty { room.items ≡ [] }
     requires room { vec_len seats ≤ vec_capacity room }
-    ensures { map seat_of result.items ≡ seats.items }
+    requires senders { length senders.items ≡ length seats.items }
+    requires few { length seats.items ≤ TASKS }
+    requires openable { All (λ seat. IsOpenable (inner.seat_origin seat).groups) seats.items }
+    requires fits { (task : ℕ) → output_bytes places.now task ≤ LARGEST_IMAGE }
+    ensures seats { map seat_of result.items ≡ seats.items }
+    ensures senders { map sender result.items ≡ senders.items }
+    ensures epochs { All (λ seat. epoch_of seat ≡ 0) result.items }
+    ensures sizes { map size_of result.items ≡ map (output_bytes places.now) (range_with_len 0 (length seats.items)) }
 {
     let mut all = room;
+    let mut senders = senders.into_iter();
     for seat in seats {
-        all.push_reserved(TaskSeat { seat });
+        let Some(posts) = senders.next() else {
+            unreachable!()
+        };
+        let (size, _) = places.part(all.len() as u8);
+        let viewer = Viewer {
+            seat,
+            epoch: 0,
+            size,
+        };
+        all.push_reserved(TaskSeat { viewer, posts });
     }
     all
 }
 
 /// Opens a project: a conductor whose core has it opened, where nothing is published yet, and a seat for each of the
-/// eight tasks, that of task i at place i. `TooManyDatagrams` with the lowest task of the opening line that needs
-/// more than 16 datagrams; `Memory` where a growth was refused; `NoSeat` where a seat was. The project is then
+/// eight tasks, that of task i at place i. What a seat posts comes in at the conductor's ring of its task; it has the
+/// opening's output bytes, and nothing is posted yet. `TooManyDatagrams` with the lowest task of the opening line that
+/// needs more than 16 datagrams; `Memory` where a growth was refused; `NoSeat` where a seat was. The project is then
 /// dropped. All growths but those of later events and changes are made here.
 pub fn open<R: Wait>(
     rt: &R,
@@ -60,18 +103,25 @@ pub fn open<R: Wait>(
     ensures core { IfOk result (λ opened. opened.0.core ≡ record { past = just_opened project; taken = just_opened project }) }
     ensures lists { IfOk result (λ opened. (published opened.0 ≡ []) × (pending opened.0 ≡ []) × (opened.0.waiting ≡ [])) }
     ensures groups { IfOk result (λ opened. (origin_of opened.0).groups ≡ project) }
-    ensures tasks { IfOk result (λ opened. map task_of (map seat_of opened.1.items) ≡ range_with_len 0 TASKS) }
+    ensures tasks { IfOk result (λ opened. map inner.task_of (map seat_of opened.1.items) ≡ range_with_len 0 TASKS) }
     ensures fresh { IfOk result (λ opened. All (IsFresh (origin_of opened.0)) (map seat_of opened.1.items)) }
-    ensures accepted { OnOk result (crowded_task (line (opened project)) ≡ None) }
+    ensures rings { IfOk result (λ opened. AreEnds (map sender opened.1.items) opened.0.rings) }
+    ensures unused { IfOk result (λ opened. All IsUnused (map sender opened.1.items)) }
+    ensures epochs { IfOk result (λ opened. All (λ seat. epoch_of seat ≡ 0) opened.1.items) }
+    ensures sizes { IfOk result (λ both. map size_of both.1.items ≡ map (output_bytes (table_of (line (opened project)))) (range_with_len 0 TASKS)) }
+    ensures openable { OnOk result (IsOpenable project) }
     ensures refused { IfErr result (IsOpenFault project) }
 {
     let core = core_of(alloc, project)?;
     let room = Vec::with_capacity(alloc, usize::from(TASKS))?;
+    let (senders, rings) = rings(alloc)?;
     let (publisher, seats) = hc_publish::open(rt, alloc, core.plan())?;
+    let seats = task_seats(room, seats, senders, core.plan().places());
     let conductor = Conductor {
         core,
         publisher,
         waiting: Vec::new(alloc),
+        rings,
     };
-    Ok((conductor, task_seats(room, seats)))
+    Ok((conductor, seats))
 }

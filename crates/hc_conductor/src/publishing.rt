@@ -39,6 +39,7 @@ impl Conductor {
         ensures origin { origin_of self.new ≡ origin_of self.old }
         ensures all { all_taken self.new ≡ all_taken self.old }
         ensures whole { OnOk result (self.new.waiting ≡ []) }
+        ensures rings { self.new.rings ≡ self.old.rings }
         ensures stands { IsConducting self.new }
     {
         append_all(&mut self.publisher, &mut self.waiting)
@@ -50,6 +51,7 @@ impl Conductor {
         ensures core { self.new.core ≡ record { past = past_of self.old; taken = past_of self.old } }
         ensures board { self.new.board ≡ self.old.board }
         ensures more { IsPrefix (all_taken self.old) (all_taken self.new) }
+        ensures rings { self.new.rings ≡ self.old.rings }
     {
         let spare = mem::replace(&mut self.waiting, Vec::new(alloc));
         let mut changes = self.core.take_changes_into(spare);
@@ -66,6 +68,7 @@ impl Conductor {
         ensures all { all_taken self.new ≡ all_taken self.old }
         ensures shown { OnOk result (pending self.new ≡ []) }
         ensures kept { OnErr result (published self.new ≡ published self.old) }
+        ensures rings { self.new.rings ≡ self.old.rings }
         ensures stands { IsConducting self.new }
     {
         self.publisher.publish(rt)
@@ -79,6 +82,7 @@ impl Conductor {
     pub fn publish<R: Wait>(&mut self, rt: &R, alloc: Global) -> Result<(), AllocError>
         ensures record { past_of self.new ≡ past_of self.old }
         ensures origin { origin_of self.new ≡ origin_of self.old }
+        ensures rings { self.new.rings ≡ self.old.rings }
         ensures all { IsPrefix (all_taken self.old) (all_taken self.new) }
         ensures stands { IsConducting self.new }
         ensures told { OnOk result (TellsAll self.new) }
@@ -109,12 +113,13 @@ impl Conductor {
     }
 
     /// Ends the conductor, its only end. It waits for the views that live, and takes no memory. Seats that are left
-    /// are given no view any more.
+    /// are given no view any more, and nobody takes what they post.
     pub fn finish<R: Wait>(self, rt: &R) {
         let Conductor {
             core: _,
             publisher,
             waiting: _,
+            rings: _,
         } = self;
         publisher.finish(rt);
     }

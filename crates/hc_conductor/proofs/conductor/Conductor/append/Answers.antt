@@ -8,4 +8,4 @@ append_all-requires c = c.self.invariant.legal
 
 pub invariant_of-self : goal.invariant_of-self
 invariant_of-self c =
-    stands-same (conducting_in c.self.inside) _ c.self.invariant refl c.append_all.ensures.origin (same-all _ _ _ _ _ _ c.append_all.ensures.published c.append_all.ensures.all)
+    stands-same (conducting_in c.self.inside) _ c.self.invariant refl c.append_all.ensures.origin (same-all _ _ _ _ _ _ c.append_all.ensures.published c.append_all.ensures.all) refl

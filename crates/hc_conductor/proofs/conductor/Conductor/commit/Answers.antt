@@ -13,4 +13,5 @@ invariant_of-self c =
       legal = i.legal;
       told = i.told ∙ ap (λ s. news_of s.taken) after;
       behind = i.behind ∙ ap (λ s. state_of s.taken) after;
+      rings = i.rings;
     }

@@ -13,4 +13,5 @@ invariant_of-self c =
       legal = i.legal;
       told = i.told ∙ ap news_of same;
       behind = i.behind ∙ ap state_of same;
+      rings = i.rings;
     }

@@ -25,4 +25,5 @@ invariant_of-self c =
       legal = now.legal;
       told = now.told ∙ ap (λ s. news_of s.taken) after;
       behind = now.behind ∙ ap (λ s. state_of s.taken) after;
+      rings = i.rings;
     }

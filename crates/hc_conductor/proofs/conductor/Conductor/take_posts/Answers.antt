@@ -1,0 +1,22 @@
+use Rattle.std.proofs.Common.{length, sym, ◌∙◌, ap}
+use Rattle.hc_events.specs.Changes.{news_of}
+use Rattle.hc_events.specs.Points.{opened_with, state_of}
+use Rattle.hc_conductor.specs.Taking.{events_of_all}
+use Rattle.hc_conductor.proofs.Kept.{opened-after_all}
+use Rattle.hc_conductor.proofs.Takings.{as-many-rings, whole-list}
+use Rattle.hc_conductor.proofs.conductor.Conductor.take_posts.Goals as goal
+
+pub invariant_of-self : goal.invariant_of-self
+invariant_of-self c =
+    let i = c.self.invariant in
+    let took = c.take_all.ensures in
+    let after = sym took.core in
+    let many = as-many-rings _ _ took.posts took.rings ∙ ap length c.deref_mut.ensures.value in
+    let all = whole-list c.take_all.new.rings _ _ (many ∙ sym c.self.inside.rings.ok.0) in
+    record {
+      groups = i.groups ∙ (sym (opened-after_all _ (events_of_all 0 took.posts)) ∙ ap (λ s. opened_with s.past) after);
+      legal = i.legal;
+      told = i.told ∙ ap (λ s. news_of s.taken) after;
+      behind = i.behind ∙ ap (λ s. state_of s.taken) after;
+      rings = ap length all ∙ (many ∙ i.rings);
+    }

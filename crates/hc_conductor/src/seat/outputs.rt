@@ -1,0 +1,77 @@
+//! What a task posts.
+ghost use Rattle.std.specs.Prelude.{◌≡◌, ◌≤◌, ◌↔◌, [], ◌∷◌, ◌++◌, IfOk, IfSome, IsErrOf, IsSome, None, OnErr, OnOk, false, length, replicate, true};
+ghost use Rattle.std.specs.Borrow.{sem};
+ghost use Rattle.hc_rings.specs.declared.posts.TheConstants.{POSTS_WAITING};
+ghost use Rattle.hc_rings.specs.Ring.{SameSender};
+ghost use Rattle.hc_rings.specs.declared.posts.holding.PostFault.TheVariants.{Full, NoBuffer};
+ghost use Rattle.hc_conductor.specs.Outputs.{HoldsNone, HoldsOutputs, LendsHeld, LendsOutputs, SameSeat, blank_outputs};
+ghost use Rattle.hc_conductor.specs.Seats.{PostsEach, held, posted, sender, size_of};
+
+use super::TaskSeat;
+use hc_rings::{NoSpare, PostFault};
+
+impl TaskSeat {
+    /// Holds so many zeros for the next post as the task has output bytes in the epoch that was viewed last, in the
+    /// opening's before any view: in the buffer that is held already, or in a free one. `NoSpare` where none is held and
+    /// no buffer is free: only after four posts that were made. It waits for nobody and takes no memory.
+    pub fn hold(&mut self) -> Result<(), NoSpare>
+        ensures held { OnOk result (HoldsOutputs self.old self.new (blank_outputs self.old) × IsSome (held self.new)) }
+        ensures none_held { OnErr result (HoldsNone self.old self.new) }
+        ensures posts_each { PostsEach self.old → OnErr result (POSTS_WAITING ≤ length (posted self.old)) }
+    {
+        self.posts
+            .hold(self.viewer.epoch, usize::from(self.viewer.size))
+    }
+
+    /// Lends the outputs that are held, for writing. Their epoch stays, and so does the number of bytes.
+    pub fn held_mut(&mut self) -> &mut [u8]
+        requires { IsSome (held self.old) }
+        ensures* lent { sem 𝓛 (LendsHeld self.entry result) }
+        ensures bytes { IfSome (held self.old) (λ post. result.now ≡ post.bytes) }
+    {
+        self.posts.held_mut()
+    }
+
+    // Holds zeros, and answers whether a buffer was found.
+    fn holds_zeros(&mut self) -> bool
+        ensures held { result ≡ true → HoldsOutputs self.old self.new (blank_outputs self.old) × IsSome (held self.new) }
+        ensures no_spare { result ≡ false → HoldsNone self.old self.new }
+        ensures posts_each { PostsEach self.old → result ≡ false → POSTS_WAITING ≤ length (posted self.old) }
+    {
+        self.hold().is_ok()
+    }
+
+    /// Lends so many bytes as the task has outputs in the epoch that was viewed last, in the opening's before any view;
+    /// all are 0. Called again before a post it is the same buffer, zeros again, for the epoch that was then viewed last.
+    /// `NoSpare` where none is held and no buffer is free: only after four posts that were made. It waits for nobody and
+    /// takes no memory.
+    ///
+    /// It is `hold` and `held_mut` in one call. Its proof is by hand, and a caller whose proof is generated learns nothing
+    /// of the seat behind it.
+    pub fn outputs(&mut self) -> Result<&mut [u8], NoSpare>
+        ensures* lent { sem 𝓛 (LendsOutputs self.entry result) }
+        ensures zeros { IfOk result (λ bytes. bytes.now ≡ replicate (size_of self.old) 0) }
+        ensures none_held { OnErr result (held self.old ≡ None) }
+        ensures posts_each { PostsEach self.old → OnErr result (POSTS_WAITING ≤ length (posted self.old)) }
+    {
+        if self.holds_zeros() {
+            return Ok(self.held_mut());
+        }
+        Err(NoSpare)
+    }
+
+    /// Posts the outputs that are held as they were left, for the epoch for which they are held. `NoBuffer` exactly where
+    /// none are held; `Full` only after four posts that were made, and the outputs stay held. It waits for nobody and
+    /// takes no memory.
+    pub fn post(&mut self) -> Result<(), PostFault>
+        ensures seat { SameSeat self.old self.new }
+        ensures ring { SameSender (sender self.old) (sender self.new) }
+        ensures no_buffer { IsErrOf result NoBuffer ↔ (held self.old ≡ None) }
+        ensures ok { OnOk result (IfSome (held self.old) (λ post. posted self.new ≡ posted self.old ++ post ∷ []) × (held self.new ≡ None)) }
+        ensures err { OnErr result ((posted self.new ≡ posted self.old) × (held self.new ≡ held self.old)) }
+        ensures full_only_after_four { IsErrOf result Full → POSTS_WAITING ≤ length (posted self.old) }
+        ensures posts_each { PostsEach self.old → PostsEach self.new }
+    {
+        self.posts.post_held()
+    }
+}

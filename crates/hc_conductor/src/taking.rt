@@ -1,0 +1,102 @@
+//! What tasks posted goes to the core.
+ghost use Rattle.std.specs.Prelude.{◌≡◌, ◌+◌, ◌<◌, ◌≤◌, length};
+ghost use Rattle.hc_records.specs.declared.limits.TheConstants.{TASKS};
+ghost use Rattle.hc_events.specs.Steps.{answer_to, entries_after};
+ghost use Rattle.hc_rings.specs.declared.posts.TheConstants.{POSTS_WAITING};
+ghost use Rattle.hc_conductor.specs.Conducting.{SameChanges};
+ghost use Rattle.hc_conductor.specs.Taking.{TakesFrom, TakesFromAll, TakesPosts, event_of, is_posted, one_if};
+
+use crate::conductor::Conductor;
+use hc_core::keeping::Core;
+use hc_rings::{POSTS_WAITING, PostBuffer, PostReceiver};
+
+/// How many posts were taken of the rings, by what the core made of them.
+#[derive(Clone, Copy, Debug, PartialEq, Eq)]
+pub struct Taken {
+    /// Their values are sent from now on.
+    pub accepted: u32,
+    /// They were for another epoch, and left nothing.
+    pub refused: u32,
+}
+
+// Nothing was taken.
+const NOTHING: Taken = Taken {
+    accepted: 0,
+    refused: 0,
+};
+
+// One more post.
+fn with_one(others: Taken, is_accepted: bool) -> Taken
+    requires { others.accepted + others.refused < POSTS_WAITING }
+    ensures accepted { result.accepted ≡ one_if is_accepted + others.accepted }
+    ensures all { result.accepted + result.refused ≡ 1 + (others.accepted + others.refused) }
+{
+    let Taken { accepted, refused } = others;
+    if is_accepted {
+        Taken {
+            accepted: accepted + 1,
+            refused,
+        }
+    } else {
+        Taken {
+            accepted,
+            refused: refused + 1,
+        }
+    }
+}
+
+// Hands the core a task's post, and tells whether it was accepted.
+fn is_accepted(core: &mut Core, task: u8, post: &PostBuffer) -> bool
+    ensures core { core.new ≡ record core.old { past = entries_after core.old.past (event_of task post.now) } }
+    ensures told { is_posted (answer_to core.old.past (event_of task post.now)) ≡ result }
+{
+    match core.post(task, post.epoch(), post.bytes()) {
+        Ok(()) => true,
+        Err(_) => false,
+    }
+}
+
+// Hands the core posts of a task's ring, so many at most; so deep is this recursion.
+fn take_some(core: &mut Core, task: u8, ring: &mut PostReceiver, most: u32) -> Taken
+    requires { most ≤ POSTS_WAITING }
+    ensures { TakesFrom task most core.old core.new ring.old ring.new result }
+{
+    if most == 0 {
+        return NOTHING;
+    }
+    let Some(post) = ring.take() else {
+        return NOTHING;
+    };
+    let accepted = is_accepted(core, task, &post);
+    ring.give_back(post);
+    with_one(take_some(core, task, ring, most - 1), accepted)
+}
+
+// Hands the core posts of each ring, the first of which is this task's; there are eight, so deep is this recursion.
+fn take_all(core: &mut Core, task: u8, rings: &mut [PostReceiver]) -> Taken
+    requires { task + length rings.old ≤ TASKS }
+    ensures { TakesFromAll task core.old core.new rings.old rings.new result }
+{
+    let Some((ring, others)) = rings.split_first_mut() else {
+        return NOTHING;
+    };
+    let first = take_some(core, task, ring, POSTS_WAITING as u32);
+    let rest = take_all(core, task + 1, others);
+    Taken {
+        accepted: first.accepted + rest.accepted,
+        refused: first.refused + rest.refused,
+    }
+}
+
+impl Conductor {
+    /// Takes what tasks posted, at most four posts of each, and hands each to the core as a post of its task, for its
+    /// epoch: the tasks ascending, each one's posts in order. A post that the core refuses, since another epoch has
+    /// begun, leaves nothing. Buffers go back to the seats. It waits for nobody and takes no memory; what is posted
+    /// meanwhile may be left for the next call.
+    pub fn take_posts(&mut self) -> Taken
+        ensures taken { TakesPosts self.old self.new result }
+        ensures changes { SameChanges self.old self.new }
+    {
+        take_all(&mut self.core, 0, &mut self.rings)
+    }
+}

@@ -1,0 +1,78 @@
+//! What a task sees: of its own datagrams, at the end of the changes of the copy that it looks at.
+ghost use Rattle.std.specs.Prelude.{◌≡◌};
+ghost use Rattle.std.specs.Option.{option_copied};
+ghost use Rattle.hc_places.specs.Table.{part_in, place_in};
+ghost use Rattle.hc_copies.specs.Told.{data_shown, epoch_shown, table_shown};
+ghost use Rattle.hc_copies.specs.Values.{value_shown};
+ghost use Rattle.hc_conductor.specs.Seats as seats;
+ghost use Rattle.hc_conductor.specs.Seats.{epoch_of, known, seat_origin, size_of};
+ghost use Rattle.hc_conductor.specs.Views as views;
+ghost use Rattle.hc_conductor.specs.Views.{shown, task_of, told_to, view_origin};
+
+use super::TaskView;
+use crate::seat::TaskSeat;
+use crate::viewer::Viewer;
+use hc_copies::faults::ViewFault;
+use hc_places::table::Place;
+use hc_records::records::VarId;
+
+impl TaskView {
+    /// The epoch: the number of accepted edits that are shown.
+    pub fn epoch(&self) -> u32
+        ensures { result ≡ epoch_shown (told_to self.now) }
+    {
+        self.view.epoch()
+    }
+
+    /// The bytes of the outputs, which come first, and of the inputs of the task's image.
+    pub fn part(&self) -> (u16, u16)
+        ensures { result ≡ part_in (table_shown (told_to self.now)) (task_of self.now) }
+    {
+        self.view.part()
+    }
+
+    /// Where a variable stands, of any task; none where it has no place in the line.
+    pub fn place(&self, variable: VarId) -> Option<Place>
+        ensures { result ≡ place_in (table_shown (told_to self.now)) variable }
+    {
+        self.view.place(variable)
+    }
+
+    /// The bytes of a datagram of the task, lent from the published copy: those of its last good answer in the
+    /// epoch, or none; none too where the line has no such datagram.
+    pub fn inputs(&self, datagram: u8) -> Option<&[u8]>
+        ensures { option_copied result ≡ data_shown (told_to self.now) (task_of self.now) datagram }
+    {
+        self.view.inputs(datagram)
+    }
+
+    /// The value of an input variable of the task: its bits in its datagram's bytes. Otherwise the first of these
+    /// that holds: `NoSuchVariable` where it has no place in the line, `IsOutput` where it is an output,
+    /// `OtherTask` where it lies in another task, `NotAnswered` where its datagram has no good answer in the epoch.
+    pub fn value(&self, variable: VarId) -> Result<u64, ViewFault>
+        ensures { result ≡ value_shown (told_to self.now) (task_of self.now) variable }
+    {
+        self.view.value(variable)
+    }
+
+    /// Gives the seat back, which has seen what the view showed: its next outputs are for that epoch. What it holds and
+    /// posted is as it was.
+    pub fn leave(self) -> TaskSeat
+        ensures known { known result ≡ shown self }
+        ensures origin { seat_origin result ≡ view_origin self }
+        ensures task { seats.task_of result ≡ task_of self }
+        ensures posts { seats.sender result ≡ views.sender self }
+        ensures epoch { epoch_of result ≡ epoch_shown (told_to self) }
+        ensures size { size_of result ≡ (part_in (table_shown (told_to self)) (task_of self)).0 }
+    {
+        let TaskView { view, posts } = self;
+        let epoch = view.epoch();
+        let (size, _) = view.part();
+        let viewer = Viewer {
+            seat: view.leave(),
+            epoch,
+            size,
+        };
+        TaskSeat { viewer, posts }
+    }
+}
