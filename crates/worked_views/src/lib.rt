@@ -4,12 +4,22 @@
 #![tactic(auto)]
 
 #[cfg(test)]
+mod answers;
+#[cfg(test)]
 mod dropped;
 #[cfg(test)]
+mod eight;
+#[cfg(test)]
 mod lines;
+#[cfg(test)]
+mod often;
 #[cfg(test)]
 mod scopes;
 #[cfg(test)]
 mod shown;
 #[cfg(test)]
 mod steady;
+#[cfg(test)]
+mod turns;
+#[cfg(test)]
+mod watched;

@@ -61,10 +61,10 @@ pub const DOCK: Edit = Edit::Connect(200);
 /// The feeder leaves it.
 pub const UNDOCK: Edit = Edit::Disconnect(200);
 
-fn plan_of_line(alloc: Global) -> Option<Plan>
+fn plan_of_line(alloc: Global, line: &str) -> Option<Plan>
     ensures { IfSome result IsOpening }
 {
-    let project = read_project(alloc, LINE.as_bytes()).ok()?;
+    let project = read_project(alloc, line.as_bytes()).ok()?;
     match Plan::new(alloc, project) {
         Ok(plan) => Some(plan),
         Err(_) => None,
@@ -76,7 +76,19 @@ pub fn opened<R: Wait>(rt: &R, alloc: Global) -> Option<(Plan, Publisher, Vec<Se
     ensures leads { IfSome result (λ opened. LeadsTo opened.1 opened.0) }
     ensures seats { IfSome result (λ opened. All (IsFresh (origin_of opened.1)) opened.2.items) }
 {
-    let plan = plan_of_line(alloc)?;
+    opened_line(rt, alloc, LINE)
+}
+
+/// A line at its opening, with its publisher and eight seats.
+pub fn opened_line<R: Wait>(
+    rt: &R,
+    alloc: Global,
+    line: &str,
+) -> Option<(Plan, Publisher, Vec<Seat>)>
+    ensures leads { IfSome result (λ opened. LeadsTo opened.1 opened.0) }
+    ensures seats { IfSome result (λ opened. All (IsFresh (origin_of opened.1)) opened.2.items) }
+{
+    let plan = plan_of_line(alloc, line)?;
     match open(rt, alloc, &plan) {
         Ok((publisher, seats)) => Some((plan, publisher, seats)),
         Err(_) => None,
