@@ -11,6 +11,8 @@ mod changed;
 #[cfg(test)]
 mod driven;
 #[cfg(test)]
+mod followed;
+#[cfg(test)]
 mod handed;
 #[cfg(test)]
 mod lines;

@@ -146,7 +146,7 @@ const EXCHANGED: &[Row] = &[
 ];
 
 /// All of them, one after another.
-const SHARED: &[Case] = &[(
+pub const SHARED: &[Case] = &[(
     AXIS,
     &[
         Blocks(4),

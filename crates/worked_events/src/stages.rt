@@ -43,7 +43,7 @@ fn send_times(driven: &mut Driven, alloc: Global, times: u32) -> Result<bool, Al
 }
 
 /// The number of the first row of a stage that doesn't hold, none where all do.
-fn first_wrong_row(
+pub fn first_wrong_row(
     driven: &mut Driven,
     alloc: Global,
     stage: Stage,

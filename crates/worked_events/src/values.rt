@@ -318,7 +318,7 @@ const GAP: &[Row] = &[
 ];
 
 /// All of them, each from its line's opening on. Each time the tool comes its four blocks are written.
-const LINES: &[Case] = &[
+pub const LINES: &[Case] = &[
     (AXIS, &[Blocks(4), Rows(MOVED)]),
     (
         AXIS,
