@@ -4,3 +4,4 @@ mod Passing
 mod Packing
 mod Standing
 mod Meaning
+mod Alone

@@ -36,6 +36,7 @@ use Rattle.hc_carrying.proofs.lemmas.Slaves.{output-high}
 use Rattle.hc_carrying.proofs.lemmas.Variables.{variables-carried}
 use Rattle.hc_exchange.specs.Exchanged.{CameBack, HasInMemory, IsExchanged, IsGapBit, IsOutputBit, StandsInMemory}
 use Rattle.hc_exchange.specs.Sent.{IsSent, IsVariable, count_of}
+use Rattle.hc_exchange.proofs.Alone.{stands-once}
 use Rattle.hc_exchange.proofs.Packing.{count-listed, counter-low, datagram-early, datagram-there, length-there}
 use Rattle.hc_exchange.proofs.Passing.{IsSendable, Returned, frame_with, logical_of, passed-frames, passed-machines}
 use Rattle.hc_exchange.proofs.Standing.{InDatagram, gap-free, has-pair, in-datagram, task-told}
@@ -237,15 +238,20 @@ record AtVariable (state : State) (machines machines' : List (List ℕ)) (variab
   position : ℕ
   at : AtSlave state machines machines' position c.member
   stands : StandsInMemory (line state) variable place.bits position (8 * c.area.phys + c.offset)
+  alone : (other n : ℕ) → StandsInMemory (line state) variable place.bits other n → (other ≡ position) × (n ≡ 8 * c.area.phys + c.offset)
 
 at-variable : (state : State) (task : ℕ) (image : List ℕ) (machines frames machines' : List (List ℕ)) (variable : ℕ) (place : VariablePlace) → Given state task image machines frames machines'
     → (c : IsCarried (line state) variable place) → AtVariable state machines machines' variable place c
 at-variable state task image machines frames machines' variable place g c =
     let is = at-position (line state) c.member c.in_line in
+    let m = 8 * c.area.phys + c.offset in
+    let stands : StandsInMemory (line state) variable place.bits c.in_line.0 m =
+    record { member = c.member; index = c.index; area = c.area; offset = c.offset; in_line = is; in_record = c.in_record; entry = c.entry; at = refl } in
     record {
       position = c.in_line.0;
       at = at-slave state task image machines frames machines' c.in_line.0 c.member g is;
-      stands = record { member = c.member; index = c.index; area = c.area; offset = c.offset; in_line = is; in_record = c.in_record; entry = c.entry; at = refl };
+      stands = stands;
+      alone = λ other n elsewhere. stands-once state variable place.bits place.bits other c.in_line.0 n m g.can elsewhere stands;
     }
 
 input-brought : (state : State) (task : ℕ) (image : List ℕ) (machines frames machines' : List (List ℕ)) (variable : ℕ) (place : VariablePlace) → (g : Given state task image machines frames machines')
@@ -262,6 +268,7 @@ input-brought state task image machines frames machines' variable place g own =
       m = m;
       memory = at.memory;
       stands = own_slave.stands;
+      alone = own_slave.alone;
       machine = at.before;
       same = λ k below.
           let bit = carried-bit state task image machines frames machines' In variable place k g own c below in
@@ -284,6 +291,7 @@ output-arrived state task image machines frames machines' variable place g own =
       m = m;
       memory = at.memory';
       stands = own_slave.stands;
+      alone = own_slave.alone;
       machine = at.behind;
       same = λ k below.
           let bit = carried-bit state task image machines frames machines' Out variable place k g own c below in

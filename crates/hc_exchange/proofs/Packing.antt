@@ -1,8 +1,7 @@
 -- What is sent for a task by the packed output values.
-use Rattle.std.proofs.Common.{◌≡◌, ℕ, zero, suc, ◌+◌, ◌*◌, ◌<◌, ◌≤◌, ◌∙◌, Bool, true, cond, List, [], ◌∷◌, length, length-append, refl, sym, ap, subst, arith}
+use Rattle.std.proofs.Common.{◌≡◌, ℕ, zero, suc, ◌+◌, ◌*◌, ◌<◌, ◌≤◌, ◌∙◌, Bool, cond, List, [], ◌∷◌, length, length-append, refl, sym, ap, subst, arith}
 use Rattle.std.specs.Prelude.{Some, sum_by, ◌==◌}
 use Rattle.std.specs.Option.{option_map_or}
-use Rattle.std.proofs.lemmas.Bool.Decides.{nat_tests}
 use Rattle.std.proofs.lemmas.List.FromFn.{length-map-range_with_len}
 use Rattle.std.proofs.lemmas.List.Sums.{sum_by-cons}
 use Rattle.hc_bits.specs.Bits.{AreBytes, bit_of}
@@ -27,6 +26,7 @@ use Rattle.hc_outputs.specs.Values.{image_bit, posted}
 use Rattle.hc_outputs.proofs.lemmas.Bits.{sent-there}
 use Rattle.hc_outputs.proofs.lemmas.LaidOut.{length-of_line, offset-of_line, place-of_line}
 use Rattle.hc_programmed.specs.Laws.{IsConfigurable}
+use Rattle.hc_exchange.proofs.Alone.{same-test}
 use Rattle.hc_exchange.specs.Sent.{IsPacked, count_of}
 
 -- the datagrams of a task
@@ -91,9 +91,6 @@ pub lengths-sent : (state : State) (task d : ℕ) (image : List ℕ) (packed : P
 lengths-sent state task d image packed can holds low =
     let is = datagram-there (line state) task d low in
     subst IsDatagramLength (sym (size-sent state task d image packed can holds is)) (length-there state task d can is)
-
-same-test : (a b : ℕ) → a ≡ b → (a == b) ≡ true
-same-test a b same = grind (arith, nat_tests)
 
 -- a posted bit of a variable of the task
 posted-own : (table : Table) (task : ℕ) (image : List ℕ) (variable k : ℕ) (place : VariablePlace) → place.task ≡ task

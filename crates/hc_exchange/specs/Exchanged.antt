@@ -32,12 +32,13 @@ pub record StandsInMemory (line : List Member) (variable bits position m : ℕ) 
   pub entry : Contains (variables_from 0 (assigned_entries area)) (variable, (offset, bits))
   pub at : m ≡ 8 * area.phys + offset
 
--- the bits of a variable in the memory of its slave are these
+-- a variable stands in one place of one slave's memory, and its bits there are these
 pub record HasInMemory (line : List Member) (machines : List (List ℕ)) (variable bits : ℕ) (bit : ℕ → ℕ) : Type 0 where
   pub position : ℕ
   pub m : ℕ
   pub memory : List ℕ
   pub stands : StandsInMemory line variable bits position m
+  pub alone : (other n : ℕ) → StandsInMemory line variable bits other n → (other ≡ position) × (n ≡ m)
   pub machine : slice_get machines position ≡ Some memory
   pub same : (k : ℕ) → k < bits → bit_of memory (m + k) ≡ bit k
 
