@@ -1,6 +1,6 @@
 -- The places of a line by the ranks of the declared slaves, and what an accepted edit leaves of these.
-use Rattle.std.proofs.Common.{◌≡◌, ℕ, zero, suc, ◌+◌, ◌-◌, ◌*◌, ◌<◌, ◌≤◌, Bool, cond, List, [], ◌∷◌, ◌++◌, length, map, ◌⊎◌, inl, inr, refl, sym, ap, subst, ◌∙◌, arith}
-use Rattle.std.specs.Prelude.{All, None, Some, Option, option_map, slice_get}
+use Rattle.std.proofs.Common.{◌≡◌, ℕ, zero, suc, ◌+◌, ◌-◌, ◌*◌, ◌<◌, ◌≤◌, Bool, cond, List, [], ◌∷◌, ◌++◌, length, map, ◌⊎◌, refl, sym, ap, subst, ◌∙◌, arith, rules}
+use Rattle.std.specs.Prelude.{All, Some, Option, option_map, slice_get}
 use Rattle.std.specs.Option.{option_map_or}
 use Rattle.std.specs.List.{enumerate_from, flat_map}
 use Rattle.std.proofs.lemmas.List.{append_assoc, length-map, map-append}
@@ -42,14 +42,11 @@ all_places line rank slaves = flat_map (one_places line) (enumerate_from rank sl
 
 all-append : (line : List Member) (rank : ℕ) (xs ys : List Ranked) → all_places line rank (xs ++ ys) ≡ all_places line rank xs ++ all_places line (rank + length xs) ys
 all-append line rank [] ys = ap (λ (n : ℕ). all_places line n ys) (omega arith)
-all-append line rank (x ∷ xs) ys =
-    ap (λ (rest : List (Option LineBlock)). one_places line (rank, x) ++ rest) (all-append line (rank + 1) xs ys ∙ ap (λ (n : ℕ). all_places line (rank + 1) xs ++ all_places line n ys) (omega arith))
-    ∙ sym (append_assoc (one_places line (rank, x)) (all_places line (rank + 1) xs) (all_places line (rank + length (x ∷ xs)) ys))
+all-append line rank (x ∷ xs) ys = search (rules, append_assoc, all-append line (rank + 1) xs ys)
 
 slaves-all : (line : List Member) (present : Bool) (rank : ℕ) (slaves : List Slave) → flat_map (slave_places line present) (members_from rank slaves) ≡ all_places line rank (ranked present slaves)
 slaves-all line present rank [] = refl
-slaves-all line present rank (slave ∷ slaves) =
-    ap (λ (rest : List (Option LineBlock)). slave_places line present (record { rank = rank; slave = slave }) ++ rest) (slaves-all line present (rank + 1) slaves)
+slaves-all line present rank (slave ∷ slaves) = search (rules, slaves-all line present (rank + 1) slaves)
 
 length-ranked : (present : Bool) (slaves : List Slave) → length (ranked present slaves) ≡ length slaves
 length-ranked present slaves = length-map slaves (λ slave. let one : Ranked = record { present = present; slave = slave } in one)
@@ -58,10 +55,7 @@ groups-all : (line : List Member) (rank : ℕ) (groups : List Declared) → plac
 groups-all line rank [] = refl
 groups-all line rank (d ∷ groups) =
     let slaves = d.group.slaves in
-    ap (λ (own : List (Option LineBlock)). own ++ places_from line (rank + length slaves) groups) (slaves-all line d.present rank slaves)
-    ∙ ap (λ (rest : List (Option LineBlock)). all_places line rank (ranked d.present slaves) ++ rest) (groups-all line (rank + length slaves) groups)
-    ∙ ap (λ (n : ℕ). all_places line rank (ranked d.present slaves) ++ all_places line (rank + n) (by_rank groups)) (sym (length-ranked d.present slaves))
-    ∙ sym (all-append line rank (ranked d.present slaves) (by_rank groups))
+    search (rules, slaves-all, length-ranked, all-append, groups-all line (rank + length slaves) groups)
 
 at-index : (line : List Member) (rank : ℕ) (slaves : List Ranked) (i number : ℕ) (slave : Ranked) → slice_get slaves i ≡ Some slave → number < 16
     → slice_get (all_places line rank slaves) (16 * i + number) ≡ Some (slice_get (own_blocks line (rank + i) slave) number)
@@ -78,10 +72,7 @@ at-index line rank (s ∷ slaves) (suc i) number slave at low =
     let own = one_places line (rank, s) in
     let rest = all_places line (rank + 1) slaves in
     let size = length-slave line s.present (member_at rank s) in
-    get-back own rest (16 * suc i + number) (omega (arith, size))
-    ∙ ap (slice_get rest) (omega (arith, size))
-    ∙ at-index line (rank + 1) slaves i number slave at low
-    ∙ ap (λ (n : ℕ). Some (slice_get (own_blocks line n slave) number)) (omega arith)
+    search (rules, get-back, at-index line (rank + 1) slaves i number slave at low)
 
 -- what stands at a place is the block of the slave with that rank
 pub at-rank : (line : List Member) (groups : List Declared) (i number : ℕ) (slave : Ranked) → slice_get (by_rank groups) i ≡ Some slave → number < 16
@@ -98,10 +89,7 @@ one-group present (slave ∷ slaves) = ap (λ (rest : List Slave). slave ∷ res
 
 pub all-slaves : (groups : List Declared) → slaves_by_rank (by_rank groups) ≡ declared_slaves groups
 all-slaves [] = refl
-all-slaves (d ∷ groups) =
-    map-append (λ (one : Ranked). one.slave) (ranked d.present d.group.slaves) (by_rank groups)
-    ∙ ap (λ (own : List Slave). own ++ slaves_by_rank (by_rank groups)) (one-group d.present d.group.slaves)
-    ∙ ap (λ (rest : List Slave). d.group.slaves ++ rest) (all-slaves groups)
+all-slaves (d ∷ groups) = search (rules, map-append, one-group, all-slaves groups)
 
 -- outside the row of a change each declared slave stays as it was
 
@@ -118,27 +106,10 @@ around-within : {X : Type 0} (front own behind : List X) (i : ℕ) → length fr
 around-within front own behind i from low = get-back front (own ++ behind) i from ∙ get-front own behind (i - length front) (omega (arith, from, low))
 
 around-behind : {X : Type 0} (front own behind : List X) (i : ℕ) → length front + length own ≤ i → slice_get (front ++ (own ++ behind)) i ≡ slice_get behind (i - length front - length own)
-around-behind front own behind i from =
-    get-back front (own ++ behind) i (omega (arith, from)) ∙ get-back own behind (i - length front) (omega (arith, from))
+around-behind front own behind i from = search (rules, get-back)
 
 pub beside-same : (change : Prepared) (groups : List Declared) (i : ℕ) → ChangesRow change groups → BesideRow change i → slice_get (by_rank (carried change groups)) i ≡ slice_get (by_rank groups) i
-beside-same change groups i changes beside =
-    let front = changes.front in
-    let behind = changes.behind in
-    let was = row change groups in
-    let is = row change (carried change groups) in
-    let first = changes.first in
-    let before = changes.many_before in
-    let after = changes.many_after in
-    ap (λ (all : List Ranked). slice_get all i) changes.after
-    ∙ elim beside [
-      | inl low ↦ around-before front is behind i (omega (arith, low, first)) ∙ sym (around-before front was behind i (omega (arith, low, first)))
-      | inr high ↦
-          around-behind front is behind i (omega (arith, high, first, after))
-          ∙ ap (λ (n : ℕ). slice_get behind (i - length front - n)) (after ∙ sym before)
-          ∙ sym (around-behind front was behind i (omega (arith, high, first, before)))
-    ]
-    ∙ ap (λ (all : List Ranked). slice_get all i) (sym changes.before)
+beside-same change groups i changes beside = search (rules, around-before, around-behind)
 
 -- a group that comes or goes is present or not
 
@@ -147,23 +118,16 @@ all-present present [] = All-nil (λ one. one.present ≡ present)
 all-present present (slave ∷ slaves) = All-cons (λ one. one.present ≡ present) (record { present = present; slave = slave }) (ranked present slaves) refl (all-present present slaves)
 
 row-present : (present : Bool) (found : Option Declared) → All (λ one. one.present ≡ present) (option_map_or (λ (d : Declared). ranked present d.group.slaves) found [])
-row-present present None = All-nil (λ one. one.present ≡ present)
-row-present present (Some d) = all-present present d.group.slaves
+row-present present found = search (rules, All-nil, all-present)
 
 pub presence-in-row : (change : PresenceChange) (groups : List Declared) (i : ℕ) (slave : Ranked) → ChangesRow (Presence change) groups → InRow (Presence change) i
     → slice_get (by_rank (carried (Presence change) groups)) i ≡ Some slave → slave.present ≡ change.present
 presence-in-row change groups i slave changes inside at =
     let front = changes.front in
     let own = row (Presence change) (carried (Presence change) groups) in
-    let first = changes.first in
-    let many = changes.many_after in
-    let from = inside.0 in
-    let low = inside.1 in
     let all = subst (λ (list : List Ranked). All (λ one. one.present ≡ change.present) list) (sym (presence-row change groups)) (row-present change.present (slice_get groups change.group)) in
-    let here : slice_get own (i - length front) ≡ Some slave =
-    sym (around-within front own changes.behind i (omega (arith, from, first)) (omega (arith, low, first, many))) ∙ ap (λ (list : List Ranked). slice_get list i) (sym changes.after) ∙ at in
-    subst (λ (one : Ranked). one.present ≡ change.present) (get_or_from_slice_get own (i - length front) slave slave here)
-    (all (i - length front) slave (slice_get_within own (i - length front) slave here))
+    let here : slice_get own (i - length front) ≡ Some slave = search (rules, around-within) in
+    search (rules, get_or_from_slice_get, slice_get_within)
 
 -- a slave that gets other areas is present as it was
 
@@ -177,15 +141,8 @@ given-presents present (suc n) areas (slave ∷ slaves) = ap (λ (rest : List Bo
 
 groups-presents : (group n : ℕ) (areas : List Area) (groups : List Declared) → presents (by_rank (changed_at group (with_slave n areas) groups)) ≡ presents (by_rank groups)
 groups-presents group n areas [] = refl
-groups-presents zero n areas (d ∷ groups) =
-    map-append (λ (one : Ranked). one.present) (ranked d.present (changed_at n (with_areas areas) d.group.slaves)) (by_rank groups)
-    ∙ ap (λ (own : List Bool). own ++ presents (by_rank groups)) (given-presents d.present n areas d.group.slaves)
-    ∙ sym (map-append (λ (one : Ranked). one.present) (ranked d.present d.group.slaves) (by_rank groups))
-groups-presents (suc group) n areas (d ∷ groups) =
-    let own = ranked d.present d.group.slaves in
-    map-append (λ (one : Ranked). one.present) own (by_rank (changed_at group (with_slave n areas) groups))
-    ∙ ap (λ (rest : List Bool). presents own ++ rest) (groups-presents group n areas groups)
-    ∙ sym (map-append (λ (one : Ranked). one.present) own (by_rank groups))
+groups-presents zero n areas (d ∷ groups) = search (rules, map-append, given-presents)
+groups-presents (suc group) n areas (d ∷ groups) = search (rules, map-append, groups-presents group n areas groups)
 
 pub areas-presence : (change : AreasChange) (groups : List Declared) (i : ℕ) (was is : Ranked) → slice_get (by_rank groups) i ≡ Some was → slice_get (by_rank (carried (Areas change) groups)) i ≡ Some is → is.present ≡ was.present
 areas-presence change groups i was is before after =

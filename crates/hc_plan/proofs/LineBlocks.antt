@@ -1,14 +1,11 @@
 -- The blocks of a line, slave by slave.
-use Rattle.std.proofs.Common.{◌≡◌, ℕ, ◌+◌, ◌-◌, ◌*◌, ◌<◌, ◌≤◌, List, [], ◌∷◌, length, refl, sym, ap, subst, ◌∙◌, arith, length-append, true, false, if◌then◌else◌}
-use Rattle.std.proofs.lemmas.List.{length-map}
-use Rattle.std.specs.Prelude.{All, Bool, Option, Some, None, find, not, option_and_then, option_map, slice_get, slice_index_or, nat_lt, sum_by}
-use Rattle.std.specs.List.{enumerate_from, flat_map, list_any}
-use Rattle.std.proofs.lemmas.List.FromFn.{length-enumerate_from}
+use Rattle.std.proofs.Common.{◌≡◌, ℕ, ◌+◌, ◌-◌, ◌*◌, ◌<◌, ◌≤◌, List, [], ◌∷◌, length, refl, sym, ap, subst, arith, length-append, if◌then◌else◌, rules}
+use Rattle.std.specs.Prelude.{All, Bool, Option, Some, None, find, option_and_then, option_map, slice_get, slice_index_or, nat_lt, sum_by}
+use Rattle.std.specs.List.{enumerate_from, flat_map}
 use Rattle.std.proofs.lemmas.Option.{slice_get-get_or, slice_get-map}
 use Rattle.std.proofs.lemmas.Bool.{ltb-false, ltb-true}
 use Rattle.std.proofs.lemmas.List.Sums.{sum_by-cons}
 use Rattle.std.proofs.lemmas.List.Elements.{All-head, All-tail}
-use Rattle.hc_records.specs.declared.records.Area.{Area}
 use Rattle.hc_records.specs.declared.records.Declared.{Declared}
 use Rattle.hc_records.specs.declared.keys.Key.{Key}
 use Rattle.hc_records.specs.declared.records.Slave.{Slave}
@@ -17,11 +14,10 @@ use Rattle.hc_records.specs.Packing.{Placed}
 use Rattle.hc_records.proofs.lemmas.Slaves.{project-counted}
 use Rattle.hc_records.proofs.lemmas.Walks.{get-back, get-front, length-line}
 use Rattle.hc_index.specs.Index.{own_blocks, owned_by}
+use Rattle.hc_ranks.proofs.lemmas.Gapless.{length-member}
 use Rattle.hc_registers.specs.declared.fmmu.Mapping.{Mapping}
-use Rattle.hc_registers.specs.Blocks.{LineBlock, RegisterBlock, area_blocks, line_blocks, member_blocks, moved_blocks, same_block, slave_blocks, sync_manager_block, fmmu_block, mapping_at, mapping_of}
-use Rattle.hc_places.specs.Layout.{placed_in}
+use Rattle.hc_registers.specs.Blocks.{LineBlock, RegisterBlock, area_blocks, line_blocks, member_blocks, moved_blocks, slave_blocks, sync_manager_block, fmmu_block, mapping_of}
 use Rattle.hc_places.proofs.lemmas.Found.{find-holds}
-use Rattle.hc_places.proofs.lemmas.Layouts.{placed-in-line}
 use Rattle.hc_plan.specs.inner.Blocks.{IsLaidOut, IsMappedSlave, area_blocks_in, mapping_in, slave_blocks_in}
 use Rattle.hc_plan.specs.Configuration.{at_station, block_at, line_block_at}
 use Rattle.hc_changes.proofs.lemmas.Compared.{flat_map-among}
@@ -50,62 +46,33 @@ slave_blocks-line groups layout member laid mapped =
     let e = slice_index_or (enumerate_from 0 member.slave.areas) k d in
     let key : Key = record { dir = e.1.dir; rank = member.rank; area = e.0 } in
     let task = (mapped.areas e.0 e.1 (numbered-get member.slave.areas k d inside)).task in
-    let mapping : mapping_in layout member.rank e.0 e.1 ≡ mapping_of members e.1.task key =
-    ap (option_map (mapping_at e.1.task)) (ap (λ (l : List (List Placed)). placed_in l e.1.task key) laid.stands ∙ placed-in-line members e.1.task key task) in
+    let mapping : mapping_in layout member.rank e.0 e.1 ≡ mapping_of members e.1.task key = search rules in
     ap (λ (m : Option Mapping). sync_manager_block e.1 ∷ fmmu_block e.0 e.1 m ∷ []) mapping)
-
-length-pairs : {X Y : Type 0} (f g : X → Y) (xs : List X) → length (flat_map (λ x. f x ∷ g x ∷ []) xs) ≡ 2 * length xs
-length-pairs f g [] = refl
-length-pairs f g (x ∷ xs) = let rest = length-pairs f g xs in omega (arith, rest)
-
-pub length-member_blocks : (members : List Member) (member : Member) → length (member_blocks members member) ≡ 2 * length member.slave.areas
-length-member_blocks members member =
-    length-map (enumerate_from 0 (slave_blocks members member)) (λ e. record { station = member.slave.station; number = e.0; block = e.1 })
-    ∙ length-enumerate_from 0 (slave_blocks members member)
-    ∙ length-pairs (λ (e : ℕ × Area). sync_manager_block e.1)
-    (λ (e : ℕ × Area). fmmu_block e.0 e.1 (mapping_of members e.1.task (record { dir = e.1.dir; rank = member.rank; area = e.0 }))) (enumerate_from 0 member.slave.areas)
-    ∙ ap (λ (n : ℕ). 2 * n) (length-enumerate_from 0 member.slave.areas)
 
 abbrev told : LineBlock → ℕ × RegisterBlock
 told found = at_station found.station found.block
 
 told-numbered : (station n : ℕ) (o : Option RegisterBlock)
     → option_map told (option_map (λ (e : ℕ × RegisterBlock). record { station = station; number = e.0; block = e.1 }) (option_map (λ b. (n, b)) o)) ≡ option_map (at_station station) o
-told-numbered station n None = refl
-told-numbered station n (Some b) = refl
+told-numbered station n o = search rules
 
 -- a block of the first slave of a part of the line
 pub block-here : (whole rest : List Member) (member : Member) (n : ℕ) → n < 2 * length member.slave.areas
     → option_map told (slice_get (flat_map (member_blocks whole) (member ∷ rest)) n) ≡ option_map (at_station member.slave.station) (slice_get (slave_blocks whole member) n)
-block-here whole rest member n inside =
-    let count = length-member_blocks whole member in
-    let own = slave_blocks whole member in
-    let made : ℕ × RegisterBlock → LineBlock = λ e. record { station = member.slave.station; number = e.0; block = e.1 } in
-    ap (option_map told) (get-front (member_blocks whole member) (flat_map (member_blocks whole) rest) n (omega (arith, inside, count))
-    ∙ slice_get-map made (enumerate_from 0 own) n
-    ∙ ap (option_map made) (get-numbered-from-0 own n))
-    ∙ told-numbered member.slave.station n (slice_get own n)
+block-here whole rest member n inside = search (rules, length-member, get-front, slice_get-map, get-numbered-from-0, told-numbered)
 
 pub block-behind : (whole rest : List Member) (member : Member) (n : ℕ) → 2 * length member.slave.areas ≤ n
     → slice_get (flat_map (member_blocks whole) (member ∷ rest)) n ≡ slice_get (flat_map (member_blocks whole) rest) (n - 2 * length member.slave.areas)
-block-behind whole rest member n past =
-    let count = length-member_blocks whole member in
-    get-back (member_blocks whole member) (flat_map (member_blocks whole) rest) n (omega (arith, past, count))
-    ∙ ap (λ (k : ℕ). slice_get (flat_map (member_blocks whole) rest) (n - k)) count
+block-behind whole rest member n past = search (rules, length-member, get-back)
 
 pub blocks-met : (whole rest : List Member) (member : Member)
     → length (flat_map (member_blocks whole) (member ∷ rest)) ≡ 2 * length member.slave.areas + length (flat_map (member_blocks whole) rest)
-blocks-met whole rest member =
-    length-append (member_blocks whole member) (flat_map (member_blocks whole) rest)
-    ∙ ap (λ (n : ℕ). n + length (flat_map (member_blocks whole) rest)) (length-member_blocks whole member)
+blocks-met whole rest member = search (rules, length-append, length-member)
 
 -- as many as the slaves own
 pub blocks-owned : (whole members : List Member) → length (flat_map (member_blocks whole) members) ≡ sum_by own_blocks members
 blocks-owned whole [] = refl
-blocks-owned whole (member ∷ members) =
-    blocks-met whole members member
-    ∙ ap (λ (n : ℕ). own_blocks member + n) (blocks-owned whole members)
-    ∙ sym (sum_by-cons own_blocks member members)
+blocks-owned whole (member ∷ members) = search (rules, blocks-met, sum_by-cons, blocks-owned whole members)
 
 -- the block with a number is one of the slave that owns it
 
@@ -115,23 +82,19 @@ tells whole owner = option_map (at_station owner.0.slave.station) (slice_get (sl
 owned-by : (whole rest : List Member) (member : Member) (n : ℕ) (here : Bool) → nat_lt n (own_blocks member) ≡ here
     → option_map told (slice_get (flat_map (member_blocks whole) rest) (n - own_blocks member)) ≡ option_and_then (tells whole) (owned_by rest (n - own_blocks member))
     → option_map told (slice_get (flat_map (member_blocks whole) (member ∷ rest)) n) ≡ option_and_then (tells whole) (if here then Some (member, n) else owned_by rest (n - own_blocks member))
-owned-by whole rest member n true is behind = block-here whole rest member n (ltb-true n (own_blocks member) is)
-owned-by whole rest member n false is behind = ap (option_map told) (block-behind whole rest member n (ltb-false n (own_blocks member) is)) ∙ behind
+owned-by whole rest member n here is behind = search (rules, block-here, ltb-true, block-behind, ltb-false)
 
 owned-block : (whole members : List Member) (n : ℕ) → option_map told (slice_get (flat_map (member_blocks whole) members) n) ≡ option_and_then (tells whole) (owned_by members n)
 owned-block whole [] n = refl
 owned-block whole (member ∷ members) n = owned-by whole members member n (nat_lt n (own_blocks member)) refl (owned-block whole members (n - own_blocks member))
 
 pub owned-none : (groups : List Declared) (n : ℕ) → owned_by (line_from 1 groups) n ≡ None → line_block_at (line_from 1 groups) n ≡ None
-owned-none groups n none =
-    let line = line_from 1 groups in
-    owned-block line line n ∙ ap (option_and_then (tells line)) none
+owned-none groups n none = search (rules, owned-block)
 
 -- what all slaves have the owner has
 owner-all : (P : Member → Type 0) (member : Member) (n : ℕ) (rest : Option (Member × ℕ)) (owner : Member × ℕ) (here : Bool) → P member → (rest ≡ Some owner → P owner.0)
     → (if here then Some (member, n) else rest) ≡ Some owner → P owner.0
-owner-all P member n rest owner true own behind is = let same : (member, n) ≡ owner = cc in subst P (ap (λ (e : Member × ℕ). e.0) same) own
-owner-all P member n rest owner false own behind is = behind is
+owner-all P member n rest owner here own behind is = search rules
 
 owner-has : (P : Member → Type 0) (members : List Member) (n : ℕ) (owner : Member × ℕ) → All P members → owned_by members n ≡ Some owner → P owner.0
 owner-has P [] n owner all is = cc
@@ -145,34 +108,22 @@ owner-mapped groups layout n number member laid is = owner-has (IsMappedSlave la
 
 pub owner-tells : (groups : List Declared) (layout : List (List Placed)) (n number : ℕ) (member : Member) → IsLaidOut groups layout → owned_by (line_from 1 groups) n ≡ Some (member, number)
     → line_block_at (line_from 1 groups) n ≡ option_map (at_station member.slave.station) (slice_get (slave_blocks_in layout member) number)
-owner-tells groups layout n number member laid is =
-    let line = line_from 1 groups in
-    owned-block line line n
-    ∙ ap (option_and_then (tells line)) is
-    ∙ ap (λ (blocks : List RegisterBlock). option_map (at_station member.slave.station) (slice_get blocks number))
-    (sym (slave_blocks-line groups layout member laid (owner-mapped groups layout n number member laid is)))
+owner-tells groups layout n number member laid is = search (rules, owned-block, slave_blocks-line, owner-mapped)
 
 -- a slave of the line by its rank and its record
 pub same-member : (rank : ℕ) (slave : Slave) (member : Member) → rank ≡ member.rank → slave ≡ member.slave → member ≡ record { rank = rank; slave = slave }
-same-member rank slave member ranked own =
-    sym (ap (λ (r : ℕ). record { rank = r; slave = slave }) ranked ∙ ap (λ (s : Slave). record { rank = member.rank; slave = s }) own)
+same-member rank slave member ranked own = search rules
 
 pub found-block : (groups : List Declared) (layout : List (List Placed)) (station number : ℕ) (member : Member) → IsLaidOut groups layout
     → find (is_at station) (line_from 1 groups) ≡ Some member → block_at (line_from 1 groups) station number ≡ slice_get (slave_blocks_in layout member) number
-found-block groups layout station number member laid found =
-    ap (option_and_then (λ m. slice_get (slave_blocks (line_from 1 groups) m) number)) found
-    ∙ ap (λ (blocks : List RegisterBlock). slice_get blocks number) (sym (slave_blocks-line groups layout member laid (found-mapped groups layout station member laid found)))
+found-block groups layout station number member laid found = search (rules, slave_blocks-line, found-mapped)
 
 -- a slave has at most 16 blocks
 pub length-blocks : (layout : List (List Placed)) (all members : List Member) → All (IsMappedSlave layout) members
     → length (flat_map (member_blocks all) members) ≤ 16 * length members
 length-blocks layout all [] mapped = omega arith
 length-blocks layout all (member ∷ members) mapped =
-    let few = (All-head (IsMappedSlave layout) member members mapped).few in
-    let own = length-member_blocks all member in
-    let front = length-append (member_blocks all member) (flat_map (member_blocks all) members) in
-    let rest = length-blocks layout all members (All-tail (IsMappedSlave layout) member members mapped) in
-    omega (arith, few, own, front, rest)
+    search (rules, All-head, length-member, length-append, All-tail, length-blocks layout all members (All-tail (IsMappedSlave layout) member members mapped))
 
 -- so no line has more blocks than a number of 32 bits
 pub few-blocks : (groups : List Declared) (layout : List (List Placed)) → IsLaidOut groups layout → length (line_blocks (line_from 1 groups)) < 4294967296
@@ -185,7 +136,4 @@ few-blocks groups layout laid =
 
 pub few-moved : (groups : List Declared) (layout : List (List Placed)) (old : List Member) → IsLaidOut groups layout
     → length (moved_blocks old (line_from 1 groups)) < 4294967296
-few-moved groups layout old laid =
-    let all = few-blocks groups layout laid in
-    let some = filter-few (λ block. not (list_any (same_block block) (line_blocks old))) (line_blocks (line_from 1 groups)) in
-    omega (arith, all, some)
+few-moved groups layout old laid = search (rules, few-blocks, filter-few)

@@ -1,8 +1,8 @@
 -- In the line of a project every area's blocks can be written, by the places that packing gives.
-use Rattle.std.proofs.Common.{◌≡◌, ℕ, ◌+◌, ◌<◌, ◌≤◌, List, refl, sym, ap, subst, ◌∙◌, arith}
+use Rattle.std.proofs.Common.{◌≡◌, ℕ, ◌+◌, ◌<◌, ◌≤◌, List, sym, ap, subst, ◌∙◌, arith, rules}
 use Rattle.std.specs.Prelude.{All, Option, Some, None, map, option_map, slice_get, slice_index_or}
 use Rattle.std.proofs.lemmas.Option.{get_or_from_slice_get, slice_get_within}
-use Rattle.hc_records.specs.declared.limits.TheConstants.{MOST_AREA_BITS, MOST_DATAGRAMS, TASKS}
+use Rattle.hc_records.specs.declared.limits.TheConstants.{MOST_DATAGRAMS, TASKS}
 use Rattle.hc_records.specs.declared.records.Area.{Area}
 use Rattle.hc_records.specs.declared.records.Declared.{Declared}
 use Rattle.hc_records.specs.declared.keys.Key.{Key}
@@ -57,19 +57,10 @@ places-stand groups task project uncrowded below i d under =
 -- an area's place in its task's list is where its FMMU maps it
 
 mapped-from : (o : Option Placed) (f : Placed → Mapping) (mapping : Mapping) (P : Mapping → Type 0) → ((placed : Placed) → o ≡ Some placed → P (f placed)) → option_map f o ≡ Some mapping → P mapping
-mapped-from None f mapping P holds is = cc
-mapped-from (Some placed) f mapping P holds is = let same : f placed ≡ mapping = cc in subst P same (holds placed refl)
+mapped-from o f mapping P holds is = search rules
 
 area-mappable : (area : Area) (placed : Placed) → area.task < TASKS → placed.bits ≡ width area → StandsWell placed → IsMappable area (mapping_at area.task placed)
-area-mappable area placed task bits stands =
-    let some : 0 < placed.bits = stands.packable.some in
-    let inside : placed.bit + placed.bits ≤ MOST_AREA_BITS = stands.inside in
-    let early = stands.early in
-    record {
-      some = omega (arith, some, bits);
-      inside = omega (arith, inside, bits);
-      room = omega (arith, early, task);
-    }
+area-mappable area placed task bits stands = search rules
 
 area-mapped : (groups : List Declared) (j : ℕ) (member : Member) (index : ℕ) (area : Area) → lowest_fault (map (λ declared. declared.group) groups) ≡ None → crowded_task (line_from 1 groups) ≡ None
     → slice_get (line_from 1 groups) j ≡ Some member → slice_get member.slave.areas index ≡ Some area → IsAreaInside area

@@ -1,5 +1,5 @@
 -- The blocks of a slave by their numbers.
-use Rattle.std.proofs.Common.{◌≡◌, ℕ, zero, suc, ◌+◌, ◌*◌, ◌/◌, ◌%◌, ◌==◌, ◌<◌, ◌≤◌, length, Bool, true, false, List, [], ◌∷◌, refl, sym, ap, subst, ◌∙◌, arith, if◌then◌else◌}
+use Rattle.std.proofs.Common.{◌≡◌, ℕ, zero, suc, ◌+◌, ◌*◌, ◌/◌, ◌%◌, ◌==◌, ◌<◌, ◌≤◌, length, Bool, true, false, List, [], ◌∷◌, refl, sym, ap, subst, ◌∙◌, arith, if◌then◌else◌, rules}
 use Rattle.std.specs.Prelude.{◌≢◌, All, Option, Some, None, option_map, slice_get, slice_index_or}
 use Rattle.std.proofs.lemmas.Option.{slice_get-get_or, slice_get_past}
 use Rattle.std.proofs.lemmas.Bool.{eqb-true, eqb-false}
@@ -16,9 +16,8 @@ module _ {X Y : Type 0} (f g : X → Y) where
   get-first [] i n is = refl
   get-first (x ∷ xs) zero zero is = refl
   get-first (x ∷ xs) zero (suc n) is = absurd (omega arith)
-  get-first (x ∷ xs) (suc i) zero is = absurd (omega arith)
-  get-first (x ∷ xs) (suc i) (suc zero) is = absurd (omega arith)
   get-first (x ∷ xs) (suc i) (suc (suc n)) is = get-first xs i n (omega arith)
+  get-first (x ∷ xs) (suc i) other is = absurd (omega arith)
 
   pub get-second : (xs : List X) (i n : ℕ) → n ≡ 2 * i + 1 → slice_get (flat_map (λ x. f x ∷ g x ∷ []) xs) n ≡ option_map g (slice_get xs i)
   get-second [] i n is = refl
@@ -31,9 +30,7 @@ module _ {X Y : Type 0} (f g : X → Y) where
 get-numbered : {X : Type 0} (first : ℕ) (xs : List X) (i : ℕ) → slice_get (enumerate_from first xs) i ≡ option_map (λ x. (first + i, x)) (slice_get xs i)
 get-numbered first [] i = refl
 get-numbered first (x ∷ xs) zero = ap (λ (n : ℕ). Some (n, x)) (omega arith)
-get-numbered {X} first (x ∷ xs) (suc i) =
-    get-numbered (first + 1) xs i
-    ∙ ap (λ (n : ℕ). option_map (λ (y : X). (n, y)) (slice_get xs i)) (omega arith)
+get-numbered {X} first (x ∷ xs) (suc i) = search (rules, get-numbered (first + 1) xs i)
 
 zero-plus : (n : ℕ) → 0 + n ≡ n
 zero-plus n = omega arith
@@ -42,19 +39,14 @@ pub get-numbered-from-0 : {X : Type 0} (xs : List X) (i : ℕ) → slice_get (en
 get-numbered-from-0 {X} xs i = get-numbered 0 xs i ∙ ap (λ (n : ℕ). option_map (λ (x : X). (n, x)) (slice_get xs i)) (zero-plus i)
 
 numbered-parts : {X : Type 0} (i : ℕ) (o : Option X) (e : ℕ × X) → option_map (λ x. (i, x)) o ≡ Some e → (e.0 ≡ i) × (o ≡ Some e.1)
-numbered-parts i None e is = cc
-numbered-parts i (Some x) e is = let same : (i, x) ≡ e = cc in (sym (ap (λ (p : ℕ × _). p.0) same), ap (λ (p : ℕ × _). Some p.1) same)
+numbered-parts i o e is = search rules
 
 -- an area is found at the number that it is given
 pub numbered-get : {X : Type 0} (xs : List X) → All (λ e. slice_get xs e.0 ≡ Some e.1) (enumerate_from 0 xs)
-numbered-get xs i d inside =
-    let e = slice_index_or (enumerate_from 0 xs) i d in
-    let parts = numbered-parts i (slice_get xs i) e (sym (get-numbered-from-0 xs i) ∙ slice_get-get_or (enumerate_from 0 xs) i d inside) in
-    ap (slice_get xs) parts.0 ∙ parts.1
+numbered-get xs i d inside = search (rules, numbered-parts, get-numbered-from-0, slice_get-get_or)
 
 pub map-twice : {X Y Z : Type 0} (f : Y → Z) (g : X → Y) (o : Option X) → option_map f (option_map g o) ≡ option_map (λ x. f (g x)) o
-map-twice f g None = refl
-map-twice f g (Some x) = refl
+map-twice f g o = search rules
 
 -- the parity of a number tells which of the two it is
 block-by-parity : (layout : List (List Placed)) (member : Member) (n : ℕ) (even : Bool) → (n % 2 == 0) ≡ even
@@ -84,11 +76,7 @@ pub record AreaMet (member : Member) (areas : List Area) (n index rank : ℕ) (a
 
 met-get : (member : Member) (areas : List Area) (n index rank : ℕ) (area : Area) → AreaMet member areas n index rank area
     → slice_get member.slave.areas (n / 2) ≡ Some area
-met-get member areas n index rank area met =
-    ap (λ (list : List Area). slice_get list (n / 2)) (sym met.own)
-    ∙ ap (slice_get areas) (sym met.half)
-    ∙ slice_get-get_or areas index area met.inside
-    ∙ ap (λ (a : Area). Some a) (sym met.is)
+met-get member areas n index rank area met = search (rules, slice_get-get_or)
 
 pub met-mapped : (layout : List (List Placed)) (member : Member) (areas : List Area) (n index rank : ℕ) (area : Area) → AreaMet member areas n index rank area
     → IsMappedSlave layout member → IsMappedArea layout rank (n / 2) area
@@ -105,7 +93,4 @@ met-block layout member areas n index rank area block met made =
 
 pub met-none : (layout : List (List Placed)) (member : Member) (areas : List Area) (n index : ℕ) → areas ≡ member.slave.areas → index ≡ n / 2 → length areas ≤ index
     → None ≡ slice_get (slave_blocks_in layout member) n
-met-none layout member areas n index is half past =
-    let count : length areas ≡ length member.slave.areas = ap length is in
-    sym (get-slave_blocks layout member n
-    ∙ ap (option_map (λ a. area_block_in layout member.rank n (n / 2, a))) (slice_get_past member.slave.areas (n / 2) (omega arith)))
+met-none layout member areas n index is half past = search (rules, get-slave_blocks, slice_get_past)

@@ -1,5 +1,5 @@
 -- The declared groups of a project at its opening.
-use Rattle.std.proofs.Common.{◌≡◌, List, [], ◌∷◌, refl, ap, ◌∙◌}
+use Rattle.std.proofs.Common.{◌≡◌, List, [], ◌∷◌, refl, ap, rules}
 use Rattle.std.specs.Prelude.{None, map}
 use Rattle.hc_records.specs.declared.records.Group.{Group}
 use Rattle.hc_records.specs.declared.records.Declared.{Declared}
@@ -13,5 +13,4 @@ groups-opened (group ∷ groups) = ap (λ (rest : List Group). group ∷ rest) (
 -- they are the project's groups, so no fault's condition holds of them
 pub opened-project : (groups : List Group) (opened : List Declared) → opened ≡ map opened_group groups → lowest_fault groups ≡ None
     → lowest_fault (map (λ declared. declared.group) opened) ≡ None
-opened-project groups opened is none =
-    ap lowest_fault (ap (map (λ (declared : Declared). declared.group)) is ∙ groups-opened groups) ∙ none
+opened-project groups opened is none = search (rules, groups-opened)

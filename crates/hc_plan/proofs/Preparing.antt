@@ -1,5 +1,5 @@
 -- What is worked out of an edit makes it a prepared one.
-use Rattle.std.proofs.Common.{◌≡◌, ◌∙◌, ◌+◌, ℕ, List, None, ap, sym, subst}
+use Rattle.std.proofs.Common.{◌≡◌, ◌∙◌, ◌+◌, ℕ, List, None, ap, sym, subst, rules}
 use Rattle.std.specs.Prelude.{Ok, Option, Some}
 use Rattle.hc_records.specs.declared.edit.Edit.{Edit}
 use Rattle.hc_records.specs.declared.keys.Key.{Key}
@@ -32,9 +32,7 @@ use Rattle.hc_plan.proofs.lemmas.Differing.{edits-differ}
 pub makes : (it : Outlook) (change : Prepared) (edit : Edit) (table : Table) (groups : List Declared) → IsOutlook it → it ≡ outlook_of change groups
     → own_fault groups edit ≡ None → carried change groups ≡ groups_after groups edit → crowded_task (line_from 1 groups) ≡ None → table ≡ table_of (line_from 1 groups)
     → Makes edit table it
-makes it change edit table groups is same own leads fits stands =
-    subst (λ (o : Outlook). IsOutlook o → Makes edit table o) (sym same)
-    (λ there. record { is = there; own = own; leads = leads; fits = fits; stands = stands }) is
+makes it change edit table groups is same own leads fits stands = search rules
 
 -- what is told of it, by the states
 pub is-prepared : (old : State) (change : Prepared) (it : Outlook) (edit : Edit) (report : Report) (blocks : List RankedBlock)
@@ -66,14 +64,7 @@ pub is-ready : (old : State) (change : Prepared) (it : Outlook) (edit : Edit) (r
     → it ≡ outlook_of change old.groups → AreStartsOf (areas_by_rank it.new) starts → HasRoomFor change areas
     → table ≡ table_of (line old) → IsRoomFor report.swap.change table rows
     → IsReady (prepared_of old change report blocks) change starts areas rows
-is-ready old change it edit report blocks starts areas table rows named leads project row same known room stands space = record {
-  leads = subst (λ (e : Edit). carried change old.groups ≡ groups_after old.groups e) (sym named) leads;
-  project = project;
-  row = row;
-  starts = subst (λ (o : Outlook). AreStartsOf (areas_by_rank o.new) starts) same known;
-  slaves = room;
-  rows = subst (λ (t : Table). IsRoomFor report.swap.change t rows) stands space;
-}
+is-ready old change it edit report blocks starts areas table rows named leads project row same known room stands space = search rules
 
 -- which is in the groups of the plan that carries it out, whose line the change makes what it made then
 
@@ -83,5 +74,4 @@ same-groups one other plan now first second third = ap (λ (s : State). s.groups
 pub ready-outlook : (old : State) (change : Prepared) (report : Report) (blocks : List RankedBlock) (starts : List (List Key)) (areas : Room) (rows : Option ℕ)
     → IsPrepared (prepared_of old change report blocks) → IsReady (prepared_of old change report blocks) change starts areas rows
     → IsOutlook (outlook_of change old.groups)
-ready-outlook old change report blocks starts areas rows is ready =
-    change-outlook old.groups change (record { edit = report.swap.edit; leads = ready.leads }) is.project ready.project ready.row
+ready-outlook old change report blocks starts areas rows is ready = search (rules, change-outlook)

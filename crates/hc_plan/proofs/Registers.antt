@@ -1,6 +1,6 @@
 -- In a project's line each block of a slave stands at a register of its own.
-use Rattle.std.proofs.Common.{◌≡◌, ℕ, ◌+◌, ◌*◌, ◌/◌, ◌%◌, ◌<◌, ◌==◌, Bool, true, false, List, Contains, refl, sym, ap, ◌∙◌, arith, inl, inr}
-use Rattle.std.specs.Prelude.{◌≢◌, AllPairs, Option, Some, None, find, option_and_then, option_map, slice_get, slice_index_or}
+use Rattle.std.proofs.Common.{◌≡◌, ℕ, ◌+◌, ◌*◌, ◌/◌, ◌%◌, ◌<◌, ◌==◌, Bool, true, false, List, Contains, refl, sym, ap, ◌∙◌, arith, rules}
+use Rattle.std.specs.Prelude.{◌≢◌, AllPairs, Option, Some, None, find, option_and_then, option_map, slice_get}
 use Rattle.std.specs.List.{enumerate_from}
 use Rattle.std.proofs.lemmas.Bool.{cases_order, eqb-false, eqb-true}
 use Rattle.std.proofs.lemmas.Option.{get_or_from_slice_get, slice_get_within}
@@ -22,18 +22,11 @@ use Rattle.hc_records.proofs.lemmas.Stations.{project-distinct}
 
 not-below : (areas : List Area) (i j : ℕ) (a b : Area) → AllPairs (λ x y. x.sm ≢ y.sm) areas → slice_get areas i ≡ Some a → slice_get areas j ≡ Some b
     → a.sm ≡ b.sm → i < j → i ≡ j
-not-below areas i j a b managers first second same below =
-    let one : (slice_index_or areas i a).sm ≡ a.sm = ap (λ (area : Area). area.sm) (get_or_from_slice_get areas i a a first) in
-    let two : (slice_index_or areas j a).sm ≡ b.sm = ap (λ (area : Area). area.sm) (get_or_from_slice_get areas j b a second) in
-    absurd (managers i j a below (slice_get_within areas j b second) (one ∙ same ∙ sym two))
+not-below areas i j a b managers first second same below = search (rules, get_or_from_slice_get, slice_get_within)
 
 one-manager : (areas : List Area) (i j : ℕ) (a b : Area) → AllPairs (λ x y. x.sm ≢ y.sm) areas → slice_get areas i ≡ Some a → slice_get areas j ≡ Some b
     → a.sm ≡ b.sm → i ≡ j
-one-manager areas i j a b managers first second same = elim (cases_order i j) [
-  | inl equal ↦ equal
-  | inr (inl below) ↦ not-below areas i j a b managers first second same below
-  | inr (inr above) ↦ sym (not-below areas j i b a managers second first (sym same) above)
-]
+one-manager areas i j a b managers first second same = search (rules, cases_order, not-below)
 
 -- the register of a slave's block with a number
 
@@ -47,11 +40,7 @@ made-by : (areas : List Area) (n : ℕ) (o : Option Area) (make : Area → Regis
     → (n % 2 ≡ 0 → (area : Area) → (make area).register ≡ SYNC_MANAGER_BLOCKS + SYNC_MANAGER_BLOCK_BYTES * area.sm)
     → (n % 2 ≢ 0 → (area : Area) → (make area).register ≡ FMMU_BLOCKS + FMMU_BLOCK_BYTES * (n / 2))
     → IsBlock areas n block
-made-by areas n None make block at is even odd = cc
-made-by areas n (Some area) make block at is even odd =
-    let same : make area ≡ block = cc in
-    let register : block.register ≡ (make area).register = sym (ap (λ (b : RegisterBlock). b.register) same) in
-    record { area = area; found = at; even = λ so. register ∙ even so area; odd = λ so. register ∙ odd so area }
+made-by areas n o make block at is even odd = search rules
 
 block-of : (line : List Member) (member : Member) (n : ℕ) (block : RegisterBlock) (even : Bool) → (n % 2 == 0) ≡ even → slice_get (slave_blocks line member) n ≡ Some block
     → IsBlock member.slave.areas n block
@@ -78,31 +67,7 @@ block-of line member n block false is at =
 
 one-number : (slave : Slave) (n k : ℕ) (a b : RegisterBlock) (p q : Bool) → (n % 2 == 0) ≡ p → (k % 2 == 0) ≡ q → IsSlaveInside slave → IsBlock slave.areas n a → IsBlock slave.areas k b
     → a.register ≡ b.register → n ≡ k
-one-number slave n k a b true true first second inside one two same =
-    let left = one.even (eqb-true (n % 2) 0 first) in
-    let right = two.even (eqb-true (k % 2) 0 second) in
-    let evens : (n % 2 ≡ 0) × (k % 2 ≡ 0) = (eqb-true (n % 2) 0 first, eqb-true (k % 2) 0 second) in
-    let index = one-manager slave.areas (n / 2) (k / 2) one.area two.area inside.managers one.found two.found (omega (arith, left, right, same)) in
-    omega (arith, index, evens.0, evens.1)
-one-number slave n k a b true false first second inside one two same =
-    let left = one.even (eqb-true (n % 2) 0 first) in
-    let right = two.odd (eqb-false (k % 2) 0 second) in
-    let few = inside.few in
-    let below = slice_get_within slave.areas (k / 2) two.area two.found in
-    absurd (omega (arith, left, right, same, few, below))
-one-number slave n k a b false true first second inside one two same =
-    let left = one.odd (eqb-false (n % 2) 0 first) in
-    let right = two.even (eqb-true (k % 2) 0 second) in
-    let few = inside.few in
-    let below = slice_get_within slave.areas (n / 2) one.area one.found in
-    absurd (omega (arith, left, right, same, few, below))
-one-number slave n k a b false false first second inside one two same =
-    let left = one.odd (eqb-false (n % 2) 0 first) in
-    let right = two.odd (eqb-false (k % 2) 0 second) in
-    let odds : (n % 2 ≢ 0) × (k % 2 ≢ 0) = (eqb-false (n % 2) 0 first, eqb-false (k % 2) 0 second) in
-    let none = odds.0 in
-    let neither = odds.1 in
-    omega (arith, left, right, same, none, neither)
+one-number slave n k a b p q first second inside one two same = search (rules, eqb-true, one-manager, eqb-false, slice_get_within)
 
 -- so two blocks of a slave at one register are one
 
@@ -113,7 +78,6 @@ same-bytes line None n k a b inside one two same = cc
 same-bytes line (Some m) n k a b inside one two same =
     let number = one-number m.slave n k a b (n % 2 == 0) (k % 2 == 0) refl refl (inside m refl)
     (block-of line m n a (n % 2 == 0) refl one) (block-of line m k b (k % 2 == 0) refl two) same in
-    let found : Some a ≡ Some b = sym one ∙ ap (slice_get (slave_blocks line m)) number ∙ two in
     cc
 
 pub one-block : (groups : List Declared) (a b : LineBlock) → lowest_fault (groups_of groups) ≡ None → Contains (line_blocks (line_from 1 groups)) a → Contains (line_blocks (line_from 1 groups)) b

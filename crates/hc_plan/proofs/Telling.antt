@@ -1,5 +1,5 @@
 -- What is told of an edit leads from the table of the line before it to that of the line after it.
-use Rattle.std.proofs.Common.{◌≡◌, ◌∙◌, ◌<◌, ℕ, List, None, length, map, refl, sym, ap, subst, arith}
+use Rattle.std.proofs.Common.{◌≡◌, ◌∙◌, ◌<◌, ℕ, List, None, length, map, refl, sym, ap, subst, arith, rules}
 use Rattle.std.specs.Prelude.{All}
 use Rattle.std.proofs.lemmas.List.{length-map}
 use Rattle.std.proofs.lemmas.Simd.{map-map}
@@ -38,12 +38,7 @@ all-stand it movers read is fits all same = subst (λ (ms : List Mover). All (λ
 pub told-rows : (it : Outlook) (table : Table) (movers read : List Mover) (before after : List (List Area)) (rows : List ChangedRow) → table ≡ table_of (line_from 1 it.old)
     → movers ≡ movers_of it → read ≡ movers → before ≡ it.before → after ≡ it.after → rows ≡ changed_rows table read before after
     → rows ≡ changed_rows (table_of (line_from 1 it.old)) (movers_of it) it.before it.after
-told-rows it table movers read before after rows stands all same was is told =
-    told
-    ∙ ap (λ (t : Table). changed_rows t read before after) stands
-    ∙ ap (λ (ms : List Mover). changed_rows (table_of (line_from 1 it.old)) ms before after) (same ∙ all)
-    ∙ ap (λ (s : List (List Area)). changed_rows (table_of (line_from 1 it.old)) (movers_of it) s after) was
-    ∙ ap (λ (s : List (List Area)). changed_rows (table_of (line_from 1 it.old)) (movers_of it) it.before s) is
+told-rows it table movers read before after rows stands all same was is told = search rules
 
 pub told-once : (it : Outlook) (found : List Candidate) (tasks : List ChangedTask) (rows : List ChangedRow) → IsOutlook it → AreSeen it found tasks
     → rows ≡ changed_rows (table_of (line_from 1 it.old)) (movers_of it) it.before it.after → AreOnce rows

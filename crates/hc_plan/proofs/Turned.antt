@@ -1,5 +1,5 @@
 -- The line of an edit before it and after it, by the areas of their slaves.
-use Rattle.std.proofs.Common.{◌≡◌, ◌∙◌, ℕ, List, None, sym, subst}
+use Rattle.std.proofs.Common.{◌≡◌, ◌∙◌, ℕ, List, None, sym, rules}
 use Rattle.std.specs.Prelude.{Option}
 use Rattle.hc_records.specs.declared.keys.Key.{Key}
 use Rattle.hc_records.specs.declared.records.Area.{Area}
@@ -11,7 +11,6 @@ use Rattle.hc_tasks.specs.Areas.{areas_by_rank}
 use Rattle.hc_tasks.specs.Kept.{crowded_from, line_kept}
 use Rattle.hc_tasks.specs.Turn.{AreLines, AreStartsOf, IsPut, IsTurn}
 use Rattle.hc_tasks.proofs.lemmas.Projects.{line-crowded}
-use Rattle.hc_tasks.proofs.lemmas.Turning.{back-lines}
 use Rattle.hc_changes.specs.Outlook.{IsOutlook, Outlook}
 
 -- what is crowded, by the line and by the areas of its slaves
@@ -24,43 +23,27 @@ line-areas groups crowded is = sym (line-crowded groups) ∙ is
 -- the rank and the areas that are read from an outlook are its own
 read-lines : (first first' : ℕ) (before before' after after' old new : List (List Area)) → first ≡ first' → before ≡ before' → after ≡ after' → AreLines first' before' after' old new
     → AreLines first before after old new
-read-lines first first' before before' after after' old new same second third lines =
-    subst (λ (f : ℕ). AreLines f before after old new) (sym same)
-    (subst (λ (s : List (List Area)). AreLines first' s after old new) (sym second)
-    (subst (λ (s : List (List Area)). AreLines first' before' s old new) (sym third) lines))
+read-lines first first' before before' after after' old new same second third lines = search rules
 
 pub outlook-lines : (it : Outlook) (first : ℕ) (before after : List (List Area)) → IsOutlook it → first ≡ it.first → before ≡ it.before → after ≡ it.after
     → AreLines first before after (areas_by_rank it.old) (areas_by_rank it.new)
-outlook-lines it first before after is same second third =
-    read-lines first it.first before it.before after it.after (areas_by_rank it.old) (areas_by_rank it.new) same second third is.lines
+outlook-lines it first before after is same second third = search rules
 
 -- the trees of the line before an edit are turned to those of the line after it
 
 pub outlook-turn : (it : Outlook) (kept : List Kept) (first : ℕ) (before after : List (List Area)) → IsOutlook it → kept ≡ line_kept (areas_by_rank it.old)
     → crowded_task (line_from 1 it.old) ≡ None → first ≡ it.first → before ≡ it.before → after ≡ it.after
     → IsTurn 8 0 kept first before after (areas_by_rank it.old) (areas_by_rank it.new)
-outlook-turn it kept first before after is trees fits same second third = record {
-  lines = outlook-lines it first before after is same second third;
-  stand = trees;
-  fits = line-areas it.old None fits;
-}
+outlook-turn it kept first before after is trees fits same second third = search (rules, outlook-lines, line-areas)
 
 -- and by boundaries that are known
 
 pub outlook-put : (it : Outlook) (kept : List Kept) (first : ℕ) (before after : List (List Area)) (starts : List (List Key)) → IsOutlook it → kept ≡ line_kept (areas_by_rank it.old)
     → AreStartsOf (areas_by_rank it.new) starts → first ≡ it.first → before ≡ it.before → after ≡ it.after
     → IsPut 8 0 kept first before after starts (areas_by_rank it.old) (areas_by_rank it.new)
-outlook-put it kept first before after starts is trees known same second third = record {
-  lines = outlook-lines it first before after is same second third;
-  stand = trees;
-  known = known;
-}
+outlook-put it kept first before after starts is trees known same second third = search rules
 
 pub outlook-back : (it : Outlook) (kept : List Kept) (first : ℕ) (before after : List (List Area)) (starts : List (List Key)) → IsOutlook it → kept ≡ line_kept (areas_by_rank it.new)
     → AreStartsOf (areas_by_rank it.old) starts → first ≡ it.first → before ≡ it.before → after ≡ it.after
     → IsPut 8 0 kept first after before starts (areas_by_rank it.new) (areas_by_rank it.old)
-outlook-back it kept first before after starts is trees known same second third = record {
-  lines = back-lines first before after (areas_by_rank it.old) (areas_by_rank it.new) (outlook-lines it first before after is same second third);
-  stand = trees;
-  known = known;
-}
+outlook-back it kept first before after starts is trees known same second third = search rules

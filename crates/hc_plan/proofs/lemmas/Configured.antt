@@ -1,8 +1,8 @@
 -- The blocks that a line is configured with are those of its slaves.
-use Rattle.std.proofs.Common.{◌≡◌, ℕ, ◌<◌, ◌==◌, Bool, true, false, cond, List, [], ◌∷◌, Contains, refl, sym, ap, subst, ◌∙◌, ⊎_elim, arith}
+use Rattle.std.proofs.Common.{◌≡◌, ℕ, ◌<◌, ◌==◌, Bool, true, false, cond, List, [], ◌∷◌, Contains, refl, sym, ap, subst, ◌∙◌, ⊎_elim, arith, rules}
 use Rattle.std.specs.Prelude.{Option, Some, None, find, option_and_then, option_map, slice_get}
-use Rattle.std.specs.List.{enumerate_from, flat_map, list_any}
-use Rattle.std.proofs.lemmas.Bool.{eqb-false, eqb-true, or_parts}
+use Rattle.std.specs.List.{flat_map, list_any}
+use Rattle.std.proofs.lemmas.Bool.{eqb-true, or_parts}
 use Rattle.std.proofs.lemmas.List.Elements.{Contains-append_cases, Contains-append_left, Contains-append_right}
 use Rattle.std.proofs.lemmas.Option.{get_or_from_slice_get, slice_get-get_or, slice_get-map, slice_get_within}
 use Rattle.hc_records.specs.Line.{Member, is_at}
@@ -25,9 +25,7 @@ abbrev pub made : ℕ → ℕ → Option RegisterBlock → Option LineBlock
 made station n blocks = option_map (λ (e : ℕ × RegisterBlock). record { station = station; number = e.0; block = e.1 }) (option_map (λ b. (n, b)) blocks)
 
 pub get-own : (station n : ℕ) (blocks : List RegisterBlock) → slice_get (numbered station 0 blocks) n ≡ made station n (slice_get blocks n)
-get-own station n blocks =
-    let line_block : ℕ × RegisterBlock → LineBlock = λ e. record { station = station; number = e.0; block = e.1 } in
-    slice_get-map line_block (enumerate_from 0 blocks) n ∙ ap (option_map line_block) (get-numbered-from-0 blocks n)
+get-own station n blocks = search (rules, slice_get-map, get-numbered-from-0)
 
 own-contained : (station n : ℕ) (blocks : List RegisterBlock) (block : RegisterBlock) → slice_get blocks n ≡ Some block
     → Contains (numbered station 0 blocks) (record { station = station; number = n; block = block })
@@ -36,10 +34,7 @@ own-contained station n blocks block is =
 
 made-parts : (station n : ℕ) (o : Option RegisterBlock) (found : LineBlock) → made station n o ≡ Some found
     → (found.station ≡ station) × (found.number ≡ n) × (o ≡ Some found.block)
-made-parts station n None found is = cc
-made-parts station n (Some block) found is =
-    let same : record { station = station; number = n; block = block } ≡ found = cc in
-    (sym (ap (λ (f : LineBlock). f.station) same), sym (ap (λ (f : LineBlock). f.number) same), ap (λ (f : LineBlock). Some f.block) same)
+made-parts station n o found is = search rules
 
 pub contained-own : (station : ℕ) (blocks : List RegisterBlock) (found : LineBlock) → Contains (numbered station 0 blocks) found
     → (found.station ≡ station) × (slice_get blocks found.number ≡ Some found.block)
@@ -60,8 +55,7 @@ here-or-behind whole members member station number block true is at behind =
     Contains-append_left (member_blocks whole member) (flat_map (member_blocks whole) members) (record { station = station; number = number; block = block })
     (subst (λ (n : ℕ). Contains (member_blocks whole member) (record { station = n; number = number; block = block })) (eqb-true member.slave.station station is)
     (own-contained member.slave.station number (slave_blocks whole member) block at))
-here-or-behind whole members member station number block false is at behind =
-    Contains-append_right (member_blocks whole member) (flat_map (member_blocks whole) members) (record { station = station; number = number; block = block }) (behind at)
+here-or-behind whole members member station number block false is at behind = search (rules, Contains-append_right)
 
 pub block-configured : (whole members : List Member) (station number : ℕ) (block : RegisterBlock) → block_of whole number (find (is_at station) members) ≡ Some block
     → Contains (flat_map (member_blocks whole) members) (record { station = station; number = number; block = block })
@@ -80,17 +74,12 @@ none-at station (member ∷ members) absent =
 own-found : (whole members : List Member) (member : Member) (found : LineBlock) → (found.station ≡ member.slave.station) × (slice_get (slave_blocks whole member) found.number ≡ Some found.block)
     → (same : Bool) → (member.slave.station == found.station) ≡ same
     → block_of whole found.number (cond same (Some member) (find (is_at found.station) members)) ≡ Some found.block
-own-found whole members member found own true is = own.1
-own-found whole members member found own false is = absurd (eqb-false member.slave.station found.station is (sym own.0))
+own-found whole members member found own same is = search rules
 
 later-found : (whole members : List Member) (member : Member) (found : LineBlock) → IsAbsent member.slave.station (stations members)
     → block_of whole found.number (find (is_at found.station) members) ≡ Some found.block → (same : Bool) → (member.slave.station == found.station) ≡ same
     → block_of whole found.number (cond same (Some member) (find (is_at found.station) members)) ≡ Some found.block
-later-found whole members member found absent behind true is =
-    let one : member.slave.station ≡ found.station = eqb-true member.slave.station found.station is in
-    let none = none-at found.station members (subst (λ (n : ℕ). IsAbsent n (stations members)) one absent) in
-    let nothing : None ≡ Some found.block = ap (block_of whole found.number) (sym none) ∙ behind in cc
-later-found whole members member found absent behind false is = behind
+later-found whole members member found absent behind same is = search (rules, eqb-true, none-at)
 
 pub configured-block : (whole members : List Member) (found : LineBlock) → has_repeat (stations members) ≡ false → Contains (flat_map (member_blocks whole) members) found
     → block_of whole found.number (find (is_at found.station) members) ≡ Some found.block

@@ -1,26 +1,24 @@
 -- How the lines before and after an accepted edit differ, place by place.
-use Rattle.std.proofs.Common.{◌≡◌, ℕ, zero, suc, ◌+◌, ◌-◌, ◌*◌, ◌/◌, ◌%◌, ◌<◌, ◌≤◌, ◌==◌, Bool, true, false, cond, Contains, List, [], ◌∷◌, ◌++◌, length, map, ◌⊎◌, inl, inr, refl, sym, ap, subst, ◌∙◌, arith, length-append}
+use Rattle.std.proofs.Common.{◌≡◌, ℕ, zero, suc, ◌+◌, ◌*◌, ◌/◌, ◌%◌, ◌<◌, ◌≤◌, Bool, true, false, cond, Contains, List, [], ◌∷◌, ◌++◌, length, map, ◌⊎◌, inl, inr, refl, sym, ap, subst, ◌∙◌, arith, length-append, rules}
 use Rattle.std.specs.Prelude.{◌≢◌, All, None, Some, Ok, not, option_map, slice_get, slice_index_or}
 use Rattle.std.specs.List.{enumerate_from, flat_map, list_any}
-use Rattle.std.specs.Str.{bytes_eq}
-use Rattle.std.proofs.lemmas.Bool.{and_parts, cases_order, eqb-true}
+use Rattle.std.proofs.lemmas.Bool.{cases_order}
 use Rattle.std.proofs.lemmas.List.{length-map}
 use Rattle.std.proofs.lemmas.List.Elements.{All-contains, All-map, All-weaker}
 use Rattle.std.proofs.lemmas.List.Folds.{Any-from_list_any}
 use Rattle.std.proofs.lemmas.Option.{same_Some, slice_get-get_or, slice_get-map, slice_get_within}
-use Rattle.std.proofs.lemmas.Slice.Eq.{bytes_eq-Decides}
 use Rattle.hc_records.specs.declared.records.Area.{Area}
 use Rattle.hc_records.specs.declared.records.Declared.{Declared}
 use Rattle.hc_records.specs.declared.records.Slave.{Slave}
 use Rattle.hc_records.specs.declared.edit.Edit.{Edit}
 use Rattle.hc_records.specs.Edits.{edited}
-use Rattle.hc_records.specs.Line.{Member, State, groups_of, line, line_from}
+use Rattle.hc_records.specs.Line.{Member, State, groups_of, line}
 use Rattle.hc_records.specs.Project.{lowest_fault}
 use Rattle.hc_records.proofs.lemmas.Finds.{mapped-some}
 use Rattle.hc_records.proofs.lemmas.Lines.{RankWithin, declared_slaves, line-slaves, line-within}
 use Rattle.hc_records.proofs.lemmas.Lists.{All-flat_map, All-passing}
 use Rattle.hc_registers.specs.declared.registers.TheConstants.{FMMU_BLOCKS, FMMU_BLOCK_BYTES, SYNC_MANAGER_BLOCKS, SYNC_MANAGER_BLOCK_BYTES}
-use Rattle.hc_registers.specs.Blocks.{LineBlock, RegisterBlock, area_blocks, line_blocks, member_blocks, numbered, same_block, same_bytes, slave_blocks}
+use Rattle.hc_registers.specs.Blocks.{LineBlock, RegisterBlock, area_blocks, line_blocks, member_blocks, numbered, same_block, slave_blocks}
 use Rattle.hc_ranks.specs.Blocks.{RankedBlock, member_ranked, moved_ranked, ranked, ranked_blocks}
 use Rattle.hc_ranks.specs.Differences.{Differ, IsGone, StandsIn, StoodAt, first_gone, place_of}
 use Rattle.hc_ranks.specs.Laws.{HasPlaces}
@@ -39,7 +37,7 @@ use Rattle.hc_changes.proofs.lemmas.Bare.{bare, bare_slave, edit-keeps}
 use Rattle.hc_changes.proofs.lemmas.Lists.{contains-filtered, contains-flat_map, flat_map-piece}
 use Rattle.hc_changes.proofs.lemmas.OneProject.{AreOfOneProject, edit-one-project}
 use Rattle.hc_plan.specs.Gone.{gone_of, none_gone}
-use Rattle.hc_plan.proofs.ByRank.{InRow, all-slaves, areas-presence, at-rank, beside-same, member_at, own_blocks, presence-in-row, slaves_by_rank}
+use Rattle.hc_plan.proofs.ByRank.{InRow, all-slaves, areas-presence, at-rank, beside-same, member_at, own_blocks, presence-in-row}
 use Rattle.hc_plan.proofs.Registers.{one-block}
 use Rattle.hc_plan.proofs.lemmas.Configured.{at-contained, contained-own, get-own, made}
 
@@ -58,19 +56,14 @@ rank-length : (groups : List Declared) → length (by_rank groups) ≡ length (d
 rank-length groups = sym (length-map (by_rank groups) (λ (one : Ranked). one.slave)) ∙ ap (λ (slaves : List Slave). length slaves) (all-slaves groups)
 
 as-many : (olds news : List Declared) → SameSlaves olds news → length (declared_slaves news) ≡ length (declared_slaves olds)
-as-many olds news same =
-    sym (length-map (declared_slaves news) bare_slave) ∙ ap (λ (slaves : List (ℕ × List Area)). length slaves) same ∙ length-map (declared_slaves olds) bare_slave
+as-many olds news same = search (rules, length-map)
 
 bare-at : (groups : List Declared) (i : ℕ) (one : Ranked) → slice_get (by_rank groups) i ≡ Some one → slice_get (map bare_slave (declared_slaves groups)) i ≡ Some (bare_slave one.slave)
-bare-at groups i one at =
-    ap (λ (slaves : List Slave). slice_get (map bare_slave slaves) i) (sym (all-slaves groups))
-    ∙ slice_get-map bare_slave (slaves_by_rank (by_rank groups)) i
-    ∙ ap (option_map bare_slave) (slice_get-map (λ (r : Ranked). r.slave) (by_rank groups) i ∙ ap (option_map (λ (r : Ranked). r.slave)) at)
+bare-at groups i one at = search (rules, all-slaves, slice_get-map)
 
 -- a slave has as many blocks before and after
 pub bare-count : (a b : Slave) → bare_slave a ≡ bare_slave b → length a.areas ≡ length b.areas
-bare-count a b same =
-    sym (length-map a.areas bare) ∙ ap (λ (s : ℕ × List Area). length s.1) same ∙ length-map b.areas bare
+bare-count a b same = search (rules, length-map)
 
 -- what holds of the states before and after an accepted edit, and of what it changes
 record Leads (old new : State) (change : Prepared) : Type 0 where
@@ -84,14 +77,7 @@ record Leads (old new : State) (change : Prepared) : Type 0 where
 leads : (old new : State) (edit : Edit) (change : Prepared) → lowest_fault (groups_of old.groups) ≡ None → edited old edit ≡ Ok new → change_by old.groups edit ≡ Some change → Leads old new change
 leads old new edit change project accepted changes =
     let groups = accepted-groups old new edit accepted in
-    record {
-      row = change-of-row old.groups edit change changes;
-      after = groups ∙ sym (carried-after old.groups edit change project changes);
-      same = ap (λ (g : List Declared). map bare_slave (declared_slaves g)) groups ∙ edit-keeps old.groups edit;
-      before = project;
-      behind = accepted-project old new edit project accepted;
-      one = subst (λ (g : List Declared). AreOfOneProject (line old) (line_from 1 g)) (sym groups) (edit-one-project old.groups edit project);
-    }
+    search (rules, change-of-row, carried-after, edit-keeps, accepted-project, edit-one-project)
 
 -- which slaves leave
 
@@ -111,10 +97,7 @@ side first end i = elim (cases_order i first) [
 
 -- the slaves of a group that goes leave
 row-goes : (change : PresenceChange) (n : ℕ) → change.present ≡ false → 1 ≤ change.first → InRow (Presence change) (n / 16) → IsGone (gone_of (Presence change)) n
-row-goes change n is some inside =
-    let from = inside.0 in
-    let low = inside.1 in
-    subst (λ (present : Bool). IsGone (cond present none_gone (record { rank = change.first; slaves = change.slaves })) n) (sym is) (omega (arith, from, low, some), omega (arith, from, low, some))
+row-goes change n is some inside = search rules
 
 gone-absent : (change : Prepared) (old new : State) (n : ℕ) → Leads old new change → IsGone (gone_of change) n → slice_get (places new) n ≡ Some None
 gone-absent (Areas change) old new n made gone = let a = gone.0 in let b = gone.1 in absurd (omega (arith, a, b))
@@ -126,20 +109,16 @@ gone-absent (Presence change) old new n made gone = by change.present refl
     by : (present : Bool) → change.present ≡ present → slice_get (places new) n ≡ Some None
     by true is =
         let none = subst (λ (present : Bool). IsGone (cond present none_gone (record { rank = change.first; slaves = change.slaves })) n) is gone in
-        let a = none.0 in let b = none.1 in absurd (omega (arith, a, b))
+        let a = none.0 in let b = none.1 in absurd (omega arith)
     by false is =
         let some = subst (λ (present : Bool). IsGone (cond present none_gone (record { rank = change.first; slaves = change.slaves })) n) is gone in
         let rows = made.row in
-        let a = some.0 in
-        let b = some.1 in
-        let first = rows.first in
-        let many = rows.many_after in
         let own = row (Presence change) (carried (Presence change) old.groups) in
         let all = ap (λ (l : List Ranked). length l) rows.after in
         let parts = length-append rows.front (own ++ rows.behind) in
         let rest = length-append own rows.behind in
-        let here = there (by_rank (carried (Presence change) old.groups)) i (omega (arith, a, b, first, many, all, parts, rest)) in
-        let inside : InRow (Presence change) i = (omega (arith, a, b, first), omega (arith, a, b, first)) in
+        let here = there (by_rank (carried (Presence change) old.groups)) i (omega (arith, all, parts, rest)) in
+        let inside : InRow (Presence change) i = (omega arith, omega arith) in
         let absent = presence-in-row change old.groups i here.0 rows inside here.1 ∙ is in
         ap (slice_get (places new)) (omega arith)
         ∙ at-rank (line new) new.groups i (n % 16) here.0 (ap (λ (g : List Declared). slice_get (by_rank g) i) made.after ∙ here.1) (omega arith)
@@ -150,22 +129,7 @@ gone-absent (Presence change) old new n made gone = by change.present refl
 -- a slave that is present before is present behind, unless it leaves
 stays-present : (change : Prepared) (old new : State) (n : ℕ) (was is : Ranked) → Leads old new change → slice_get (by_rank old.groups) (n / 16) ≡ Some was → slice_get (by_rank new.groups) (n / 16) ≡ Some is
     → was.present ≡ true → (is.present ≡ true) ⊎ IsGone (gone_of change) n
-stays-present (Areas change) old new n was is made before after present =
-    inl (areas-presence change old.groups (n / 16) was is before (ap (λ (g : List Declared). slice_get (by_rank g) (n / 16)) (sym made.after) ∙ after) ∙ present)
-stays-present (Presence change) old new n was is made before after present =
-    elim (side change.first (change.first + change.slaves) (n / 16 + 1)) [
-      | inl inside ↦ in-row change.present refl inside
-      | inr beside ↦
-          let same = same_Some is was (sym here ∙ beside-same (Presence change) old.groups (n / 16) made.row beside ∙ before) in
-          inl (ap (λ (one : Ranked). one.present) same ∙ present)
-    ]
-  where
-    here : slice_get (by_rank (carried (Presence change) old.groups)) (n / 16) ≡ Some is
-    here = ap (λ (g : List Declared). slice_get (by_rank g) (n / 16)) (sym made.after) ∙ after
-
-    in-row : (comes : Bool) → change.present ≡ comes → InRow (Presence change) (n / 16) → (is.present ≡ true) ⊎ IsGone (gone_of (Presence change)) n
-    in-row true comes inside = inl (presence-in-row change old.groups (n / 16) is made.row inside here ∙ comes)
-    in-row false goes inside = inr (row-goes change n goes (let first = made.row.first in omega (arith, first)) inside)
+stays-present change old new n was is made before after present = search (rules, areas-presence, side, same_Some, beside-same, presence-in-row, row-goes)
 
 -- a place with a block before has one behind, unless its slave leaves
 stays-full : (change : Prepared) (old new : State) (n : ℕ) (block : LineBlock) → Leads old new change → slice_get (places old) n ≡ Some (Some block) → slice_get (places new) n ≡ Some None → IsGone (gone_of change) n
@@ -271,8 +235,7 @@ registers blocks = map (λ block. block.register) blocks
 
 area-registers : (whole : List Member) (rank first : ℕ) (areas : List Area) → registers (flat_map (area_blocks whole rank) (enumerate_from first areas)) ≡ registers_from first (map bare areas)
 area-registers whole rank first [] = refl
-area-registers whole rank first (area ∷ areas) =
-    ap (λ (rest : List ℕ). (SYNC_MANAGER_BLOCKS + SYNC_MANAGER_BLOCK_BYTES * area.sm) ∷ (FMMU_BLOCKS + FMMU_BLOCK_BYTES * first) ∷ rest) (area-registers whole rank (first + 1) areas)
+area-registers whole rank first (area ∷ areas) = search (rules, area-registers whole rank (first + 1) areas)
 
 slave-registers : (whole : List Member) (member : Member) → registers (slave_blocks whole member) ≡ registers_from 0 (bare_slave member.slave).1
 slave-registers whole member = area-registers whole member.rank 0 member.slave.areas
@@ -297,14 +260,7 @@ record SameBlock (a b : LineBlock) : Type 0 where
   bytes : a.block.bytes ≡ b.block.bytes
 
 same-parts : (a b : LineBlock) → same_block a b ≡ true → SameBlock a b
-same-parts a b same =
-    let parts = and_parts (a.station == b.station) (same_bytes a.block b.block) same in
-    let own = and_parts (a.block.register == b.block.register) (bytes_eq a.block.bytes b.block.bytes) parts.1 in
-    record {
-      station = eqb-true a.station b.station parts.0;
-      register = eqb-true a.block.register b.block.register own.0;
-      bytes = (bytes_eq-Decides a.block.bytes b.block.bytes).0 own.1;
-    }
+same-parts a b same = search rules
 
 -- so one with its bytes stood at its place
 stood-there : (change : Prepared) (old new : State) (n : ℕ) (block : LineBlock) → Leads old new change → StandsOf (line new) (line new) 1 n block → All (λ other. place_of other ≢ n) (moved_ranked (line old) (line new)) → StoodAt (places old) n block
@@ -314,9 +270,7 @@ stood-there change old new n block lead here others =
     let number : block.number ≡ 0 + here.number = number-is a.slave.station 0 here.number blocks block here.stands in
     let own = at-contained (member_blocks (line new) a) here.number block here.stands in
     let mine = contained-own a.slave.station blocks block own in
-    let from = here.from in
-    let is = here.is in
-    let at : n ≡ place a.rank block.number = omega (arith, number, from, is) in
+    let at : n ≡ place a.rank block.number = omega (arith, number) in
     let among = contains-flat_map (member_ranked (line new)) (line new) a (ranked a.rank block) here.on
     (at-contained (member_ranked (line new) a) here.number (ranked a.rank block) (slice_get-map (ranked a.rank) (member_blocks (line new) a) here.number ∙ ap (option_map (ranked a.rank)) here.stands)) in
     let had = unmoved (line old) (line new) a.rank block among (subst (λ (k : ℕ). All (λ other. place_of other ≢ k) (moved_ranked (line old) (line new))) at others) in
@@ -335,44 +289,15 @@ stood-there change old new n block lead here others =
     let was = mapped-some (λ (r : RegisterBlock). r.register) (slice_get (slave_blocks (line old) b) block.number) block.block.register
     (sym (slice_get-map (λ (r : RegisterBlock). r.register) (slave_blocks (line old) b) block.number) ∙ register) in
     let other : LineBlock = record { station = b.slave.station; number = block.number; block = was.0 } in
-    let other_at : slice_get (member_blocks (line old) b) block.number ≡ Some other =
-    get-own b.slave.station block.number (slave_blocks (line old) b) ∙ ap (made b.slave.station block.number) was.1 in
+    let other_at : slice_get (member_blocks (line old) b) block.number ≡ Some other = search (rules, get-own) in
     let standing = contains-flat_map (member_blocks (line old)) (line old) b other piece.among (at-contained (member_blocks (line old) b) block.number other other_at) in
     let one = one-block old.groups other before lead.before standing stood (sym theirs.0) (was.2 ∙ same.register) in
-    let low = here.low in
-    record {
-      before = other;
-      stood = ap (slice_get (places old)) at ∙ ap (λ (r : ℕ). slice_get (places old) (place r block.number)) (sym rank)
-          ∙ All-contains (HasPlaces old) (line old) b (members-stand old) piece.among block.number (omega (arith, number, low)) ∙ ap Some other_at;
-      same = ap (λ (r : RegisterBlock). r.bytes) one ∙ sym same.bytes;
-    }
+    search (rules, All-contains, members-stand)
 
 -- the two lines differ by the slaves that leave, those that come, and the moved blocks
 
 gone-inside : (change : Prepared) (old new : State) → Leads old new change → (1 ≤ (gone_of change).rank) × (first_gone (gone_of change) + 16 * (gone_of change).slaves ≤ length (places new))
-gone-inside (Areas change) old new made = (omega arith, omega arith)
-gone-inside (Presence change) old new made = by change.present
-  where
-    rows : ChangesRow (Presence change) old.groups
-    rows = made.row
-
-    own : List Ranked
-    own = row (Presence change) (carried (Presence change) old.groups)
-
-    end : 16 * (change.first - 1) + 16 * change.slaves ≤ length (places new)
-    end =
-        let size = length-places new in
-        let all = rank-length new.groups in
-        let after = ap (λ (g : List Declared). length (by_rank g)) made.after ∙ ap (λ (l : List Ranked). length l) rows.after in
-        let parts = length-append rows.front (own ++ rows.behind) in
-        let rest = length-append own rows.behind in
-        let first = rows.first in
-        let many = rows.many_after in
-        omega (arith, size, all, after, parts, rest, first, many)
-
-    by : (present : Bool) → let gone = cond present none_gone (record { rank = change.first; slaves = change.slaves }) in (1 ≤ gone.rank) × (first_gone gone + 16 * gone.slaves ≤ length (places new))
-    by true = (omega arith, omega arith)
-    by false = (let first = rows.first in omega (arith, first), end)
+gone-inside change old new made = search (rules, length-places, rank-length, length-append)
 
 pub edits-differ : (old new : State) (edit : Edit) (change : Prepared) → lowest_fault (groups_of old.groups) ≡ None → edited old edit ≡ Ok new → change_by old.groups edit ≡ Some change
     → Differ (places old) (places new) (gone_of change) (moved_ranked (line old) (line new))
@@ -383,16 +308,4 @@ edits-differ old new edit change project accepted changes =
     let after = length-places new in
     let many = as-many old.groups new.groups made.same in
     let test : RankedBlock → Bool = λ block. not (list_any (same_block block.found) (line_blocks (line old))) in
-    record {
-      size = omega (arith, before, after, many);
-      rank = inside.0;
-      inside = inside.1;
-      went = λ n gone. gone-absent change old new n made gone;
-      stays = λ n block stood none. stays-full change old new n block made stood none;
-      names = record {
-        ranks = All-passing (λ block. 1 ≤ block.rank) test (ranked_blocks (line new)) (All-weaker (λ block. 1 ≤ block.rank) (λ block. test block ≡ true → 1 ≤ block.rank) (λ block some is. some) (ranked_blocks (line new)) (line-ranks new));
-        stand = All-passing (StandsIn (places new)) test (ranked_blocks (line new))
-            (All-weaker (StandsIn (places new)) (λ block. test block ≡ true → StandsIn (places new) block) (λ block stands is. stands) (ranked_blocks (line new)) (line-stand new made.behind));
-        others = λ n block at others. stood-there change old new n block made (standing-of new n block at) others;
-      };
-    }
+    search (rules, gone-absent, stays-full, All-passing, All-weaker, line-ranks, line-stand, stood-there, standing-of)

@@ -1,6 +1,6 @@
 -- Under which names blocks stand at places: in one line, and before and after an accepted edit.
-use Rattle.std.proofs.Common.{◌≡◌, ℕ, zero, suc, ◌+◌, ◌/◌, ◌%◌, ◌≤◌, Bool, true, false, cond, Contains, List, [], ◌∷◌, map, refl, sym, ap, subst, ◌∙◌, arith}
-use Rattle.std.specs.Prelude.{None, Some, Ok, Option, find, is_some, option_map, slice_get}
+use Rattle.std.proofs.Common.{◌≡◌, ℕ, zero, suc, ◌+◌, ◌/◌, ◌%◌, ◌≤◌, Bool, true, false, cond, Contains, List, [], ◌∷◌, map, refl, sym, ap, subst, ◌∙◌, arith, rules}
+use Rattle.std.specs.Prelude.{None, Some, Ok, Option, find, is_some, slice_get}
 use Rattle.std.proofs.lemmas.Bool.{eq-eqb, eqb-true}
 use Rattle.std.proofs.lemmas.List.Elements.{All-contains}
 use Rattle.std.proofs.lemmas.Option.{same_Some, slice_get-map, slice_get_within}
@@ -40,20 +40,10 @@ named-by : (state : State) (n : ℕ) (block : LineBlock) → slice_get (places s
 named-by state n block at =
     let here = standing-of state n block at in
     let member = here.member in
-    let low = here.low in
     let from = here.from in
-    let is = here.is in
     let number = number-is member.slave.station 0 here.number (slave_blocks (line state) member) block here.stands in
     let own = contained-own member.slave.station (slave_blocks (line state) member) block (at-contained (member_blocks (line state) member) here.number block here.stands) in
-    record {
-      member = member;
-      on = here.on;
-      from = from;
-      index = omega (arith, low, from, is);
-      station = own.0;
-      number = omega (arith, low, from, is, number);
-      stands = ap (slice_get (member_blocks (line state) member)) (omega (arith, low, from, is)) ∙ here.stands;
-    }
+    search rules
 
 -- the station address stands at the rank, and the number is that of the place
 pub record IsNameAt (state : State) (n : ℕ) (block : LineBlock) : Type 0 where
@@ -64,14 +54,7 @@ pub name-at : (state : State) (n : ℕ) (block : LineBlock) → slice_get (place
 name-at state n block at =
     let here = named-by state n block at in
     let declared = line-declared 1 state.groups here.member here.on in
-    let rank = declared.rank in
-    let index = here.index in
-    record {
-      station = slice_get-map (λ (slave : Slave). slave.station) (declared_slaves state.groups) (n / 16)
-          ∙ ap (λ (k : ℕ). option_map (λ (slave : Slave). slave.station) (slice_get (declared_slaves state.groups) k)) (omega (arith, rank, index))
-          ∙ ap (option_map (λ (slave : Slave). slave.station)) declared.stands ∙ ap Some (sym here.station);
-      number = here.number;
-    }
+    search (rules, slice_get-map)
 
 -- one name stands at one place of a project's line
 pub one-place : (state : State) (i n : ℕ) (a b : LineBlock) → lowest_fault (groups_of state.groups) ≡ None → slice_get (places state) i ≡ Some (Some a) → slice_get (places state) n ≡ Some (Some b)
@@ -83,18 +66,11 @@ one-place state i n a b project at other station number =
     let second = line-declared 1 state.groups two.member two.on in
     let same = one-index (λ (slave : Slave). slave.station) (declared_slaves state.groups) first.index second.index one.member.slave two.member.slave
     (project-inside (groups_of state.groups) project).stations first.stands second.stands (sym one.station ∙ station ∙ two.station) in
-    let r = first.rank in
-    let s = second.rank in
-    let p = one.index in
-    let q = two.index in
-    let k = one.number in
-    let l = two.number in
-    omega (arith, same, r, s, p, q, k, l, number)
+    omega (arith, same, number)
 
 -- a block of the line is one of a slave that the line has
 some-by : {X : Type 0} (here : Bool) (y : X) (found : Option X) → is_some found ≡ true → is_some (cond here (Some y) found) ≡ true
-some-by true y found later = refl
-some-by false y found later = later
+some-by here y found later = search rules
 
 find-some : {X : Type 0} (test : X → Bool) (xs : List X) (x : X) → Contains xs x → test x ≡ true → is_some (find test xs) ≡ true
 find-some test [] x (k, within, is) passes = absurd (omega arith)
@@ -126,10 +102,7 @@ same-stations old new edit accepted =
 -- so a place keeps its name
 pub same-name : (old new : State) (edit : Edit) (n : ℕ) (before block : LineBlock) → edited old edit ≡ Ok new
     → slice_get (places old) n ≡ Some (Some before) → slice_get (places new) n ≡ Some (Some block) → (before.station ≡ block.station) × (before.number ≡ block.number)
-same-name old new edit n before block accepted stood at =
-    let was = name-at old n before stood in
-    let is = name-at new n block at in
-    (same_Some before.station block.station (sym was.station ∙ ap (λ (l : List ℕ). slice_get l (n / 16)) (same-stations old new edit accepted) ∙ is.station), was.number ∙ sym is.number)
+same-name old new edit n before block accepted stood at = search (rules, name-at, same_Some, same-stations)
 
 -- a block that comes is of a slave that the old line hadn't
 pub came : (old new : State) (edit : Edit) (n : ℕ) (block : LineBlock) → lowest_fault (groups_of old.groups) ≡ None → edited old edit ≡ Ok new
@@ -154,5 +127,4 @@ came old new edit n block project accepted none at = by (slave_at old block.stat
         let behind = length-member (line new) here.member in
         let many = bare-count m.slave here.member.slave alike in
         let own = there (member_blocks (line old) m) (n % 16) (omega (arith, low, before, behind, many)) in
-        let no : Some own.0 ≡ None = sym own.1 ∙ same_Some (slice_get (member_blocks (line old) m) (n % 16)) None stood in
         cc

@@ -1,36 +1,24 @@
 -- A block that a report doesn't name stood in the old line.
-use Rattle.std.proofs.Common.{◌≡◌, ℕ, ◌==◌, Bool, true, false, List, Contains, refl, sym, ap, subst, ◌∙◌}
+use Rattle.std.proofs.Common.{◌≡◌, Bool, true, List, Contains, sym, ap, subst, ◌∙◌, rules}
 use Rattle.std.specs.Prelude.{◌≢◌, All, None, map, not}
 use Rattle.std.specs.List.{list_any}
-use Rattle.std.specs.Str.{bytes_eq}
-use Rattle.std.proofs.lemmas.Bool.{and_parts, eqb-true}
 use Rattle.std.proofs.lemmas.List.Elements.{All-contains}
 use Rattle.std.proofs.lemmas.List.Folds.{Any-from_list_any}
-use Rattle.std.proofs.lemmas.Slice.Eq.{bytes_eq-Decides}
 use Rattle.hc_records.specs.declared.records.Declared.{Declared}
 use Rattle.hc_records.specs.Line.{Member, groups_of, line_from}
 use Rattle.hc_records.specs.Project.{lowest_fault}
 use Rattle.hc_records.proofs.lemmas.Lists.{All-from_filter, All-unmap}
-use Rattle.hc_registers.specs.Blocks.{LineBlock, line_blocks, moved_blocks, same_block, same_bytes}
+use Rattle.hc_registers.specs.Blocks.{LineBlock, line_blocks, moved_blocks, same_block}
 use Rattle.hc_plan.specs.Laws.{StandsIn}
 use Rattle.hc_plan.specs.Reports.{name_of}
 use Rattle.hc_plan.proofs.Registers.{one-block}
 
 same-is : (found other : LineBlock) → same_block found other ≡ true → other ≡ record found { number = other.number }
-same-is found other same =
-    let parts = and_parts (found.station == other.station) (same_bytes found.block other.block) same in
-    let own = and_parts (found.block.register == other.block.register) (bytes_eq found.block.bytes other.block.bytes) parts.1 in
-    let station = sym (eqb-true found.station other.station parts.0) in
-    let register = sym (eqb-true found.block.register other.block.register own.0) in
-    let bytes = sym ((bytes_eq-Decides found.block.bytes other.block.bytes).0 own.1) in
-    ap (λ (n : ℕ). record { station = n; number = other.number; block = other.block }) station
-    ∙ ap (λ (n : ℕ). record { station = found.station; number = other.number; block = record { register = n; bytes = other.block.bytes } }) register
-    ∙ ap (λ (list : List ℕ). record { station = found.station; number = other.number; block = record { register = found.block.register; bytes = list } }) bytes
+same-is found other same = search rules
 
 -- a block that isn't among the moved ones was the same as one of the old line
 had-by : (had : Bool) (found : LineBlock) → (not had ≡ true → name_of found ≢ name_of found) → had ≡ true
-had-by true found unless = refl
-had-by false found unless = absurd (unless refl refl)
+had-by had found unless = search rules
 
 had : (old new : List Member) (found : LineBlock) → All (λ name. name ≢ name_of found) (map name_of (moved_blocks old new)) → Contains (line_blocks new) found
     → list_any (same_block found) (line_blocks old) ≡ true
