@@ -1,6 +1,6 @@
 //! What a programmed line makes of process data: each function here does nothing, and its contract is a law. Nobody calls it.
 ghost use Rattle.hc_carrying.specs.Laws.{InputsAreBroughtBack, LinesStayProgrammed, OtherBitsComeBack, OtherMemoryStays, OutputsArrive, WrittenLinesAreProgrammed};
-ghost use Rattle.hc_carrying.specs.FrameLaws.{CountersAreExpected, LogicalFramesPass};
+ghost use Rattle.hc_carrying.specs.FrameLaws.{CountersAreExpected, LogicalFramesPass, SharedFramesPass};
 ghost use Rattle.hc_carrying.specs.Sequences.{AllInputsAreBroughtBack, AllOtherMemoryStays, AllOutputsArrive, SequencesKeepTheLine};
 ghost use Rattle.hc_carrying.specs.Variables.{VariablesAreCarried};
 
@@ -36,6 +36,12 @@ pub fn lines_stay_programmed()
 /// make of it one after another, and with the sum of what they add to its working counter, modulo 65,536.
 pub fn logical_frames_pass()
     ensures { LogicalFramesPass }
+{}
+
+/// Logical datagrams that share a frame come back behind machines as they do each in a frame of its own, one after another, and
+/// leave the machines as they then do.
+pub fn shared_frames_pass()
+    ensures { SharedFramesPass }
 {}
 
 /// What the machines of a programmed line add to the working counter of a datagram of a task is the datagram's expected counter.
