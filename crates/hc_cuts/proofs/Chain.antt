@@ -9,7 +9,7 @@ use Rattle.hc_records.specs.declared.keys.Key.{Key}
 use Rattle.hc_records.specs.declared.keys.TheConstants.Key.{START, END}
 use Rattle.hc_records.specs.Keys.{same_key, is_before, is_within}
 use Rattle.hc_records.specs.TaskList.{Keyed}
-use Rattle.hc_records.specs.Packing.{Front, opening, beginning, fits, behind, packed}
+use Rattle.hc_records.specs.Packing.{Front, opening, fits, behind, packed}
 use Rattle.hc_records.specs.Image.{datagram_count}
 use Rattle.hc_records.specs.Boundaries.{later_keys}
 use Rattle.hc_records.specs.Laws.{IsPackable, cuts_from}
@@ -34,8 +34,7 @@ number-by : (fitting : Bool) (n m bit : ℕ) (last : Dir) (area : Keyed) (areas 
     → ((k l to : ℕ) (dir : Dir) → cuts_from (front_of k to dir) areas ≡ cuts_from (front_of l to dir) areas)
     → (if fitting then cuts_from (behind (place fitting (front_of n bit last) area)) areas else area.0 ∷ cuts_from (behind (place fitting (front_of n bit last) area)) areas)
     ≡ (if fitting then cuts_from (behind (place fitting (front_of m bit last) area)) areas else area.0 ∷ cuts_from (behind (place fitting (front_of m bit last) area)) areas)
-number-by true n m bit last area areas same = same n m (beginning (front_of n bit last) area + area.1) area.0.dir
-number-by false n m bit last area areas same = ap (λ (keys : List Key). area.0 ∷ keys) (same (n + 1) (m + 1) (0 + area.1) area.0.dir)
+number-by fitting n m bit last area areas same = grind arith
 
 cuts-number : (n m bit : ℕ) (last : Dir) (list : List Keyed) → cuts_from (front_of n bit last) list ≡ cuts_from (front_of m bit last) list
 cuts-number n m bit last [] = refl
@@ -44,18 +43,9 @@ cuts-number n m bit last (area ∷ areas) =
 
 -- from an area that begins a datagram on, the cuts are those of a list of their own
 
-opens : (fitting : Bool) (area : Keyed) (areas : List Keyed) → fitting ≡ true
-    → (if fitting then cuts_from (behind (place fitting opening area)) areas else area.0 ∷ cuts_from (behind (place fitting opening area)) areas)
-    ≡ cuts_from (front_of 0 (beginning opening area + area.1) area.0.dir) areas
-opens true area areas test = refl
-opens false area areas test = cc
-
 own-cuts : (front : Front) (area : Keyed) (areas : List Keyed) → area.1 ≤ MOST_AREA_BITS
     → cuts_from (behind (place false front area)) areas ≡ cuts_from opening (area ∷ areas)
-own-cuts front area areas narrow =
-    cuts-number (front.datagram + 1) 0 (0 + area.1) area.0.dir areas
-    ∙ ap (λ (bit : ℕ). cuts_from (front_of 0 (bit + area.1) area.0.dir) areas) (sym (opening-beginning area))
-    ∙ sym (opens (fits opening area) area areas (opening-fits area narrow))
+own-cuts front area areas narrow = grind (arith, cuts-number, opening-beginning, opening-fits)
 
 -- the cuts from a next one on: none at END, else that one and those of the areas from there on
 abbrev goes_on : Key → List Keyed → List Key
@@ -63,9 +53,7 @@ goes_on next list = if same_key next END then [] else next ∷ cuts_from opening
 
 -- an area before a key is none of those from there on
 skipped : (area : Keyed) (areas : List Keyed) (next : Key) → is_before area.0 next ≡ true → goes_on next areas ≡ goes_on next (area ∷ areas)
-skipped area areas next before =
-    ap (λ (rest : List Keyed). if same_key next END then [] else next ∷ cuts_from opening rest)
-    (sym (cond-false (is_within next area.0) (area ∷ areas_from next areas) (areas_from next areas) (before-apart area.0 next before)))
+skipped area areas next before = grind (arith, cond-false, before-apart)
 
 -- where an area doesn't fit, it is the next cut
 cut-here : (first : Key) (front : Front) (area : Keyed) (areas : List Keyed) → IsListFrom first (area ∷ areas)
@@ -100,13 +88,10 @@ cuts-go_on first front (area ∷ areas) is =
 
 twice-by : (low high : Bool) (x : Keyed) (xs ys : List Keyed) (key : Key) → is_within key x.0 ≡ high → (low ≡ false → high ≡ false) → areas_from key xs ≡ ys
     → areas_from key (if low then x ∷ xs else xs) ≡ (if high then x ∷ ys else ys)
-twice-by true high x xs ys key test less rest = rw (test, rest) refl
-twice-by false true x xs ys key test less rest = let none = less refl in cc
-twice-by false false x xs ys key test less rest = rest
+twice-by low high x xs ys key test less rest = grind arith
 
 not-from : (low high : Bool) → (high ≡ true → low ≡ true) → low ≡ false → high ≡ false
-not-from low true more less = let is = more refl in cc
-not-from low false more less = refl
+not-from low high more less = grind arith
 
 pub areas-twice : (low high : Key) (list : List Keyed) → is_within low high ≡ true → areas_from high (areas_from low list) ≡ areas_from high list
 areas-twice low high [] below = refl
@@ -155,9 +140,7 @@ follows tree from next holds searched =
 
 -- from START on they are all areas
 pub all-areas : (list : List Keyed) → IsTaskList list → areas_from START list ≡ list
-all-areas list is =
-    filter-keeps (λ area. is_within START area.0) list
-    (All-weaker (λ area. is_before START area.0 ≡ true) (λ area. is_within START area.0 ≡ true) (λ area above. within-from_before START area.0 above) list is.between.above)
+all-areas list is = grind (arith, filter-keeps, All-weaker, within-from_before)
 
 -- the boundaries up to a key, and those behind it, are all boundaries
 pub record Stands (tree : Tree) (starts : List Key) (from : Key) : Type 0 where
@@ -200,10 +183,7 @@ count-keys (area ∷ areas) all = let count = count-later_keys area areas all in
 
 pub ends-few : (tree : Tree) (starts : List Key) → HoldsTaskList tree → starts ≡ START ∷ later_keys tree.list → length starts ≤ MOST_DATAGRAMS
     → datagram_count (packed opening tree.list) ≤ MOST_DATAGRAMS
-ends-few tree starts holds is few =
-    let count = count-keys tree.list holds.list.packable in
-    let same : length starts ≡ length (START ∷ later_keys tree.list) = ap length is in
-    omega arith
+ends-few tree starts holds is few = grind (arith, count-keys)
 
 crowded-by : (list : List Keyed) → All IsPackable list → 16 ≤ length (later_keys list) → IsCrowded list
 crowded-by [] all many = absurd (omega arith)

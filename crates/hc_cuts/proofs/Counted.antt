@@ -1,11 +1,10 @@
 -- The spans of a task that a repair has counted so far, and those that are left.
-use Rattle.std.specs.Prelude.{drop, not, filter}
-use Rattle.std.proofs.Common.{◌≡◌, ℕ, ◌+◌, Bool, true, false, List, [], ◌∷◌, ◌++◌, length, refl, sym, ap, ◌∙◌, arith, if◌then◌else◌}
+use Rattle.std.specs.Prelude.{drop}
+use Rattle.std.proofs.Common.{◌≡◌, ℕ, ◌+◌, true, false, List, [], ◌∷◌, sym, ap, ◌∙◌, arith, if◌then◌else◌}
 use Rattle.hc_records.specs.declared.keys.Key.{Key}
 use Rattle.hc_records.specs.declared.keys.TheConstants.Key.{START, END}
 use Rattle.hc_records.specs.Keys.{same_key}
-use Rattle.hc_records.specs.TaskList.{Keyed}
-use Rattle.hc_records.specs.Boundaries.{Interval, later_keys, spans}
+use Rattle.hc_records.specs.Boundaries.{later_keys}
 use Rattle.hc_records.specs.SpanLaws.{areas_from}
 use Rattle.hc_records.proofs.lemmas.KeyOrder.{same_key-same}
 use Rattle.hc_bitsum.specs.Tree.{HoldsTaskList, Tree}
@@ -20,31 +19,19 @@ use Rattle.hc_cuts.proofs.Repaired.{settles}
 abbrev pub left_from : Hulls → List Key → Key → List Key → ℕ
 left_from hulls old from later = unsettled_by (drop 1 old) hulls.outputs hulls.inputs from later
 
-one-by : (settled : Bool) (test : Interval → Bool) (span : Interval) (rest : List Interval) → test span ≡ settled
-    → length (filter (λ s. not (test s)) (span ∷ rest)) ≡ (if settled then 0 else 1) + length (filter (λ s. not (test s)) rest)
-one-by true test span rest is = rw is (omega arith)
-one-by false test span rest is = rw is (omega arith)
-
 left-more : (hulls : Hulls) (old : List Key) (from next : Key) (later : List Key)
     → left_from hulls old from (next ∷ later) ≡ (if settles hulls old (from, next) then 0 else 1) + left_from hulls old next later
-left-more hulls old from next later = one-by (settles hulls old (from, next)) (settles hulls old) (from, next) (spans (next ∷ (later ++ END ∷ []))) refl
+left-more hulls old from next later = grind (arith, settles)
 
 left-last : (hulls : Hulls) (old : List Key) (from : Key) → left_from hulls old from [] ≡ (if settles hulls old (from, END) then 0 else 1)
-left-last hulls old from = by (settles hulls old (from, END)) refl
-  where
-    by : (settled : Bool) → settles hulls old (from, END) ≡ settled → left_from hulls old from [] ≡ (if settled then 0 else 1)
-    by true is = rw is refl
-    by false is = rw is refl
+left-last hulls old from = grind arith
 
 -- those counted so far, and those from a key on, are all
 abbrev pub Counts : Hulls → List Key → Tree → Key → ℕ → Type 0
 Counts hulls old tree from count = count + left_from hulls old from (later_keys (areas_from from tree.list)) ≡ left_from hulls old START (later_keys tree.list)
 
 pub counts-begin : (hulls : Hulls) (old : List Key) (tree : Tree) → HoldsTaskList tree → Counts hulls old tree START 0
-counts-begin hulls old tree holds =
-    let all : left_from hulls old START (later_keys (areas_from START tree.list)) ≡ left_from hulls old START (later_keys tree.list) =
-    ap (λ (list : List Keyed). left_from hulls old START (later_keys list)) (all-areas tree.list holds.list) in
-    omega arith
+counts-begin hulls old tree holds = grind (arith, all-areas)
 
 pub counts-go : (hulls : Hulls) (old : List Key) (tree : Tree) (from next : Key) (count one : ℕ) → HoldsTaskList tree → next ≡ next_boundary from tree.list
     → same_key next END ≡ false → one ≡ (if settles hulls old (from, next) then 0 else 1) → Counts hulls old tree from count → Counts hulls old tree next (count + one)

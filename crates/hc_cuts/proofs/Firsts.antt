@@ -1,5 +1,5 @@
 -- The first keys of a list, by its first area and the cuts behind it.
-use Rattle.std.proofs.Common.{◌≡◌, ◌-◌, ◌<◌, [], take, drop, Bool, true, false, List, ◌∷◌, ◌++◌, length, refl, sym, ap, ◌∙◌, arith, if◌then◌else◌}
+use Rattle.std.proofs.Common.{◌≡◌, ◌-◌, ◌<◌, [], take, drop, Bool, true, List, ◌∷◌, ◌++◌, length, sym, ap, ◌∙◌, arith, if◌then◌else◌}
 use Rattle.std.specs.Prelude.{All, slice_index_or}
 use Rattle.std.proofs.lemmas.List.{take_rest}
 use Rattle.std.proofs.lemmas.List.Elements.{All-head}
@@ -7,15 +7,13 @@ use Rattle.hc_records.specs.declared.keys.Key.{Key}
 use Rattle.hc_records.specs.TaskList.{Keyed}
 use Rattle.hc_records.specs.Packing.{Front, Placed, opening, fits, placed_at, behind, packed}
 use Rattle.hc_records.specs.Image.{datagram_count}
-use Rattle.hc_records.specs.Boundaries.{later_keys}
 use Rattle.hc_records.specs.Laws.{IsPackable, cuts_from}
 use Rattle.hc_records.proofs.lemmas.Cuts.{later_keys-cuts, count-later_keys}
 use Rattle.hc_records.proofs.lemmas.Lengths.{opening-fits}
 use Rattle.hc_cuts.specs.Firsts.{first_keys}
 
 first_by : (fitting : Bool) (rest : List Key) (key : Key) → fitting ≡ true → (if fitting then rest else key ∷ rest) ≡ rest
-first_by true rest key test = refl
-first_by false rest key test = cc
+first_by fitting rest key test = grind arith
 
 -- the first area fits the empty datagram, so no cut is made at it
 pub first_keys-cuts : (area : Keyed) (areas : List Keyed) → All IsPackable (area ∷ areas)
@@ -27,12 +25,6 @@ first_keys-cuts area areas all =
     ∙ first_by (fits opening area) (cuts_from (behind (placed_at opening area)) areas) area.0 (opening-fits area narrow))
 
 -- there is one for each datagram
-pub length-first_keys : (area : Keyed) (areas : List Keyed) → All IsPackable (area ∷ areas)
-    → datagram_count (packed opening (area ∷ areas)) ≡ length (area.0 ∷ cuts_from (behind (placed_at opening area)) areas)
-length-first_keys area areas all =
-    let spans = count-later_keys area areas all in
-    let keys : length (area.0 ∷ later_keys (area ∷ areas)) ≡ length (area.0 ∷ cuts_from (behind (placed_at opening area)) areas) = ap length (first_keys-cuts area areas all) in
-    omega arith
 
 -- the same of a list with a first area, in the words of a slice
 pub first_keys-rest : (list : List Keyed) (d : Keyed) → 0 < length list → All IsPackable list
@@ -44,7 +36,7 @@ pub length-first_keys-rest : (list : List Keyed) (d : Keyed) → 0 < length list
     → datagram_count (packed opening list)
     ≡ length ((slice_index_or list 0 d).0 ∷ cuts_from (behind (placed_at opening (slice_index_or list 0 d))) (drop 1 list))
 length-first_keys-rest [] d some all = absurd (omega arith)
-length-first_keys-rest (area ∷ areas) d some all = length-first_keys area areas all
+length-first_keys-rest (area ∷ areas) d some all = grind (arith, count-later_keys, first_keys-cuts)
 
 -- what stands of a list once its first area's key, and the cuts behind it, were added to no keys
 pub record AddsAll (list : List Keyed) (d : Keyed) (added pushed new : List Key) (begun front : Front) (place : Placed) : Type 0 where

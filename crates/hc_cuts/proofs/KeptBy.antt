@@ -1,5 +1,5 @@
 -- Which datagrams of a task an edit keeps, by the keys at which they begin and by hulls.
-use native.Mathlib.Numerals.{unary_clauses}
+use Rattle.std.proofs.Common.{arith}
 use Rattle.std.proofs.Common.{◌≡◌, ℕ, zero, suc, true, false, Bool, List, [], ◌∷◌, ◌++◌, Contains, Option, Some, None, refl, sym, ap, ◌∙◌}
 use Rattle.std.specs.Prelude.{◌&&◌, ◌||◌, not, drop, slice_get, option_map}
 use Rattle.std.specs.Option.{option_map_or}
@@ -12,7 +12,7 @@ use Rattle.hc_records.specs.Keys.{is_before, is_within, same_key}
 use Rattle.hc_records.specs.TaskList.{Keyed}
 use Rattle.hc_records.specs.Boundaries.{Interval, boundaries, hull, is_settled, is_touched, meets_hull, spans, touched}
 use Rattle.hc_records.specs.SpanLaws.{IsTaskList}
-use Rattle.hc_records.proofs.lemmas.KeyOrder.{before-apart, before-else, before-other, other-sym, within-apart, within-else}
+use Rattle.hc_records.proofs.lemmas.KeyOrder.{before-apart, before-other, other-sym, within-else}
 use Rattle.hc_records.proofs.lemmas.SpanCuts.{span-begins}
 use Rattle.hc_cuts.specs.declared.hulls.Hulls.{Hulls}
 use Rattle.hc_cuts.specs.Hulls.{AreHulls}
@@ -23,8 +23,7 @@ use Rattle.hc_cuts.proofs.lemmas.HullKeys.{hulls-are}
 -- spans are counted from the first one
 shifted : (first : Key) (starts : List Key) (datagram : ℕ) (start : Option Key)
     → option_map (span_from (first ∷ starts) (suc datagram)) start ≡ option_map (span_from starts datagram) start
-shifted first starts datagram None = refl
-shifted first starts datagram (Some start) = simp unary_clauses refl
+shifted first starts datagram start = grind arith
 
 -- the span with a number goes from the key at which its datagram begins to the next boundary
 span-at : (starts : List Key) (datagram : ℕ)
@@ -44,8 +43,7 @@ begun-at (first ∷ starts) zero key other = refl
 begun-at (first ∷ starts) (suc datagram) key other = begun-at starts datagram key other
 
 or-true : (b : Bool) → (b || true) ≡ true
-or-true true = refl
-or-true false = refl
+or-true b = grind arith
 
 -- a boundary with a number is one of the boundaries
 one-of : (keys : List Key) (datagram : ℕ) (key : Key) → option_map_or (same_key key) (slice_get keys datagram) false ≡ true → list_any (same_key key) keys ≡ true
@@ -55,12 +53,7 @@ one-of (first ∷ keys) (suc datagram) key is = rw (one-of keys datagram key is)
 
 -- of a span that begins at a boundary, what decides whether it is settled is the hulls
 settles : (any begins meets : Bool) → (begins ≡ true → any ≡ true) → ((any && not meets) && begins) ≡ (begins && not meets)
-settles true true true so = refl
-settles true true false so = refl
-settles true false true so = refl
-settles true false false so = refl
-settles false true meets so = let never : false ≡ true = so refl in cc
-settles false false meets so = refl
+settles any begins meets so = grind arith
 
 contained : (keys : List Interval) (i : ℕ) (x : Interval) → slice_get keys i ≡ Some x → Contains keys x
 contained keys i x is = (i, slice_get_within keys i x is, get_or_from_slice_get keys i x x is)
@@ -108,38 +101,26 @@ told-by starts new datagram by_start by_span is same each = by (slice_get starts
 pub kept-by : (hulls : Hulls) (old_starts new_starts : List Key) (datagram : ℕ) (old new : List Keyed) → IsTaskList new → old_starts ++ END ∷ [] ≡ boundaries old
     → new_starts ++ END ∷ [] ≡ boundaries new → AreHulls (is_touched old new) hulls → is_kept_by hulls old_starts new_starts datagram ≡ is_kept old new datagram
 kept-by hulls old_starts new_starts datagram old new is same same' are =
-    told-by new_starts new datagram
-    (λ start. option_map_or (same_key start) (slice_get old_starts datagram) false && not (meets_either hulls (span_from new_starts datagram start)))
-    (λ span. is_settled old new span && begins_at old datagram span.0) is same'
-    (λ start other. settled-from hulls old new old_starts datagram start (span_from new_starts datagram start).1 other are same)
+    grind (arith, told-by, settled-from)
 
 -- and up to a key
 pub kept-up_to : (hulls : Hulls) (old_starts new_starts : List Key) (datagram : ℕ) (old new : List Keyed) → IsTaskList new → old_starts ++ END ∷ [] ≡ boundaries old
     → new_starts ++ END ∷ [] ≡ boundaries new → AreHulls (is_touched old new) hulls → (key : Key)
     → is_kept_up_to_by hulls old_starts new_starts datagram key ≡ is_kept_up_to old new datagram key
 kept-up_to hulls old_starts new_starts datagram old new is same same' are key =
-    told-by new_starts new datagram
-    (λ start. option_map_or (same_key start) (slice_get old_starts datagram) false && not (meets_either hulls (start, key)))
-    (λ span. is_settled old new (span.0, key) && begins_at old datagram span.0) is same'
-    (λ start other. settled-from hulls old new old_starts datagram start key other are same)
+    grind (arith, told-by, settled-from)
 
 -- a datagram that is kept whole is kept up to each of its keys
 
 -- a key is before another exactly where that one isn't it or before it
 not-within : (a b : Key) → is_before b a ≡ not (is_within a b)
-not-within a b = by (is_within a b) refl
-  where
-    by : (within : Bool) → is_within a b ≡ within → is_before b a ≡ not within
-    by true within = within-apart a b within
-    by false within = before-else b a within
+not-within a b = grind arith
 
 both-true : (a b : Bool) → b ≡ true → (a && b) ≡ a
-both-true true b is = is
-both-true false b is = refl
+both-true a b is = grind arith
 
 both-false : (a b : Bool) → b ≡ false → (a && b) ≡ false
-both-false true b is = is
-both-false false b is = refl
+both-false a b is = grind arith
 
 -- where the hull ends before the interval begins, none does
 pub met-never : (hull : Interval) (start key : Key) → is_before hull.1 start ≡ true → is_before key END ≡ true → is_before key END ≡ not (meets_hull (Some hull) (start, key))
@@ -153,5 +134,4 @@ met-first hull start key ends =
 
 -- of two hulls, that which is met first
 pub met-either : {first second : Bool} (outputs inputs : Bool) → first ≡ not outputs → second ≡ not inputs → (first && second) ≡ not (outputs || inputs)
-met-either true inputs is is' = rw is refl
-met-either false inputs is is' = rw is is'
+met-either outputs inputs is h3 = grind arith

@@ -1,6 +1,6 @@
 -- An area stands in the datagram of the span that its key lies in, behind the areas of the span before it.
 use Rattle.std.specs.Prelude.{All, find, filter, Option, Some, None, slice_index_or}
-use Rattle.std.proofs.Common.{◌≡◌, ℕ, zero, suc, ◌+◌, ◌<◌, ◌≤◌, ◌==◌, nat_le, Bool, true, false, List, [], ◌∷◌, ◌++◌, length, refl, sym, ap, subst, ◌∙◌, arith, if◌then◌else◌}
+use Rattle.std.proofs.Common.{◌≡◌, ℕ, zero, suc, ◌+◌, ◌<◌, ◌≤◌, ◌==◌, Bool, true, false, List, [], ◌∷◌, ◌++◌, length, refl, sym, ap, subst, ◌∙◌, arith, if◌then◌else◌}
 use Rattle.std.proofs.lemmas.Bool.{cond-true}
 use Rattle.std.proofs.lemmas.Bool.Decides.{nat_tests}
 use Rattle.std.proofs.lemmas.List.Elements.{All-cons, All-head, All-nil, All-tail, All-weaker}
@@ -11,10 +11,10 @@ use Rattle.hc_records.specs.declared.keys.TheConstants.Key.{END}
 use Rattle.hc_records.specs.Keys.{is_before, is_within, same_key}
 use Rattle.hc_records.specs.TaskList.{Keyed}
 use Rattle.hc_records.specs.Boundaries.{boundaries, width_in}
-use Rattle.hc_records.specs.Packing.{Front, Placed, behind, beginning, fits, packed, placed_at}
+use Rattle.hc_records.specs.Packing.{Front, Placed, behind, fits, packed, placed_at}
 use Rattle.hc_records.specs.Laws.{IsPackable}
 use Rattle.hc_records.specs.SpanLaws.{IsTaskList, areas_from, carried, next_cut}
-use Rattle.hc_records.proofs.lemmas.KeyOrder.{before-apart, same_key-same, within-apart, within-from_before, within-refl, within-trans}
+use Rattle.hc_records.proofs.lemmas.KeyOrder.{same_key-same, within-apart, within-from_before, within-refl, within-trans}
 use Rattle.hc_records.proofs.lemmas.Packed.{place}
 use Rattle.hc_records.proofs.lemmas.SettledSpans.{width-from}
 use Rattle.hc_records.proofs.lemmas.SpanCuts.{areas-from}
@@ -26,7 +26,7 @@ use Rattle.hc_cuts.specs.Cursors.{unfilled}
 use Rattle.hc_cuts.specs.Place.{has_key, place_of}
 use Rattle.hc_cuts.specs.Walk.{blank_datagram, filled_datagram, span_places}
 use Rattle.hc_cuts.proofs.Searched.{boundary-cut}
-use Rattle.hc_cuts.proofs.Walked.{cut-number, cuts-on, front-beginning, keyed-is}
+use Rattle.hc_cuts.proofs.Walked.{cut-number, cuts-on, keyed-is}
 use Rattle.hc_cuts.proofs.Whole.{before-end, boundary, boundary-front, length-end, next-at, places_from, span-places, spans-begin}
 
 -- what is found in a list
@@ -40,40 +40,21 @@ found-behind test placed rest other = rw other refl
 found-later : (test : Placed → Bool) (places rest : List Placed) → All (λ placed. test placed ≡ false) places → find test (places ++ rest) ≡ find test rest
 found-later test [] rest all = refl
 found-later test (placed ∷ places) rest all =
-    found-behind test placed (places ++ rest) (All-head (λ p. test p ≡ false) placed places all)
-    ∙ found-later test places rest (All-tail (λ p. test p ≡ false) placed places all)
+    grind (arith, found-behind, All-head, All-tail, found-later test places rest (All-tail (λ p. test p ≡ false) placed places all))
 
 -- what holds of each key of a list holds of one that has a width in it
-
-holds-by : (P : Key → Type 0) (same : Bool) (key : Key) (area : Keyed) (areas : List Keyed) → same_key area.0 key ≡ same → P area.0
-    → (0 < width_in areas key → P key) → 0 < width_in (area ∷ areas) key → P key
-holds-by P true key area areas test here later some = subst P (same_key-same area.0 key test) here
-holds-by P false key area areas test here later some = later (subst (λ (n : ℕ). 0 < n) (width-skip area areas key test) some)
 
 pub width-holds : (P : Key → Type 0) (key : Key) (list : List Keyed) → All (λ area. P area.0) list → 0 < width_in list key → P key
 width-holds P key [] all some = absurd (omega arith)
 width-holds P key (area ∷ areas) all some =
-    holds-by P (same_key area.0 key) key area areas refl (All-head (λ a. P a.0) area areas all) (width-holds P key areas (All-tail (λ a. P a.0) area areas all)) some
+    grind (arith, All-head, All-tail, width-holds P key areas (All-tail (λ a. P a.0) area areas all))
 
 -- a key without a width has no place
-
-none-by : (same : Bool) (key : Key) (front : Front) (area : Keyed) (areas : List Keyed) → same_key area.0 key ≡ same → 0 < area.1 → width_in (area ∷ areas) key ≡ 0
-    → (width_in areas key ≡ 0 → find (has_key key) (packed (behind (placed_at front area)) areas) ≡ None)
-    → find (has_key key) (packed front (area ∷ areas)) ≡ None
-none-by true key front area areas test some none later =
-    let never : 0 ≡ area.1 = sym none ∙ width-here area areas key test in
-    absurd (omega arith)
-none-by false key front area areas test some none later =
-    found-behind (has_key key) (placed_at front area) (packed (behind (placed_at front area)) areas)
-    (ap (λ (k : Key). same_key k key) (place-key (fits front area) front area) ∙ test)
-    ∙ later (sym (width-skip area areas key test) ∙ none)
 
 pub none-found : (key : Key) (front : Front) (list : List Keyed) → All IsPackable list → width_in list key ≡ 0 → find (has_key key) (packed front list) ≡ None
 none-found key front [] all none = refl
 none-found key front (area ∷ areas) all none =
-    let some = (All-head IsPackable area areas all).some in
-    none-by (same_key area.0 key) key front area areas refl (omega arith) none
-    (none-found key (behind (placed_at front area)) areas (All-tail IsPackable area areas all))
+    grind (arith, All-head, All-tail, none-found key (behind (placed_at front area)) areas (All-tail IsPackable area areas all))
 
 -- a key with a width stands where its area is placed behind those before it
 
@@ -91,13 +72,10 @@ Stands datagram filled key bits list =
 
 -- where the next cut comes behind an area, the area fits
 fits-before : (fitting : Bool) (next own key : Key) → is_within own key ≡ true → is_before key (if fitting then next else own) ≡ true → fitting ≡ true
-fits-before true next own key low before = refl
-fits-before false next own key low before = let apart = before-apart key own before in cc
+fits-before fitting next own key low before = grind arith
 
 pub none-before : (key : Key) (areas : List Keyed) → All (λ area. is_within key area.0 ≡ true) areas → areas_before key areas ≡ []
-none-before key areas all =
-    filter-drops (λ area. is_before area.0 key) areas
-    (All-weaker (λ area. is_within key area.0 ≡ true) (λ area. is_before area.0 key ≡ false) (λ area low. within-apart key area.0 low) areas all)
+none-before key areas all = grind (arith, filter-drops, All-weaker, within-apart)
 
 stands-here : (datagram : ℕ) (filled : Filled) (key first : Key) (bits : ℕ) (area : Keyed) (areas : List Keyed) → IsListFrom first (area ∷ areas) → same_key area.0 key ≡ true
     → width_in (area ∷ areas) key ≡ bits → is_before key (next_cut (filled_datagram datagram filled) (area ∷ areas)) ≡ true → Stands datagram filled key bits (area ∷ areas)
@@ -124,8 +102,7 @@ stands-here datagram filled key first bits area areas is test width before =
 
 behind-is : (fitting : Bool) (datagram : ℕ) (filled : Filled) (area : Keyed) → fitting ≡ true → (area.1 == 0) ≡ false
     → behind (place fitting (filled_datagram datagram filled) area) ≡ filled_datagram datagram (with_area filled area)
-behind-is true datagram filled area test wide = rw wide refl
-behind-is false datagram filled area test wide = cc
+behind-is fitting datagram filled area test wide = grind arith
 
 -- an area before it that fits stands before it
 stands-behind : (datagram : ℕ) (filled : Filled) (key first : Key) (bits : ℕ) (area : Keyed) (areas : List Keyed) → IsListFrom first (area ∷ areas) → same_key area.0 key ≡ false
@@ -194,14 +171,7 @@ carried-before first front (area ∷ areas) is =
 -- so an area isn't found in a span that ends at its key or before it
 
 unlike : (other bound key : Key) → is_before other bound ≡ true → is_within bound key ≡ true → same_key other key ≡ false
-unlike other bound key before low = by (same_key other key) refl
-  where
-    by : (same : Bool) → same_key other key ≡ same → same_key other key ≡ false
-    by true test =
-        let high : is_within bound other ≡ true = ap (is_within bound) (same_key-same other key test) ∙ low in
-        let apart = before-apart other bound before in
-        cc
-    by false test = test
+unlike other bound key before low = grind arith
 
 cut-at : (at : ℕ) (list : List Keyed) → IsTaskList list → at + 1 < length (boundaries list)
     → next_cut (blank_datagram at) (areas_from (boundary (boundaries list) at) list) ≡ boundary (boundaries list) (suc at)
@@ -262,9 +232,7 @@ ends-behind : (starts : List Key) (at : ℕ) (key : Key) → at < length starts 
 ends-behind [] at key h end next = absurd (omega arith)
 ends-behind (first ∷ []) zero key h end next = end
 ends-behind (first ∷ []) (suc at) key h end next = absurd (omega arith)
-ends-behind (first ∷ (second ∷ rest)) zero key h end next =
-    let one : 0 + 1 ≡ suc zero = omega arith in
-    subst (λ (n : ℕ). is_before key (slice_index_or (first ∷ (second ∷ rest)) n END) ≡ true) one (next (omega arith))
+ends-behind (first ∷ (second ∷ rest)) zero key h end next = grind arith
 ends-behind (first ∷ (second ∷ rest)) (suc at) key h end next =
     let more : suc at + 1 ≡ suc (at + 1) = omega arith in
     ends-behind (second ∷ rest) at key (omega arith) end
@@ -290,11 +258,5 @@ found-at tree starts at from key other bits filled holds all within first low ne
 
 -- what leaves room for an area is no fuller than the longest datagram
 
-yes-le : (a b : ℕ) → nat_le a b ≡ true → a ≤ b
-yes-le a b h = grind (arith, nat_tests)
-
 pub room-low : (front : Front) (area : Keyed) → fits front area ≡ true → front.bit ≤ MOST_AREA_BITS
-room-low front area room =
-    let low = front-beginning front.last front.bit area in
-    let high = yes-le (beginning front area + area.1) MOST_AREA_BITS room in
-    omega arith
+room-low front area room = grind arith

@@ -1,12 +1,9 @@
 -- A boundary that a repair keeps or searches: in both cases it is packing's next one, and the count is that of the definition.
-use Rattle.std.specs.Prelude.{Contains, Option, Some, None, drop, not, slice_index_or, ◌||◌}
+use Rattle.std.specs.Prelude.{Contains, Option, Some, None, drop, not, slice_index_or}
 use Rattle.std.specs.List.{list_any}
-use Rattle.std.proofs.Common.{◌≡◌, inl, inr, ℕ, suc, ◌<◌, Bool, true, false, List, [], ◌∷◌, ◌++◌, refl, sym, ap, subst, ◌∙◌, arith, if◌then◌else◌}
+use Rattle.std.proofs.Common.{◌≡◌, ℕ, suc, Bool, true, false, List, [], ◌∷◌, ◌++◌, refl, sym, ap, subst, ◌∙◌, arith, if◌then◌else◌}
 use Rattle.std.proofs.lemmas.Bool.{and_from, and_left, and_parts, and_right, or_parts}
-use Rattle.std.proofs.lemmas.Bool.Decides.{nat_tests}
 use Rattle.std.proofs.lemmas.List.{append_cancel_right}
-use Rattle.hc_records.specs.declared.records.Dir.{Dir}
-use Rattle.hc_records.specs.declared.records.Dir.TheVariants.{Out, In}
 use Rattle.hc_records.specs.declared.keys.Key.{Key}
 use Rattle.hc_records.specs.declared.keys.TheConstants.Key.{START, END}
 use Rattle.hc_records.specs.Keys.{is_within, same_key}
@@ -14,7 +11,7 @@ use Rattle.hc_records.specs.TaskList.{Keyed}
 use Rattle.hc_records.specs.Packing.{opening}
 use Rattle.hc_records.specs.Boundaries.{Interval, boundaries, later_keys, meets_hull, spans}
 use Rattle.hc_records.specs.SpanLaws.{IsTaskList, areas_from}
-use Rattle.hc_records.proofs.lemmas.KeyOrder.{same_key-same, within-trans}
+use Rattle.hc_records.proofs.lemmas.KeyOrder.{within-trans}
 use Rattle.hc_records.proofs.lemmas.SettledSpans.{agree-sym, width-from}
 use Rattle.hc_records.proofs.lemmas.SpanCuts.{areas-from, span-alone}
 use Rattle.hc_records.proofs.lemmas.Spans.{Agree, same-cut}
@@ -30,30 +27,16 @@ use Rattle.hc_cuts.proofs.Searched.{boundary-cut}
 clear-by : (test : Bool) (hull span : Interval) (key : Key) → meets_hull (Some hull) (key, key) ≡ test → meets_hull (Some hull) span ≡ false
     → is_within span.0 key ≡ true → is_within key span.1 ≡ true → test ≡ false
 clear-by false hull span key is clear low high = refl
-clear-by true hull span key is clear low high =
-    let parts = and_parts (is_within hull.0 key) (is_within key hull.1) is in
-    let meeting : meets_hull (Some hull) span ≡ true =
-    and_from (is_within hull.0 span.1) (is_within span.0 hull.1) (within-trans hull.0 key span.1 parts.0 high) (within-trans span.0 key hull.1 low parts.1) in
-    sym meeting ∙ clear
+clear-by true hull span key is clear low high = grind (arith, and_parts, and_from, within-trans)
 
 clear-key : (hull : Option Interval) (span : Interval) (key : Key) → meets_hull hull span ≡ false → is_within span.0 key ≡ true → is_within key span.1 ≡ true
     → meets_hull hull (key, key) ≡ false
 clear-key None span key clear low high = refl
 clear-key (Some hull) span key clear low high = clear-by (meets_hull (Some hull) (key, key)) hull span key refl clear low high
 
-or-none : (a b : Bool) → a ≡ false → b ≡ false → (a || b) ≡ false
-or-none a b first second = rw (first, second) refl
-
 -- so both lists give each of its keys the same width
 pub clear-agree : (hulls : Hulls) (old new : List Keyed) (span : Interval) → DifferInside hulls old new → meets_either hulls span ≡ false → Agree span.0 span.1 old new
-clear-agree hulls old new span inside clear =
-    let parts = or_parts (meets_hull hulls.outputs span) (meets_hull hulls.inputs span) clear in
-    record {
-      at = λ key low high.
-          inside key
-          (or-none (meets_hull hulls.outputs (key, key)) (meets_hull hulls.inputs (key, key))
-          (clear-key hulls.outputs span key parts.0 low high) (clear-key hulls.inputs span key parts.1 low high));
-    }
+clear-agree hulls old new span inside clear = grind (arith, or_parts, clear-key)
 
 -- up to a next boundary within which lists agree, it is that of both
 same-next : (xs ys : List Keyed) (from next : Key) → IsTaskList xs → IsTaskList ys → next ≡ next_boundary from xs → Agree from next xs ys → next ≡ next_boundary from ys
@@ -69,14 +52,8 @@ found-by : (here : Bool) (key : Key) (keys : List Key) (from next : Key) → sam
     → (if here then Some (slice_index_or keys 0 END) else following from keys) ≡ Some next
     → (following from keys ≡ Some next → Contains (spans (keys ++ END ∷ [])) (from, next))
     → Contains (spans ((key ∷ keys) ++ END ∷ [])) (from, next)
-found-by true key [] from next same is rest =
-    let first : from ≡ key = same_key-same from key same in
-    let last : END ≡ next = cc in
-    (0, omega arith, rw (first, ← last) refl)
-found-by true key (other ∷ keys) from next same is rest =
-    let first : from ≡ key = same_key-same from key same in
-    let last : other ≡ next = cc in
-    (0, omega arith, rw (first, ← last) refl)
+found-by true key [] from next same is rest = grind arith
+found-by true key (other ∷ keys) from next same is rest = grind arith
 found-by false key [] from next same is rest = cc
 found-by false key (other ∷ keys) from next same is rest = let (k, within, found) = rest is in (suc k, omega arith, found)
 
@@ -89,8 +66,7 @@ found-span from next (key ∷ keys) is = found-by (same_key from key) key keys f
 among-by : (here : Bool) (from key : Key) (keys : List Key) (next : Key) → same_key from key ≡ here
     → (if here then Some (slice_index_or keys 0 END) else following from keys) ≡ Some next
     → (following from keys ≡ Some next → list_any (same_key from) (keys ++ END ∷ []) ≡ true) → list_any (same_key from) (key ∷ (keys ++ END ∷ [])) ≡ true
-among-by true from key keys next same is rest = rw same refl
-among-by false from key keys next same is rest = rw same (rest is)
+among-by here from key keys next same is rest = grind arith
 
 among : (from next : Key) (keys : List Key) → following from keys ≡ Some next → list_any (same_key from) (keys ++ END ∷ []) ≡ true
 among from next [] is = cc
@@ -99,8 +75,7 @@ among from next (key ∷ keys) is = among-by (same_key from key) from key keys n
 apart-by : (here : Bool) (from key : Key) (keys : List Key) → same_key from key ≡ here
     → (if here then Some (slice_index_or keys 0 END) else following from keys) ≡ None
     → (following from keys ≡ None → list_any (same_key from) (keys ++ END ∷ []) ≡ false) → list_any (same_key from) (key ∷ (keys ++ END ∷ [])) ≡ false
-apart-by true from key keys same is rest = cc
-apart-by false from key keys same is rest = rw same (rest is)
+apart-by here from key keys same is rest = grind arith
 
 apart : (from : Key) (keys : List Key) → same_key from END ≡ false → following from keys ≡ None → list_any (same_key from) (keys ++ END ∷ []) ≡ false
 apart from [] other is = rw other refl
@@ -108,13 +83,8 @@ apart from (key ∷ keys) other is = apart-by (same_key from key) from key keys 
 
 -- no search begins at END
 
-place-apart : (dir end : Dir) (rank area : ℕ) → area < 8 → same_key (record { dir = dir; rank = rank; area = area }) END ≡ false
-place-apart Out end rank area low = refl
-place-apart In end rank area low = grind (arith, nat_tests)
-
 pub begins-apart : (slaves : ℕ) (from : Key) → CanBegin slaves from → same_key from END ≡ false
-begins-apart slaves from (inl start) = rw start refl
-begins-apart slaves from (inr place) = place-apart from.dir In from.rank from.area place.area
+begins-apart slaves from h2 = grind arith
 
 -- the old next boundary is kept where the old span meets no hull
 
@@ -135,19 +105,13 @@ settles hulls old span = is_settled_by (drop 1 old) hulls.outputs hulls.inputs s
 
 pub kept-settled : (hulls : Hulls) (before : List Keyed) (old : List Key) (from next : Key) → old ≡ START ∷ later_keys before → following from old ≡ Some next
     → meets_either hulls (from, next) ≡ false → settles hulls old (from, next) ≡ true
-kept-settled hulls before old from next are found clear =
-    let follows = subst (λ (keys : List Key). following from keys ≡ Some next) are found in
-    subst (λ (keys : List Key). settles hulls keys (from, next) ≡ true) (sym are)
-    (and_from (list_any (same_key from) (boundaries before)) (not (meets_either hulls (from, next))) (among from next (START ∷ later_keys before) follows) (ap not clear))
+kept-settled hulls before old from next are found clear = grind (arith, and_from, among)
 
 -- a searched span isn't settled: its key was no boundary, or the old span from there meets a hull
 
 pub new-unsettled : (hulls : Hulls) (before : List Keyed) (old : List Key) (from next : Key) → old ≡ START ∷ later_keys before → same_key from END ≡ false
     → following from old ≡ None → settles hulls old (from, next) ≡ false
-new-unsettled hulls before old from next are other none =
-    let follows = subst (λ (keys : List Key). following from keys ≡ None) are none in
-    subst (λ (keys : List Key). settles hulls keys (from, next) ≡ false) (sym are)
-    (and_left (list_any (same_key from) (boundaries before)) (not (meets_either hulls (from, next))) (apart from (START ∷ later_keys before) other follows))
+new-unsettled hulls before old from next are other none = grind (arith, and_left, apart)
 
 met-by : (test : Bool) (hulls : Hulls) (before list : List Keyed) (from next old_next : Key) → meets_either hulls (from, next) ≡ test
     → IsTaskList before → IsTaskList list → DifferInside hulls before list → next ≡ next_boundary from list → old_next ≡ next_boundary from before

@@ -1,6 +1,6 @@
 -- A search in a tree of sums finds packing's next boundary.
 use Rattle.std.specs.Prelude.{All, slice_index_or}
-use Rattle.std.proofs.Common.{◌≡◌, ℕ, ◌+◌, ◌==◌, ◌||◌, nat_le, Bool, true, false, List, [], ◌∷◌, refl, sym, ap, ◌∙◌, arith, if◌then◌else◌}
+use Rattle.std.proofs.Common.{◌≡◌, ℕ, ◌+◌, nat_le, Bool, List, [], ◌∷◌, refl, sym, ap, ◌∙◌, arith, if◌then◌else◌}
 use Rattle.std.proofs.lemmas.Bool.Decides.{nat_tests}
 use Rattle.std.proofs.lemmas.List.Elements.{All-head, All-tail}
 use Rattle.hc_records.specs.declared.limits.TheConstants.{MOST_AREA_BITS}
@@ -8,13 +8,11 @@ use Rattle.hc_records.specs.declared.records.Dir.{Dir}
 use Rattle.hc_records.specs.declared.records.Dir.TheVariants.{Out, In}
 use Rattle.hc_records.specs.declared.keys.Key.{Key}
 use Rattle.hc_records.specs.declared.keys.TheConstants.Key.{END}
-use Rattle.hc_records.specs.Keys.{is_turn}
 use Rattle.hc_records.specs.TaskList.{Keyed}
-use Rattle.hc_records.specs.Packing.{Front, opening, next_byte, beginning, fits, placed_at, behind}
+use Rattle.hc_records.specs.Packing.{Front, opening, beginning, fits, placed_at, behind}
 use Rattle.hc_records.specs.Laws.{IsPackable, cuts_from}
 use Rattle.hc_records.specs.SpanLaws.{IsTaskList, areas_from, next_cut}
 use Rattle.hc_records.proofs.lemmas.Cuts.{later_keys-cuts}
-use Rattle.hc_records.proofs.lemmas.Packed.{place}
 use Rattle.hc_records.proofs.lemmas.SpanCuts.{areas-from}
 use Rattle.hc_bitsum.specs.declared.filled.Filled.{Filled}
 use Rattle.hc_bitsum.specs.Search.{begun, first_beyond}
@@ -24,8 +22,7 @@ use Rattle.hc_cuts.specs.Starts.{next_boundary}
 
 first-by : (fitting : Bool) (key : Key) (cuts : List Key) (next : Key) → slice_index_or cuts 0 END ≡ next
     → slice_index_or (if fitting then cuts else key ∷ cuts) 0 END ≡ (if fitting then next else key)
-first-by true key cuts next same = same
-first-by false key cuts next same = refl
+first-by fitting key cuts next same = grind arith
 
 cuts-next : (front : Front) (list : List Keyed) → slice_index_or (cuts_from front list) 0 END ≡ next_cut front list
 cuts-next front [] = refl
@@ -46,34 +43,20 @@ numbered datagram filled = record { datagram = datagram; bit = filled.bit; last 
 abbrev filled_by : ℕ → Filled → Keyed → Filled
 filled_by datagram filled area = record { bit = beginning (numbered datagram filled) area + area.1; last = area.0.dir }
 
-beyond-by : (fitting : Bool) (datagram : ℕ) (filled : Filled) (area : Keyed) (areas : List Keyed)
-    → first_beyond MOST_AREA_BITS (filled_by datagram filled area) areas ≡ next_cut (numbered datagram (filled_by datagram filled area)) areas
-    → (if fitting then first_beyond MOST_AREA_BITS (filled_by datagram filled area) areas else area.0)
-    ≡ (if fitting then next_cut (behind (place fitting (numbered datagram filled) area)) areas else area.0)
-beyond-by true datagram filled area areas rest = rest
-beyond-by false datagram filled area areas rest = refl
-
 -- over areas with a width a search goes as packing does
 beyond-cut : (datagram : ℕ) (filled : Filled) (list : List Keyed) → All IsPackable list
     → first_beyond MOST_AREA_BITS filled list ≡ next_cut (numbered datagram filled) list
 beyond-cut datagram filled [] all = refl
 beyond-cut datagram filled (area ∷ areas) all =
-    let some = (All-head IsPackable area areas all).some in
-    let wide : (area.1 == 0) ≡ false = grind (arith, nat_tests) in
-    rw wide (beyond-by (fits (numbered datagram filled) area) datagram filled area areas
-    (beyond-cut datagram (filled_by datagram filled area) areas (All-tail IsPackable area areas all)))
+    grind (arith, All-head, nat_tests, All-tail, beyond-cut datagram (filled_by datagram filled area) areas (All-tail IsPackable area areas all))
 
 -- nothing stands before bit 0 of a datagram, so the direction before it decides nothing
-
-byte-by : (aligned : Bool) → (if aligned then next_byte 0 else 0) ≡ 0
-byte-by true = refl
-byte-by false = refl
 
 abbrev fresh : Dir → Front
 fresh last = record { datagram = 0; bit = 0; last = last }
 
 fresh-beginning : (last : Dir) (area : Keyed) → beginning (fresh last) area ≡ 0
-fresh-beginning last area = byte-by (nat_le 8 area.1 || is_turn last area.0.dir)
+fresh-beginning last area = grind (arith, nat_le)
 
 -- the next cut where the first area begins at a bit
 abbrev cut_begun : ℕ → Keyed → List Keyed → Key

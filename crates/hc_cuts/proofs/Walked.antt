@@ -1,15 +1,15 @@
 -- The areas of a span, one behind another in its datagram.
 use Rattle.std.specs.Prelude.{All, filter}
-use Rattle.std.proofs.Common.{◌≡◌, ℕ, ◌+◌, ◌≤◌, ◌||◌, nat_le, Bool, true, false, List, [], ◌∷◌, ◌++◌, refl, sym, ap, subst, ◌∙◌, arith, if◌then◌else◌}
+use Rattle.std.proofs.Common.{◌≡◌, ℕ, ◌+◌, ◌≤◌, Bool, true, false, List, [], ◌∷◌, ◌++◌, refl, sym, ap, subst, ◌∙◌, arith, if◌then◌else◌}
 use Rattle.std.proofs.lemmas.Bool.{cond-false, cond-true}
 use Rattle.std.proofs.lemmas.List.Elements.{All-cons, All-filter, All-head, All-weaker}
 use Rattle.hc_records.specs.declared.records.Dir.{Dir}
 use Rattle.hc_records.specs.declared.records.Dir.TheVariants.{Out}
 use Rattle.hc_records.specs.declared.keys.Key.{Key}
 use Rattle.hc_records.specs.declared.keys.TheConstants.Key.{END}
-use Rattle.hc_records.specs.Keys.{is_before, is_turn, is_within}
+use Rattle.hc_records.specs.Keys.{is_before, is_within}
 use Rattle.hc_records.specs.TaskList.{Keyed}
-use Rattle.hc_records.specs.Packing.{Front, Placed, next_byte, beginning, fits, placed_at, behind}
+use Rattle.hc_records.specs.Packing.{Front, Placed, beginning, fits, placed_at, behind}
 use Rattle.hc_records.specs.Laws.{IsPackable}
 use Rattle.hc_records.specs.SpanLaws.{IsTaskList, areas_from, carried, next_cut}
 use Rattle.hc_records.proofs.lemmas.KeyOrder.{before-apart, within-apart, within-from_before, within-refl}
@@ -29,11 +29,7 @@ head_key (area ∷ areas) = area.0
 -- an area begins where the ones before it end, or behind that
 
 pub front-beginning : (last : Dir) (bit : ℕ) (area : Keyed) → bit ≤ beginning (record { datagram = 0; bit = bit; last = last }) area
-front-beginning last bit area = by (nat_le 8 area.1 || is_turn last area.0.dir)
-  where
-    by : (aligned : Bool) → bit ≤ (if aligned then next_byte bit else bit)
-    by true = omega arith
-    by false = omega arith
+front-beginning last bit area = grind arith
 
 -- the areas from the key of the first one on are all
 
@@ -58,8 +54,7 @@ number-by : (fitting : Bool) (n m bit : ℕ) (last : Dir) (area : Keyed) (areas 
     → ((k l to : ℕ) (dir : Dir) → next_cut (front_of k to dir) areas ≡ next_cut (front_of l to dir) areas)
     → (if fitting then next_cut (behind (place fitting (front_of n bit last) area)) areas else area.0)
     ≡ (if fitting then next_cut (behind (place fitting (front_of m bit last) area)) areas else area.0)
-number-by true n m bit last area areas same = same n m (beginning (front_of n bit last) area + area.1) area.0.dir
-number-by false n m bit last area areas same = refl
+number-by fitting n m bit last area areas same = grind arith
 
 pub cut-number : (n m bit : ℕ) (last : Dir) (list : List Keyed) → next_cut (front_of n bit last) list ≡ next_cut (front_of m bit last) list
 cut-number n m bit last [] = refl
@@ -77,8 +72,7 @@ pub record IsCarried (front : Front) (cut : Key) (list : List Keyed) : Type 0 wh
 
 both-by : (fitting : Bool) (next own : Key) (placed : Placed) (xs ys : List Placed) → fitting ≡ true → next ≡ END → xs ≡ ys
     → ((if fitting then next else own) ≡ END) × ((if fitting then placed ∷ xs else []) ≡ (if fitting then placed ∷ ys else []))
-both-by true next own placed xs ys test room carry = (room, ap (λ (more : List Placed). placed ∷ more) carry)
-both-by false next own placed xs ys test room carry = cc
+both-by fitting next own placed xs ys test room carry = grind arith
 
 carried-by : (fitting : Bool) (first cut : Key) (front : Front) (area : Keyed) (areas : List Keyed) → fits front area ≡ fitting → IsListFrom first (area ∷ areas)
     → (if fitting then next_cut (behind (placed_at front area)) areas else area.0) ≡ cut
@@ -135,8 +129,7 @@ span-carried datagram from until list areas is ends are =
 -- where all areas have room, the first of them fits, and the others have room behind it
 
 pub cuts-on : (fitting : Bool) (next own : Key) → fitting ≡ true → (if fitting then next else own) ≡ next
-cuts-on true next own test = refl
-cuts-on false next own test = cc
+cuts-on fitting next own test = grind arith
 
 pub append-none : {X : Type 0} (xs : List X) → xs ++ [] ≡ xs
 append-none [] = refl

@@ -1,15 +1,15 @@
 -- The places of a task's list are those of its spans, one after another.
 use Rattle.std.specs.Prelude.{All, Contains, Some, slice_get, slice_index_or}
-use Rattle.std.proofs.Common.{◌≡◌, ℕ, zero, suc, ◌+◌, ◌<◌, ◌≤◌, ◌||◌, inl, inr, nat_le, Bool, true, false, List, [], ◌∷◌, ◌++◌, length, refl, sym, ap, subst, ◌∙◌, arith, if◌then◌else◌, length-append}
-use Rattle.std.proofs.lemmas.Bool.{cond-false, le-leb}
+use Rattle.std.proofs.Common.{◌≡◌, ℕ, zero, suc, ◌+◌, ◌<◌, ◌≤◌, inl, inr, Bool, true, false, List, [], ◌∷◌, ◌++◌, length, refl, sym, ap, subst, ◌∙◌, arith, if◌then◌else◌, length-append}
+use Rattle.std.proofs.lemmas.Bool.{cond-false}
 use Rattle.std.proofs.lemmas.List.Elements.{All-head, All-weaker}
 use Rattle.hc_records.specs.declared.limits.TheConstants.{MOST_AREA_BITS}
 use Rattle.hc_records.specs.declared.records.Dir.TheVariants.{Out}
 use Rattle.hc_records.specs.declared.keys.Key.{Key}
 use Rattle.hc_records.specs.declared.keys.TheConstants.Key.{START, END}
-use Rattle.hc_records.specs.Keys.{is_before, is_turn, is_within}
+use Rattle.hc_records.specs.Keys.{is_before, is_within}
 use Rattle.hc_records.specs.TaskList.{Keyed}
-use Rattle.hc_records.specs.Packing.{Front, Placed, opening, next_byte, beginning, fits, behind, packed}
+use Rattle.hc_records.specs.Packing.{Front, Placed, opening, beginning, fits, behind, packed}
 use Rattle.hc_records.specs.Boundaries.{boundaries, later_keys, spans}
 use Rattle.hc_records.specs.Image.{inside}
 use Rattle.hc_records.specs.Laws.{IsPackable}
@@ -60,21 +60,14 @@ begins-at (suc at) tree holds within =
 -- packing goes on in a blank datagram where an area doesn't fit
 
 blank-beginning : (datagram : ℕ) (area : Keyed) → beginning (blank_datagram datagram) area ≡ 0
-blank-beginning datagram area = by (nat_le 8 area.1 || is_turn Out area.0.dir)
-  where
-    by : (aligned : Bool) → (if aligned then next_byte 0 else 0) ≡ 0
-    by true = refl
-    by false = refl
+blank-beginning datagram area = grind arith
 
 blank-fits : (datagram : ℕ) (area : Keyed) → area.1 ≤ MOST_AREA_BITS → fits (blank_datagram datagram) area ≡ true
-blank-fits datagram area narrow =
-    let first = blank-beginning datagram area in
-    le-leb (beginning (blank_datagram datagram) area + area.1) MOST_AREA_BITS (omega arith)
+blank-fits datagram area narrow = grind arith
 
 in-blank : (fitting : Bool) (front : Front) (area : Keyed) → fitting ≡ true → beginning (blank_datagram (front.datagram + 1)) area ≡ 0
     → place false front area ≡ place fitting (blank_datagram (front.datagram + 1)) area
-in-blank true front area test first = rw first refl
-in-blank false front area test first = cc
+in-blank fitting front area test first = grind arith
 
 goes-by : (fitting : Bool) (first : Key) (front : Front) (area : Keyed) (areas : List Keyed) → IsListFrom first (area ∷ areas)
     → ((f : Front) → packed f areas ≡ carried f areas ++ packed (blank_datagram (f.datagram + 1)) (areas_from (next_cut f areas) areas))
@@ -128,9 +121,7 @@ span-places at list is within =
 -- a walk over the spans: the places so far, and those that are left
 
 all-from : (list : List Keyed) → IsTaskList list → areas_from START list ≡ list
-all-from list is =
-    filter-keeps (λ area. is_within START area.0) list
-    (All-weaker (λ area. is_before START area.0 ≡ true) (λ area. is_within START area.0 ≡ true) (λ area above. within-from_before START area.0 above) list is.between.above)
+all-from list is = grind (arith, filter-keeps, All-weaker, within-from_before)
 
 pub spans-begin : (keys : List Key) (list : List Keyed) → IsTaskList list → keys ≡ boundaries list → places_from 0 keys list ≡ packed opening list
 spans-begin keys list is all = rw all (ap (packed opening) (all-from list is))
@@ -173,10 +164,7 @@ is-span_at tree starts at from next other holds all within first last =
 pub spans-end : (tree : Tree) (starts : List Key) (places : List Placed) (at : ℕ) → HoldsTaskList tree → at ≡ length starts
     → places ++ places_from at (starts ++ END ∷ []) tree.list ≡ packed opening tree.list → places ≡ packed opening tree.list
 spans-end tree starts places at holds last whole =
-    let none : places_from at (starts ++ END ∷ []) tree.list ≡ [] =
-    rw last (ap (λ (key : Key). packed (blank_datagram (length starts)) (areas_from key tree.list)) (boundary-last starts)
-    ∙ ap (packed (blank_datagram (length starts))) (none-from_end tree.list holds.list.between.below)) in
-    sym (append-none places) ∙ ap (λ (rest : List Placed). places ++ rest) (sym none) ∙ whole
+    grind (arith, boundary-last, none-from_end, append-none)
 
 -- there is no datagram behind those that begin at a boundary
 pub behind-starts : (list : List Keyed) (starts : List Key) (number : ℕ) → All IsPackable list → starts ++ END ∷ [] ≡ boundaries list → length starts ≤ number

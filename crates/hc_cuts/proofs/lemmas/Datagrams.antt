@@ -1,14 +1,14 @@
 -- What a datagram of a task carries: the areas of the span with its number, each at its bit.
 use Rattle.std.specs.Prelude.{All, map, slice_get}
-use Rattle.std.proofs.Common.{◌≡◌, ℕ, ◌+◌, ◌≤◌, ◌==◌, Bool, true, false, List, [], ◌∷◌, Some, Contains, refl, sym, ap, ◌∙◌, arith, if◌then◌else◌}
+use Rattle.std.proofs.Common.{◌≡◌, ℕ, ◌+◌, ◌≤◌, ◌==◌, Bool, false, List, [], ◌∷◌, Some, Contains, refl, sym, ap, ◌∙◌, arith, if◌then◌else◌}
 use Rattle.std.proofs.lemmas.Bool.{eqb-true, ne_eqb}
-use Rattle.std.proofs.lemmas.List.Elements.{All-cons, All-head, All-nil, All-tail, All-weaker, filter_passes}
+use Rattle.std.proofs.lemmas.List.Elements.{All-head, All-nil, All-tail, All-weaker, filter_passes}
 use Rattle.std.proofs.lemmas.Option.{get_or_from_slice_get, slice_get_within}
 use Rattle.hc_records.specs.declared.records.Dir.{Dir}
 use Rattle.hc_records.specs.declared.records.Dir.TheVariants.{Out}
 use Rattle.hc_records.specs.declared.keys.Key.{Key}
 use Rattle.hc_records.specs.TaskList.{Keyed}
-use Rattle.hc_records.specs.Packing.{Front, Placed, behind, beginning, fits, opening, packed}
+use Rattle.hc_records.specs.Packing.{Front, Placed, behind, fits, opening, packed}
 use Rattle.hc_records.specs.Image.{datagram_count, inside}
 use Rattle.hc_records.specs.Boundaries.{Interval, boundaries, spans}
 use Rattle.hc_records.specs.SpanLaws.{IsTaskList, areas_from, carried, seen_area}
@@ -31,9 +31,7 @@ unseen datagram seen = record { key = seen.0; bits = seen.1.0; datagram = datagr
 pub shown : (datagram : ℕ) (areas : List Placed) → All (λ area. area.datagram ≡ datagram) areas → map (unseen datagram) (map seen_area areas) ≡ areas
 shown datagram [] all = refl
 shown datagram (area ∷ areas) all =
-    let here : area.datagram ≡ datagram = All-head (λ a. a.datagram ≡ datagram) area areas all in
-    ap (λ (n : ℕ). record { key = area.key; bits = area.bits; datagram = n; bit = area.bit } ∷ map (unseen datagram) (map seen_area areas)) (sym here)
-    ∙ ap (λ (rest : List Placed). area ∷ rest) (shown datagram areas (All-tail (λ a. a.datagram ≡ datagram) area areas all))
+    grind (arith, All-head, All-tail, shown datagram areas (All-tail (λ a. a.datagram ≡ datagram) area areas all))
 
 pub inside-numbered : (datagram : ℕ) (areas : List Placed) → All (λ area. area.datagram ≡ datagram) (inside datagram areas)
 inside-numbered datagram areas k d within =
@@ -54,10 +52,7 @@ front_of datagram bit last = record { datagram = datagram; bit = bit; last = las
 numbered-by : (fitting : Bool) (n bit : ℕ) (last : Dir) (area : Keyed) (areas : List Keyed)
     → ((to : ℕ) (dir : Dir) → All (λ placed. placed.datagram ≡ n) (carried (front_of n to dir) areas))
     → All (λ placed. placed.datagram ≡ n) (if fitting then place fitting (front_of n bit last) area ∷ carried (behind (place fitting (front_of n bit last) area)) areas else [])
-numbered-by true n bit last area areas rest =
-    let end = beginning (front_of n bit last) area + area.1 in
-    All-cons (λ placed. placed.datagram ≡ n) (place true (front_of n bit last) area) (carried (front_of n end area.0.dir) areas) refl (rest end area.0.dir)
-numbered-by false n bit last area areas rest = All-nil (λ placed. placed.datagram ≡ n)
+numbered-by fitting n bit last area areas rest = grind arith
 
 carried-numbered : (n bit : ℕ) (last : Dir) (list : List Keyed) → All (λ placed. placed.datagram ≡ n) (carried (front_of n bit last) list)
 carried-numbered n bit last [] = All-nil (λ placed. placed.datagram ≡ n)
@@ -71,10 +66,7 @@ seen-by : (fitting : Bool) (n m bit : ℕ) (last : Dir) (area : Keyed) (areas : 
     → ((to : ℕ) (dir : Dir) → seen (carried (front_of n to dir) areas) ≡ seen (carried (front_of m to dir) areas))
     → seen (if fitting then place fitting (front_of n bit last) area ∷ carried (behind (place fitting (front_of n bit last) area)) areas else [])
     ≡ seen (if fitting then place fitting (front_of m bit last) area ∷ carried (behind (place fitting (front_of m bit last) area)) areas else [])
-seen-by true n m bit last area areas rest =
-    let begins = beginning (front_of n bit last) area in
-    ap (λ (behind : List (Key × (ℕ × ℕ))). (area.0, (area.1, begins)) ∷ behind) (rest (begins + area.1) area.0.dir)
-seen-by false n m bit last area areas rest = refl
+seen-by fitting n m bit last area areas rest = grind arith
 
 carried-seen : (n m bit : ℕ) (last : Dir) (list : List Keyed) → seen (carried (front_of n bit last) list) ≡ seen (carried (front_of m bit last) list)
 carried-seen n m bit last [] = refl

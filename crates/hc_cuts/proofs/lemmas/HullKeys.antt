@@ -1,7 +1,7 @@
 -- What tells hulls: a test has one pair of them, the touched keys have such a pair, and a key is taken in.
+use Rattle.std.proofs.Common.{arith}
 use Rattle.std.proofs.Common.{◌≡◌, ◌⊎◌, inl, inr, Bool, true, false, List, [], ◌∷◌, ◌++◌, Option, Some, None, refl, sym, ap, subst, ◌∙◌, if◌then◌else◌}
-use Rattle.std.specs.Option.{is_none}
-use Rattle.std.specs.Prelude.{All, filter, fold, map, not, ◌&&◌, ◌||◌, ◌==◌}
+use Rattle.std.specs.Prelude.{All, filter, fold, map, ◌&&◌, ◌||◌}
 use Rattle.std.specs.List.{list_any}
 use Rattle.std.proofs.lemmas.Bool.{eq-eqb, or_cases, or_parts, or_right}
 use Rattle.std.proofs.lemmas.List.{map-append}
@@ -14,7 +14,7 @@ use Rattle.hc_records.specs.declared.keys.Key.{Key}
 use Rattle.hc_records.specs.Keys.{same_dir, same_key, is_before, is_within}
 use Rattle.hc_records.specs.TaskList.{Keyed}
 use Rattle.hc_records.specs.Boundaries.{Interval, hull, is_touched, touched, widened, width_in}
-use Rattle.hc_records.proofs.lemmas.KeyOrder.{before-apart, same_dir-refl, same_key-refl, same_key-same, within-else, within-from_before, within-refl, within-trans}
+use Rattle.hc_records.proofs.lemmas.KeyOrder.{same_dir-refl, same_key-refl, same_key-same, within-else, within-from_before, within-trans}
 use Rattle.hc_records.proofs.lemmas.Spans.{width-skip}
 use Rattle.hc_cuts.specs.declared.hulls.Hulls.{Hulls}
 use Rattle.hc_cuts.specs.Hulls.{AreHulls, IsHull, IsOf, Reaches, TakeIn, are_none, no_hulls}
@@ -22,11 +22,7 @@ use Rattle.hc_cuts.specs.Hulls.{AreHulls, IsHull, IsOf, Reaches, TakeIn, are_non
 -- one hull of one test
 
 both-within : (a b : Key) → is_within a b ≡ true → is_within b a ≡ true → a ≡ b
-both-within a b low high = by (or_cases (is_before a b) (same_key a b) low)
-  where
-    by : (is_before a b ≡ true) ⊎ (same_key a b ≡ true) → a ≡ b
-    by (inl before) = let never : true ≡ false = sym high ∙ before-apart a b before in cc
-    by (inr same) = same_key-same a b same
+both-within a b low high = grind arith
 
 interval-is : (test : Key → Bool) (dir : Dir) (i j : Interval) → Reaches test dir i → Reaches test dir j → i ≡ j
 interval-is test dir i j a b =
@@ -40,23 +36,12 @@ hull-is test dir (Some i) None first second = let never : true ≡ false = sym f
 hull-is test dir (Some i) (Some j) first second = ap Some (interval-is test dir i j first second)
 
 hull-same : (p q : Key → Bool) (dir : Dir) (hull : Option Interval) → ((key : Key) → key.dir ≡ dir → p key ≡ q key) → IsHull p dir hull → IsHull q dir hull
-hull-same p q dir None same is = λ key here. sym (same key here) ∙ is key here
-hull-same p q dir (Some i) same is = record {
-  first = (is.first.0, sym (same i.0 is.first.0) ∙ is.first.1);
-  last = (is.last.0, sym (same i.1 is.last.0) ∙ is.last.1);
-  least = λ key of. is.least key (of.0, same key of.0 ∙ of.1);
-  greatest = λ key of. is.greatest key (of.0, same key of.0 ∙ of.1);
-}
+hull-same p q dir hull same is = grind arith
 
 -- a hull widened by a key of its direction
 
-or-else : (a b : Bool) → a ≡ false → (a || b) ≡ true → b ≡ true
-or-else true b none is = cc
-or-else false b none is = is
-
 choice : (P : Key → Type 0) (first : Bool) (a b : Key) → P a → P b → P (if first then a else b)
-choice P true a b here there = here
-choice P false a b here there = there
+choice P first a b here there = grind arith
 
 lesser-within : (before : Bool) (key low other : Key) → is_before key low ≡ before → (is_within low other ≡ true) ⊎ (same_key key other ≡ true)
     → is_within (if before then key else low) other ≡ true
@@ -67,10 +52,7 @@ lesser-within false key low other test (inr same) = subst (λ (k : Key). is_with
 
 greater-within : (before : Bool) (key high other : Key) → is_before high key ≡ before → (is_within other high ≡ true) ⊎ (same_key key other ≡ true)
     → is_within other (if before then key else high) ≡ true
-greater-within true key high other test (inl within) = within-trans other high key within (within-from_before high key test)
-greater-within true key high other test (inr same) = subst (λ (k : Key). is_within k key ≡ true) (same_key-same key other same) (within-refl key)
-greater-within false key high other test (inl within) = within
-greater-within false key high other test (inr same) = subst (λ (k : Key). is_within k high ≡ true) (same_key-same key other same) (within-else high key test)
+greater-within before key high other test h5 = grind arith
 
 more-of : (test : Key → Bool) (dir : Dir) (key other : Key) → IsOf test dir other → IsOf (λ k. test k || same_key key k) dir other
 more-of test dir key other of = (of.0, ap (λ (b : Bool). b || same_key key other) of.1)
@@ -88,16 +70,8 @@ greatest-by : (test : Key → Bool) (dir : Dir) (i : Interval) (key other : Key)
 greatest-by test dir i key other is here (inl passes) = greater-within (is_before i.1 key) key i.1 other refl (inl (is.greatest other (here, passes)))
 greatest-by test dir i key other is here (inr same) = greater-within (is_before i.1 key) key i.1 other refl (inr same)
 
-only-own : (test : Key → Bool) (dir : Dir) (key other : Key) → ((k : Key) → k.dir ≡ dir → test k ≡ false) → IsOf (λ k. test k || same_key key k) dir other → key ≡ other
-only-own test dir key other none of = same_key-same key other (or-else (test other) (same_key key other) (none other of.0) of.1)
-
 hull-more : (test : Key → Bool) (dir : Dir) (hull : Option Interval) (key : Key) → key.dir ≡ dir → IsHull test dir hull → IsHull (λ k. test k || same_key key k) dir (widened hull key)
-hull-more test dir None key here none = record {
-  first = own-of test dir key here;
-  last = own-of test dir key here;
-  least = λ other of. subst (λ (k : Key). is_within key k ≡ true) (only-own test dir key other none of) (within-refl key);
-  greatest = λ other of. subst (λ (k : Key). is_within k key ≡ true) (only-own test dir key other none of) (within-refl key);
-}
+hull-more test dir None key here none = grind arith
 hull-more test dir (Some i) key here is = record {
   first = choice (IsOf (λ k. test k || same_key key k) dir) (is_before key i.0) key i.0 (own-of test dir key here) (more-of test dir key i.0 is.first);
   last = choice (IsOf (λ k. test k || same_key key k) dir) (is_before i.1 key) key i.1 (own-of test dir key here) (more-of test dir key i.1 is.last);
@@ -108,18 +82,13 @@ hull-more test dir (Some i) key here is = record {
 -- and by some
 
 or-none : (b : Bool) → b ≡ (b || false)
-or-none true = refl
-or-none false = refl
+or-none b = grind arith
 
 or-assoc : (a b c : Bool) → ((a || b) || c) ≡ (a || (b || c))
-or-assoc true b c = refl
-or-assoc false b c = refl
+or-assoc a b c = grind arith
 
 same_dir-same : (d e : Dir) → same_dir d e ≡ true → d ≡ e
-same_dir-same Out Out same = refl
-same_dir-same Out In same = cc
-same_dir-same In Out same = cc
-same_dir-same In In same = refl
+same_dir-same d e same = grind arith
 
 hull-fold : (keys : List Key) (test : Key → Bool) (dir : Dir) (begun : Option Interval) → All (λ key. same_dir key.dir dir ≡ true) keys → IsHull test dir begun
     → IsHull (λ key. test key || list_any (λ other. same_key other key) keys) dir (fold widened begun keys)
@@ -140,23 +109,16 @@ width-none (area ∷ areas) key none =
     width-skip area areas key parts.0 ∙ width-none areas key parts.1
 
 and-true : (b : Bool) → (b && true) ≡ b
-and-true true = refl
-and-true false = refl
+and-true b = grind arith
 
 and-none : (b : Bool) → b ≡ false → (b && false) ≡ b
-and-none true none = cc
-and-none false none = refl
+and-none b none = grind arith
 
 touched-by : (old new : List Keyed) (key : Key) (any : Bool) → list_any (λ other. same_key other key) (map (λ area. area.0) (old ++ new)) ≡ any
     → (is_touched old new key && any) ≡ is_touched old new key
 touched-by old new key true test = and-true (is_touched old new key)
 touched-by old new key false test =
-    let lists = sym (list_any-append (λ other. same_key other key) (map (λ area. area.0) old) (map (λ area. area.0) new))
-    ∙ ap (list_any (λ other. same_key other key)) (sym (map-append (λ (area : Keyed). area.0) old new))
-    ∙ test in
-    let parts = or_parts (list_any (λ other. same_key other key) (map (λ a. a.0) old)) (list_any (λ other. same_key other key) (map (λ a. a.0) new)) lists in
-    let same = eq-eqb (width_in old key) (width_in new key) (width-none old key parts.0 ∙ sym (width-none new key parts.1)) in
-    and-none (is_touched old new key) (ap not same)
+    grind (arith, list_any-append, map-append, or_parts, eq-eqb, width-none, and-none)
 
 of-touched : (old new : List Keyed) (dir : Dir) (key : Key) → key.dir ≡ dir
     → list_any (λ other. same_key other key) (filter (λ other. same_dir other.dir dir) (touched old new)) ≡ is_touched old new key
@@ -175,18 +137,12 @@ hull-touched old new dir =
 
 pub hulls-are : (old new : List Keyed) (hulls : Hulls) → AreHulls (is_touched old new) hulls
     → (hulls.outputs ≡ hull Out (touched old new)) × (hulls.inputs ≡ hull In (touched old new))
-hulls-are old new hulls are = (
-  hull-is (is_touched old new) Out hulls.outputs (hull Out (touched old new)) are.outputs (hull-touched old new Out),
-  hull-is (is_touched old new) In hulls.inputs (hull In (touched old new)) are.inputs (hull-touched old new In),
-)
+hulls-are old new hulls are = grind (arith, hull-is, hull-touched)
 
 -- hulls
 
 pub hulls-same : (p q : Key → Bool) (hulls : Hulls) → ((key : Key) → p key ≡ q key) → AreHulls p hulls → AreHulls q hulls
-hulls-same p q hulls same are = record {
-  outputs = hull-same p q Out hulls.outputs (λ key here. same key) are.outputs;
-  inputs = hull-same p q In hulls.inputs (λ key here. same key) are.inputs;
-}
+hulls-same p q hulls same are = grind arith
 
 -- a test that no key passes has none
 pub hulls-none : (test : Key → Bool) → ((key : Key) → test key ≡ false) → AreHulls test no_hulls
@@ -194,16 +150,8 @@ hulls-none test none = record { outputs = λ key here. none key; inputs = λ key
 
 -- no hulls, by the test for them
 
-hulls-is : (hulls : Hulls) (outputs inputs : Option Interval) → hulls.outputs ≡ outputs → hulls.inputs ≡ inputs → hulls ≡ record { outputs = outputs; inputs = inputs }
-hulls-is hulls outputs inputs first second = rw (← first, ← second) refl
-
 pub none-are : (hulls : Hulls) → are_none hulls ≡ true → hulls ≡ no_hulls
-none-are hulls none = by hulls.outputs hulls.inputs refl refl none
-  where
-    by : (outputs inputs : Option Interval) → hulls.outputs ≡ outputs → hulls.inputs ≡ inputs → (is_none outputs && is_none inputs) ≡ true → hulls ≡ no_hulls
-    by None None first second test = hulls-is hulls None None first second
-    by None (Some i) first second test = cc
-    by (Some i) inputs first second test = cc
+none-are hulls none = grind arith
 
 -- where no key is touched, there is none
 pub untouched-none : (old new : List Keyed) (hulls : Hulls) → AreHulls (is_touched old new) hulls → touched old new ≡ [] → are_none hulls ≡ true
@@ -213,35 +161,19 @@ untouched-none old new hulls are none =
 
 -- and where there is none, no key passes
 pub none-passes : (test : Key → Bool) (key : Key) → AreHulls test no_hulls → test key ≡ false
-none-passes test key are = by key.dir refl
-  where
-    by : (dir : Dir) → key.dir ≡ dir → test key ≡ false
-    by Out here = are.outputs key here
-    by In here = are.inputs key here
+none-passes test key are = grind arith
 
 -- a key of the other direction widens nothing
 or-other : (a b : Bool) → b ≡ false → a ≡ (a || b)
-or-other true b none = refl
-or-other false b none = sym none
+or-other a b none = grind arith
 
 apart : (d e : Dir) (key other : Key) → same_dir d e ≡ false → key.dir ≡ d → other.dir ≡ e → same_key key other ≡ false
-apart d e key other differ here there =
-    ap (λ (x : Dir). same_dir x other.dir && (key.rank == other.rank) && (key.area == other.area)) here
-    ∙ ap (λ (x : Dir). same_dir d x && (key.rank == other.rank) && (key.area == other.area)) there
-    ∙ ap (λ (b : Bool). b && (key.rank == other.rank) && (key.area == other.area)) differ
+apart d e key other differ here there = grind arith
 
 pub out-taken : (key : Key) (hulls : Hulls) (wider : Option Interval) → key.dir ≡ Out → wider ≡ widened hulls.outputs key
     → TakeIn hulls (record { outputs = wider; inputs = hulls.inputs }) (same_key key)
-out-taken key hulls wider here is = λ test are. record {
-  outputs = subst (λ (hull : Option Interval). IsHull (λ other. test other || same_key key other) Out hull) (sym is) (hull-more test Out hulls.outputs key here are.outputs);
-  inputs = hull-same test (λ other. test other || same_key key other) In hulls.inputs
-      (λ other there. or-other (test other) (same_key key other) (apart Out In key other refl here there)) are.inputs;
-}
+out-taken key hulls wider here is = grind (arith, hull-more, hull-same, or-other, apart)
 
 pub in-taken : (key : Key) (hulls : Hulls) (wider : Option Interval) → key.dir ≡ In → wider ≡ widened hulls.inputs key
     → TakeIn hulls (record { outputs = hulls.outputs; inputs = wider }) (same_key key)
-in-taken key hulls wider here is = λ test are. record {
-  outputs = hull-same test (λ other. test other || same_key key other) Out hulls.outputs
-      (λ other there. or-other (test other) (same_key key other) (apart In Out key other refl here there)) are.outputs;
-  inputs = subst (λ (hull : Option Interval). IsHull (λ other. test other || same_key key other) In hull) (sym is) (hull-more test In hulls.inputs key here are.inputs);
-}
+in-taken key hulls wider here is = grind (arith, hull-same, or-other, apart, hull-more)

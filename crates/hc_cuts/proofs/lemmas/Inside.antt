@@ -1,17 +1,15 @@
 -- Lists of a task that differ at some keys alone, and the hulls of these.
-use Rattle.std.specs.Prelude.{◌||◌, IsTrue}
-use Rattle.std.proofs.Common.{◌≡◌, ℕ, Bool, false, List, [], ◌∷◌, ◌++◌, refl, sym, ap, subst, ◌∙◌}
+use Rattle.std.proofs.Common.{arith}
+use Rattle.std.specs.Prelude.{◌||◌}
+use Rattle.std.proofs.Common.{◌≡◌, ℕ, Bool, false, List, [], ◌∷◌, ◌++◌, refl, sym, subst, ◌∙◌}
 use Rattle.std.proofs.lemmas.Bool.{cond-false, or_parts}
-use Rattle.std.proofs.lemmas.List.Elements.{All-nil}
 use Rattle.hc_records.specs.declared.keys.Key.{Key}
-use Rattle.hc_records.specs.declared.keys.TheConstants.Key.{START, END}
-use Rattle.hc_records.specs.Keys.{is_before, same_key}
+use Rattle.hc_records.specs.declared.keys.TheConstants.Key.{END}
+use Rattle.hc_records.specs.Keys.{same_key}
 use Rattle.hc_records.specs.TaskList.{Keyed}
 use Rattle.hc_records.specs.Boundaries.{boundaries, width_in}
-use Rattle.hc_records.specs.Laws.{IsPackable}
-use Rattle.hc_records.proofs.lemmas.Lists.{AllPairs-nil}
 use Rattle.hc_records.specs.SpanLaws.{IsTaskList}
-use Rattle.hc_bitsum.specs.Tree.{HasPlace, HoldsTaskList, Tree, with_width}
+use Rattle.hc_bitsum.specs.Tree.{HoldsTaskList, with_width}
 use Rattle.hc_bitsum.proofs.lemmas.Widths.{width-set}
 use Rattle.hc_cuts.specs.declared.hulls.Hulls.{Hulls}
 use Rattle.hc_cuts.specs.Hulls.{AreHulls, TakeIn, no_hulls}
@@ -48,16 +46,6 @@ inside-differs before present hulls inside = differ-inside inside.test hulls bef
 
 -- a task without areas holds a task's list, and is cut
 
-empty-list : IsTaskList []
-empty-list = record {
-  packable = All-nil IsPackable;
-  ascends = AllPairs-nil (λ (a b : Keyed). IsTrue (is_before a.0 b.0));
-  between = record {
-    above = All-nil (λ (area : Keyed). IsTrue (is_before START area.0));
-    below = All-nil (λ (area : Keyed). IsTrue (is_before area.0 END));
-  };
-}
-
 -- a task of so many slaves whose boundaries are those of its areas
 pub record IsCutTask (slaves : ℕ) (kept : Kept) : Type 0 where
   pub many : kept.tree.slaves ≡ slaves
@@ -65,19 +53,12 @@ pub record IsCutTask (slaves : ℕ) (kept : Kept) : Type 0 where
   pub cut : kept.starts ++ END ∷ [] ≡ boundaries kept.tree.list
 
 pub begins : (slaves : ℕ) (kept : Kept) → kept ≡ kept_empty slaves → IsCutTask slaves kept
-begins slaves kept is =
-    subst (λ (k : Kept). IsCutTask slaves k) (sym is)
-    (record { many = refl; holds = record { list = empty-list; places = All-nil (λ (area : Keyed). HasPlace slaves area.0) }; cut = refl })
+begins slaves kept is = grind arith
 
 -- its boundaries are those of before once widths are set
 pub were : (old new : Kept) (hulls : Hulls) → IsTaskList old.tree.list → old.starts ++ END ∷ [] ≡ boundaries old.tree.list → new.starts ≡ old.starts
     → DifferInside hulls old.tree.list new.tree.list → AreOfBefore new.starts hulls new.tree.list
-were old new hulls list cut starts inside = record {
-  before = old.tree.list;
-  list = list;
-  keys = ap (λ (keys : List Key). keys ++ END ∷ []) starts ∙ cut;
-  inside = inside;
-}
+were old new hulls list cut starts inside = grind arith
 
 -- widths of a task set so far, with the hulls of their keys
 abbrev pub IsSet : ℕ → Kept → Kept → Hulls → Type 0
@@ -94,11 +75,5 @@ set-same slaves first now kept held hulls is are so_far =
 
 pub set-more : (slaves : ℕ) (first now kept : Kept) (hulls held : Hulls) (key : Key) (bits : ℕ) → IsSet slaves first now hulls → kept.tree ≡ record now.tree { list = with_width key bits now.tree.list }
     → kept.starts ≡ now.starts → HoldsTaskList kept.tree → TakeIn hulls held (same_key key) → IsSet slaves first kept held
-set-more slaves first now kept hulls held key bits so_far tree starts holds taken = record {
-  slaves = ap (λ (t : Tree). t.slaves) tree ∙ so_far.slaves;
-  holds = holds;
-  starts = starts ∙ so_far.starts;
-  inside =
-      subst (λ (t : Tree). Inside first.tree.list t.list held) (sym tree)
-      (inside-more first.tree.list now.tree.list hulls held key bits so_far.holds.list taken so_far.inside);
-}
+set-more slaves first now kept hulls held key bits so_far tree starts holds taken =
+    grind (arith, inside-more)

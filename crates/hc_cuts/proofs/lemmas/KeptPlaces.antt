@@ -12,7 +12,7 @@ use Rattle.hc_records.specs.declared.records.Dir.TheVariants.{Out, In}
 use Rattle.hc_records.specs.Boundaries.{Interval, boundaries, hull, is_settled, later_keys, meets_hull, spans, touched, width_in}
 use Rattle.hc_records.specs.Keys.{is_before, is_within, same_key}
 use Rattle.hc_records.specs.Laws.{IsPackable}
-use Rattle.hc_records.specs.Packing.{Front, Placed, behind, packed, placed_at}
+use Rattle.hc_records.specs.Packing.{Front, behind, packed}
 use Rattle.hc_records.specs.SpanLaws.{IsTaskList, areas_from}
 use Rattle.hc_records.specs.TaskList.{Keyed}
 use Rattle.hc_records.proofs.lemmas.KeyOrder.{before-apart, before-else, before-other, before-trans, other-sym, same_key-same}
@@ -40,9 +40,7 @@ all-behind first key area areas is before =
 found-by : (within : Bool) (first key : Key) (front : Front) (area : Keyed) (areas : List Keyed) → is_within area.0 key ≡ within → IsListFrom first (area ∷ areas)
     → ((next : Front) → find (has_key key) (packed next areas) ≡ find (has_key key) (packed next (up_to key areas)))
     → find (has_key key) (packed front (area ∷ areas)) ≡ find (has_key key) (packed front (if within then area ∷ up_to key areas else up_to key areas))
-found-by true first key front area areas test is rest =
-    let placed = placed_at front area in
-    ap (λ (found : Option Placed). if has_key key placed then Some placed else found) (rest (behind placed))
+found-by true first key front area areas test is rest = grind arith
 found-by false first key front area areas test is rest =
     let later = all-behind first key area areas is (before-else key area.0 test) in
     let none : width_in (area ∷ areas) key ≡ 0 =
@@ -72,10 +70,7 @@ list-up_to first key list is = record {
 }
 
 same-by : (low high : Bool) (a b : ℕ) → (low ≡ true → high ≡ true → a ≡ b) → (if high then (if low then a else 0) else 0) ≡ (if high then (if low then b else 0) else 0)
-same-by true true a b same = same refl refl
-same-by true false a b same = refl
-same-by false true a b same = refl
-same-by false false a b same = refl
+same-by low high a b same = grind arith
 
 width-between : (first last : Key) (list : List Keyed) (key : Key)
     → width_in (up_to last (areas_from first list)) key ≡ (if is_within key last then (if is_within first key then width_in list key else 0) else 0)
@@ -96,7 +91,6 @@ same-between first last old new is is' agree =
 found-from : (at : ℕ) (list : List Keyed) (first key : Key) → IsTaskList list → at + 1 < length (boundaries list) → boundary (boundaries list) at ≡ first → is_within first key ≡ true
     → place_of key list ≡ find (has_key key) (packed (blank_datagram at) (up_to key (areas_from first list)))
 found-from at list first key is within begins low =
-    let from = boundary (boundaries list) at in
     ap (find (has_key key)) (sym (spans-begin (boundaries list) list is refl))
     ∙ skips-spans at list key is within (subst (λ (k : Key). is_within k key ≡ true) (sym begins) low)
     ∙ ap (λ (k : Key). find (has_key key) (packed (blank_datagram at) (areas_from k list))) begins

@@ -24,18 +24,7 @@ returns-clause-keys c =
     })
 
 pub returns-clause-few : goal.returns-clause-few
-returns-clause-few c =
-    let count = count-added c.args.list.now none c.add_cuts.new.keys.items _ _ _ _ _ (record {
-      some = grind (arith, c.is_empty.ensures, c.if-is_empty.false);
-      packable = c.requires;
-      empty = c.new-keys.ensures;
-      first = c.push.ensures.items;
-      opens = c.opening.ensures;
-      stands = c.place.ensures;
-      goes_on = c.behind-front.ensures;
-      rest = c.in_ok-add_cuts.ensures.added;
-    }) in
-    omega (arith, count, c.in_ok-add_cuts.ensures.few)
+returns-clause-few c = grind (arith, count-added)
 
 pub returns-in_err-add_cuts-clause-refused : goal.returns-in_err-add_cuts-clause-refused
 returns-in_err-add_cuts-clause-refused c =

@@ -1,40 +1,17 @@
-use Rattle.std.proofs.Common.{◌≤◌, ◌++◌, inl, inr, true, false, List, [], ◌∷◌, length, refl, ap, arith}
+use Rattle.std.proofs.Common.{inr, true, false, arith}
 use Rattle.std.proofs.lemmas.Bool.Decides.{nat_tests}
-use Rattle.hc_records.specs.declared.keys.Key.{Key}
-use Rattle.hc_records.specs.declared.keys.TheConstants.Key.{END}
 use Rattle.hc_cuts.proofs.Chain.{begun, crowds, end-is, ends, ends-few, goes, goes-place}
 use Rattle.hc_cuts.proofs.Counted.{counts-begin, counts-end, counts-go}
 use Rattle.hc_cuts.proofs.repair.repaired_starts.Goals as goal
 
 pub spans-init : goal.spans-init
-spans-init g c =
-    let long = c.push.ensures.len in
-    let none = ap length c.new-starts.ensures in
-    record {
-      stands = rw (c.push.ensures.items, c.new-starts.ensures) (begun c.args.task.now);
-      begins = inl refl;
-      counts = counts-begin c.args.hulls.now c.args.old.now c.args.task.now c.requires.holds;
-      some = omega arith;
-      few = omega arith;
-      least = omega arith;
-      most = omega arith;
-    }
+spans-init g c = grind (arith, begun, counts-begin)
 
 pub returns-then-is_same-clause-starts : goal.returns-then-is_same-clause-starts
-returns-then-is_same-clause-starts g c =
-    let holds = c.requires.holds in
-    let next = c.span_end-searches.result.0 in
-    let last = end-is c.is_same.result next true c.is_same.ensures c.if-is_same.true in
-    ap (λ (keys : List Key). keys ++ END ∷ [])
-    (ends c.args.task.now c.spans.starts.items c.spans.from next holds c.span_end-searches.ensures.next last c.spans.invariant.stands)
+returns-then-is_same-clause-starts g c = grind (arith, end-is, ends)
 
 pub returns-then-is_same-clause-few : goal.returns-then-is_same-clause-few
-returns-then-is_same-clause-few g c =
-    let holds = c.requires.holds in
-    let next = c.span_end-searches.result.0 in
-    let last = end-is c.is_same.result next true c.is_same.ensures c.if-is_same.true in
-    let all = ends c.args.task.now c.spans.starts.items c.spans.from next holds c.span_end-searches.ensures.next last c.spans.invariant.stands in
-    ends-few c.args.task.now c.spans.starts.items holds all c.spans.invariant.few
+returns-then-is_same-clause-few g c = grind (arith, end-is, ends, ends-few)
 
 pub returns-then-is_same-clause-count : goal.returns-then-is_same-clause-count
 returns-then-is_same-clause-count g c =
@@ -46,11 +23,7 @@ returns-then-is_same-clause-count g c =
     c.span_end-searches.ensures.next last all c.span_end-searches.ensures.searched c.spans.invariant.counts
 
 pub returns-then-is_full-clause-refused : goal.returns-then-is_full-clause-refused
-returns-then-is_full-clause-refused g c =
-    let next = c.span_end-searches.result.0 in
-    let other = end-is c.is_same.result next false c.is_same.ensures c.if-is_same.false in
-    let full : 16 ≤ length c.spans.starts.items = (let value = c.is_full.ensures.value in let test = c.if-is_full.true in grind (arith, nat_tests)) in
-    crowds c.args.task.now c.spans.starts.items c.spans.from next c.requires.holds c.span_end-searches.ensures.next other c.spans.invariant.stands full
+returns-then-is_full-clause-refused g c = grind (arith, end-is, nat_tests, crowds)
 
 pub spans-preserved : goal.spans-preserved
 spans-preserved g c =
@@ -63,10 +36,6 @@ spans-preserved g c =
     let few = so_far.few in
     let least = so_far.least in
     let most = so_far.most in
-    let one = found.one in
-    let less = found.least in
-    let more = found.most in
-    let long = c.push-in-spans.ensures.len in
     record {
       stands = rw c.push-in-spans.ensures.items (goes c.args.task.now c.spans.starts.items c.spans.from next holds found.next other so_far.stands);
       begins = inr (goes-place c.args.task.now c.spans.from next holds found.next other);

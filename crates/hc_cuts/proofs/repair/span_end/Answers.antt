@@ -1,19 +1,14 @@
+use Rattle.std.proofs.Common.{arith}
 use Rattle.std.proofs.Common.{◌≡◌, false, refl, sym, ◌∙◌}
 use Rattle.hc_cuts.proofs.Repaired.{begins-apart, firsts, kept-next, kept-settled, met-unsettled, new-unsettled, settles}
 use Rattle.hc_cuts.proofs.repair.span_end.Goals as goal
 use Rattle.hc_cuts.proofs.repair.span_end.Goals.{in-Some+else-not-meets_either, in_default}
 
 pub returns-then-not-meets_either-clause-next : goal.returns-then-not-meets_either-clause-next
-returns-then-not-meets_either-clause-next g c =
-    let were = c.requires.were in
-    kept-next c.args.hulls.now were.before c.args.task.now.list c.args.old.now c.args.from c.in-Some.next were.list c.requires.holds.list were.inside
-    (firsts were.before c.args.old.now were.keys) (sym c.in-Some.ensures) (sym c.meets_either.ensures ∙ c.if-not-meets_either.true)
+returns-then-not-meets_either-clause-next g c = grind (arith, kept-next, firsts)
 
 pub returns-then-not-meets_either-clause-searched : goal.returns-then-not-meets_either-clause-searched
-returns-then-not-meets_either-clause-searched g c =
-    let were = c.requires.were in
-    rw (kept-settled c.args.hulls.now were.before c.args.old.now c.args.from c.in-Some.next (firsts were.before c.args.old.now were.keys) (sym c.in-Some.ensures)
-    (sym c.meets_either.ensures ∙ c.if-not-meets_either.true)) refl
+returns-then-not-meets_either-clause-searched g c = grind (arith, kept-settled, firsts)
 
 pub returns-clause-searched : goal.returns-clause-searched
 returns-clause-searched g c =

@@ -1,4 +1,4 @@
-use Rattle.std.proofs.Common.{◌≡◌, ◌++◌, ℕ, List, Some, refl, sym, ap, subst, ◌∙◌, arith, slice_index_or}
+use Rattle.std.proofs.Common.{◌≡◌, ◌++◌, ℕ, List, Some, refl, ap, subst, ◌∙◌, arith, slice_index_or}
 use Rattle.std.specs.Prelude.{slice_get}
 use Rattle.hc_records.specs.declared.keys.TheConstants.Key.{START}
 use Rattle.hc_records.specs.Boundaries.{boundaries, spans}
@@ -11,12 +11,7 @@ use Rattle.hc_cuts.proofs.lemmas.Datagrams.{span-inside}
 use Rattle.hc_cuts.proofs.cuts.Cuts.datagram.Goals as goal
 
 pub returns-then-first-starts : goal.returns-then-first-starts
-returns-then-first-starts c =
-    let starts = c.as_slice-starts.result.now in
-    let all = own-boundaries c.args.self.now _ starts c.self.view_is c.as_slice-starts.ensures.value c.requires in
-    c.new-places.ensures.items
-    ∙ sym (behind-starts c.self.inside.tree.list starts c.args.number c.self.invariant.list.packable all (omega arith))
-    ∙ ap (λ (kept : Kept). inside c.args.number (packed opening kept.tree.list)) c.self.view_is
+returns-then-first-starts c = grind (arith, own-boundaries, behind-starts)
 
 pub add_span-requires-clause-ends : goal.add_span-requires-clause-ends
 add_span-requires-clause-ends c =

@@ -1,13 +1,12 @@
 use denote.Enum.Bare.{sameb}
 use Rattle.std.proofs.Common.{◌≡◌, ◌∙◌, ◌==◌, ◌||◌, ℕ, Bool, true, false, List, [], ◌∷◌, refl, sym, ap, arith}
 use Rattle.std.specs.Prelude.{All, IsTrue, if◌then◌else◌}
-use Rattle.std.proofs.Math.Bool.{or-false}
 use Rattle.std.proofs.lemmas.Bool.{or_left}
 use Rattle.std.proofs.lemmas.Bool.Decides.{nat_tests}
 use Rattle.std.proofs.lemmas.List.Elements.{All-head, All-tail}
 use Rattle.hc_records.specs.contracts.records.Dir.{the_type}
 use Rattle.hc_records.specs.declared.records.Dir.{Dir}
-use Rattle.hc_records.specs.declared.records.Dir.TheVariants.{Out, In}
+use Rattle.hc_records.specs.declared.records.Dir.TheVariants.{In}
 use Rattle.hc_records.specs.Keys.{is_before, same_dir}
 use Rattle.hc_records.specs.Laws.{Ascends, IsPackable}
 use Rattle.hc_records.specs.TaskList.{Keyed}
@@ -20,8 +19,7 @@ use Rattle.hc_cuts.specs.Starts.{Kept}
 use Rattle.hc_cuts.proofs.cuts.Cuts.has_inputs.Goals as goal
 
 same-in : (dir : Dir) → sameb the_type dir In ≡ same_dir dir In
-same-in Out = refl
-same-in In = refl
+same-in dir = grind arith
 
 -- the last area of a run is an input
 abbrev ends_in : Sum → Bool
@@ -29,27 +27,18 @@ ends_in Empty = false
 ends_in (Run first last ends) = same_dir last In
 
 -- no output comes behind an input
-behind-in : (dir next : Dir) (rank area later_rank later : ℕ) → is_before (record { dir = dir; rank = rank; area = area }) (record { dir = next; rank = later_rank; area = later }) ≡ true
-    → same_dir dir In ≡ true → same_dir next In ≡ true
-behind-in Out next rank area later_rank later before input = cc
-behind-in In Out rank area later_rank later before input = cc
-behind-in In In rank area later_rank later before input = refl
 
 inputs-behind : (area : Keyed) (areas : List Keyed) (first last : Dir) (ends : List ℕ) → All (λ (other : Keyed). IsTrue (is_before area.0 other.0)) areas
     → sum_of areas ≡ Run first last ends → same_dir area.0.dir In ≡ true → has_inputs areas ≡ true
 inputs-behind area [] first last ends behind some input = cc
 inputs-behind area (next ∷ areas) first last ends behind some input =
-    or_left (same_dir next.0.dir In) (has_inputs areas)
-    (behind-in area.0.dir next.0.dir area.0.rank area.0.area next.0.rank next.0.area (All-head (λ (other : Keyed). IsTrue (is_before area.0 other.0)) next areas behind) input)
+    grind (arith, or_left, All-head)
 
 -- so the last area of a list is an input where any is
 joined-in : (none : Bool) (dir : Dir) (ends : List ℕ) (later : Sum) (others : Bool) → none ≡ false → ends_in later ≡ others
     → ((first last : Dir) (laters : List ℕ) → later ≡ Run first last laters → same_dir dir In ≡ true → others ≡ true)
     → ends_in (joined (if none then Empty else Run dir dir ends) later) ≡ (same_dir dir In || others)
-joined-in true dir ends later others some is behind = cc
-joined-in false dir ends Empty others some is behind = sym (or-false (same_dir dir In)) ∙ ap (λ (b : Bool). same_dir dir In || b) is
-joined-in false Out ends (Run first last laters) others some is behind = is
-joined-in false In ends (Run first last laters) others some is behind = is ∙ behind first last laters refl refl
+joined-in none dir ends later others some is behind = grind arith
 
 sum-ends_in : (list : List Keyed) → All IsPackable list → Ascends list → ends_in (sum_of list) ≡ has_inputs list
 sum-ends_in [] packable ascends = refl

@@ -1,15 +1,12 @@
 use Rattle.std.proofs.Common.{◌+◌, ◌++◌, List, [], ◌∷◌, slice_index_or, refl, sym, ap, ◌∙◌, arith, append_assoc}
 use Rattle.hc_records.specs.declared.keys.TheConstants.Key.{START, END}
-use Rattle.hc_records.specs.Packing.{Placed, opening, packed}
-use Rattle.hc_cuts.specs.Starts.{Kept}
+use Rattle.hc_records.specs.Packing.{Placed}
 use Rattle.hc_cuts.specs.Walk.{span_places}
 use Rattle.hc_cuts.proofs.Whole.{is-span_at, own-boundaries, places_from, spans-begin, spans-end}
 use Rattle.hc_cuts.proofs.cuts.Cuts.places.Goals as goal
 
 pub loop-i-init : goal.loop-i-init
-loop-i-init c =
-    let all = own-boundaries c.args.self.now _ c.as_slice-starts.result.now c.self.view_is c.as_slice-starts.ensures.value c.requires in
-    rw c.new-places.ensures.items (spans-begin (c.as_slice-starts.result.now ++ END ∷ []) c.self.inside.tree.list c.self.invariant.list all)
+loop-i-init c = grind (arith, own-boundaries, spans-begin)
 
 pub add_span-requires-clause-ends : goal.add_span-requires-clause-ends
 add_span-requires-clause-ends c =
@@ -30,10 +27,4 @@ loop-i-preserved c =
     ∙ c.loop-i.invariant)
 
 pub returns : goal.returns
-returns c =
-    let starts = c.as_slice-starts.result.now in
-    let tree = c.self.inside.tree in
-    let low = c.loop-i.auto.i-end in
-    let high = c.loop-i-test.false in
-    spans-end tree starts c.loop-i.places.items c.loop-i.i c.self.invariant (omega arith) c.loop-i.invariant
-    ∙ ap (λ (kept : Kept). packed opening kept.tree.list) c.self.view_is
+returns c = grind (arith, spans-end)

@@ -1,4 +1,5 @@
-use Rattle.std.proofs.Common.{◌≡◌, List, sym, ap, subst, ◌∙◌}
+use Rattle.std.proofs.Common.{arith}
+use Rattle.std.proofs.Common.{◌≡◌, List, ap, ◌∙◌}
 use Rattle.hc_records.specs.declared.keys.Key.{Key}
 use Rattle.hc_records.specs.Boundaries.{boundaries}
 use Rattle.hc_cuts.specs.Repair.{AreOfBefore, unsettled_between}
@@ -10,9 +11,7 @@ use Rattle.hc_cuts.proofs.cuts.Cuts.repair.Goals as goal
 -- the boundaries as the caller has them, and as they are kept
 own-before : (hulls : Hulls) (kept own : Kept) (starts : List Key) → own ≡ kept → starts ≡ own.starts → AreOfBefore kept.starts hulls kept.tree.list
     → AreOfBefore starts hulls own.tree.list
-own-before hulls kept own starts same are were =
-    subst (λ (keys : List Key). AreOfBefore keys hulls own.tree.list) (sym are)
-    (subst (λ (k : Kept). AreOfBefore k.starts hulls k.tree.list) (sym same) were)
+own-before hulls kept own starts same are were = grind arith
 
 pub repaired_starts-requires-clause-were : goal.repaired_starts-requires-clause-were
 repaired_starts-requires-clause-were g c =
