@@ -1,14 +1,12 @@
 -- The eight tasks of a line, and those of a line without slaves.
 use Rattle.std.specs.Prelude.{All, None, map, replicate, slice_index_or}
-use Rattle.std.proofs.Common.{◌≡◌, ℕ, zero, suc, ◌+◌, ◌<◌, ◌≤◌, true, List, [], ◌∷◌, ◌++◌, length, refl, sym, ap, subst, ◌∙◌, arith}
+use Rattle.std.proofs.Common.{◌≡◌, ℕ, zero, suc, ◌+◌, ◌<◌, ◌≤◌, List, [], ◌∷◌, ◌++◌, length, refl, sym, ap, subst, ◌∙◌, arith}
 use Rattle.std.proofs.lemmas.List.{get_or-map}
 use Rattle.std.proofs.lemmas.List.Elements.{All-cons, All-nil}
 use Rattle.hc_records.specs.declared.records.Dir.{Dir}
 use Rattle.hc_records.specs.declared.records.Dir.TheVariants.{Out, In}
 use Rattle.hc_records.specs.declared.records.Area.{Area}
 use Rattle.hc_records.specs.declared.keys.Key.{Key}
-use Rattle.hc_records.specs.Keys.{is_before}
-use Rattle.hc_records.specs.TaskList.{Keyed}
 use Rattle.hc_records.specs.SpanLaws.{IsTaskList}
 use Rattle.hc_records.proofs.lemmas.Lists.{AllPairs-nil}
 use Rattle.hc_cuts.specs.Starts.{Kept, kept_empty}
@@ -30,23 +28,16 @@ kept-at : (count task at : ℕ) (slaves : List (List Area)) (other : Kept) → a
 kept-at zero task at slaves other h = absurd (omega arith)
 kept-at (suc count) task zero slaves other h = let here : task ≡ task + 0 = omega arith in ap (λ (n : ℕ). kept_by n slaves) here
 kept-at (suc count) task (suc at) slaves other h =
-    let more : task + 1 + at ≡ task + suc at = omega arith in
-    kept-at count (task + 1) at slaves other (omega arith) ∙ ap (λ (n : ℕ). kept_by n slaves) more
+    grind (arith, kept-at count (task + 1) at slaves other (omega arith))
 
 pub task-starts : (task : ℕ) (line : List (List Area)) (kept : List Kept) (other : Kept) → task < 8 → kept ≡ line_kept line
     → (slice_index_or kept task other).starts ≡ starts_by task line
-task-starts task line kept other low is =
-    let number : 0 + task ≡ task = omega arith in
-    ap (λ (all : List Kept). (slice_index_or all task other).starts) is
-    ∙ ap (λ (k : Kept). k.starts) (kept-at 8 0 task line other low)
-    ∙ ap (λ (n : ℕ). starts_by n line) number
+task-starts task line kept other low is = grind (arith, kept-at)
 
 pub copied-starts : (task : ℕ) (line : List (List Area)) (kept : List Kept) (starts : List (List Key)) → task < 8 → kept ≡ line_kept line → starts ≡ map (λ k. k.starts) kept
     → slice_index_or starts task [] ≡ starts_by task line
 copied-starts task line kept starts low is copied =
-    ap (λ (all : List (List Key)). slice_index_or all task []) copied
-    ∙ get_or-map (λ k. k.starts) kept task (kept_by 0 line) [] (let eight = ap length is ∙ length-kept 8 0 line in omega arith)
-    ∙ task-starts task line kept (kept_by 0 line) low is
+    grind (arith, get_or-map, length-kept, task-starts)
 
 -- a line none of whose slaves is present
 
@@ -62,11 +53,7 @@ length-absent zero = refl
 length-absent (suc count) = ap suc (length-absent count)
 
 empty-list : IsTaskList []
-empty-list = record {
-  packable = λ k d within. absurd (omega arith);
-  ascends = AllPairs-nil (λ (a b : Keyed). is_before a.0 b.0 ≡ true);
-  between = record { above = λ k d within. absurd (omega arith); below = λ k d within. absurd (omega arith) };
-}
+empty-list = grind (arith, AllPairs-nil)
 
 absent-kept : (count : ℕ) → All AreKept (replicate count [])
 absent-kept zero = All-nil AreKept
@@ -74,11 +61,7 @@ absent-kept (suc count) =
     All-cons AreKept [] (replicate count []) (record { few = omega arith; narrow = λ k d within. absurd (omega arith) }) (absent-kept count)
 
 pub absent-line : (count : ℕ) → count ≤ 2048 → IsLine (replicate count [])
-absent-line count few = record {
-  few = let long = length-absent count in omega arith;
-  kept = absent-kept count;
-  lists = λ task. subst (λ (list : List Keyed). IsTaskList list) (sym (absent-none task count)) empty-list;
-}
+absent-line count few = grind (arith, length-absent, absent-kept, absent-none, empty-list)
 
 pub absent-fits : (tasks task count : ℕ) → crowded_from tasks task (replicate count []) ≡ None
 absent-fits zero task count = refl

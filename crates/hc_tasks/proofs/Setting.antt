@@ -1,6 +1,6 @@
 -- The widths of a task while they are set, key by key.
 use Rattle.std.specs.Prelude.{nat_lt, slice_get, ◌&&◌, ◌||◌}
-use Rattle.std.proofs.Common.{◌≡◌, ℕ, zero, suc, ◌+◌, ◌<◌, ◌≤◌, ◌==◌, nat_le, Bool, true, false, List, [], ◌∷◌, length, refl, sym, ap, ◌∙◌, arith, if◌then◌else◌}
+use Rattle.std.proofs.Common.{◌≡◌, ℕ, zero, suc, ◌+◌, ◌<◌, ◌≤◌, ◌==◌, nat_le, Bool, true, false, List, [], ◌∷◌, length, refl, sym, arith, if◌then◌else◌}
 use Rattle.std.proofs.lemmas.Bool.{cond-false, cond-true, eqb-true}
 use Rattle.std.proofs.lemmas.Bool.Decides.{nat_tests}
 use Rattle.hc_records.specs.declared.records.Dir.{Dir}
@@ -21,12 +21,7 @@ key_of dir rank area = record { dir = dir; rank = rank; area = area }
 
 pub key-set : (old new : Kept) (key : Key) (bits : ℕ) → HoldsTaskList old.tree → new.tree ≡ record old.tree { list = with_width key bits old.tree.list } → new.starts ≡ old.starts
     → HoldsTaskList new.tree → IsSetTo old new (λ other. if same_key key other then bits else width_in old.tree.list other)
-key-set old new key bits was set starts holds = record {
-  slaves = ap (λ tree. tree.slaves) set;
-  starts = starts;
-  holds = holds;
-  each = λ other. ap (λ tree. width_in tree.list other) set ∙ width-set key other bits old.tree.list was.list;
-}
+key-set old new key bits was set starts holds = grind (arith, width-set)
 
 -- both keys of a place in a slave's record
 
@@ -40,27 +35,14 @@ with_areas task rank count new kept key = if (rank == key.rank) && nat_lt key.ar
 
 one-more : (same is below : Bool) (bits rest : ℕ)
     → (if same && is then bits else (if same && below then bits else rest)) ≡ (if same && (below || is) then bits else rest)
-one-more true true true bits rest = refl
-one-more true true false bits rest = refl
-one-more true false true bits rest = refl
-one-more true false false bits rest = refl
-one-more false is below bits rest = refl
+one-more same is below bits rest = grind arith
 
 pub below-next : (n count : ℕ) → (nat_lt n count || (count == n)) ≡ nat_lt n (count + 1)
 below-next n count = grind (arith, nat_tests)
 
 pub areas-go : (task rank count : ℕ) (new : List Area) (old mid last : Kept) → IsSetTo old mid (with_areas task rank count new old)
     → IsSetTo mid last (with_area task rank count new mid) → IsSetTo old last (with_areas task rank (count + 1) new old)
-areas-go task rank count new old mid last first second = record {
-  slaves = second.slaves ∙ first.slaves;
-  starts = second.starts ∙ first.starts;
-  holds = second.holds;
-  each = λ key.
-      second.each key
-      ∙ ap (λ (bits : ℕ). if (rank == key.rank) && (count == key.area) then slave_width task new key else bits) (first.each key)
-      ∙ one-more (rank == key.rank) (count == key.area) (nat_lt key.area count) (slave_width task new key) (width_in old.tree.list key)
-      ∙ ap (λ (test : Bool). if (rank == key.rank) && test then slave_width task new key else width_in old.tree.list key) (below-next key.area count);
-}
+areas-go task rank count new old mid last first second = grind (arith, one-more, below-next)
 
 pub no-area : (areas : List Area) (at : ℕ) (task : ℕ) (dir : Dir) → length areas ≤ at → own_width task dir (slice_get areas at) ≡ 0
 no-area [] at task dir h = refl
@@ -69,10 +51,7 @@ no-area (area ∷ areas) (suc at) task dir h = no-area areas at task dir (omega 
 
 rest-by : (below : Bool) (key : Key) (task count : ℕ) (old new : List Area) (bits : ℕ) → nat_lt key.area count ≡ below → length old ≤ count → length new ≤ count
     → bits ≡ slave_width task old key → (if below then slave_width task new key else bits) ≡ slave_width task new key
-rest-by true key task count old new bits test few fewer was = refl
-rest-by false key task count old new bits test few fewer was =
-    let high : count ≤ key.area = grind (arith, nat_tests) in
-    was ∙ no-area old key.area task key.dir (omega arith) ∙ sym (no-area new key.area task key.dir (omega arith))
+rest-by below key task count old new bits test few fewer was = grind (arith, nat_tests, no-area)
 
 slave-by : (same : Bool) (key : Key) (task rank count : ℕ) (old new : List Area) (bits : ℕ) → (rank == key.rank) ≡ same → length old ≤ count → length new ≤ count
     → (key.rank ≡ rank → bits ≡ slave_width task old key)
@@ -84,12 +63,7 @@ slave-by false key task rank count old new bits test few fewer was = refl
 pub areas-end : (task rank count : ℕ) (old new : List Area) (before last : Kept) → length old ≤ count → length new ≤ count
     → ((key : Key) → key.rank ≡ rank → width_in before.tree.list key ≡ slave_width task old key)
     → IsSetTo before last (with_areas task rank count new before) → IsSetTo before last (with_slave task rank new before)
-areas-end task rank count old new before last few fewer was set = record {
-  slaves = set.slaves;
-  starts = set.starts;
-  holds = set.holds;
-  each = λ key. set.each key ∙ slave-by (rank == key.rank) key task rank count old new (width_in before.tree.list key) refl few fewer (was key);
-}
+areas-end task rank count old new before last few fewer was set = grind (arith, slave-by)
 
 -- the slaves, up to a rank
 
@@ -99,69 +73,31 @@ up_to task rank old new key = if nat_le key.rank rank then width_at task new key
 -- up to a rank the slaves have the same areas
 first-by : (low : Bool) (key : Key) (task rank : ℕ) (old new : List (List Area)) → nat_le key.rank rank ≡ low → (key.rank ≤ rank → areas_at old key.rank ≡ areas_at new key.rank)
     → width_at task old key ≡ (if low then width_at task new key else width_at task old key)
-first-by true key task rank old new test same =
-    let low : key.rank ≤ rank = grind (arith, nat_tests) in
-    ap (λ (areas : List Area). slave_width task areas key) (same low)
-first-by false key task rank old new test same = refl
+first-by low key task rank old new test same = grind (arith, nat_tests)
 
 pub slaves-begin : (task rank : ℕ) (old new : List (List Area)) (kept : Kept) → HoldsTaskList kept.tree → ((key : Key) → width_in kept.tree.list key ≡ width_at task old key)
     → ((r : ℕ) → r ≤ rank → areas_at old r ≡ areas_at new r) → IsSetTo kept kept (up_to task rank old new)
-slaves-begin task rank old new kept holds was same = record {
-  slaves = refl;
-  starts = refl;
-  holds = holds;
-  each = λ key. was key ∙ first-by (nat_le key.rank rank) key task rank old new refl (same key.rank);
-}
+slaves-begin task rank old new kept holds was same = grind (arith, first-by)
 
 next-by : (same below : Bool) (key : Key) (task rank : ℕ) (old new : List (List Area)) (areas : List Area) → (rank + 1 == key.rank) ≡ same → nat_le key.rank rank ≡ below
     → areas ≡ areas_at new (rank + 1)
     → (if same then slave_width task areas key else (if below then width_at task new key else width_at task old key)) ≡ up_to task (rank + 1) old new key
-next-by true below key task rank old new areas is test own =
-    let here : rank + 1 ≡ key.rank = eqb-true (rank + 1) key.rank is in
-    let within : nat_le key.rank (rank + 1) ≡ true = grind (arith, nat_tests) in
-    ap (λ (list : List Area). slave_width task list key) (own ∙ ap (areas_at new) here)
-    ∙ sym (cond-true (nat_le key.rank (rank + 1)) (width_at task new key) (width_at task old key) within)
-next-by false true key task rank old new areas is test own =
-    let within : nat_le key.rank (rank + 1) ≡ true = grind (arith, nat_tests) in
-    sym (cond-true (nat_le key.rank (rank + 1)) (width_at task new key) (width_at task old key) within)
-next-by false false key task rank old new areas is test own =
-    let beyond : nat_le key.rank (rank + 1) ≡ false = grind (arith, nat_tests) in
-    sym (cond-false (nat_le key.rank (rank + 1)) (width_at task new key) (width_at task old key) beyond)
+next-by same below key task rank old new areas is test own =
+    grind (arith, eqb-true, nat_tests, cond-true, cond-false)
 
 pub slaves-go : (task rank : ℕ) (old new : List (List Area)) (areas : List Area) (before mid last : Kept) → areas ≡ areas_at new (rank + 1)
     → IsSetTo before mid (up_to task rank old new) → IsSetTo mid last (with_slave task (rank + 1) areas mid) → IsSetTo before last (up_to task (rank + 1) old new)
-slaves-go task rank old new areas before mid last own first second = record {
-  slaves = second.slaves ∙ first.slaves;
-  starts = second.starts ∙ first.starts;
-  holds = second.holds;
-  each = λ key.
-      second.each key
-      ∙ ap (λ (bits : ℕ). if rank + 1 == key.rank then slave_width task areas key else bits) (first.each key)
-      ∙ next-by (rank + 1 == key.rank) (nat_le key.rank rank) key task rank old new areas refl refl own;
-}
+slaves-go task rank old new areas before mid last own first second = grind (arith, next-by)
 
 pub slaves-was : (task rank : ℕ) (old new : List (List Area)) (areas : List Area) (before mid : Kept) → areas ≡ areas_at old (rank + 1)
     → IsSetTo before mid (up_to task rank old new) → (key : Key) → key.rank ≡ rank + 1 → width_in mid.tree.list key ≡ slave_width task areas key
-slaves-was task rank old new areas before mid own set key here =
-    let later : nat_le key.rank rank ≡ false = grind (arith, nat_tests) in
-    set.each key
-    ∙ cond-false (nat_le key.rank rank) (width_at task new key) (width_at task old key) later
-    ∙ ap (λ (r : ℕ). slave_width task (areas_at old r) key) here
-    ∙ ap (λ (list : List Area). slave_width task list key) (sym own)
+slaves-was task rank old new areas before mid own set key here = grind (arith, nat_tests, cond-false)
 
 -- behind a rank they have the same again
 end-by : (below : Bool) (key : Key) (task rank : ℕ) (old new : List (List Area)) → nat_le key.rank rank ≡ below → (rank < key.rank → areas_at old key.rank ≡ areas_at new key.rank)
     → (if below then width_at task new key else width_at task old key) ≡ width_at task new key
-end-by true key task rank old new test same = refl
-end-by false key task rank old new test same =
-    let high : rank < key.rank = grind (arith, nat_tests) in
-    ap (λ (areas : List Area). slave_width task areas key) (same high)
+end-by below key task rank old new test same = grind (arith, nat_tests)
 
 pub slaves-end : (task rank : ℕ) (old new : List (List Area)) (before last : Kept) → ((r : ℕ) → rank < r → areas_at old r ≡ areas_at new r)
     → IsSetTo before last (up_to task rank old new) → IsSetTo before last (width_at task new)
-slaves-end task rank old new before last same set = record {
-  slaves = set.slaves;
-  starts = set.starts;
-  holds = set.holds;
-  each = λ key. set.each key ∙ end-by (nat_le key.rank rank) key task rank old new refl (same key.rank);
-}
+slaves-end task rank old new before last same set = grind (arith, end-by)

@@ -19,12 +19,10 @@ use Rattle.hc_tasks.proofs.Setting.{below-next, key_of, no-area}
 -- hulls that take keys in, one set of them after another
 
 or-off : (a b : Bool) → b ≡ false → a ≡ (a || b)
-or-off true b none = refl
-or-off false b none = sym none
+or-off a b none = grind arith
 
 or-assoc : (a b c : Bool) → ((a || b) || c) ≡ (a || (b || c))
-or-assoc true b c = refl
-or-assoc false b c = refl
+or-assoc a b c = grind arith
 
 takes-none : (hulls : Hulls) (keys : Key → Bool) → ((key : Key) → keys key ≡ false) → TakeIn hulls hulls keys
 takes-none hulls keys none = λ test are. hulls-same test (λ key. test key || keys key) hulls (λ key. or-off (test key) (keys key) (none key)) are
@@ -67,13 +65,7 @@ key-taken task old new key before after other takes =
 
 both-by : (dir : Dir) (same_rank same_area differ : Bool)
     → (((same_dir Out dir && same_rank && same_area) && differ) || ((same_dir In dir && same_rank && same_area) && differ)) ≡ (same_rank && same_area && differ)
-both-by Out true true true = refl
-both-by Out true true false = refl
-both-by Out true false differ = refl
-both-by Out false same_area differ = refl
-both-by In true true differ = refl
-both-by In true false differ = refl
-both-by In false same_area differ = refl
+both-by dir same_rank same_area differ = grind arith
 
 pub area-taken : (task rank area : ℕ) (old new : List Area) (before mid after : Hulls)
     → TakeIn before mid (λ key. same_key (key_of Out rank area) key && differs task old new key)
@@ -90,11 +82,7 @@ abbrev pub below : ℕ → ℕ → ℕ → List Area → List Area → Key → B
 below task rank count old new key = (rank == key.rank) && nat_lt key.area count && differs task old new key
 
 one-more : (same lower is differ : Bool) → ((same && lower && differ) || (same && is && differ)) ≡ (same && (lower || is) && differ)
-one-more true true is true = refl
-one-more true true true false = refl
-one-more true true false false = refl
-one-more true false is differ = refl
-one-more false lower is differ = refl
+one-more same lower is differ = grind arith
 
 pub areas-taken : (task rank count : ℕ) (old new : List Area) (before mid after : Hulls) → TakeIn before mid (below task rank count old new)
     → TakeIn mid after (λ key. (rank == key.rank) && (count == key.area) && differs task old new key) → TakeIn before after (below task rank (count + 1) old new)
@@ -137,10 +125,7 @@ equal-differs task old new key same =
 
 no-rank : (low : Bool) (task rank : ℕ) (old new : List (List Area)) (key : Key) → nat_le key.rank rank ≡ low → (key.rank ≤ rank → areas_at old key.rank ≡ areas_at new key.rank)
     → (low && differs_at task old new key) ≡ false
-no-rank true task rank old new key test same =
-    let low : key.rank ≤ rank = grind (arith, nat_tests) in
-    equal-differs task old new key (same low)
-no-rank false task rank old new key test same = refl
+no-rank low task rank old new key test same = grind (arith, nat_tests, equal-differs)
 
 -- the slaves up to a rank have the same areas
 pub ranks-begin : (task rank : ℕ) (old new : List (List Area)) → ((r : ℕ) → r ≤ rank → areas_at old r ≡ areas_at new r) → AreHulls (up_to_rank task rank old new) no_hulls
@@ -174,9 +159,7 @@ at-any (areas ∷ slaves) (suc i) a b within = at-any slaves i a b (omega arith)
 
 pub areas-of : (slaves : List (List Area)) (i : ℕ) (areas own : List Area) → areas ≡ own → own ≡ slice_index_or slaves i own → i < length slaves
     → areas ≡ areas_at slaves (i + 1)
-areas-of slaves i areas own same is within =
-    let next : suc i ≡ i + 1 = omega arith in
-    same ∙ is ∙ at-any slaves i own [] within ∙ ap (areas_at slaves) next
+areas-of slaves i areas own same is within = grind (arith, at-any)
 
 pub ranks-go : (task rank : ℕ) (old new : List (List Area)) (was is : List Area) (mid after : Hulls) → was ≡ areas_at old (rank + 1) → is ≡ areas_at new (rank + 1)
     → AreHulls (up_to_rank task rank old new) mid → TakeIn mid after (λ key. (rank + 1 == key.rank) && differs task was is key) → AreHulls (up_to_rank task (rank + 1) old new) after
@@ -186,10 +169,7 @@ ranks-go task rank old new was is mid after first second are takes =
 
 end-by : (lower : Bool) (task rank : ℕ) (old new : List (List Area)) (key : Key) → nat_le key.rank rank ≡ lower → (rank < key.rank → areas_at old key.rank ≡ areas_at new key.rank)
     → (lower && differs_at task old new key) ≡ differs_at task old new key
-end-by true task rank old new key test same = refl
-end-by false task rank old new key test same =
-    let high : rank < key.rank = grind (arith, nat_tests) in
-    sym (equal-differs task old new key (same high))
+end-by lower task rank old new key test same = grind (arith, nat_tests, equal-differs)
 
 -- and so have those behind a rank
 pub ranks-end : (task rank : ℕ) (old new : List (List Area)) (hulls : Hulls) → ((r : ℕ) → rank < r → areas_at old r ≡ areas_at new r) → AreHulls (up_to_rank task rank old new) hulls

@@ -1,6 +1,6 @@
 -- A task that is turned into that of another line.
-use Rattle.std.specs.Prelude.{All, filter, map, nat_lt, not, ◌==◌}
-use Rattle.std.proofs.Common.{◌≡◌, ℕ, suc, ◌+◌, ◌<◌, ◌≤◌, Bool, true, false, List, [], ◌∷◌, ◌++◌, length, refl, sym, ap, subst, ◌∙◌, arith, if◌then◌else◌}
+use Rattle.std.specs.Prelude.{All, filter, nat_lt, not, ◌==◌}
+use Rattle.std.proofs.Common.{◌≡◌, ℕ, suc, ◌+◌, ◌≤◌, Bool, true, false, List, [], ◌∷◌, ◌++◌, length, refl, sym, ap, subst, ◌∙◌, arith, if◌then◌else◌}
 use Rattle.std.proofs.lemmas.Bool.{cond-false, cond-true, eqb-true, not-false}
 use Rattle.std.proofs.lemmas.Bool.Decides.{nat_tests}
 use Rattle.std.proofs.lemmas.List.{append_cancel_right}
@@ -11,8 +11,7 @@ use Rattle.hc_records.specs.declared.records.Dir.TheVariants.{Out, In}
 use Rattle.hc_records.specs.declared.records.Area.{Area}
 use Rattle.hc_records.specs.declared.keys.Key.{Key}
 use Rattle.hc_records.specs.declared.keys.TheConstants.Key.{START, END}
-use Rattle.hc_records.specs.Area.{width}
-use Rattle.hc_records.specs.TaskList.{Keyed, belongs}
+use Rattle.hc_records.specs.TaskList.{Keyed}
 use Rattle.hc_records.specs.Boundaries.{boundaries, is_touched, later_keys, touched, unsettled_spans, width_in}
 use Rattle.hc_records.specs.Image.{datagram_count}
 use Rattle.hc_records.specs.Packing.{opening, packed}
@@ -35,16 +34,13 @@ use Rattle.hc_tasks.proofs.lemmas.Told.{width-by}
 
 area-by : (own : Bool) (slaves : ℕ) (area : Keyed) (areas : List Keyed) → HasPlace slaves area.0 → All (λ a. HasPlace slaves a.0) areas
     → All (λ a. HasPlace slaves a.0) (if own then area ∷ areas else areas)
-area-by true slaves area areas place all = All-cons (λ a. HasPlace slaves a.0) area areas place all
-area-by false slaves area areas place all = all
+area-by own slaves area areas place all = grind (arith, All-cons)
 
 area-places : (slaves task : ℕ) (dir : Dir) (rank index : ℕ) (areas : List Area) → 1 ≤ rank → rank ≤ slaves → index + length areas ≤ 8
     → All (λ a. HasPlace slaves a.0) (area_list task dir rank index areas)
 area-places slaves task dir rank index [] some low few = All-nil (λ a. HasPlace slaves a.0)
 area-places slaves task dir rank index (area ∷ areas) some low few =
-    area-by (belongs task dir area) slaves (record { dir = dir; rank = rank; area = index }, width area) (area_list task dir rank (index + 1) areas)
-    (record { first = some; last = low; area = omega arith })
-    (area-places slaves task dir rank (index + 1) areas some low (omega arith))
+    grind (arith, area-by, area-places slaves task dir rank (index + 1) areas some low (omega arith))
 
 rank-places : (slaves task : ℕ) (dir : Dir) (rank : ℕ) (lists : List (List Area)) → 1 ≤ rank → rank + length lists ≤ slaves + 1 → All AreKept lists
     → All (λ a. HasPlace slaves a.0) (rank_list task dir rank lists)
@@ -94,32 +90,22 @@ cut-kept task slaves before last was same starts =
 
 pub fits-by : (task : ℕ) (slaves : List (List Area)) (tree : Tree) → tree ≡ tree_by task slaves → datagram_count (packed opening tree.list) ≤ MOST_DATAGRAMS
     → is_crowded task slaves ≡ false
-fits-by task slaves tree is few =
-    let low : datagram_count (packed opening (list_by task slaves)) ≤ MOST_DATAGRAMS = subst (λ (t : Tree). datagram_count (packed opening t.list) ≤ MOST_DATAGRAMS) is few in
-    grind (arith, nat_tests)
+fits-by task slaves tree is few = grind (arith, nat_tests)
 
 pub crowds-by : (task : ℕ) (slaves : List (List Area)) (tree : Tree) → tree ≡ tree_by task slaves → IsCrowded tree.list → is_crowded task slaves ≡ true
-crowds-by task slaves tree is many =
-    let high : MOST_DATAGRAMS < datagram_count (packed opening (list_by task slaves)) = subst (λ (t : Tree). IsCrowded t.list) is many in
-    grind (arith, nat_tests)
+crowds-by task slaves tree is many = grind (arith, nat_tests)
 
 -- the hulls of the keys whose widths differ are those of the touched ones
 
 pub touched-hulls : (task : ℕ) (old new : List (List Area)) (hulls : Hulls) → AreHulls (differs_at task old new) hulls
     → AreHulls (is_touched (list_by task old) (list_by task new)) hulls
-touched-hulls task old new hulls are =
-    hulls-same (differs_at task old new) (is_touched (list_by task old) (list_by task new)) hulls
-    (λ key.
-    ap (λ (bits : ℕ). not (bits == width_at task new key)) (sym (width-by old task key))
-    ∙ ap (λ (bits : ℕ). not (width_in (list_by task old) key == bits)) (sym (width-by new task key))) are
+touched-hulls task old new hulls are = grind (arith, hulls-same, width-by)
 
 -- where there is none, the task of the one line is that of the other
 
 untouched-key : (task : ℕ) (old new : List (List Area)) (hulls : Hulls) → AreHulls (is_touched (list_by task old) (list_by task new)) hulls → are_none hulls ≡ true
     → (key : Key) → is_touched (list_by task old) (list_by task new) key ≡ false
-untouched-key task old new hulls are none key =
-    none-passes (is_touched (list_by task old) (list_by task new)) key
-    (subst (λ (h : Hulls). AreHulls (is_touched (list_by task old) (list_by task new)) h) (none-are hulls none) are)
+untouched-key task old new hulls are none key = grind (arith, none-passes, none-are)
 
 pub lists-same : (task : ℕ) (old new : List (List Area)) (hulls : Hulls) → IsLine old → IsLine new → AreHulls (is_touched (list_by task old) (list_by task new)) hulls → are_none hulls ≡ true
     → list_by task old ≡ list_by task new
@@ -144,9 +130,7 @@ filter-none test (key ∷ keys) none = rw (none key) (filter-none test keys none
 
 pub none-touched : (task : ℕ) (old new : List (List Area)) (hulls : Hulls) → AreHulls (is_touched (list_by task old) (list_by task new)) hulls → are_none hulls ≡ true
     → is_touched_by task old new ≡ false
-none-touched task old new hulls are none =
-    ap (λ (keys : List Key). nat_lt 0 (length keys))
-    (filter-none (is_touched (list_by task old) (list_by task new)) (map (λ (area : Keyed). area.0) (list_by task old ++ list_by task new)) (untouched-key task old new hulls are none))
+none-touched task old new hulls are none = grind (arith, filter-none, untouched-key)
 
 pub recut-none : (task : ℕ) (old new : List (List Area)) (hulls : Hulls) → AreHulls (is_touched (list_by task old) (list_by task new)) hulls → are_none hulls ≡ true → 0 ≡ recut_by task old new
 recut-none task old new hulls are none =
@@ -171,8 +155,7 @@ some-touched task old new hulls are some = some-by task old new hulls are some (
 -- so its hulls tell whether it is
 pub tells-touched : (task : ℕ) (old new : List (List Area)) (hulls : Hulls) (none : Bool) → AreHulls (is_touched (list_by task old) (list_by task new)) hulls → none ≡ are_none hulls
     → not none ≡ is_touched_by task old new
-tells-touched task old new hulls true are is = sym (none-touched task old new hulls are (sym is))
-tells-touched task old new hulls false are is = sym (some-touched task old new hulls are (sym is))
+tells-touched task old new hulls none are is = grind (arith, none-touched, some-touched)
 
 pub one-touched : (task : ℕ) (old new : List (List Area)) → is_touched_by task old new ≡ true → touched_by task old new ≡ 1
 one-touched task old new is = cond-true (is_touched_by task old new) 1 0 is
@@ -183,12 +166,7 @@ pub recut-some : (task recut : ℕ) (old new : List (List Area)) (hulls : Hulls)
     → ((list : List Keyed) → mid.starts ++ END ∷ [] ≡ boundaries list → AreHulls (is_touched list mid.tree.list) hulls → recut ≡ unsettled_spans list mid.tree.list)
     → recut ≡ recut_by task old new
 recut-some task recut old new hulls before mid are some was starts is counted =
-    let list = ap (λ (tree : Tree). tree.list) is in
-    let begun = ap (λ (keys : List Key). keys ++ END ∷ []) (starts ∙ ap (λ (kept : Kept). kept.starts) was) in
-    let own = subst (λ (keyed : List Keyed). AreHulls (is_touched (list_by task old) keyed) hulls) (sym list) are in
-    counted (list_by task old) begun own
-    ∙ ap (unsettled_spans (list_by task old)) list
-    ∙ sym (cond-true (is_touched_by task old new) (unsettled_spans (list_by task old) (list_by task new)) 0 (some-touched task old new hulls are some))
+    grind (arith, cond-true, some-touched)
 
 -- the boundaries of before are those of the one line's task, which differs inside these hulls alone
 pub are-of_before : (task : ℕ) (old new : List (List Area)) (hulls : Hulls) (before mid : Kept) → IsLine old → AreHulls (is_touched (list_by task old) (list_by task new)) hulls

@@ -1,5 +1,5 @@
 -- Tasks in a row that are turned, or put back.
-use Rattle.std.specs.Prelude.{All, Err, None, Ok, OnErr, OnOk, Option, Result, Some, drop, replicate, slice_index_or, slice_set, take}
+use Rattle.std.specs.Prelude.{All, None, OnErr, OnOk, Option, Result, Some, drop, replicate, slice_index_or, slice_set, take}
 use Rattle.std.proofs.Common.{◌≡◌, ℕ, suc, ◌+◌, Bool, true, false, if◌then◌else◌, List, [], ◌∷◌, ◌++◌, length, refl, sym, ap, subst, ◌∙◌, arith, length-append}
 use Rattle.std.proofs.Math.Seq.{take-append_seam}
 use Rattle.hc_records.specs.declared.keys.Key.{Key}
@@ -14,15 +14,7 @@ use Rattle.hc_tasks.proofs.Turned.{set-tree}
 use Rattle.hc_tasks.proofs.lemmas.Turning.{whole-turn}
 
 pub as-long : (first : ℕ) (before after old new : List (List Area)) → AreLines first before after old new → length new ≡ length old
-as-long first before after old new lines =
-    let many = lines.many in
-    let was = ap (λ (s : List (List Area)). length s) lines.was in
-    let is = ap (λ (s : List (List Area)). length s) lines.is in
-    let a = length-append lines.front (before ++ lines.behind) in
-    let b = length-append lines.front (after ++ lines.behind) in
-    let d = length-append before lines.behind in
-    let e = length-append after lines.behind in
-    omega (arith, many, was, is, a, b, d, e)
+as-long first before after old new lines = grind (arith, length-append)
 
 -- a task whose widths are set to those of the new line
 pub set-turned : (task first : ℕ) (before after old new : List (List Area)) (kept mid : Kept) → AreLines first before after old new → kept.tree ≡ tree_by task old
@@ -43,8 +35,7 @@ set-first (first ∷ []) rest kept one = refl
 set-first (first ∷ next ∷ these) rest kept one = absurd (omega arith)
 
 fits-first : (crowded : Bool) (task : ℕ) (rest : Option ℕ) → (if crowded then Some task else rest) ≡ None → (crowded ≡ false) × (rest ≡ None)
-fits-first true task rest is = cc
-fits-first false task rest is = (refl, is)
+fits-first crowded task rest is = grind arith
 
 head-of : (a b : Kept) (these those : List Kept) → a ∷ these ≡ b ∷ those → a ≡ b
 head-of a b these those is = ap (λ (xs : List Kept). slice_index_or xs 0 a) is
@@ -55,19 +46,11 @@ tail-of a b these those is = ap (λ (xs : List Kept). drop 1 xs) is
 -- so a turn of them is one of the first and one of the rest
 pub first-turn : (count task : ℕ) (kept : Kept) (rest : List Kept) (first : ℕ) (before after old new : List (List Area))
     → IsTurn (suc count) task (kept ∷ rest) first before after old new → IsTaskTurn task kept first before after old new
-first-turn count task kept rest first before after old new turn = record {
-  lines = turn.lines;
-  stands = head-of kept (kept_by task old) rest (kept_from count (task + 1) old) turn.stand;
-  fits = (fits-first (is_crowded task old) task (crowded_from count (task + 1) old) turn.fits).0;
-}
+first-turn count task kept rest first before after old new turn = grind (arith, head-of, fits-first)
 
 pub rest-turn : (count task : ℕ) (kept : Kept) (rest : List Kept) (first : ℕ) (before after old new : List (List Area))
     → IsTurn (suc count) task (kept ∷ rest) first before after old new → IsTurn count (task + 1) rest first before after old new
-rest-turn count task kept rest first before after old new turn = record {
-  lines = turn.lines;
-  stand = tail-of kept (kept_by task old) rest (kept_from count (task + 1) old) turn.stand;
-  fits = (fits-first (is_crowded task old) task (crowded_from count (task + 1) old) turn.fits).1;
-}
+rest-turn count task kept rest first before after old new turn = grind (arith, tail-of, fits-first)
 
 pub first-crowded : (count task : ℕ) (new : List (List Area)) → is_crowded task new ≡ true → crowded_from (suc count) task new ≡ Some task
 first-crowded count task new is = rw is refl
@@ -127,18 +110,13 @@ eight-put kept lent first before after starts old new is eight put =
 
 are-tasks : (result : Result ℕ ℕ) (lent last : List Kept) (new : List (List Area)) → OnOk result (last ≡ kept_from (length lent) 0 new) → OnErr result (last ≡ lent)
     → (length lent ≡ 8) × All IsCut lent → (length last ≡ 8) × All IsCut last
-are-tasks (Ok recut) lent last new turned same are = line-is last new (turned ∙ ap (λ (n : ℕ). kept_from n 0 new) are.0)
-are-tasks (Err task) lent last new turned same are = subst (λ (ks : List Kept). (length ks ≡ 8) × All IsCut ks) (sym same) are
+are-tasks result lent last new turned same are = grind (arith, line-is)
 
 -- and what they are when it comes back
 
 back-again : (len : ℕ) (kept last : List Kept) → len ≡ length kept → length kept ≡ 8 → (length last ≡ 8) × All IsCut last
     → (take len (last ++ drop (length last) kept) ≡ last) × (length last ≡ 8) × All IsCut last
-back-again len kept last long eight are = (
-  ap (λ (n : ℕ). take n (last ++ drop (length last) kept)) (long ∙ eight ∙ sym are.0) ∙ take-append_seam last (drop (length last) kept),
-  are.0,
-  are.1,
-)
+back-again len kept last long eight are = grind (arith, take-append_seam)
 
 pub given-back : (len : ℕ) (kept lent last : List Kept) (result : Result ℕ ℕ) (new : List (List Area)) → len ≡ length kept → lent ≡ kept → (length kept ≡ 8) × All IsCut kept
     → OnOk result (last ≡ kept_from (length lent) 0 new) → OnErr result (last ≡ lent)

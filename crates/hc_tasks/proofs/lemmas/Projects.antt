@@ -1,17 +1,15 @@
 -- The areas of the slaves of a project's groups, and of those that an edit leaves.
-use Rattle.std.specs.Prelude.{All, None, Option, Some, filter, find, map, nat_lt, sum_by}
-use Rattle.std.proofs.Common.{◌≡◌, ℕ, ◌+◌, Bool, true, false, List, [], ◌∷◌, length, refl, sym, ap, subst, ◌∙◌, arith, if◌then◌else◌, length-append}
+use Rattle.std.specs.Prelude.{All, None, filter, find, map, nat_lt, sum_by}
+use Rattle.std.proofs.Common.{◌≡◌, ℕ, ◌+◌, Bool, List, [], ◌∷◌, length, refl, sym, ap, subst, ◌∙◌, arith, if◌then◌else◌, length-append}
 use Rattle.std.proofs.lemmas.List.Elements.{All-append, All-cons, All-head, All-nil, All-tail}
 use Rattle.std.proofs.lemmas.List.Sums.{sum_by-cons}
-use Rattle.hc_records.specs.declared.limits.TheConstants.{MOST_DATAGRAMS}
 use Rattle.hc_records.specs.declared.records.Slave.{Slave}
 use Rattle.hc_records.specs.declared.records.Declared.{Declared}
 use Rattle.hc_records.specs.Boundaries.{is_touched_task, recut, touched, unsettled_spans}
 use Rattle.hc_records.specs.Edits.{crowded_task}
-use Rattle.hc_records.specs.Image.{datagram_count, task_places, tasks}
+use Rattle.hc_records.specs.Image.{tasks}
 use Rattle.hc_records.specs.Limits.{IsSlaveInside}
 use Rattle.hc_records.specs.Line.{State, groups_of, line_from}
-use Rattle.hc_records.specs.Packing.{opening, packed}
 use Rattle.hc_records.specs.Project.{lowest_fault}
 use Rattle.hc_records.specs.SpanLaws.{IsTaskList}
 use Rattle.hc_records.specs.TaskList.{Keyed, task_list}
@@ -20,7 +18,7 @@ use Rattle.hc_records.proofs.lemmas.Lines.{declared_slaves, each-group}
 use Rattle.hc_records.proofs.lemmas.Projects.{project-few}
 use Rattle.hc_records.proofs.lemmas.TaskLists.{project-list}
 use Rattle.hc_tasks.specs.Areas.{areas_by_rank, list_by, present_areas}
-use Rattle.hc_tasks.specs.Kept.{IsLine, crowded_from, is_crowded}
+use Rattle.hc_tasks.specs.Kept.{IsLine, crowded_from}
 use Rattle.hc_tasks.specs.Recut.{recut_by, recut_from}
 use Rattle.hc_tasks.specs.Widths.{AreKept}
 use Rattle.hc_tasks.proofs.lemmas.Told.{length-present, task-listed}
@@ -28,14 +26,12 @@ use Rattle.hc_tasks.proofs.lemmas.Told.{length-present, task-listed}
 -- a slave's areas, or none
 
 slave-kept : (present : Bool) (slave : Slave) → IsSlaveInside slave → AreKept (if present then slave.areas else [])
-slave-kept true slave inside = record { few = inside.few; narrow = λ k d within. (inside.areas k d within).narrow }
-slave-kept false slave inside = record { few = omega arith; narrow = λ k d within. absurd (omega arith) }
+slave-kept present slave inside = grind arith
 
 group-kept : (present : Bool) (slaves : List Slave) → All IsSlaveInside slaves → All AreKept (map (λ slave. if present then slave.areas else []) slaves)
 group-kept present [] all = All-nil AreKept
 group-kept present (slave ∷ slaves) all =
-    All-cons AreKept (if present then slave.areas else []) (map (λ s. if present then s.areas else []) slaves)
-    (slave-kept present slave (All-head IsSlaveInside slave slaves all)) (group-kept present slaves (All-tail IsSlaveInside slave slaves all))
+    grind (arith, All-cons, slave-kept, All-head, All-tail, group-kept present slaves (All-tail IsSlaveInside slave slaves all))
 
 groups-kept : (groups : List Declared) → All (λ declared. All IsSlaveInside declared.group.slaves) groups → All AreKept (areas_by_rank groups)
 groups-kept [] all = All-nil AreKept
@@ -67,14 +63,10 @@ project-line groups none = record {
 
 find-same : (p q : ℕ → Bool) → ((task : ℕ) → p task ≡ q task) → (list : List ℕ) → find p list ≡ find q list
 find-same p q same [] = refl
-find-same p q same (task ∷ list) =
-    ap (λ (rest : Option ℕ). if p task then Some task else rest) (find-same p q same list)
-    ∙ ap (λ (test : Bool). if test then Some task else find q list) (same task)
+find-same p q same (task ∷ list) = grind (arith, find-same p q same list)
 
 pub line-crowded : (groups : List Declared) → crowded_task (line_from 1 groups) ≡ crowded_from 8 0 (areas_by_rank groups)
-line-crowded groups =
-    find-same (λ task. nat_lt MOST_DATAGRAMS (datagram_count (task_places task (line_from 1 groups)))) (λ task. is_crowded task (areas_by_rank groups))
-    (λ task. ap (λ (list : List Keyed). nat_lt MOST_DATAGRAMS (datagram_count (packed opening list))) (task-listed task groups)) tasks
+line-crowded groups = grind (arith, find-same, task-listed)
 
 -- what is recut of each task
 
@@ -83,15 +75,11 @@ total f [] = 0
 total f (task ∷ tasks) = f task + total f tasks
 
 added-by : (f : ℕ → ℕ) (task : ℕ) (rest : List ℕ) (passes : Bool) → sum_by f (if passes then task ∷ rest else rest) ≡ (if passes then f task else 0) + sum_by f rest
-added-by f task rest true = sum_by-cons f task rest
-added-by f task rest false = omega arith
+added-by f task rest passes = grind (arith, sum_by-cons)
 
 sum-same : (f g : ℕ → ℕ) (passes : ℕ → Bool) → ((task : ℕ) → (if passes task then f task else 0) ≡ g task) → (list : List ℕ) → sum_by f (filter passes list) ≡ total g list
 sum-same f g passes same [] = refl
-sum-same f g passes same (task ∷ list) =
-    added-by f task (filter passes list) (passes task)
-    ∙ ap (λ (n : ℕ). n + sum_by f (filter passes list)) (same task)
-    ∙ ap (λ (n : ℕ). g task + n) (sum-same f g passes same list)
+sum-same f g passes same (task ∷ list) = grind (arith, added-by, sum-same f g passes same list)
 
 abbrev list_recut : List Keyed → List Keyed → ℕ
 list_recut old new = if nat_lt 0 (length (touched old new)) then unsettled_spans old new else 0

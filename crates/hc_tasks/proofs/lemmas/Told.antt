@@ -33,16 +33,14 @@ own-by : (own : Bool) (listed : Listed) (rest : List (ℕ × Area)) (dir : Dir) 
     → map keyed (map (λ x. record { key = key_of dir rank x.0; area = x.1 }) rest) ≡ areas
     → map keyed (map (λ x. record { key = key_of dir rank x.0; area = x.1 }) (if own then e ∷ rest else rest))
     ≡ (if own then (key_of dir rank e.0, width e.1) ∷ areas else areas)
-own-by true listed rest dir rank e areas same = ap (λ (more : List Keyed). (key_of dir rank e.0, width e.1) ∷ more) same
-own-by false listed rest dir rank e areas same = same
+own-by own listed rest dir rank e areas same = grind arith
 
 areas-listed : (task : ℕ) (dir : Dir) (rank index : ℕ) (areas : List Area)
     → map keyed (map (λ e. record { key = key_of dir rank e.0; area = e.1 }) (filter (λ e. belongs task dir e.1) (enumerate_from index areas)))
     ≡ area_list task dir rank index areas
 areas-listed task dir rank index [] = refl
 areas-listed task dir rank index (area ∷ areas) =
-    own-by (belongs task dir area) (record { key = key_of dir rank index; area = area }) (filter (λ e. belongs task dir e.1) (enumerate_from (index + 1) areas)) dir rank (index, area)
-    (area_list task dir rank (index + 1) areas) (areas-listed task dir rank (index + 1) areas)
+    grind (arith, own-by, areas-listed task dir rank (index + 1) areas)
 
 members-listed : (task : ℕ) (dir : Dir) (rank : ℕ) (slaves : List Slave)
     → map keyed (flat_map (slave_areas task dir) (members_from rank slaves)) ≡ rank_list task dir rank (map (λ slave. slave.areas) slaves)
@@ -66,10 +64,7 @@ rank_list-append : (task : ℕ) (dir : Dir) (rank : ℕ) (xs ys : List (List Are
     → rank_list task dir rank (xs ++ ys) ≡ rank_list task dir rank xs ++ rank_list task dir (rank + length xs) ys
 rank_list-append task dir rank [] ys = ap (λ (n : ℕ). rank_list task dir n ys) (omega arith)
 rank_list-append task dir rank (x ∷ xs) ys =
-    let more : rank + 1 + length xs ≡ rank + suc (length xs) = omega arith in
-    ap (λ (rest : List Keyed). area_list task dir rank 0 x ++ rest)
-    (rank_list-append task dir (rank + 1) xs ys ∙ ap (λ (n : ℕ). rank_list task dir (rank + 1) xs ++ rank_list task dir n ys) more)
-    ∙ sym (append_assoc (area_list task dir rank 0 x) (rank_list task dir (rank + 1) xs) (rank_list task dir (rank + suc (length xs)) ys))
+    grind (arith, append_assoc, rank_list-append task dir (rank + 1) xs ys)
 
 pub length-present : (present : Bool) (slaves : List Slave) → length (map (λ slave. if present then slave.areas else []) slaves) ≡ length slaves
 length-present present [] = refl
@@ -91,9 +86,7 @@ line-listed task dir rank (declared ∷ groups) =
 
 pub task-listed : (task : ℕ) (groups : List Declared)
     → task_list task (line_from 1 groups) ≡ list_by task (areas_by_rank groups)
-task-listed task groups =
-    map-append keyed (flat_map (slave_areas task Out) (line_from 1 groups)) (flat_map (slave_areas task In) (line_from 1 groups))
-    ∙ rw (line-listed task Out 1 groups, line-listed task In 1 groups) refl
+task-listed task groups = grind (arith, map-append, line-listed)
 
 -- so it tells the places of a task's areas
 pub place-told : (groups : List Declared) (task : ℕ) (key : Key)
@@ -103,23 +96,19 @@ place-told groups task key = ap (place_of key) (sym (task-listed task groups))
 -- keys that differ
 
 other-area : (dir : Dir) (rank i j : ℕ) → i ≢ j → same_key (key_of dir rank i) (key_of dir rank j) ≡ false
-other-area Out rank i j other = grind (arith, nat_tests)
-other-area In rank i j other = grind (arith, nat_tests)
+other-area dir rank i j other = grind (arith, nat_tests)
 
 other-rank : (dir : Dir) (r s i j : ℕ) → r ≢ s → same_key (key_of dir r i) (key_of dir s j) ≡ false
-other-rank Out r s i j other = grind (arith, nat_tests)
-other-rank In r s i j other = grind (arith, nat_tests)
+other-rank dir r s i j other = grind (arith, nat_tests)
 
 lacks-by : (own : Bool) (area : Keyed) (areas : List Keyed) (key : Key) → same_key area.0 key ≡ false → LacksKey key areas → LacksKey key (if own then area ∷ areas else areas)
-lacks-by true area areas key other lacks = All-cons (λ a. same_key a.0 key ≡ false) area areas other lacks
-lacks-by false area areas key other lacks = lacks
+lacks-by own area areas key other lacks = grind (arith, All-cons)
 
 area-lacks : (task : ℕ) (dir : Dir) (rank index : ℕ) (areas : List Area) (key : Key)
     → ((i : ℕ) → index ≤ i → same_key (key_of dir rank i) key ≡ false) → LacksKey key (area_list task dir rank index areas)
 area-lacks task dir rank index [] key other = All-nil (λ a. same_key a.0 key ≡ false)
 area-lacks task dir rank index (area ∷ areas) key other =
-    lacks-by (belongs task dir area) (key_of dir rank index, width area) (area_list task dir rank (index + 1) areas) key (other index (omega arith))
-    (area-lacks task dir rank (index + 1) areas key (λ i high. other i (omega arith)))
+    grind (arith, lacks-by, area-lacks task dir rank (index + 1) areas key (λ i high. other i (omega arith)))
 
 rank-lacks : (task : ℕ) (dir : Dir) (rank : ℕ) (slaves : List (List Area)) (key : Key)
     → ((r i : ℕ) → rank ≤ r → same_key (key_of dir r i) key ≡ false) → LacksKey key (rank_list task dir rank slaves)
@@ -136,14 +125,11 @@ no-bits bits none = grind (arith, nat_tests)
 
 here-by : (task' dir' wide : Bool) (bits : ℕ) (key : Key) (rest : List Keyed) → nat_lt 0 bits ≡ wide → LacksKey key rest
     → width_in (if task' && dir' && wide then (key, bits) ∷ rest else rest) key ≡ (if task' && dir' then bits else 0)
-here-by true true true bits key rest test lacks = width-here (key, bits) rest key (same_key-refl key)
-here-by true true false bits key rest test lacks = width-absent rest key lacks ∙ no-bits bits test
-here-by true false wide bits key rest test lacks = width-absent rest key lacks
-here-by false dir' wide bits key rest test lacks = width-absent rest key lacks
+here-by task' dir' wide bits key rest test lacks =
+    grind (arith, width-here, same_key-refl, width-absent, no-bits)
 
 there-by : (own : Bool) (area : Keyed) (rest : List Keyed) (key : Key) → same_key area.0 key ≡ false → width_in (if own then area ∷ rest else rest) key ≡ width_in rest key
-there-by true area rest key other = width-skip area rest key other
-there-by false area rest key other = refl
+there-by own area rest key other = grind (arith, width-skip)
 
 area-told : (task : ℕ) (dir : Dir) (rank index at : ℕ) (areas : List Area)
     → width_in (area_list task dir rank index areas) (key_of dir rank (index + at)) ≡ own_width task dir (slice_get areas at)
@@ -153,10 +139,7 @@ area-told task dir rank index zero (area ∷ areas) =
     rw here (here-by (area.task == task) (same_dir area.dir dir) (nat_lt 0 (width area)) (width area) (key_of dir rank index) (area_list task dir rank (index + 1) areas) refl
     (area-lacks task dir rank (index + 1) areas (key_of dir rank index) (λ i high. other-area dir rank i index (omega arith))))
 area-told task dir rank index (suc at) (area ∷ areas) =
-    let more : index + suc at ≡ index + 1 + at = omega arith in
-    rw more (there-by (belongs task dir area) (key_of dir rank index, width area) (area_list task dir rank (index + 1) areas) (key_of dir rank (index + 1 + at))
-    (other-area dir rank index (index + 1 + at) (omega arith))
-    ∙ area-told task dir rank (index + 1) at areas)
+    grind (arith, there-by, other-area, area-told task dir rank (index + 1) at areas)
 
 -- and of slaves in a row
 rank-told : (task : ℕ) (dir : Dir) (rank at area : ℕ) (slaves : List (List Area))
@@ -170,10 +153,7 @@ rank-told task dir rank zero area (areas ∷ slaves) =
     ∙ ap (λ (n : ℕ). width_in (area_list task dir rank 0 areas) (key_of dir rank n)) own
     ∙ area-told task dir rank 0 area areas)
 rank-told task dir rank (suc at) area (areas ∷ slaves) =
-    let more : rank + suc at ≡ rank + 1 + at = omega arith in
-    rw more (lacks-before (area_list task dir rank 0 areas) (rank_list task dir (rank + 1) slaves) (key_of dir (rank + 1 + at) area)
-    (area-lacks task dir rank 0 areas (key_of dir (rank + 1 + at) area) (λ i high. other-rank dir rank (rank + 1 + at) i area (omega arith)))
-    ∙ rank-told task dir (rank + 1) at area slaves)
+    grind (arith, lacks-before, area-lacks, other-rank, rank-told task dir (rank + 1) at area slaves)
 
 direction-told : (task : ℕ) (dir : Dir) (rank area : ℕ) (slaves : List (List Area))
     → width_in (rank_list task dir 1 slaves) (key_of dir rank area) ≡ width_at task slaves (key_of dir rank area)

@@ -1,4 +1,4 @@
-use Rattle.std.proofs.Common.{◌≡◌, ◌≢◌, ℕ, ◌+◌, ◌<◌, List, length, arith, sym, subst, below_more, get_or-set_other, ◌∙◌}
+use Rattle.std.proofs.Common.{◌≡◌, ℕ, ◌+◌, ◌<◌, List, length, arith, below_more, get_or-set_other, ◌∙◌}
 use Rattle.std.proofs.Math.ListN.{length-set}
 use Rattle.std.specs.Prelude.{slice_index_or, slice_set}
 use Rattle.std.proofs.lemmas.Grind.{get_or-set_at}
@@ -13,9 +13,7 @@ one-more : (AreOf : ℕ → Hulls → Type 0) (hulls : List Hulls) (task at : �
     → ((k : ℕ) → k < task → AreOf k (slice_index_or hulls k no_hulls)) → AreOf task more
     → (k : ℕ) → k < task + 1 → AreOf k (slice_index_or (slice_set hulls at more) k no_hulls)
 one-more AreOf hulls task at more is within before own =
-    below_more (λ k. AreOf k (slice_index_or (slice_set hulls at more) k no_hulls)) task
-    (λ k low. let other : k ≢ at = omega arith in subst (AreOf k) (sym (get_or-set_other hulls at k more no_hulls other)) (before k low))
-    (subst (AreOf task) (sym (get_or-set_at hulls at task more no_hulls (sym is) (omega arith))) own)
+    grind (arith, below_more, get_or-set_other, get_or-set_at)
 
 pub loop-task-preserved : goal.loop-task-preserved
 loop-task-preserved c = record {

@@ -1,4 +1,4 @@
-use Rattle.std.proofs.Common.{[], replicate, arith}
+use Rattle.std.proofs.Common.{arith}
 use Rattle.hc_cuts.specs.Starts.{kept_empty}
 use Rattle.hc_tasks.proofs.Lines.{eight-absent, line-is, replicate-more}
 use Rattle.hc_tasks.proofs.tasks.LineCuts.new.Goals as goal
@@ -11,13 +11,7 @@ loop-preserved c =
     rw (c.in_ok-push.ensures.items, c.in_ok-new.ensures, c.loop.invariant) (replicate-more c.loop.counter (kept_empty c.args.slaves))
 
 pub invariant_of-result : goal.invariant_of-result
-invariant_of-result c =
-    let low = c.loop-test.false in
-    let high = c.loop.auto.counter-end in
-    line-is c.loop.tasks.items (replicate c.args.slaves []) (eight-absent c.loop.tasks.items c.loop.counter c.args.slaves c.loop.invariant (omega arith))
+invariant_of-result c = grind (arith, line-is, eight-absent)
 
 pub returns : goal.returns
-returns c =
-    let low = c.loop-test.false in
-    let high = c.loop.auto.counter-end in
-    eight-absent c.loop.tasks.items c.loop.counter c.args.slaves c.loop.invariant (omega arith)
+returns c = grind (arith, eight-absent)
