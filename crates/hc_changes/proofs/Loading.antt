@@ -1,5 +1,5 @@
 -- A task's table put together a datagram at a time, as long as its boundaries go.
-use Rattle.std.proofs.Common.{◌≡◌, ◌∙◌, ap, ℕ, suc, ◌+◌, ◌*◌, ◌<◌, ◌≤◌, Bool, true, false, List, [], ◌∷◌, length, refl, sym, arith, length-append}
+use Rattle.std.proofs.Common.{◌≡◌, ◌∙◌, ap, ℕ, suc, ◌+◌, ◌*◌, ◌<◌, ◌≤◌, Bool, List, [], ◌∷◌, length, refl, sym, arith, length-append, rules}
 use Rattle.std.specs.Prelude.{All, None, min, nat_lt}
 use Rattle.std.proofs.Math.Nat.{min-eq_left}
 use Rattle.std.proofs.lemmas.Bool.{ltb-false, ltb-true}
@@ -24,7 +24,7 @@ use Rattle.hc_tasks.specs.Kept.{starts_by}
 use Rattle.hc_tasks.proofs.lemmas.Told.{task-listed}
 use Rattle.hc_places.specs.declared.loads.Load.{Load}
 use Rattle.hc_places.specs.declared.table.Datagram.{Datagram}
-use Rattle.hc_places.specs.Loads.{IsLoad, load_in, load_of, loaded, with_load}
+use Rattle.hc_places.specs.Loads.{IsLoad, load_in, loaded, with_load}
 use Rattle.hc_places.specs.Table.{Table, TaskTable, task_table}
 use Rattle.hc_places.proofs.lemmas.Lines.{table-loaded}
 use Rattle.hc_changes.specs.Tables.{IsEdited}
@@ -37,11 +37,7 @@ loaded_up_to task areas number = loaded task areas (min number (datagram_count a
 -- a datagram that has some bytes is one of the task's
 some-within : (low : Bool) (list : List Keyed) (number : ℕ) → nat_lt number (datagram_count (packed opening list)) ≡ low → 0 < (load_in (packed opening list) number).length
     → number < datagram_count (packed opening list)
-some-within true list number test some = ltb-true number (datagram_count (packed opening list)) test
-some-within false list number test some =
-    let behind = ltb-false number (datagram_count (packed opening list)) test in
-    let none : (load_in (packed opening list) number).length ≡ 0 = ap (λ (areas : List Placed). (load_of areas).length) (inside-none number (packed opening list) behind) in
-    absurd (omega arith)
+some-within low list number test some = search (rules, ltb-true, ltb-false, inside-none)
 
 pub next-some : (task : ℕ) (list : List Keyed) (number : ℕ) (table : TaskTable) (load : Load) → table ≡ loaded_up_to task (packed opening list) number
     → load ≡ load_in (packed opening list) number → 0 < load.length → with_load task table load ≡ loaded_up_to task (packed opening list) (number + 1)
@@ -52,17 +48,12 @@ next-some task list number table load is own some =
     let within = some-within (nat_lt number count) list number refl (omega arith) in
     let before : min number count ≡ number = min-eq_left (omega arith) in
     let after : min (number + 1) count ≡ suc number = min-eq_left {n = number + 1} {m = count} (omega arith) ∙ (omega arith) in
-    ap (λ (t : TaskTable). with_load task t load) (is ∙ ap (loaded task areas) before)
-    ∙ ap (with_load task (loaded task areas number)) own
-    ∙ ap (loaded task areas) (sym after)
+    search rules
 
 -- and one that has none stands behind the last one
 none-behind : (low : Bool) (list : List Keyed) (number : ℕ) → All IsPackable list → nat_lt number (datagram_count (packed opening list)) ≡ low
     → (load_in (packed opening list) number).length ≡ 0 → datagram_count (packed opening list) ≤ number
-none-behind true list number packable test none =
-    let some = (length-sendable list number packable (ltb-true number (datagram_count (packed opening list)) test)).some in
-    absurd (omega arith)
-none-behind false list number packable test none = ltb-false number (datagram_count (packed opening list)) test
+none-behind low list number packable test none = search (rules, length-sendable, ltb-true, ltb-false)
 
 pub next-none : (task : ℕ) (list : List Keyed) (number : ℕ) (table : TaskTable) (load : Load) → All IsPackable list → table ≡ loaded_up_to task (packed opening list) number
     → load ≡ load_in (packed opening list) number → load.length ≡ 0 → table ≡ loaded_up_to task (packed opening list) (number + 1)
@@ -84,8 +75,7 @@ pub all-loaded : (groups : List Declared) (task number : ℕ) (starts : List Key
     → table ≡ task_table (line_from 1 groups) task
 all-loaded groups task number starts table none stand all is =
     let areas = task_places task (line_from 1 groups) in
-    let keys : length starts ≡ length (START ∷ later_keys (task_list task (line_from 1 groups))) =
-    ap length (stand ∙ ap (λ (list : List Keyed). START ∷ later_keys list) (sym (task-listed task groups))) in
+    let keys : length starts ≡ length (START ∷ later_keys (task_list task (line_from 1 groups))) = search (rules, task-listed) in
     let many = keys-many (task_list task (line_from 1 groups)) (task-list groups task none).packable in
     let last : min number (datagram_count areas) ≡ datagram_count areas = omega arith in
     is ∙ ap (loaded task areas) last ∙ sym (table-loaded groups task none)
@@ -107,7 +97,6 @@ adds-some old known trees task number table load are next is some =
     let many = length-append table.datagrams ((with-made task table load) ∷ []) in
     let count = are.count in
     let short = are.short in
-    let most = is.most in
     let part = is.part in
     record {
       stand = λ before after edited. next-some task (task_list task (line_from 1 after)) number table load (are.stand before after edited) (next before after edited) some;

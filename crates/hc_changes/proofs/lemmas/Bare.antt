@@ -1,5 +1,5 @@
 -- What no edit changes of a slave: its station address, and of each area all but its assigned PDOs and its task.
-use Rattle.std.proofs.Common.{◌≡◌, ℕ, ◌==◌, zero, suc, Bool, true, false, cond, List, [], ◌∷◌, ◌++◌, refl, sym, ap, ◌∙◌}
+use Rattle.std.proofs.Common.{◌≡◌, ℕ, ◌==◌, zero, suc, Bool, true, false, cond, List, [], ◌∷◌, refl, ap, rules}
 use Rattle.std.specs.Prelude.{map}
 use Rattle.std.proofs.lemmas.List.{map-append}
 use Rattle.hc_records.specs.declared.edit.Edit.{Edit}
@@ -7,7 +7,7 @@ use Rattle.hc_records.specs.declared.edit.Edit.TheVariants.{Connect, Disconnect,
 use Rattle.hc_records.specs.declared.records.Area.{Area}
 use Rattle.hc_records.specs.declared.records.Declared.{Declared}
 use Rattle.hc_records.specs.declared.records.Slave.{Slave}
-use Rattle.hc_records.specs.Edits.{groups_after, with_area, with_presence, with_slaves}
+use Rattle.hc_records.specs.Edits.{groups_after, with_area, with_presence}
 use Rattle.hc_records.specs.Lists.{changed_at}
 use Rattle.hc_records.proofs.lemmas.Lines.{declared_slaves}
 
@@ -25,16 +25,14 @@ areas-kept zero change keeps (area ∷ areas) = ap (λ (first : Area). first ∷
 areas-kept (suc n) change keeps (area ∷ areas) = ap (λ (rest : List Area). bare area ∷ rest) (areas-kept n change keeps areas)
 
 slave-by : (here : Bool) (slave : Slave) (areas : List Area) → map bare areas ≡ map bare slave.areas → bare_slave (cond here (record slave { areas = areas }) slave) ≡ bare_slave slave
-slave-by true slave areas same = ap (λ (kept : List Area). (slave.station, kept)) same
-slave-by false slave areas same = refl
+slave-by here slave areas same = search rules
 
 slave-kept : (station area : ℕ) (change : Area → Area) → ((a : Area) → bare (change a) ≡ bare a) → (slave : Slave) → bare_slave (with_area station area change slave) ≡ bare_slave slave
 slave-kept station area change keeps slave = slave-by (slave.station == station) slave (changed_at area change slave.areas) (areas-kept area change keeps slave.areas)
 
 slaves-kept : (change : Slave → Slave) → ((slave : Slave) → bare_slave (change slave) ≡ bare_slave slave) → (slaves : List Slave) → map bare_slave (map change slaves) ≡ map bare_slave slaves
 slaves-kept change keeps [] = refl
-slaves-kept change keeps (slave ∷ slaves) =
-    ap (λ (first : ℕ × List Area). first ∷ map bare_slave (map change slaves)) (keeps slave) ∙ ap (λ (rest : List (ℕ × List Area)). bare_slave slave ∷ rest) (slaves-kept change keeps slaves)
+slaves-kept change keeps (slave ∷ slaves) = search (rules, slaves-kept change keeps slaves)
 
 -- and of groups
 
@@ -42,26 +40,14 @@ abbrev KeepsBare : (Declared → Declared) → Type 0
 KeepsBare change = (declared : Declared) → map bare_slave (change declared).group.slaves ≡ map bare_slave declared.group.slaves
 
 presence-by : (here : Bool) (declared : Declared) (present : Bool) → map bare_slave (cond here (record declared { present = present }) declared).group.slaves ≡ map bare_slave declared.group.slaves
-presence-by true declared present = refl
-presence-by false declared present = refl
+presence-by here declared present = search rules
 
 groups-kept : (change : Declared → Declared) → KeepsBare change → (groups : List Declared) → map bare_slave (declared_slaves (map change groups)) ≡ map bare_slave (declared_slaves groups)
 groups-kept change keeps [] = refl
-groups-kept change keeps (declared ∷ groups) =
-    let behind = declared_slaves (map change groups) in
-    map-append bare_slave (change declared).group.slaves behind
-    ∙ ap (λ (first : List (ℕ × List Area)). first ++ map bare_slave behind) (keeps declared)
-    ∙ ap (λ (rest : List (ℕ × List Area)). map bare_slave declared.group.slaves ++ rest) (groups-kept change keeps groups)
-    ∙ sym (map-append bare_slave declared.group.slaves (declared_slaves groups))
+groups-kept change keeps (declared ∷ groups) = search (rules, map-append, groups-kept change keeps groups)
 
 pub edit-keeps : (groups : List Declared) (edit : Edit) → map bare_slave (declared_slaves (groups_after groups edit)) ≡ map bare_slave (declared_slaves groups)
 edit-keeps groups (Connect alias) = groups-kept (with_presence alias true) (λ declared. presence-by (declared.group.alias == alias) declared true) groups
 edit-keeps groups (Disconnect alias) = groups-kept (with_presence alias false) (λ declared. presence-by (declared.group.alias == alias) declared false) groups
-edit-keeps groups (Remap station area pdos) =
-    let change : Area → Area = λ a. record a { assigned = pdos } in
-    groups-kept (with_slaves (with_area station area change))
-    (λ declared. slaves-kept (with_area station area change) (slave-kept station area change (λ a. refl)) declared.group.slaves) groups
-edit-keeps groups (Move station area task) =
-    let change : Area → Area = λ a. record a { task = task } in
-    groups-kept (with_slaves (with_area station area change))
-    (λ declared. slaves-kept (with_area station area change) (slave-kept station area change (λ a. refl)) declared.group.slaves) groups
+edit-keeps groups (Remap station area pdos) = search (rules, groups-kept, slaves-kept, slave-kept)
+edit-keeps groups (Move station area task) = search (rules, groups-kept, slaves-kept, slave-kept)

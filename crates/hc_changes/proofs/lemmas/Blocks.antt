@@ -1,5 +1,5 @@
 -- The blocks of a line are those of its areas, and so are they with the ranks of their slaves.
-use Rattle.std.proofs.Common.{◌≡◌, ℕ, ◌+◌, ◌*◌, List, [], ◌∷◌, ◌++◌, map, refl, sym, ap, ◌∙◌, arith}
+use Rattle.std.proofs.Common.{◌≡◌, ℕ, ◌+◌, ◌*◌, List, [], ◌∷◌, ◌++◌, map, refl, sym, ap, ◌∙◌, rules}
 use Rattle.std.specs.List.{enumerate_from, flat_map}
 use Rattle.std.proofs.lemmas.List.Folds.{flat_map-map}
 use Rattle.hc_records.specs.declared.records.Area.{Area}
@@ -15,11 +15,7 @@ pairs-numbered : (station index : ℕ) (first second : ℕ × Area → RegisterB
     → numbered station (2 * index) (flat_map (λ e. first e ∷ second e ∷ []) (enumerate_from index areas))
     ≡ flat_map (λ e. numbered station (2 * e.0) (first e ∷ second e ∷ [])) (enumerate_from index areas)
 pairs-numbered station index first second [] = refl
-pairs-numbered station index first second (area ∷ areas) =
-    let next : 2 * index + 1 + 1 ≡ 2 * (index + 1) = omega arith in
-    let own = numbered station (2 * index) (first (index, area) ∷ second (index, area) ∷ []) in
-    ap (λ (n : ℕ). own ++ numbered station n (flat_map (λ e. first e ∷ second e ∷ []) (enumerate_from (index + 1) areas))) next
-    ∙ ap (λ (rest : List LineBlock). own ++ rest) (pairs-numbered station (index + 1) first second areas)
+pairs-numbered station index first second (area ∷ areas) = search (rules, pairs-numbered station (index + 1) first second areas)
 
 pub flat_map-alike : {X Y : Type 0} (f g : X → List Y) → ((x : X) → f x ≡ g x) → (xs : List X) → flat_map f xs ≡ flat_map g xs
 flat_map-alike f g same [] = refl
@@ -32,24 +28,14 @@ member-blocks line member =
     ∙ sym (flat_map-map (blocks_of line) (λ (e : ℕ × Area). record { member = member; index = e.0; area = e.1 }) (enumerate_from 0 member.slave.areas))
 
 pub blocks-of-areas : (line : List Member) → line_blocks line ≡ flat_map (blocks_of line) (line_areas line)
-blocks-of-areas line =
-    flat_map-alike (member_blocks line) (λ member. flat_map (blocks_of line) (areas_of member)) (member-blocks line) line
-    ∙ sym (flat_map-flat_map (blocks_of line) areas_of line)
+blocks-of-areas line = search (rules, flat_map-alike, member-blocks, flat_map-flat_map)
 
 -- what is told of the blocks of an area, with the rank of its slave
 abbrev pub ranked_by : (LineArea → List LineBlock) → LineArea → List RankedBlock
 ranked_by blocks found = map (ranked found.member.rank) (blocks found)
 
 member-ranked : (line : List Member) (member : Member) → member_ranked line member ≡ flat_map (ranked_by (blocks_of line)) (areas_of member)
-member-ranked line member =
-    let at : ℕ × Area → LineArea = λ e. record { member = member; index = e.0; area = e.1 } in
-    let areas = enumerate_from 0 member.slave.areas in
-    ap (map (ranked member.rank)) (member-blocks line member)
-    ∙ map-flat_map (ranked member.rank) (blocks_of line) (areas_of member)
-    ∙ flat_map-map (λ (found : LineArea). map (ranked member.rank) (blocks_of line found)) at areas
-    ∙ sym (flat_map-map (ranked_by (blocks_of line)) at areas)
+member-ranked line member = search (rules, member-blocks, map-flat_map, flat_map-map)
 
 pub ranked-of-areas : (line : List Member) → ranked_blocks line ≡ flat_map (ranked_by (blocks_of line)) (line_areas line)
-ranked-of-areas line =
-    flat_map-alike (member_ranked line) (λ member. flat_map (ranked_by (blocks_of line)) (areas_of member)) (member-ranked line) line
-    ∙ sym (flat_map-flat_map (ranked_by (blocks_of line)) areas_of line)
+ranked-of-areas line = search (rules, flat_map-alike, member-ranked, flat_map-flat_map)

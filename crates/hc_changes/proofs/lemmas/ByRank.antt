@@ -1,5 +1,5 @@
 -- The areas by rank are those of the line's slaves, and the variables that they carry are offered by rank.
-use Rattle.std.proofs.Common.{◌≡◌, ℕ, zero, suc, ◌+◌, ◌-◌, ◌≤◌, ◌==◌, Bool, true, false, List, [], ◌∷◌, ◌++◌, Contains, Option, Some, None, refl, sym, ap, subst, ◌∙◌, arith, if◌then◌else◌}
+use Rattle.std.proofs.Common.{◌≡◌, ℕ, zero, suc, ◌+◌, ◌-◌, ◌≤◌, ◌==◌, Bool, true, false, List, [], ◌∷◌, ◌++◌, Contains, Option, Some, None, refl, sym, ap, subst, ◌∙◌, arith, if◌then◌else◌, rules}
 use Rattle.std.specs.Prelude.{All, find, map, option_map, slice_get, slice_index_or}
 use Rattle.std.specs.List.{enumerate_from}
 use Rattle.std.specs.Option.{option_map_or}
@@ -25,8 +25,7 @@ abbrev carried : Option Slave → List Area
 carried slave = option_map_or (λ s. s.areas) slave []
 
 present-areas : (present : Bool) (slave : Slave) → (if present then slave.areas else []) ≡ carried (slot present slave)
-present-areas true slave = refl
-present-areas false slave = refl
+present-areas present slave = search rules
 
 slaves-areas : (present : Bool) (slaves : List Slave) (areas : List (List Area)) (behind : List (Option Slave))
     → ((i : ℕ) → slice_index_or areas i [] ≡ carried (slice_index_or behind i None))
@@ -70,17 +69,11 @@ numbered-get first (x ∷ xs) =
   where
     later : (e : ℕ × _) → (first + 1 ≤ e.0) × (slice_get xs (e.0 - (first + 1)) ≡ Some e.1) → (first ≤ e.0) × (slice_get (x ∷ xs) (e.0 - first) ≡ Some e.1)
     later e rest =
-        let low = rest.0 in
         let next : e.0 - first ≡ suc (e.0 - (first + 1)) = omega arith in
         (omega arith, ap (slice_get (x ∷ xs)) next ∙ rest.1)
 
 pub area-named : (groups : List Declared) (found : LineArea) → IsAreaOf (line_from 1 groups) found → area_in (areas_by_rank groups) (key_of found) ≡ Some found.area
-area-named groups found of =
-    let areas = found.member.slave.areas in
-    let own =
-    All-contains (λ (e : ℕ × Area). (0 ≤ e.0) × (slice_get areas (e.0 - 0) ≡ Some e.1)) (enumerate_from 0 areas) (found.index, found.area) (numbered-get 0 areas) of.own in
-    let index : found.index ≡ found.index - 0 = omega arith in
-    ap (λ (all : List Area). slice_get all found.index) (area-ranked groups found of) ∙ ap (slice_get areas) index ∙ own.1
+area-named groups found of = search (rules, All-contains, numbered-get, area-ranked)
 
 -- and an area that stands at a rank is one of the line
 pub record IsRanked (groups : List Declared) (rank : ℕ) (area : Area) : Type 0 where
@@ -91,9 +84,7 @@ pub record IsRanked (groups : List Declared) (rank : ℕ) (area : Area) : Type 0
 numbered-at : {X : Type 0} (first : ℕ) (xs : List X) (x : X) → Contains xs x → (k : ℕ) × Contains (enumerate_from first xs) (k, x)
 numbered-at first [] x (k, within, is) = absurd (omega arith)
 numbered-at first (y ∷ ys) x (zero, within, is) = (first, (0, omega arith, ap (λ (z : _). (first, z)) is))
-numbered-at first (y ∷ ys) x (suc k, within, is) =
-    let rest = numbered-at (first + 1) ys x (k, omega arith, is) in
-    (rest.0, contains-behind (rest.0, x) (first, y) (enumerate_from (first + 1) ys) rest.1)
+numbered-at first (y ∷ ys) x (suc k, within, is) = search (rules, contains-behind, numbered-at (first + 1) ys x (k, omega arith, is))
 
 ranked-by : (groups : List Declared) (rank : ℕ) (area : Area) (slave : Option Slave) → slave_of (line_from 1 groups) rank ≡ slave → Contains (carried slave) area → IsRanked groups rank area
 ranked-by groups rank area None is (k, within, same) = absurd (omega arith)
@@ -106,8 +97,7 @@ ranked-by groups rank area (Some slave) is at =
     record { found = record { member = stood.0; index = numbered.0; area = area }; of = record { member = here.among; own = numbered.1 }; is = refl }
 
 pub area-of-rank : (groups : List Declared) (rank : ℕ) (area : Area) → Contains (areas_at (areas_by_rank groups) rank) area → IsRanked groups rank area
-area-of-rank groups rank area at =
-    ranked-by groups rank area (slave_of (line_from 1 groups) rank) refl (subst (λ (areas : List Area). Contains areas area) (areas-of-rank groups rank) at)
+area-of-rank groups rank area at = search (rules, ranked-by, areas-of-rank)
 
 -- a variable that an area carries is offered at its slave's rank
 

@@ -1,9 +1,8 @@
 -- A block that an area has was one of the old line exactly where it is the one that had its number.
-use Rattle.std.proofs.Common.{◌≡◌, ℕ, ◌+◌, ◌*◌, ◌<◌, ◌==◌, zero, suc, Bool, true, false, cond, List, [], ◌∷◌, ◌++◌, length, Contains, Option, Some, None, refl, sym, ap, subst, ◌∙◌, ⊎_elim, ◌⊎◌, inl, inr, arith}
+use Rattle.std.proofs.Common.{◌≡◌, ℕ, ◌+◌, ◌*◌, ◌<◌, ◌==◌, Bool, true, false, cond, List, [], ◌∷◌, length, Contains, Option, Some, None, refl, sym, ap, subst, ◌∙◌, ⊎_elim, ◌⊎◌, arith, rules}
 use Rattle.std.specs.Prelude.{All, AllPairs, find, map, not, option_and_then, option_map, slice_get}
 use Rattle.std.specs.Option.{option_map_or}
 use Rattle.std.specs.List.{flat_map, list_any}
-use Rattle.std.specs.Str.{bytes_eq}
 use Rattle.std.proofs.lemmas.Bool.{and_parts, eqb-true}
 use Rattle.std.proofs.lemmas.List.{length-map}
 use Rattle.std.proofs.lemmas.List.Elements.{All-contains, All-contains_itself, All-head, All-tail, All-weaker}
@@ -19,7 +18,7 @@ use Rattle.hc_records.specs.Project.{lowest_fault}
 use Rattle.hc_records.proofs.lemmas.Finds.{mapped-some}
 use Rattle.hc_records.proofs.lemmas.Lines.{RanksBelow, line-ascends}
 use Rattle.hc_records.proofs.lemmas.Slaves.{line-inside}
-use Rattle.hc_registers.specs.Blocks.{LineBlock, fmmu_block, line_blocks, mapping_of, same_block, same_bytes, sync_manager_block}
+use Rattle.hc_registers.specs.Blocks.{LineBlock, fmmu_block, line_blocks, mapping_of, same_block, sync_manager_block}
 use Rattle.hc_ranks.specs.Blocks.{moved_ranked, ranked}
 use Rattle.hc_changes.specs.Candidates.{DifferAt, LineArea, blocks_of, candidates, is_candidate, line_areas, moved_of}
 use Rattle.hc_changes.specs.Compared.{counterpart, differing_of, unlike}
@@ -47,16 +46,7 @@ pub record StoodAt (line : List Member) (found was : LineArea) : Type 0 where
 
 stood-by : (line : List Member) (found was : LineArea) (member : Option Member) → find (λ (m : Member). m.rank == found.member.rank) line ≡ member
     → option_and_then (λ m. option_map (λ a. record { member = m; index = found.index; area = a }) (slice_get m.slave.areas found.index)) member ≡ Some was → StoodAt line found was
-stood-by line found was None at is = cc
-stood-by line found was (Some member) at is =
-    let stands = found-among (λ (m : Member). m.rank == found.member.rank) line member at in
-    let made = mapped-some (λ (a : Area). record { member = member; index = found.index; area = a }) (slice_get member.slave.areas found.index) was is in
-    subst (λ (w : LineArea). StoodAt line found w) made.2
-    (record {
-      of = record { member = stands.among; own = at-own member.slave.areas found.index made.0 made.1 };
-      rank = eqb-true member.rank found.member.rank stands.passes;
-      index = refl;
-    })
+stood-by line found was member at is = search (rules, found-among, mapped-some, at-own, eqb-true)
 
 pub area-stood : (line : List Member) (found was : LineArea) → counterpart line found ≡ Some was → StoodAt line found was
 area-stood line found was is = stood-by line found was (find (λ (m : Member). m.rank == found.member.rank) line) refl is
@@ -75,42 +65,27 @@ second_block line found =
     }
 
 one-of-two : {X : Type 0} (a b x : X) → Contains (a ∷ b ∷ []) x → (a ≡ x) ⊎ (b ≡ x)
-one-of-two a b x (zero, within, is) = inl is
-one-of-two a b x (suc zero, within, is) = inr is
-one-of-two a b x (suc (suc k), within, is) = absurd (omega arith)
+one-of-two a b x at = search rules
 
 same-parts : (a b : LineBlock) → same_block a b ≡ true → (a.station ≡ b.station) × (a.block.register ≡ b.block.register)
-same-parts a b same =
-    let parts = and_parts (a.station == b.station) (same_bytes a.block b.block) same in
-    let own = and_parts (a.block.register == b.block.register) (bytes_eq a.block.bytes b.block.bytes) parts.1 in
-    (eqb-true a.station b.station parts.0, eqb-true a.block.register b.block.register own.0)
+same-parts a b same = search (rules, and_parts, eqb-true)
 
 -- two blocks of which each was there or wasn't
 
 iff : (p q : Bool) → (p ≡ true → q ≡ true) → (q ≡ true → p ≡ true) → p ≡ q
-iff true q to from = sym (to refl)
-iff false true to from = from refl
-iff false false to from = refl
+iff p q to from = search rules
 
 none-had : (p q : Bool) (a b : LineBlock) → (p ≡ true → false ≡ true) → (q ≡ true → false ≡ true)
     → cond (not p) (a ∷ cond (not q) (b ∷ []) []) (cond (not q) (b ∷ []) []) ≡ a ∷ b ∷ []
-none-had true q a b first second = let never = first refl in cc
-none-had false true a b first second = let never = second refl in cc
-none-had false false a b first second = refl
+none-had p q a b first second = search rules
 
 both-kept : (x y : Bool) (a b : LineBlock)
     → cond (not x) (a ∷ cond (not y) (b ∷ []) []) (cond (not y) (b ∷ []) []) ≡ cond x (cond y [] (b ∷ [])) (a ∷ cond y [] (b ∷ []))
-both-kept true true a b = refl
-both-kept true false a b = refl
-both-kept false true a b = refl
-both-kept false false a b = refl
+both-kept x y a b = search rules
 
 both-had : (p q x y : Bool) (a b : LineBlock) → p ≡ x → q ≡ y
     → cond (not p) (a ∷ cond (not q) (b ∷ []) []) (cond (not q) (b ∷ []) []) ≡ cond x (cond y [] (b ∷ [])) (a ∷ cond y [] (b ∷ []))
-both-had p q x y a b first second =
-    ap (λ (r : Bool). cond (not r) (a ∷ cond (not q) (b ∷ []) []) (cond (not q) (b ∷ []) [])) first
-    ∙ ap (λ (r : Bool). cond (not x) (a ∷ cond (not r) (b ∷ []) []) (cond (not r) (b ∷ []) [])) second
-    ∙ both-kept x y a b
+both-had p q x y a b first second = search (rules, both-kept)
 
 -- blocks of two lines of one project at one register of one slave are of areas that stand alike, and both are the first or both the second
 module _ (old new : List Member) (one : AreOfOneProject old new) (inside : All (λ member. IsSlaveInside member.slave) old) where
@@ -143,8 +118,7 @@ module _ (old new : List Member) (one : AreOfOneProject old new) (inside : All (
       (sym (slice_get-map bare was.member.slave.areas found.index) ∙ ap (λ (l : List Area). slice_get l found.index) alike.1
       ∙ slice_get-map bare found.member.slave.areas found.index ∙ ap (option_map bare) own) in
       let managers = (All-contains (λ (m : Member). IsSlaveInside m.slave) old was.member inside of'.member).managers in
-      let manager : before.0.sm ≡ was.area.sm =
-      ap (λ (a : Area). a.sm) before.2 ∙ (let register = parts.1 in let sm : found.area.sm ≡ was.area.sm = omega arith in sm) in
+      let manager : before.0.sm ≡ was.area.sm = search rules in
       record {
         rank = alike.0;
         index = sym (one-index (λ (a : Area). a.sm) was.member.slave.areas found.index was.index before.0 was.area managers before.1
@@ -154,22 +128,13 @@ module _ (old new : List Member) (one : AreOfOneProject old new) (inside : All (
   both-second : (found was : LineArea) → IsAreaOf new found → IsAreaOf old was → same_block (second_block new found) (second_block old was) ≡ true → StandAlike was found
   both-second found was of of' same =
       let parts = same-parts (second_block new found) (second_block old was) same in
-      let register = parts.1 in
       record { rank = (same-areas found was of of' parts.0).0; index = omega arith }
 
   never-first : (found was : LineArea) → IsAreaOf new found → IsAreaOf old was → same_block (first_block found) (second_block old was) ≡ true → ⊥
-  never-first found was of of' same =
-      let parts = same-parts (first_block found) (second_block old was) same in
-      let register = parts.1 in
-      let few = few-areas was of' in
-      omega arith
+  never-first found was of of' same = search (rules, same-parts, few-areas)
 
   never-second : (found was : LineArea) → IsAreaOf new found → IsAreaOf old was → same_block (second_block new found) (first_block was) ≡ true → ⊥
-  never-second found was of of' same =
-      let parts = same-parts (second_block new found) (first_block was) same in
-      let register = parts.1 in
-      let few = few-found found was of of' parts.0 in
-      omega arith
+  never-second found was of of' same = search (rules, same-parts, few-found)
 
   -- what a block of the old line that is the same as another is
   record IsFound (block : LineBlock) : Type 0 where
@@ -186,10 +151,7 @@ module _ (old new : List Member) (one : AreOfOneProject old new) (inside : All (
       record {
         was = piece.element;
         of = line-area old piece.element piece.among;
-        same = ⊎_elim
-            (λ first. inl (subst (λ (b : LineBlock). same_block block b ≡ true) (sym first) some.4))
-            (λ second. inr (subst (λ (b : LineBlock). same_block block b ≡ true) (sym second) some.4))
-            (one-of-two (first_block piece.element) (second_block old piece.element) other piece.own);
+        same = search (rules, one-of-two);
       }
 
   any-from : (block : LineBlock) (was : LineArea) (other : LineBlock) → IsAreaOf old was → Contains (blocks_of old was) other → same_block block other ≡ true → list_any (same_block block) (line_blocks old) ≡ true
@@ -206,14 +168,12 @@ module _ (old new : List Member) (one : AreOfOneProject old new) (inside : All (
       let some = found-any block is in
       let alike = ⊎_elim (first some.was some.of) (second some.was some.of) some.same in
       let there = area-found old found some.was ranks some.of alike.rank alike.index in
-      let never : None ≡ Some some.was = sym none ∙ there in
       cc
 
   -- where one stood, it is the one that was found
   alone : (found was other : LineArea) → AllPairs RanksBelow old → counterpart old found ≡ Some was → IsAreaOf old other → StandAlike other found → other ≡ was
   alone found was other ranks is of alike =
       let there = area-found old found other ranks of alike.rank alike.index in
-      let same : Some other ≡ Some was = sym there ∙ is in
       cc
 
   first-any : (found was : LineArea) → AllPairs RanksBelow old → IsAreaOf new found → counterpart old found ≡ Some was
@@ -244,28 +204,17 @@ module _ (old new : List Member) (one : AreOfOneProject old new) (inside : All (
       (none-any found (second_block new found) ranks is (λ was of' own. absurd (never-second found was of of' own)) (λ was of' own. both-second found was of of' own))
   compared-by found (Some was) ranks of is =
       let stood = (area-stood old found was is).of in
-      both-had (list_any (same_block (first_block found)) (line_blocks old)) (list_any (same_block (second_block new found)) (line_blocks old))
-      (same_block (first_block found) (first_block was)) (same_block (second_block new found) (second_block old was)) (first_block found) (second_block new found)
-      (iff (list_any (same_block (first_block found)) (line_blocks old)) (same_block (first_block found) (first_block was)) (first-any found was ranks of is)
-      (λ own. any-from (first_block found) was (first_block was) stood (contains-first (first_block was) (second_block old was ∷ [])) own))
-      (iff (list_any (same_block (second_block new found)) (line_blocks old)) (same_block (second_block new found) (second_block old was)) (second-any found was ranks of is)
-      (λ own. any-from (second_block new found) was (second_block old was) stood
-      (contains-behind (second_block old was) (first_block was) (second_block old was ∷ []) (contains-first (second_block old was) [])) own))
+      search (rules, both-had, iff, first-any, any-from, contains-first, second-any, contains-behind)
 
 pub compared : (groups : List Declared) (edit : Edit) (found : LineArea) → lowest_fault (groups_of groups) ≡ None → Contains (line_areas (line_from 1 (groups_after groups edit))) found
     → moved_of (line_from 1 groups) (line_from 1 (groups_after groups edit)) found ≡ differing_of (line_from 1 groups) (line_from 1 (groups_after groups edit)) found
-compared groups edit found none at =
-    let old = line_from 1 groups in
-    let new = line_from 1 (groups_after groups edit) in
-    compared-by old new (edit-one-project groups edit none) (line-inside groups none) found (counterpart old found) (line-ascends 1 groups) (line-area new found at) refl
+compared groups edit found none at = search (rules, compared-by, edit-one-project, line-inside, line-ascends, line-area)
 
 -- so the blocks that an edit moved are told by the candidates, each compared with the one that had its number
 
 pub flat_map-among : {X Y : Type 0} (f g : X → List Y) (xs : List X) → All (λ x. f x ≡ g x) xs → flat_map f xs ≡ flat_map g xs
 flat_map-among f g [] all = refl
-flat_map-among f g (x ∷ xs) all =
-    ap (λ (ys : List _). ys ++ flat_map f xs) (All-head (λ y. f y ≡ g y) x xs all)
-    ∙ ap (λ (ys : List _). g x ++ ys) (flat_map-among f g xs (All-tail (λ y. f y ≡ g y) x xs all))
+flat_map-among f g (x ∷ xs) all = search (rules, All-head, All-tail, flat_map-among f g xs (All-tail (λ y. f y ≡ g y) x xs all))
 
 pub all-compared : (changed : ℕ → Bool) (groups : List Declared) (edit : Edit) → lowest_fault (groups_of groups) ≡ None → lowest_fault (groups_of (groups_after groups edit)) ≡ None
     → DifferAt changed (line_from 1 groups) (line_from 1 (groups_after groups edit))

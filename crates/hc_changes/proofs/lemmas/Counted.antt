@@ -1,7 +1,7 @@
 -- How often a variable stands among the rows of candidates, and among the areas that a line's slaves carried.
-use Rattle.std.proofs.Common.{◌≡◌, ℕ, zero, suc, ◌+◌, ◌≤◌, ◌==◌, Bool, true, false, cond, List, [], ◌∷◌, Contains, Option, Some, None, length, refl, sym, ap, ◌∙◌, arith, if◌then◌else◌}
+use Rattle.std.proofs.Common.{◌≡◌, ℕ, zero, suc, ◌+◌, ◌≤◌, ◌==◌, Bool, true, cond, List, [], ◌∷◌, Contains, Option, Some, None, length, refl, sym, ap, arith, if◌then◌else◌, rules}
 use Rattle.std.specs.Prelude.{All, filter, map, slice_index_or}
-use Rattle.std.specs.List.{enumerate_from, flat_map}
+use Rattle.std.specs.List.{flat_map}
 use Rattle.std.specs.Option.{option_map_or}
 use Rattle.std.proofs.lemmas.Bool.{eq-eqb}
 use Rattle.std.proofs.lemmas.Bool.Decides.{nat_tests}
@@ -9,7 +9,6 @@ use Rattle.std.proofs.lemmas.List.Elements.{All-head, All-tail}
 use Rattle.hc_records.specs.declared.records.Area.{Area}
 use Rattle.hc_records.specs.declared.records.Declared.{Declared}
 use Rattle.hc_records.specs.declared.records.Slave.{Slave}
-use Rattle.hc_records.specs.Area.{assigned_entries}
 use Rattle.hc_records.specs.Line.{Member, groups_of, line_from}
 use Rattle.hc_records.specs.Packing.{Placed}
 use Rattle.hc_records.specs.Project.{area_names, lowest_fault, slave_names}
@@ -19,8 +18,8 @@ use Rattle.hc_tasks.specs.Areas.{areas_by_rank}
 use Rattle.hc_places.specs.Found.{area_rows}
 use Rattle.hc_places.proofs.lemmas.Once.{declared-once, entry-names, line-declared, of_areas, of_row, once, own, rows-total, weight}
 use Rattle.hc_places.proofs.lemmas.Totals.{total, total-append, total-enumerate, total-filter, total-flat_map, total-less, total-map, total-same}
-use Rattle.hc_changes.specs.Candidates.{LineArea, areas_of, candidate_of, line_areas}
-use Rattle.hc_changes.specs.Rows.{area_variables_of, assigned_variables, rows_of, variables_by_rank}
+use Rattle.hc_changes.specs.Candidates.{LineArea, candidate_of, line_areas}
+use Rattle.hc_changes.specs.Rows.{assigned_variables, rows_of, variables_by_rank}
 
 -- how often a number stands
 
@@ -28,25 +27,19 @@ own-swap : (a b : ℕ) → (a == b) ≡ (b == a)
 own-swap a b = grind (arith, nat_tests)
 
 counted-by : {X : Type 0} (passes : Bool) (x : X) (kept : List X) → length (cond passes (x ∷ kept) kept) ≡ cond passes 1 0 + length kept
-counted-by true x kept = omega arith
-counted-by false x kept = omega arith
+counted-by passes x kept = search rules
 
 pub counted : {X : Type 0} (variable : ℕ) (xs : List (ℕ × X)) → length (filter (λ x. x.0 == variable) xs) ≡ total (λ x. own variable x.0) xs
 counted variable [] = refl
-counted variable (x ∷ xs) =
-    counted-by (x.0 == variable) x (filter (λ y. y.0 == variable) xs)
-    ∙ ap (λ (b : Bool). cond b 1 0 + length (filter (λ y. y.0 == variable) xs)) (own-swap x.0 variable)
-    ∙ ap (λ (n : ℕ). own variable x.0 + n) (counted variable xs)
+counted variable (x ∷ xs) = search (rules, counted-by, own-swap, counted variable xs)
 
 none-by : (same : Bool) (rest : ℕ) → (same ≡ true → ⊥) → rest ≡ 0 → cond same 1 0 + rest ≡ 0
-none-by true rest never is = absurd (never refl)
-none-by false rest never is = omega arith
+none-by same rest never is = search rules
 
 pub counted-none : {X : Type 0} (number : X → ℕ) (variable : ℕ) (xs : List X) → All (λ x. (variable == number x) ≡ true → ⊥) xs → total (λ x. own variable (number x)) xs ≡ 0
 counted-none number variable [] all = refl
 counted-none number variable (x ∷ xs) all =
-    none-by (variable == number x) (total (λ y. own variable (number y)) xs) (All-head (λ y. (variable == number y) ≡ true → ⊥) x xs all)
-    (counted-none number variable xs (All-tail (λ y. (variable == number y) ≡ true → ⊥) x xs all))
+    search (rules, none-by, All-head, All-tail, counted-none number variable xs (All-tail (λ y. (variable == number y) ≡ true → ⊥) x xs all))
 
 own-one : (variable number : ℕ) → (variable == number) ≡ true → own variable number ≡ 1
 own-one variable number is = ap (λ (b : Bool). cond b 1 0) is
@@ -59,32 +52,22 @@ counted-some variable (x ∷ xs) (suc k, within, is) = let rest = counted-some v
 -- what a filter keeps is no more
 
 kept-less : (passes : Bool) (n : ℕ) → cond passes n 0 ≤ n
-kept-less true n = omega arith
-kept-less false n = omega arith
+kept-less passes n = search rules
 
 pub filtered-less : {X : Type 0} (f : X → ℕ) (test : X → Bool) (xs : List X) → total f (filter test xs) ≤ total f xs
-filtered-less f test xs =
-    let same = total-filter f test xs in
-    let less = total-less (λ x. cond (test x) (f x) 0) f (λ x. kept-less (test x) (f x)) xs in
-    omega arith
+filtered-less f test xs = search (rules, total-filter, total-less, kept-less)
 
 -- the rows of a line's areas
 
 placed-rows : (variable : ℕ) (area : Area) (place : Option Placed) → total (of_row variable) (option_map_or (area_rows area.task area) place []) ≤ weight variable area
 placed-rows variable area None = omega arith
-placed-rows variable area (Some placed) =
-    let same = rows-total variable area.task (record { key = placed.key; area = area }, placed) in
-    omega arith
+placed-rows variable area (Some placed) = search (rules, rows-total)
 
 abbrev of_area : ℕ → LineArea → ℕ
 of_area variable found = weight variable found.area
 
 line-weight : (variable : ℕ) (line : List Member) → total (of_area variable) (line_areas line) ≡ total (λ (m : Member). of_areas variable m.slave) line
-line-weight variable line =
-    total-flat_map (of_area variable) areas_of line
-    ∙ total-same (λ (m : Member). total (of_area variable) (areas_of m)) (λ (m : Member). of_areas variable m.slave)
-    (λ m. total-map (of_area variable) (λ (e : ℕ × Area). record { member = m; index = e.0; area = e.1 }) (enumerate_from 0 m.slave.areas)
-    ∙ total-enumerate (weight variable) 0 m.slave.areas) line
+line-weight variable line = search (rules, total-flat_map, total-same, total-map, total-enumerate)
 
 pub candidates-once : (groups : List Declared) → lowest_fault (groups_of groups) ≡ None → (variable : ℕ) (test : LineArea → Bool)
     → total (of_row variable) (flat_map rows_of (map (candidate_of (line_from 1 groups)) (filter test (line_areas (line_from 1 groups))))) ≤ 1
@@ -104,25 +87,14 @@ candidates-once groups none variable test =
 -- the variables that the line's areas carry
 
 pub carried-total : (variable : ℕ) (areas : List Area) → total (own variable) (assigned_variables areas) ≡ total (weight variable) areas
-carried-total variable areas =
-    total-flat_map (own variable) area_variables_of areas
-    ∙ total-same (λ (area : Area). total (own variable) (area_variables_of area)) (weight variable) (λ area. entry-names variable (assigned_entries area)) areas
+carried-total variable areas = search (rules, total-flat_map, total-same, entry-names)
 
 present-total : (variable : ℕ) (present : Bool) (slave : Slave) → total (weight variable) (if present then slave.areas else []) ≤ of_areas variable slave
-present-total variable true slave = omega arith
-present-total variable false slave = omega arith
+present-total variable present slave = search rules
 
 ranks-total : (variable : ℕ) (groups : List Declared) → total (λ (areas : List Area). total (weight variable) areas) (areas_by_rank groups) ≤ total (of_areas variable) (declared_slaves groups)
 ranks-total variable [] = omega arith
-ranks-total variable (declared ∷ groups) =
-    let slaves = declared.group.slaves in
-    let present : Slave → List Area = λ slave. if declared.present then slave.areas else [] in
-    let joined = total-append (λ (areas : List Area). total (weight variable) areas) (map present slaves) (areas_by_rank groups) in
-    let mapped = total-map (λ (areas : List Area). total (weight variable) areas) present slaves in
-    let less = total-less (λ (slave : Slave). total (weight variable) (present slave)) (of_areas variable) (λ slave. present-total variable declared.present slave) slaves in
-    let all = total-append (of_areas variable) slaves (declared_slaves groups) in
-    let rest = ranks-total variable groups in
-    omega arith
+ranks-total variable (declared ∷ groups) = search (rules, total-append, total-map, total-less, present-total, ranks-total variable groups)
 
 pub ranks-once : (groups : List Declared) → lowest_fault (groups_of groups) ≡ None → (variable : ℕ)
     → total (λ (areas : List Area). total (own variable) (assigned_variables areas)) (areas_by_rank groups) ≤ 1
@@ -140,14 +112,7 @@ of_names variable names = total (own variable) names
 offered-total : (variable : ℕ) (groups : List Declared)
     → total (of_names variable) (variables_by_rank groups) ≡ total (λ (slave : Slave). of_names variable (area_names slave.areas)) (declared_slaves groups)
 offered-total variable [] = refl
-offered-total variable (declared ∷ groups) =
-    let slaves = declared.group.slaves in
-    let offered : Slave → List ℕ = λ slave. area_names slave.areas in
-    let joined = total-append (of_names variable) (map offered slaves) (variables_by_rank groups) in
-    let mapped = total-map (of_names variable) offered slaves in
-    let all = total-append (λ (slave : Slave). of_names variable (area_names slave.areas)) slaves (declared_slaves groups) in
-    let rest = offered-total variable groups in
-    omega arith
+offered-total variable (declared ∷ groups) = search (rules, total-append, total-map, offered-total variable groups)
 
 pub offered-once : (groups : List Declared) → lowest_fault (groups_of groups) ≡ None → (variable : ℕ) → total (of_names variable) (variables_by_rank groups) ≤ 1
 offered-once groups none variable =

@@ -1,5 +1,5 @@
 -- An area of the new line is a candidate, or none, by what the turned tasks and the tasks before tell.
-use Rattle.std.proofs.Common.{◌≡◌, ℕ, Bool, true, false, cond, List, [], ◌∷◌, Option, refl, sym, ap, ◌∙◌}
+use Rattle.std.proofs.Common.{◌≡◌, ℕ, Bool, true, false, cond, List, [], ◌∷◌, Option, sym, ap, ◌∙◌, rules}
 use Rattle.std.specs.Prelude.{IfSome, None, Some, map, not, ◌||◌}
 use Rattle.std.specs.Option.{option_map_or}
 use Rattle.hc_records.specs.declared.keys.Key.{Key}
@@ -13,7 +13,7 @@ use Rattle.hc_records.specs.Line.{State, groups_of, line_from}
 use Rattle.hc_records.specs.Image.{task_places}
 use Rattle.hc_records.specs.Project.{lowest_fault}
 use Rattle.hc_records.specs.Packing.{Placed}
-use Rattle.hc_records.specs.TaskList.{Keyed, task_list}
+use Rattle.hc_records.specs.TaskList.{task_list}
 use Rattle.hc_cuts.specs.Keeping.{is_kept_up_to}
 use Rattle.hc_cuts.specs.Starts.{Kept}
 use Rattle.hc_cuts.specs.Place.{place_of as place_in}
@@ -44,12 +44,10 @@ unfolding found_among
 found-no it found is = ap (λ (b : Bool). map (candidate_of (line_from 1 it.new)) (cond b (found ∷ []) [])) is
 
 either-true : (a b : Bool) → a ≡ true → (a || b) ≡ true
-either-true true b is = refl
-either-true false b is = cc
+either-true a b is = search rules
 
 other-one : (a b : Bool) → a ≡ false → (a || b) ≡ b
-other-one true b is = cc
-other-one false b is = refl
+other-one a b is = search rules
 
 abbrev of_groups : List Declared → State
 of_groups groups = record { groups = groups; epoch = 0 }
@@ -75,10 +73,7 @@ pub kept-is : (it : Outlook) (before : Before) (cuts : List Kept) → IsSight it
     → ((old new : List (List Area)) → IsLine new → StandsBefore old new before → cuts ≡ line_kept new
     → (key : Key) → is_before key END ≡ true → is_before key until ≡ is_kept_up_to (list_by task old) (list_by task new) number key)
     → (key : Key) → is_before key END ≡ true → is_before key until ≡ is_kept_up_to (task_list task (line_from 1 it.old)) (task_list task (line_from 1 it.new)) number key
-kept-is it before cuts sight task number until tells key low =
-    tells (areas_by_rank it.old) (areas_by_rank it.new) sight.is.lines.new_line sight.stands sight.turned key low
-    ∙ ap (λ (list : List Keyed). is_kept_up_to list (list_by task (areas_by_rank it.new)) number key) (sym (task-listed task it.old))
-    ∙ ap (λ (list : List Keyed). is_kept_up_to (task_list task (line_from 1 it.old)) list number key) (sym (task-listed task it.new))
+kept-is it before cuts sight task number until tells key low = search (rules, task-listed)
 
 -- whether its task is touched
 
@@ -95,15 +90,12 @@ untouched-kept it before cuts sight found some none tells =
 
 pub unrecut-none : (it : Outlook) (station rank index : ℕ) (area : Area) → changes it rank ≡ false → is_recut (line_from 1 it.old) (line_from 1 it.new) (area_by station rank index area) ≡ false
     → area_found it station rank index area ≡ []
-unrecut-none it station rank index area unchanged kept =
-    let found = area_by station rank index area in
-    found-no it found (other-one (changes it rank) (is_recut (line_from 1 it.old) (line_from 1 it.new) found) unchanged ∙ kept)
+unrecut-none it station rank index area unchanged kept = search (rules, found-no, other-one)
 
 pub untouched-area : (it : Outlook) (before : Before) (cuts : List Kept) → IsSight it before cuts → (station rank index : ℕ) (area : Area) → changes it rank ≡ false
     → (some : Bool) → some ≡ false → ((old new : List (List Area)) → StandsBefore old new before → some ≡ is_touched_by area.task old new)
     → area_found it station rank index area ≡ []
-untouched-area it before cuts sight station rank index area unchanged some none tells =
-    unrecut-none it station rank index area unchanged (untouched-kept it before cuts sight (area_by station rank index area) some none tells)
+untouched-area it before cuts sight station rank index area unchanged some none tells = search (rules, unrecut-none, untouched-kept)
 
 abbrev recut_by : Outlook → ℕ → Option Placed → Bool
 recut_by it task place =
@@ -111,22 +103,14 @@ recut_by it task place =
 
 pub kept-area : (it : Outlook) (station rank index : ℕ) (area : Area) (place : Option Placed) → place ≡ place_of (line_from 1 it.new) (area_by station rank index area)
     → changes it rank ≡ false → recut_by it area.task place ≡ false → area_found it station rank index area ≡ []
-kept-area it station rank index area place is unchanged kept =
-    let found = area_by station rank index area in
-    found-no it found (other-one (changes it rank) (is_recut (line_from 1 it.old) (line_from 1 it.new) found) unchanged ∙ ap (recut_by it area.task) (sym is) ∙ kept)
+kept-area it station rank index area place is unchanged kept = search (rules, found-no, other-one)
 
 pub recut-area : (it : Outlook) (station rank index : ℕ) (area : Area) (place : Option Placed) → place ≡ place_of (line_from 1 it.new) (area_by station rank index area)
     → changes it rank ≡ false → recut_by it area.task place ≡ true
     → area_found it station rank index area ≡ record { station = station; rank = rank; index = index; area = area; place = place } ∷ []
-recut-area it station rank index area place is unchanged recut =
-    let found = area_by station rank index area in
-    found-yes it found (other-one (changes it rank) (is_recut (line_from 1 it.old) (line_from 1 it.new) found) unchanged ∙ ap (recut_by it area.task) (sym is) ∙ recut)
-    ∙ ap (λ (p : Option Placed). record { station = station; rank = rank; index = index; area = area; place = p } ∷ []) (sym is)
+recut-area it station rank index area place is unchanged recut = search (rules, found-yes, other-one)
 
 pub changed-area : (it : Outlook) (station rank index : ℕ) (area : Area) (place : Option Placed) → place ≡ place_of (line_from 1 it.new) (area_by station rank index area)
     → changes it rank ≡ true
     → area_found it station rank index area ≡ record { station = station; rank = rank; index = index; area = area; place = place } ∷ []
-changed-area it station rank index area place is changed =
-    let found = area_by station rank index area in
-    found-yes it found (either-true (changes it rank) (is_recut (line_from 1 it.old) (line_from 1 it.new) found) changed)
-    ∙ ap (λ (p : Option Placed). record { station = station; rank = rank; index = index; area = area; place = p } ∷ []) (sym is)
+changed-area it station rank index area place is changed = search (rules, found-yes, either-true)

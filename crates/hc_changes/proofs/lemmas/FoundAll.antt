@@ -1,6 +1,6 @@
 -- The candidates of all ranks are those of the line.
-use Rattle.std.proofs.Common.{◌≡◌, ℕ, zero, suc, ◌+◌, Bool, true, false, cond, List, [], ◌∷◌, ◌++◌, append-nil, append_assoc, length, refl, sym, ap, ◌∙◌, arith, if◌then◌else◌}
-use Rattle.std.specs.Prelude.{filter, map, slice_index_or}
+use Rattle.std.proofs.Common.{◌≡◌, ℕ, zero, suc, ◌+◌, Bool, true, false, cond, List, [], ◌∷◌, ◌++◌, append-nil, append_assoc, length, refl, sym, ap, ◌∙◌, arith, if◌then◌else◌, rules}
+use Rattle.std.specs.Prelude.{map, slice_index_or}
 use Rattle.std.specs.List.{enumerate_from, flat_map}
 use Rattle.std.proofs.lemmas.Grind.{flat_map-append}
 use Rattle.std.proofs.lemmas.List.{length-map, map-append}
@@ -10,11 +10,11 @@ use Rattle.hc_records.specs.declared.records.Declared.{Declared}
 use Rattle.hc_records.specs.declared.records.Slave.{Slave}
 use Rattle.hc_records.specs.Line.{Member, line_from, members_from, present_slaves}
 use Rattle.hc_records.proofs.lemmas.Lines.{declared_slaves}
-use Rattle.hc_tasks.specs.Areas.{areas_by_rank, present_areas}
+use Rattle.hc_tasks.specs.Areas.{areas_by_rank}
 use Rattle.hc_tasks.proofs.lemmas.Told.{length-present}
-use Rattle.hc_changes.specs.Candidates.{Candidate, LineArea, areas_of, candidate_of, candidates, is_candidate, line_areas}
+use Rattle.hc_changes.specs.Candidates.{Candidate, LineArea, areas_of, candidate_of, candidates, line_areas}
 use Rattle.hc_changes.specs.Edited.{HasEdit}
-use Rattle.hc_changes.specs.inner.Found.{area_by, area_found, areas_found, found_among, found_below, rank_found, stations}
+use Rattle.hc_changes.specs.inner.Found.{area_found, areas_found, found_among, found_below, rank_found, stations}
 use Rattle.hc_changes.specs.Outlook.{IsOutlook, Outlook, changes}
 use Rattle.hc_changes.proofs.lemmas.Bare.{bare_slave, edit-keeps}
 use Rattle.hc_changes.proofs.lemmas.FoundRanks.{many-stations}
@@ -47,13 +47,7 @@ gather-row it first [] [] f many each = refl
 gather-row it first [] (areas ∷ slaves) f many each = absurd (omega (arith, many))
 gather-row it first (station ∷ named) [] f many each = refl
 gather-row it first (station ∷ named) (areas ∷ slaves) f many each =
-    let here : first + 0 ≡ first = omega arith in
-    let next : (i : ℕ) → first + suc i ≡ first + 1 + i = (λ i. omega arith) in
-    gather-front f (length slaves)
-    ∙ ap (λ (own : List Candidate). own ++ gather (λ i. f (suc i)) (length slaves)) (each 0 ∙ ap (λ (n : ℕ). areas_found it station n 0 areas) here)
-    ∙ ap (λ (rest : List Candidate). areas_found it station first 0 areas ++ rest)
-    (gather-row it (first + 1) named slaves (λ i. f (suc i)) (omega (arith, many))
-    (λ i. each (suc i) ∙ ap (λ (n : ℕ). areas_found it (slice_index_or named i 0) n 0 (slice_index_or slaves i [])) (next i)))
+    search (rules, gather-front, gather-row it (first + 1) named slaves (λ i. f (suc i)) (omega (arith, many)))
 
 no-rank : (it : Outlook) → rank_found it 0 ≡ []
 unfolding rank_found areas_found
@@ -61,42 +55,29 @@ no-rank it = refl
 
 rank-each : (it : Outlook) (i : ℕ) → rank_found it (suc i) ≡ areas_found it (slice_index_or (stations it.old) i 0) (1 + i) 0 (slice_index_or (areas_by_rank it.new) i [])
 unfolding rank_found
-rank-each it i =
-    let next : suc i ≡ 1 + i = omega arith in
-    ap (λ (n : ℕ). areas_found it (slice_index_or (stations it.old) i 0) n 0 (slice_index_or (areas_by_rank it.new) i [])) next
+rank-each it i = search rules
 
 below-row : (it : Outlook) → length (stations it.old) ≡ length (areas_by_rank it.new)
     → found_below it (suc (length (areas_by_rank it.new))) ≡ row_found it 1 (stations it.old) (areas_by_rank it.new)
-below-row it many =
-    let count = length (areas_by_rank it.new) in
-    below-gather it (suc count)
-    ∙ gather-front (rank_found it) count
-    ∙ ap (λ (own : List Candidate). own ++ gather (λ i. rank_found it (suc i)) count) (no-rank it)
-    ∙ gather-row it 1 (stations it.old) (areas_by_rank it.new) (λ i. rank_found it (suc i)) many (rank-each it)
+below-row it many = search (rules, below-gather, gather-front, no-rank, gather-row, rank-each)
 
 -- these are the candidates among the line's areas
 
 among-append : (it : Outlook) (xs ys : List LineArea) → found_among it (xs ++ ys) ≡ found_among it xs ++ found_among it ys
 unfolding found_among
-among-append it xs ys =
-    let make = candidate_of (line_from 1 it.new) in
-    let test = is_candidate (changes it) (line_from 1 it.old) (line_from 1 it.new) in
-    ap (map make) (filter-append test xs ys) ∙ map-append make (filter test xs) (filter test ys)
+among-append it xs ys = search (rules, filter-append, map-append)
 
 among-none : (it : Outlook) → found_among it [] ≡ []
 unfolding found_among
 among-none it = refl
 
 made-alike : {X Y : Type 0} (make : X → Y) (here : Bool) (x y : X) → make x ≡ make y → map make (cond here (x ∷ []) []) ≡ map make (cond here (y ∷ []) [])
-made-alike make true x y same = ap (λ (made : _). made ∷ []) same
-made-alike make false x y same = refl
+made-alike make here x y same = search rules
 
 area-alike : (it : Outlook) (member : Member) (index : ℕ) (area : Area)
     → area_found it member.slave.station member.rank index area ≡ found_among it (record { member = member; index = index; area = area } ∷ [])
 unfolding found_among
-area-alike it member index area =
-    let found : LineArea = record { member = member; index = index; area = area } in
-    made-alike (candidate_of (line_from 1 it.new)) (is_candidate (changes it) (line_from 1 it.old) (line_from 1 it.new) found) (area_by member.slave.station member.rank index area) found refl
+area-alike it member index area = search (rules, made-alike)
 
 slave-among : (it : Outlook) (member : Member) (index : ℕ) (areas : List Area)
     → areas_found it member.slave.station member.rank index areas ≡ found_among it (map (λ e. record { member = member; index = e.0; area = e.1 }) (enumerate_from index areas))
@@ -135,17 +116,11 @@ group-among it false first slaves = absent-among it first slaves ∙ sym (among-
 
 row-append : (it : Outlook) (first : ℕ) (named more : List ℕ) (slaves rest : List (List Area)) → length named ≡ length slaves
     → row_found it first (named ++ more) (slaves ++ rest) ≡ row_found it first named slaves ++ row_found it (first + length slaves) more rest
-row-append it first [] more [] rest many =
-    let here : first ≡ first + 0 = omega arith in
-    ap (λ (n : ℕ). row_found it n more rest) here
+row-append it first [] more [] rest many = search rules
 row-append it first [] more (areas ∷ slaves) rest many = absurd (omega (arith, many))
 row-append it first (station ∷ named) more [] rest many = absurd (omega (arith, many))
 row-append it first (station ∷ named) more (areas ∷ slaves) rest many =
-    let next : first + 1 + length slaves ≡ first + suc (length slaves) = omega arith in
-    let own = areas_found it station first 0 areas in
-    ap (λ (behind : List Candidate). own ++ behind) (row-append it (first + 1) named more slaves rest (omega (arith, many)))
-    ∙ sym (append_assoc own (row_found it (first + 1) named slaves) (row_found it (first + 1 + length slaves) more rest))
-    ∙ ap (λ (n : ℕ). (own ++ row_found it (first + 1) named slaves) ++ row_found it n more rest) next
+    search (rules, append_assoc, row-append it (first + 1) named more slaves rest (omega (arith, many)))
 
 line-among : (it : Outlook) (first : ℕ) (groups : List Declared) → row_found it first (stations groups) (areas_by_rank groups) ≡ found_among it (line_areas (line_from first groups))
 line-among it first [] = sym (among-none it)
@@ -154,12 +129,7 @@ line-among it first (declared ∷ groups) =
     let own = members_from first (present_slaves declared) in
     let many = length-present declared.present slaves in
     let named = length-map {B = ℕ} slaves (λ s. s.station) in
-    row-append it first (named_by slaves) (stations groups) (present_areas declared) (areas_by_rank groups) (named ∙ sym many)
-    ∙ ap (λ (n : ℕ). row_found it first (named_by slaves) (present_areas declared) ++ row_found it (first + n) (stations groups) (areas_by_rank groups)) many
-    ∙ ap (λ (front : List Candidate). front ++ row_found it (first + length slaves) (stations groups) (areas_by_rank groups)) (group-among it declared.present first slaves)
-    ∙ ap (λ (rest : List Candidate). found_among it (flat_map areas_of own) ++ rest) (line-among it (first + length slaves) groups)
-    ∙ sym (among-append it (flat_map areas_of own) (line_areas (line_from (first + length slaves) groups)))
-    ∙ sym (ap (found_among it) (flat_map-append areas_of own (line_from (first + length slaves) groups)))
+    search (rules, row-append, group-among, among-append, flat_map-append, line-among it (first + length slaves) groups)
 
 -- an edit leaves the slaves their station addresses
 
@@ -176,11 +146,7 @@ stations-bare groups = named groups ∙ sym (map-twice (λ (bare : ℕ × List A
         ap (λ (rest : List ℕ). named_by declared.group.slaves ++ rest) (named groups) ∙ sym (map-append (λ (s : Slave). s.station) declared.group.slaves (declared_slaves groups))
 
 same-stations : (old new : List Declared) → HasEdit old new → stations new ≡ stations old
-same-stations old new edited =
-    let first = λ (bare : ℕ × List Area). bare.0 in
-    stations-bare new
-    ∙ ap (map first) (ap (λ (groups : List Declared). map bare_slave (declared_slaves groups)) edited.leads ∙ edit-keeps old edited.edit)
-    ∙ sym (stations-bare old)
+same-stations old new edited = search (rules, stations-bare, edit-keeps)
 
 -- so all candidates are found
 
@@ -193,7 +159,4 @@ found-all it end is all =
     let was = many-stations it.old in
     let many : length (stations it.old) ≡ length (areas_by_rank it.new) = ap length (sym same) ∙ named in
     let last : end ≡ suc (length (areas_by_rank it.new)) = omega (arith, all, was, many) in
-    ap (found_below it) last
-    ∙ below-row it many
-    ∙ ap (λ (named' : List ℕ). row_found it 1 named' (areas_by_rank it.new)) (sym same)
-    ∙ line-among it 1 it.new
+    search (rules, below-row, line-among)

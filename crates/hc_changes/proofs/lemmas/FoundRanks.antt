@@ -1,5 +1,5 @@
 -- The candidates by ranks are those of the line: an area, a slave and a group at a time.
-use Rattle.std.proofs.Common.{◌≡◌, ℕ, zero, suc, ◌+◌, ◌-◌, ◌<◌, ◌≤◌, List, [], ◌∷◌, ◌++◌, Contains, None, append-nil, length, length-append, drop, drop-cons, take, refl, sym, ap, subst, ◌∙◌, append_assoc, arith}
+use Rattle.std.proofs.Common.{◌≡◌, ℕ, zero, suc, ◌+◌, ◌-◌, ◌<◌, ◌≤◌, List, [], ◌∷◌, ◌++◌, Contains, None, append-nil, length, length-append, drop, drop-cons, take, refl, sym, ap, subst, ◌∙◌, append_assoc, arith, rules}
 use Rattle.std.specs.Prelude.{if◌then◌else◌, map, slice_index_or}
 use Rattle.std.proofs.lemmas.Grind.{flat_map-append}
 use Rattle.std.proofs.lemmas.List.{length-map}
@@ -23,21 +23,12 @@ use Rattle.hc_changes.proofs.lemmas.Places.{area-inside}
 pub areas-next : (it : Outlook) (station rank i : ℕ) (areas : List Area) (area : Area) → i < length areas → area ≡ slice_index_or areas i area
     → areas_found it station rank i (drop i areas) ≡ area_found it station rank i area ++ areas_found it station rank (i + 1) (drop (i + 1) areas)
 unfolding areas_found
-areas-next it station rank i areas area within is =
-    let next : suc i ≡ i + 1 = omega arith in
-    ap (areas_found it station rank i) (drop-cons areas i area within)
-    ∙ ap (λ (a : Area). area_found it station rank i a ++ areas_found it station rank (i + 1) (drop (suc i) areas)) (sym is)
-    ∙ ap (λ (n : ℕ). area_found it station rank i area ++ areas_found it station rank (i + 1) (drop n areas)) next
+areas-next it station rank i areas area within is = search (rules, drop-cons)
 
 pub areas-added : (it : Outlook) (station rank i : ℕ) (areas : List Area) (area : Area) (own found all : List Candidate) → i < length areas → area ≡ slice_index_or areas i area
     → own ≡ area_found it station rank i area → found ++ areas_found it station rank i (drop i areas) ≡ all
     → (found ++ own) ++ areas_found it station rank (i + 1) (drop (i + 1) areas) ≡ all
-areas-added it station rank i areas area own found all within is made so_far =
-    let rest = areas_found it station rank (i + 1) (drop (i + 1) areas) in
-    append_assoc found own rest
-    ∙ ap (λ (first : List Candidate). found ++ (first ++ rest)) made
-    ∙ sym (ap (λ (left : List Candidate). found ++ left) (areas-next it station rank i areas area within is))
-    ∙ so_far
+areas-added it station rank i areas area own found all within is made so_far = search (rules, append_assoc, areas-next)
 
 past-all : {X : Type 0} (xs : List X) (n : ℕ) → length xs ≤ n → drop n xs ≡ []
 past-all [] zero past = refl
@@ -48,14 +39,12 @@ past-all (x ∷ xs) (suc n) past = past-all xs n (omega arith)
 pub areas-end : (it : Outlook) (station rank i : ℕ) (areas : List Area) (found all : List Candidate) → length areas ≤ i
     → found ++ areas_found it station rank i (drop i areas) ≡ all → found ≡ all
 unfolding areas_found
-areas-end it station rank i areas found all past so_far =
-    sym (append-nil found) ∙ sym (ap (λ (left : List Area). found ++ areas_found it station rank i left) (past-all areas i past)) ∙ so_far
+areas-end it station rank i areas found all past so_far = search (rules, append-nil, past-all)
 
 pub rank-is : (it : Outlook) (rank station : ℕ) (areas : List Area) → station_at it.old rank ≡ station → areas ≡ areas_at (areas_by_rank it.new) rank
     → areas_found it station rank 0 areas ≡ rank_found it rank
 unfolding rank_found
-rank-is it rank station areas named stand =
-    ap (λ (s : ℕ). areas_found it s rank 0 areas) (sym named) ∙ ap (areas_found it (station_at it.old rank) rank 0) stand
+rank-is it rank station areas named stand = search rules
 
 -- an area of a project's line is of one of the eight tasks
 abbrev of_groups : List Declared → State
@@ -72,15 +61,10 @@ task-below groups rank i areas area project stand within is =
 
 pub passed-over : (it : Outlook) (first count : ℕ) → ((rank : ℕ) → first ≤ rank → rank < first + count → rank_found it rank ≡ []) → found_below it (first + count) ≡ found_below it first
 unfolding found_below
-passed-over it first zero none =
-    let here : first + 0 ≡ first = omega arith in
-    ap (found_below it) here
+passed-over it first zero none = search rules
 passed-over it first (suc count) none =
     let next : first + suc count ≡ suc (first + count) = omega arith in
-    ap (found_below it) next
-    ∙ ap (λ (own : List Candidate). found_below it (first + count) ++ own) (none (first + count) (omega arith) (omega arith))
-    ∙ append-nil (found_below it (first + count))
-    ∙ passed-over it first count (λ rank low high. none rank low (omega arith))
+    search (rules, append-nil, passed-over it first count (λ rank low high. none rank low (omega arith)))
 
 pub rank-added : (it : Outlook) (rank next : ℕ) → next ≡ suc rank → found_below it rank ++ rank_found it rank ≡ found_below it next
 unfolding found_below
@@ -95,21 +79,13 @@ at-mapped f (y ∷ xs) (suc i) x none within is = at-mapped f xs i x none (omega
 
 pub many-stations : (groups : List Declared) → length (stations groups) ≡ length (areas_by_rank groups)
 many-stations [] = refl
-many-stations (declared ∷ groups) =
-    let slaves = declared.group.slaves in
-    let named = length-map {B = ℕ} slaves (λ s. s.station) in
-    let carried = length-present declared.present slaves in
-    let rest = many-stations groups in
-    length-append (map (λ (s : Slave). s.station) slaves) (stations groups)
-    ∙ (omega (arith, named, carried, rest))
-    ∙ sym (length-append (present_areas declared) (areas_by_rank groups))
+many-stations (declared ∷ groups) = search (rules, length-map, length-present, length-append, many-stations groups)
 
 pub group-areas : (groups : List Declared) (first : ℕ) (declared : Declared) (i : ℕ) (slave : Slave) → IsGroupAt groups first declared → i < length declared.group.slaves
     → slave ≡ slice_index_or declared.group.slaves i slave → areas_at (areas_by_rank groups) (first + i) ≡ (if declared.present then slave.areas else [])
 group-areas groups first declared i slave at within is =
     let slaves = declared.group.slaves in
-    let rank = at.rank in
-    let next : first + i ≡ suc (length (areas_by_rank at.front) + i) = omega (arith, rank) in
+    let next : first + i ≡ suc (length (areas_by_rank at.front) + i) = omega arith in
     let many = length-present declared.present slaves in
     ap (areas_at (areas_by_rank groups)) next
     ∙ areas-in-row (areas_by_rank groups) (areas_by_rank at.front) (present_areas declared) (areas_by_rank at.behind) i
@@ -125,55 +101,37 @@ group-station groups first declared i slave at within is =
     let front = many-stations at.front in
     let next : first + i ≡ suc (length (stations at.front) + i) = omega (arith, rank, front) in
     let many = length-map {B = ℕ} slaves (λ s. s.station) in
-    ap (station_at groups) next
-    ∙ ap (λ (all : List ℕ). slice_index_or all (length (stations at.front) + i) 0)
-    (ap stations at.stands ∙ flat_map-append (λ (d : Declared). map (λ (s : Slave). s.station) d.group.slaves) at.front (declared ∷ at.behind))
-    ∙ index-front 0 (stations at.front) own (stations at.behind) i (omega (arith, many, within))
-    ∙ at-mapped (λ (s : Slave). s.station) slaves i slave 0 within is
+    search (rules, flat_map-append, index-front, at-mapped)
 
 pub group-few : (groups : List Declared) (first : ℕ) (declared : Declared) → IsGroupAt groups first declared → first + length declared.group.slaves ≤ length (areas_by_rank groups) + 1
 group-few groups first declared at =
     let slaves = declared.group.slaves in
-    let rank = at.rank in
     let many = length-present declared.present slaves in
     let all = ap length (ap areas_by_rank at.stands ∙ flat_map-append present_areas at.front (declared ∷ at.behind)) in
     let parts = length-append (areas_by_rank at.front) (present_areas declared ++ areas_by_rank at.behind) in
     let own = length-append (present_areas declared) (areas_by_rank at.behind) in
-    omega (arith, rank, many, all, parts, own)
+    omega (arith, many, all, parts, own)
 
 pub group-low : (it : Outlook) (first : ℕ) (declared : Declared) → IsOutlook it → IsGroupAt it.old first declared → first + length declared.group.slaves ≤ MOST_SLAVES + 1
-group-low it first declared is at =
-    let few = is.lines.old_line.few in
-    let own = group-few it.old first declared at in
-    omega (arith, few, own)
+group-low it first declared is at = search (rules, group-few)
 
 -- those in front of a group and behind it, where all stand within some ranks
 
 pub front-passed : (it : Outlook) (low high first from : ℕ) → LieWithin it low high → ((i : ℕ) → i < from → low ≤ first + i → ⊥) → found_below it first ≡ found_below it (first + from)
-front-passed it low high first from within out =
-    sym (passed-over it first from
-    (λ rank above below. within rank (λ over under.
-    let here : first + (rank - first) ≡ rank = omega (arith, above) in
-    out (rank - first) (omega (arith, above, below)) (omega (arith, here, over)))))
+front-passed it low high first from within out = search (rules, passed-over)
 
 pub behind-passed : (it : Outlook) (low high first to end : ℕ) → LieWithin it low high → to ≤ end → ((i : ℕ) → to ≤ i → i < end → first + i ≤ high → ⊥)
     → found_below it (first + to) ≡ found_below it (first + end)
 behind-passed it low high first to end within order out =
     let all : first + to + (end - to) ≡ first + end = omega (arith, order) in
-    sym (passed-over it (first + to) (end - to)
-    (λ rank above below. within rank (λ over under.
-    let here : first + (rank - first) ≡ rank = omega (arith, above) in
-    out (rank - first) (omega (arith, above)) (omega (arith, above, below, order)) (omega (arith, here, under)))))
-    ∙ ap (found_below it) all
+    search (rules, passed-over)
 
 -- the groups one by one
 
 split-at : {X : Type 0} (xs : List X) (i : ℕ) (x : X) → i < length xs → x ≡ slice_index_or xs i x → xs ≡ take i xs ++ (x ∷ drop (i + 1) xs)
 split-at [] i x within is = absurd (omega arith)
 split-at (y ∷ xs) zero x within is = ap (λ (first : _). first ∷ xs) (sym is)
-split-at (y ∷ xs) (suc i) x within is =
-    let next : suc i + 1 ≡ suc (i + 1) = omega arith in
-    ap (λ (rest : List _). y ∷ rest) (split-at xs i x (omega arith) is) ∙ sym (ap (λ (n : ℕ). (y ∷ take i xs) ++ (x ∷ drop n (y ∷ xs))) next)
+split-at (y ∷ xs) (suc i) x within is = search (rules, split-at xs i x (omega arith) is)
 
 pub group-at : (groups : List Declared) (first i : ℕ) (declared : Declared) → first ≡ length (areas_by_rank (take i groups)) + 1 → i < length groups
     → declared ≡ slice_index_or groups i declared → IsGroupAt groups first declared
@@ -195,8 +153,7 @@ past-none (x ∷ xs) (suc n) past = past-none xs n (omega arith)
 
 pub above-none : (it : Outlook) (rank : ℕ) → length (areas_by_rank it.new) < rank → rank_found it rank ≡ []
 unfolding rank_found areas_found
-above-none it zero above = absurd (omega arith)
-above-none it (suc i) above = ap (areas_found it (station_at it.old (suc i)) (suc i) 0) (past-none (areas_by_rank it.new) i (omega arith))
+above-none it rank above = search (rules, past-none)
 
 pub none-yet : (it : Outlook) → found_below it 1 ≡ []
 unfolding found_below rank_found areas_found

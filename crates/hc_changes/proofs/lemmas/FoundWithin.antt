@@ -1,5 +1,5 @@
 -- All candidates stand between the ranks of the slaves that change and of those between the boundaries of datagrams behind what is kept of them.
-use Rattle.std.proofs.Common.{◌≡◌, ℕ, zero, suc, ◌+◌, ◌<◌, ◌≤◌, Bool, true, false, List, [], ◌∷◌, ◌++◌, Contains, length, refl, sym, ap, subst, ◌∙◌, ⊎_elim, arith}
+use Rattle.std.proofs.Common.{◌≡◌, ℕ, zero, suc, ◌+◌, ◌<◌, ◌≤◌, Bool, true, false, List, [], ◌∷◌, Contains, length, refl, sym, ap, subst, ◌∙◌, ⊎_elim, arith, rules}
 use Rattle.std.specs.Prelude.{All, slice_index_or}
 use Rattle.std.proofs.Math.Nat.{eq-or-lt_of_le}
 use Rattle.std.proofs.lemmas.Bool.{cases_lt, or_parts}
@@ -41,8 +41,7 @@ use Rattle.hc_changes.proofs.lemmas.Lists.{contains-behind, contains-first}
 -- where the task has no inputs, each of its areas is an output
 
 dir-out : (dir : Dir) → same_dir dir In ≡ false → dir ≡ Out
-dir-out Out no_input = refl
-dir-out In no_input = cc
+dir-out dir no_input = search rules
 
 no-input : (list : List Keyed) → has_inputs list ≡ false → All (λ (area : Keyed). same_dir area.0.dir In ≡ false) list
 no-input [] none = All-nil (λ (area : Keyed). same_dir area.0.dir In ≡ false)
@@ -98,9 +97,7 @@ held-next it task count low high wide_low wide_high starts inputs is stand told 
     (λ same. own placed.key narrow
     (record {
       from = subst (λ (n : ℕ). is_within (slice_index_or starts n END) placed.key ≡ true) same (subst (λ (all : List Key). is_within (slice_index_or all placed.datagram END) placed.key ≡ true) keys lies.1);
-      next =
-          subst (λ (n : ℕ). is_before placed.key (slice_index_or starts (n + 1) END) ≡ true) same
-          (subst (λ (all : List Key). is_before placed.key (slice_index_or all (placed.datagram + 1) END) ≡ true) keys lies.2);
+      next = search rules;
       below = placed-below list placed (project-list (of_groups it.new) task is.is_project) among;
       output = λ none. placed-out list placed (ap has_inputs (task-listed task it.new) ∙ sym told ∙ none) among;
       unkept = subst (λ (n : ℕ). kept_in it task n placed.key ≡ false) same unkept;
@@ -113,8 +110,7 @@ pub from-higher : (it : Outlook) (task number : ℕ) (starts : List Key) (inputs
     → ((k : Key) → is_before k END ≡ true → is_before k until ≡ kept_in it task number k)
     → ((k : Key) → is_within (slice_index_or starts number END) k ≡ true → is_within until k ≡ true → is_within from k ≡ true)
     → is_within from key ≡ true
-from-higher it task number starts inputs until from key is tells above =
-    above key is.from (within-else key until (tells key is.below ∙ is.unkept))
+from-higher it task number starts inputs until from key is tells above = search (rules, within-else)
 
 within-before : (a b c : Key) → is_within a b ≡ true → is_before b c ≡ true → is_before a c ≡ true
 within-before a b c low high = before-else a c (by (is_within c a) refl)
@@ -126,10 +122,7 @@ within-before a b c low high = before-else a c (by (is_within c a) refl)
 -- where that isn't before the next boundary, there is no such area
 pub none-unkept : (it : Outlook) (task number : ℕ) (starts : List Key) (inputs : Bool) (from key : Key) → IsUnkeptIn it task number starts inputs key
     → is_within from key ≡ true → is_before from (slice_index_or starts (number + 1) END) ≡ false → ⊥
-none-unkept it task number starts inputs from key is low none =
-    let high = within-before from key (slice_index_or starts (number + 1) END) low is.next in
-    let both : true ≡ false = sym high ∙ none in
-    cc
+none-unkept it task number starts inputs from key is low none = search (rules, within-before)
 
 pub recut-held : (it : Outlook) (task count low high : ℕ) (starts : List Key) → IsOutlook it → starts ≡ starts_by task (areas_by_rank it.new) → length starts ≤ count
     → HoldFirst it task count low high → HoldRecut it task low high
@@ -151,34 +144,27 @@ pub untouched-held : (it : Outlook) (before : Before) (cuts : List Kept) → IsS
 untouched-held it before cuts sight task low high some none tells found of narrow recut =
     let kept : is_recut (line_from 1 it.old) (line_from 1 it.new) found ≡ false =
     untouched-kept it before cuts sight found some none (λ old new stands. tells old new stands ∙ ap (λ (t : ℕ). is_touched_by t old new) (sym of)) in
-    let both : true ≡ false = sym recut ∙ kept in
     cc
 
 -- wider ranks hold them too
 
 pub recut-wider : (it : Outlook) (task low high wide_low wide_high : ℕ) → HoldRanks wide_low wide_high low high → HoldRecut it task low high → HoldRecut it task wide_low wide_high
-recut-wider it task low high wide_low wide_high wider hold found of narrow recut =
-    let own = hold found of narrow recut in
-    (omega (arith, own, wider), omega (arith, own, wider))
+recut-wider it task low high wide_low wide_high wider hold found of narrow recut = search rules
 
 pub changed-wider : (it : Outlook) (low high wide_low wide_high : ℕ) → HoldRanks wide_low wide_high low high → HoldChanged it low high → HoldChanged it wide_low wide_high
-changed-wider it low high wide_low wide_high wider hold rank changed =
-    let own = hold rank changed in
-    (omega (arith, own, wider), omega (arith, own, wider))
+changed-wider it low high wide_low wide_high wider hold rank changed = search rules
 
 -- so all candidates stand between the ranks that hold those of all tasks
 
 never-true : (b : Bool) → (b ≡ true → ⊥) → b ≡ false
-never-true true never = absurd (never refl)
-never-true false never = refl
+never-true b never = search rules
 
 none-found : (it : Outlook) (station rank index : ℕ) (areas : List Area) → changes it rank ≡ false
     → ((i : ℕ) (area : Area) → Contains areas area → is_recut (line_from 1 it.old) (line_from 1 it.new) (area_by station rank i area) ≡ false) → areas_found it station rank index areas ≡ []
 unfolding areas_found
 none-found it station rank index [] unchanged kept = refl
 none-found it station rank index (area ∷ areas) unchanged kept =
-    ap (λ (own : List _). own ++ areas_found it station rank (index + 1) areas) (unrecut-none it station rank index area unchanged (kept index area (contains-first area areas)))
-    ∙ none-found it station rank (index + 1) areas unchanged (λ i other at. kept i other (contains-behind other area areas at))
+    search (rules, unrecut-none, contains-first, contains-behind, none-found it station rank (index + 1) areas unchanged (λ i other at. kept i other (contains-behind other area areas at)))
 
 rank-none : (it : Outlook) (rank low high : ℕ) → IsOutlook it → HoldChanged it low high → ((task : ℕ) → task < TASKS → HoldRecut it task low high) → (low ≤ rank → rank ≤ high → ⊥) → rank < 65536
     → rank_found it rank ≡ []
@@ -194,6 +180,5 @@ rank-none it rank low high is changed recut out narrow =
 
 pub all-within : (it : Outlook) (low high : ℕ) → IsOutlook it → HoldChanged it low high → ((task : ℕ) → task < TASKS → HoldRecut it task low high) → LieWithin it low high
 all-within it low high is changed recut rank out =
-    let few = is.lines.new_line.few in
-    ⊎_elim (λ above. above-none it rank above) (λ under. rank-none it rank low high is changed recut out (omega (arith, few, under)))
+    ⊎_elim (λ above. above-none it rank above) (λ under. rank-none it rank low high is changed recut out (omega (arith, under)))
     (cases_lt (length (areas_by_rank it.new)) rank)

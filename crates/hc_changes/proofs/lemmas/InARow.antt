@@ -1,5 +1,5 @@
 -- The slaves that change, by their places in a row.
-use Rattle.std.proofs.Common.{◌≡◌, ℕ, zero, suc, ◌+◌, ◌-◌, ◌<◌, ◌≤◌, List, [], ◌∷◌, ◌++◌, Contains, length, refl, ap, ◌∙◌, arith}
+use Rattle.std.proofs.Common.{◌≡◌, ℕ, zero, suc, ◌+◌, ◌-◌, ◌<◌, ◌≤◌, List, [], ◌∷◌, ◌++◌, Contains, length, refl, arith, rules}
 use Rattle.std.specs.Prelude.{slice_index_or}
 use Rattle.std.specs.List.{zip}
 use Rattle.hc_records.specs.declared.records.Area.{Area}
@@ -16,8 +16,7 @@ pub record IsPairOf {X : Type 0} (none : X) (xs ys : List X) (pair : X × X) : T
 pub zip-piece : {X : Type 0} (none : X) (xs ys : List X) (pair : X × X) → Contains (zip xs ys) pair → IsPairOf none xs ys pair
 zip-piece none [] ys pair (k, within, is) = absurd (omega arith)
 zip-piece none (x ∷ xs) [] pair (k, within, is) = absurd (omega arith)
-zip-piece none (x ∷ xs) (y ∷ ys) pair (zero, within, is) =
-    record { at = 0; within = omega arith; first = ap (λ (p : _ × _). p.0) is; second = ap (λ (p : _ × _). p.1) is }
+zip-piece none (x ∷ xs) (y ∷ ys) pair (zero, within, is) = search rules
 zip-piece none (x ∷ xs) (y ∷ ys) pair (suc k, within, is) =
     let rest = zip-piece none xs ys pair (k, omega arith, is) in
     record { at = suc rest.at; within = let low = rest.within in omega arith; first = rest.first; second = rest.second }
@@ -26,8 +25,7 @@ pub contains-pair : {X : Type 0} (none : X) (xs ys : List X) (i : ℕ) → lengt
 contains-pair none [] ys i same within = absurd (omega arith)
 contains-pair none (x ∷ xs) [] i same within = absurd (omega arith)
 contains-pair none (x ∷ xs) (y ∷ ys) zero same within = contains-first (x, y) (zip xs ys)
-contains-pair none (x ∷ xs) (y ∷ ys) (suc i) same within =
-    contains-behind (slice_index_or xs i none, slice_index_or ys i none) (x, y) (zip xs ys) (contains-pair none xs ys i (omega arith) (omega arith))
+contains-pair none (x ∷ xs) (y ∷ ys) (suc i) same within = search (rules, contains-behind, contains-pair none xs ys i (omega arith) (omega arith))
 
 -- the areas in a row stand behind those in front
 
@@ -37,16 +35,11 @@ index-own none (x ∷ own) behind zero within = refl
 index-own none (x ∷ own) behind (suc i) within = index-own none own behind i (omega arith)
 
 pub index-front : {X : Type 0} (none : X) (front own behind : List X) (i : ℕ) → i < length own → slice_index_or (front ++ (own ++ behind)) (length front + i) none ≡ slice_index_or own i none
-index-front none [] own behind i within =
-    let here : 0 + i ≡ i = omega arith in
-    ap (λ (n : ℕ). slice_index_or (own ++ behind) n none) here ∙ index-own none own behind i within
-index-front none (y ∷ front) own behind i within =
-    let next : suc (length front) + i ≡ suc (length front + i) = omega arith in
-    ap (λ (n : ℕ). slice_index_or (y ∷ (front ++ (own ++ behind))) n none) next ∙ index-front none front own behind i within
+index-front none [] own behind i within = search (rules, index-own)
+index-front none (y ∷ front) own behind i within = search (rules, index-front none front own behind i within)
 
 pub areas-in-row : (all front own behind : List (List Area)) (i : ℕ) → all ≡ front ++ (own ++ behind) → i < length own → areas_at all (suc (length front + i)) ≡ slice_index_or own i []
-areas-in-row all front own behind i is within =
-    ap (λ (slaves : List (List Area)). areas_at slaves (suc (length front + i))) is ∙ index-front [] front own behind i within
+areas-in-row all front own behind i is within = search (rules, index-front)
 
 pub rank-index : (front count rank : ℕ) → front < rank → rank ≤ front + count → (rank ≡ suc (front + (rank - suc front))) × (rank - suc front < count)
 rank-index front count rank above within = (omega arith, omega arith)

@@ -1,5 +1,5 @@
 -- Where no task needs more than 16 datagrams, each area of a project's line stands in one of them.
-use Rattle.std.proofs.Common.{◌≡◌, ℕ, ◌+◌, ◌≤◌, false, None, ap, ◌∙◌, arith}
+use Rattle.std.proofs.Common.{◌≡◌, ℕ, ◌+◌, ◌≤◌, false, None, arith, rules}
 use Rattle.std.specs.Prelude.{All, nat_lt}
 use Rattle.std.proofs.lemmas.Bool.{ltb-false}
 use Rattle.std.proofs.lemmas.List.Elements.{All-contains}
@@ -18,8 +18,7 @@ use Rattle.hc_records.proofs.lemmas.Greatest.{greatest-all}
 use Rattle.hc_records.proofs.lemmas.Inside.{packed-inside}
 use Rattle.hc_records.proofs.lemmas.KeyOrder.{same_key-same}
 use Rattle.hc_records.proofs.lemmas.Packable.{project-packable}
-use Rattle.hc_tasks.specs.Areas.{area_in, areas_by_rank}
-use Rattle.hc_places.specs.Found.{IsFoundSuiting, SuitsPlace}
+use Rattle.hc_places.specs.Found.{SuitsPlace}
 use Rattle.hc_places.proofs.lemmas.Rows.{task-suits}
 use Rattle.hc_changes.specs.Candidates.{LineArea, candidate_of, key_of, line_areas}
 use Rattle.hc_changes.specs.Rows.{StandsInside}
@@ -41,9 +40,7 @@ stands-inside state none fits found of placed is =
     let number : placed.datagram + 1 ≤ datagram_count places =
     All-contains (λ (p : Placed). p.datagram + 1 ≤ datagram_count places) places placed (greatest-all (λ (p : Placed). p.datagram + 1) 0 places) stood.among in
     let lies : LiesInside placed = All-contains LiesInside places placed (packed-inside opening (task_list task (line state)) (project-packable state task none)) stood.among in
-    let suits : SuitsPlace placed found.area =
-    All-contains (IsFoundSuiting (areas_by_rank state.groups)) places placed (task-suits state.groups none task) stood.among found.area
-    (ap (area_in (areas_by_rank state.groups)) (same_key-same placed.key (key_of found) stood.passes) ∙ area-named state.groups found of) in
+    let suits : SuitsPlace placed found.area = search (rules, All-contains, task-suits, same_key-same, area-named) in
     let bits = suits.bits in
     record { task = inside.task; datagram = omega (arith, few, number); inside = omega (arith, lies, bits); offers = suits.offers }
 

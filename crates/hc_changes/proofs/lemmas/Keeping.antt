@@ -1,12 +1,11 @@
 -- An edit leaves each declared slave the variables that it offers.
-use Rattle.std.proofs.Common.{◌≡◌, ℕ, ◌==◌, zero, suc, Bool, true, false, List, [], ◌∷◌, ◌++◌, refl, ap, ◌∙◌, if◌then◌else◌}
+use Rattle.std.proofs.Common.{◌≡◌, ℕ, zero, suc, Bool, List, [], ◌∷◌, ◌++◌, refl, ap, if◌then◌else◌, rules}
 use Rattle.std.specs.Prelude.{map}
 use Rattle.hc_records.specs.declared.edit.Edit.{Edit}
-use Rattle.hc_records.specs.declared.edit.Edit.TheVariants.{Connect, Disconnect, Remap, Move}
 use Rattle.hc_records.specs.declared.records.Area.{Area}
 use Rattle.hc_records.specs.declared.records.Declared.{Declared}
 use Rattle.hc_records.specs.declared.records.Slave.{Slave}
-use Rattle.hc_records.specs.Edits.{groups_after, with_area, with_presence, with_slaves}
+use Rattle.hc_records.specs.Edits.{groups_after, with_area, with_slaves}
 use Rattle.hc_records.specs.Lists.{changed_at}
 use Rattle.hc_records.specs.Project.{area_names, pdo_names}
 use Rattle.hc_changes.specs.Rows.{variables_by_rank}
@@ -20,13 +19,10 @@ group_variables declared = map offered declared.group.slaves
 groups-same : (change : Declared → Declared) → ((declared : Declared) → group_variables (change declared) ≡ group_variables declared) → (groups : List Declared)
     → variables_by_rank (map change groups) ≡ variables_by_rank groups
 groups-same change same [] = refl
-groups-same change same (declared ∷ groups) =
-    ap (λ (own : List (List ℕ)). own ++ variables_by_rank (map change groups)) (same declared)
-    ∙ ap (λ (rest : List (List ℕ)). group_variables declared ++ rest) (groups-same change same groups)
+groups-same change same (declared ∷ groups) = search (rules, groups-same change same groups)
 
 presence-by : (here present : Bool) (declared : Declared) → group_variables (if here then record declared { present = present } else declared) ≡ group_variables declared
-presence-by true present declared = refl
-presence-by false present declared = refl
+presence-by here present declared = search rules
 
 areas-same : (change : Area → Area) → ((area : Area) → pdo_names (change area).offered ≡ pdo_names area.offered) → (index : ℕ) (areas : List Area)
     → area_names (changed_at index change areas) ≡ area_names areas
@@ -36,24 +32,15 @@ areas-same change same (suc index) (area ∷ areas) = ap (λ (rest : List ℕ). 
 
 slave-by : (here : Bool) (slave : Slave) (areas : List Area) → area_names areas ≡ area_names slave.areas
     → offered (if here then record slave { areas = areas } else slave) ≡ offered slave
-slave-by true slave areas same = same
-slave-by false slave areas same = refl
+slave-by here slave areas same = search rules
 
 slaves-same : (change : Slave → Slave) → ((slave : Slave) → offered (change slave) ≡ offered slave) → (slaves : List Slave) → map offered (map change slaves) ≡ map offered slaves
 slaves-same change same [] = refl
-slaves-same change same (slave ∷ slaves) =
-    ap (λ (own : List ℕ). own ∷ map offered (map change slaves)) (same slave)
-    ∙ ap (λ (rest : List (List ℕ)). offered slave ∷ rest) (slaves-same change same slaves)
+slaves-same change same (slave ∷ slaves) = search (rules, slaves-same change same slaves)
 
 area-keeps : (station index : ℕ) (change : Area → Area) → ((area : Area) → pdo_names (change area).offered ≡ pdo_names area.offered) → (groups : List Declared)
     → variables_by_rank (map (with_slaves (with_area station index change)) groups) ≡ variables_by_rank groups
-area-keeps station index change same =
-    groups-same (with_slaves (with_area station index change))
-    (λ declared. slaves-same (with_area station index change)
-    (λ slave. slave-by (slave.station == station) slave (changed_at index change slave.areas) (areas-same change same index slave.areas)) declared.group.slaves)
+area-keeps station index change same = search (rules, groups-same, slaves-same, slave-by, areas-same)
 
 pub edit-keeps : (groups : List Declared) (edit : Edit) → variables_by_rank (groups_after groups edit) ≡ variables_by_rank groups
-edit-keeps groups (Connect alias) = groups-same (with_presence alias true) (λ declared. presence-by (declared.group.alias == alias) true declared) groups
-edit-keeps groups (Disconnect alias) = groups-same (with_presence alias false) (λ declared. presence-by (declared.group.alias == alias) false declared) groups
-edit-keeps groups (Remap station area pdos) = area-keeps station area (λ a. record a { assigned = pdos }) (λ a. refl) groups
-edit-keeps groups (Move station area task) = area-keeps station area (λ a. record a { task = task }) (λ a. refl) groups
+edit-keeps groups edit = search (rules, groups-same, presence-by, area-keeps)

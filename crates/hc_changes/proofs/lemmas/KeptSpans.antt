@@ -1,5 +1,5 @@
 -- A kept datagram carries what it carried.
-use Rattle.std.proofs.Common.{◌≡◌, ℕ, zero, suc, true, false, List, [], ◌∷◌, ◌++◌, Option, Some, None, refl, sym, ap, subst, ◌∙◌}
+use Rattle.std.proofs.Common.{◌≡◌, ℕ, zero, suc, true, false, List, [], ◌∷◌, ◌++◌, Option, Some, refl, sym, ap, ◌∙◌, rules}
 use Rattle.std.specs.Prelude.{map, slice_get, ◌&&◌}
 use Rattle.std.specs.Option.{option_map_or}
 use Rattle.std.specs.List.{zip}
@@ -36,15 +36,11 @@ pub record IsKept (old new : List Keyed) (datagram : ℕ) : Type 0 where
   pub began : slice_get (boundaries old) datagram ≡ Some span.0
 
 began-by : (first : Option Key) (key : Key) → option_map_or (same_key key) first false ≡ true → first ≡ Some key
-began-by None key is = cc
-began-by (Some first) key is = ap (λ (k : Key). Some k) (sym (same_key-same key first is))
+began-by first key is = search (rules, same_key-same)
 
 kept-by : (old new : List Keyed) (datagram : ℕ) (span : Option Interval) → slice_get (spans (boundaries new)) datagram ≡ span
     → option_map_or (λ s. is_settled old new s && begins_at old datagram s.0) span false ≡ true → IsKept old new datagram
-kept-by old new datagram None stands is = cc
-kept-by old new datagram (Some span) stands is =
-    let parts = and_parts (is_settled old new span) (begins_at old datagram span.0) is in
-    record { span = span; stands = stands; settled = parts.0; began = began-by (slice_get (boundaries old) datagram) span.0 parts.1 }
+kept-by old new datagram span stands is = search (rules, and_parts, began-by)
 
 pub kept-parts : (old new : List Keyed) (datagram : ℕ) → is_kept old new datagram ≡ true → IsKept old new datagram
 kept-parts old new datagram is = kept-by old new datagram (slice_get (spans (boundaries new)) datagram) refl is
@@ -56,9 +52,7 @@ kept-number old new datagram is is' kept =
     let contains = at-contained (spans (boundaries new)) datagram span kept.stands in
     let same = settled-stays old new span is is' contains kept.settled in
     let before : is_before span.0 END ≡ true = span-begins new span is' contains in
-    let other : span.0 ≡ END → ⊥ = (λ end.
-    let apart : same_key span.0 END ≡ false = other-sym END span.0 (before-other span.0 END before) in
-    let never : same_key END END ≡ false = subst (λ (k : Key). same_key k END ≡ false) end apart in cc) in
+    let other : span.0 ≡ END → ⊥ = search (rules, other-sym, before-other) in
     let found = begun START (later_keys old) datagram span.0 kept.began other in
     let one = span-alone old (span.0, found.0) is (at-contained (spans (boundaries old)) datagram (span.0, found.0) found.1) in
     let two = span-alone old span is same.was_span in
@@ -73,8 +67,7 @@ kept-inside old new datagram is is' test =
     let same = settled-stays old new span is is' (at-contained (spans (boundaries new)) datagram span kept.stands) kept.settled in
     let after = span-datagram new datagram span is' kept.stands in
     let before = span-datagram old datagram span is (kept-number old new datagram is is' kept) in
-    let seen : map seen_area (inside datagram (packed opening new)) ≡ map seen_area (inside datagram (packed opening old)) =
-    ap (map seen_area) after ∙ same.areas ∙ sym (ap (map seen_area) before) in
+    let seen : map seen_area (inside datagram (packed opening new)) ≡ map seen_area (inside datagram (packed opening old)) = search rules in
     sym (shown datagram (inside datagram (packed opening new)) (inside-numbered datagram (packed opening new)))
     ∙ ap (map (unseen datagram)) seen
     ∙ shown datagram (inside datagram (packed opening old)) (inside-numbered datagram (packed opening old))

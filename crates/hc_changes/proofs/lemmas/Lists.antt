@@ -1,5 +1,5 @@
 -- What a list contains, what is found in it, and what a `flat_map` over it needs of its elements.
-use Rattle.std.proofs.Common.{◌≡◌, zero, suc, Bool, true, false, cond, List, [], ◌∷◌, ◌++◌, Contains, refl, sym, ap, subst, ◌∙◌, ⊎_elim, arith}
+use Rattle.std.proofs.Common.{◌≡◌, zero, suc, Bool, true, false, cond, List, [], ◌∷◌, ◌++◌, Contains, refl, sym, ap, subst, ◌∙◌, ⊎_elim, arith, rules}
 use Rattle.std.specs.Prelude.{All, AllPairs, Option, Some, filter, find, map}
 use Rattle.std.specs.List.{flat_map}
 use Rattle.std.proofs.lemmas.Grind.{flat_map-append}
@@ -11,24 +11,20 @@ use Rattle.hc_records.proofs.lemmas.Lists.{AllPairs-head, AllPairs-tail}
 
 kept-by : (passes : Bool) {X Y : Type 0} (f : X → List Y) (x : X) (xs kept : List X) → (passes ≡ false → f x ≡ []) → flat_map f xs ≡ flat_map f kept
     → f x ++ flat_map f xs ≡ flat_map f (cond passes (x ∷ kept) kept)
-kept-by true f x xs kept nothing rest = ap (λ (ys : List _). f x ++ ys) rest
-kept-by false f x xs kept nothing rest = ap (λ (ys : List _). ys ++ flat_map f xs) (nothing refl) ∙ rest
+kept-by passes f x xs kept nothing rest = search rules
 
 pub flat_map-kept : {X Y : Type 0} (f : X → List Y) (test : X → Bool) (xs : List X) → All (λ x. test x ≡ false → f x ≡ []) xs → flat_map f xs ≡ flat_map f (filter test xs)
 flat_map-kept f test [] all = refl
 flat_map-kept f test (x ∷ xs) all =
-    kept-by (test x) f x xs (filter test xs) (All-head (λ y. test y ≡ false → f y ≡ []) x xs all)
-    (flat_map-kept f test xs (All-tail (λ y. test y ≡ false → f y ≡ []) x xs all))
+    search (rules, kept-by, All-head, All-tail, flat_map-kept f test xs (All-tail (λ y. test y ≡ false → f y ≡ []) x xs all))
 
 pub filter-flat_map : {X Y : Type 0} (test : Y → Bool) (f : X → List Y) (xs : List X) → filter test (flat_map f xs) ≡ flat_map (λ x. filter test (f x)) xs
 filter-flat_map test f [] = refl
-filter-flat_map test f (x ∷ xs) =
-    filter-append test (f x) (flat_map f xs) ∙ ap (λ (ys : List _). filter test (f x) ++ ys) (filter-flat_map test f xs)
+filter-flat_map test f (x ∷ xs) = search (rules, filter-append, filter-flat_map test f xs)
 
 pub flat_map-flat_map : {X Y Z : Type 0} (g : Y → List Z) (f : X → List Y) (xs : List X) → flat_map g (flat_map f xs) ≡ flat_map (λ x. flat_map g (f x)) xs
 flat_map-flat_map g f [] = refl
-flat_map-flat_map g f (x ∷ xs) =
-    flat_map-append g (f x) (flat_map f xs) ∙ ap (λ (zs : List _). flat_map g (f x) ++ zs) (flat_map-flat_map g f xs)
+flat_map-flat_map g f (x ∷ xs) = search (rules, flat_map-append, flat_map-flat_map g f xs)
 
 pub map-flat_map : {X Y Z : Type 0} (g : Y → Z) (f : X → List Y) (xs : List X) → map g (flat_map f xs) ≡ flat_map (λ x. map g (f x)) xs
 map-flat_map g f [] = refl
@@ -43,8 +39,7 @@ pub contains-behind : {X : Type 0} (x y : X) (xs : List X) → Contains xs x →
 contains-behind x y xs (k, within, is) = (suc k, omega arith, is)
 
 first-passing : {X : Type 0} (passes : Bool) (x y : X) (kept : List X) → passes ≡ true → y ≡ x → Contains (cond passes (y ∷ kept) kept) x
-first-passing true x y kept own is = (0, omega arith, is)
-first-passing false x y kept own is = cc
+first-passing passes x y kept own is = search rules
 
 later-passing : {X : Type 0} (passes : Bool) (x y : X) (kept : List X) → Contains kept x → Contains (cond passes (y ∷ kept) kept) x
 later-passing true x y kept at = contains-behind x y kept at
@@ -53,13 +48,10 @@ later-passing false x y kept at = at
 pub contains-filtered : {X : Type 0} (test : X → Bool) (xs : List X) (x : X) → Contains xs x → test x ≡ true → Contains (filter test xs) x
 contains-filtered test [] x (k, within, is) passes = absurd (omega arith)
 contains-filtered test (y ∷ ys) x (zero, within, is) passes = first-passing (test y) x y (filter test ys) (ap test is ∙ passes) is
-contains-filtered test (y ∷ ys) x (suc k, within, is) passes =
-    later-passing (test y) x y (filter test ys) (contains-filtered test ys x (k, omega arith, is) passes)
+contains-filtered test (y ∷ ys) x (suc k, within, is) passes = search (rules, later-passing, contains-filtered test ys x (k, omega arith, is) passes)
 
 unfiltered-by : {X : Type 0} (passes : Bool) (x y : X) (kept ys : List X) → Contains (cond passes (y ∷ kept) kept) x → (Contains kept x → Contains ys x) → Contains (y ∷ ys) x
-unfiltered-by true x y kept ys (zero, within, is) rest = (0, omega arith, is)
-unfiltered-by true x y kept ys (suc k, within, is) rest = contains-behind x y ys (rest (k, omega arith, is))
-unfiltered-by false x y kept ys at rest = contains-behind x y ys (rest at)
+unfiltered-by passes x y kept ys at rest = search (rules, contains-behind)
 
 pub contains-unfiltered : {X : Type 0} (test : X → Bool) (xs : List X) (x : X) → Contains (filter test xs) x → Contains xs x
 contains-unfiltered test [] x at = at
@@ -90,8 +82,7 @@ pub record IsFound {X : Type 0} (test : X → Bool) (xs : List X) (x : X) : Type
   pub passes : test x ≡ true
 
 found-by : {X : Type 0} (here : Bool) (test : X → Bool) (x y : X) (ys : List X) → test y ≡ here → cond here (Some y) (find test ys) ≡ Some x → (find test ys ≡ Some x → IsFound test ys x) → IsFound test (y ∷ ys) x
-found-by true test x y ys passes is later = let same : y ≡ x = cc in record { among = (0, omega arith, same); passes = sym (ap test same) ∙ passes }
-found-by false test x y ys passes is later = let found = later is in record { among = contains-behind x y ys found.among; passes = found.passes }
+found-by here test x y ys passes is later = search (rules, contains-behind)
 
 pub found-among : {X : Type 0} (test : X → Bool) (xs : List X) (x : X) → find test xs ≡ Some x → IsFound test xs x
 found-among test [] x is = cc
@@ -100,15 +91,12 @@ found-among test (y ∷ ys) x is = found-by (test y) test x y ys refl is (found-
 -- of elements of which no two pass, the one that does is found
 
 here-or-later : {X : Type 0} (here : Bool) (x y : X) (rest : Option X) → (here ≡ true → ⊥) → rest ≡ Some x → cond here (Some y) rest ≡ Some x
-here-or-later true x y rest never later = absurd (never refl)
-here-or-later false x y rest never later = later
+here-or-later here x y rest never later = search rules
 
 pub find-only : {X : Type 0} (test : X → Bool) (xs : List X) (x : X) → AllPairs (λ a b. test a ≡ true → test b ≡ true → ⊥) xs → Contains xs x → test x ≡ true → find test xs ≡ Some x
 find-only test [] x pairs (k, within, is) passes = absurd (omega arith)
-find-only test (y ∷ ys) x pairs (zero, within, is) passes =
-    ap (λ (b : Bool). cond b (Some y) (find test ys)) (ap test is ∙ passes) ∙ ap (λ (z : _). Some z) is
+find-only test (y ∷ ys) x pairs (zero, within, is) passes = search rules
 find-only test (y ∷ ys) x pairs (suc k, within, is) passes =
     let alone = AllPairs-head (λ a b. test a ≡ true → test b ≡ true → ⊥) y ys pairs in
     let at : Contains ys x = (k, omega arith, is) in
-    here-or-later (test y) x y (find test ys) (λ own. All-contains (λ b. test y ≡ true → test b ≡ true → ⊥) ys x alone at own passes)
-    (find-only test ys x (AllPairs-tail (λ a b. test a ≡ true → test b ≡ true → ⊥) y ys pairs) at passes)
+    search (rules, here-or-later, All-contains, AllPairs-tail, find-only test ys x (AllPairs-tail (λ a b. test a ≡ true → test b ≡ true → ⊥) y ys pairs) at passes)

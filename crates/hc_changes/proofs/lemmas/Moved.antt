@@ -1,9 +1,8 @@
 -- The moved blocks are those of candidates.
-use Rattle.std.proofs.Common.{◌≡◌, ℕ, ◌*◌, ◌==◌, Bool, true, false, cond, List, [], ◌∷◌, Contains, Option, Some, None, refl, sym, ap, subst, ◌∙◌}
+use Rattle.std.proofs.Common.{◌≡◌, ℕ, ◌*◌, Bool, true, false, cond, List, [], ◌∷◌, Contains, Option, Some, None, refl, sym, ap, subst, ◌∙◌, rules}
 use Rattle.std.specs.Prelude.{All, AllPairs, filter, map, not, option_map}
 use Rattle.std.specs.Option.{option_map_or}
 use Rattle.std.specs.List.{flat_map, list_any}
-use Rattle.std.specs.Str.{bytes_eq}
 use Rattle.std.proofs.lemmas.Bool.{and_from, eq-eqb, not-false, not_from_true, or_parts}
 use Rattle.std.proofs.lemmas.List.Elements.{All-contains, All-head, All-tail, All-weaker, All-contains_itself}
 use Rattle.std.proofs.lemmas.List.Folds.{list_any_at}
@@ -48,9 +47,7 @@ none-twice found old new ranks of of' none (Some placed) is =
     subst (λ (l : List Keyed). Contains l (key, width found.area)) (sym (packed-areas opening (task_list task new))) (wide-listed new found of' wide) in
     let here = map-piece area_of (packed opening (task_list task new)) (key, width found.area) again in
     let same : here.0.key ≡ key = ap (λ (a : Keyed). a.0) here.2 in
-    let never : same_key here.0.key key ≡ false =
-    All-contains (λ (p : Placed). same_key p.key key ≡ false) (packed opening (task_list task new)) here.0
-    (found-none (λ (p : Placed). same_key p.key key) (packed opening (task_list task new)) none) here.1 in
+    let never : same_key here.0.key key ≡ false = search (rules, All-contains, found-none) in
     let own : same_key here.0.key key ≡ true = subst (λ (k : Key). same_key here.0.key k ≡ true) same (same_key-refl here.0.key) in
     cc
 
@@ -80,17 +77,13 @@ same-blocks : (found : LineArea) (old new : List Member) → place_of old found 
 same-blocks found old new same = ap (blocks_at found) same
 
 pub same_bytes-refl : (block : RegisterBlock) → same_bytes block block ≡ true
-same_bytes-refl block =
-    and_from (block.register == block.register) (bytes_eq block.bytes block.bytes) (eq-eqb block.register block.register refl)
-    ((bytes_eq-Decides block.bytes block.bytes).1 refl)
+same_bytes-refl block = search (rules, and_from, eq-eqb, bytes_eq-Decides)
 
 same_block-refl : (block : LineBlock) → same_block block block ≡ true
-same_block-refl found =
-    and_from (found.station == found.station) (same_bytes found.block found.block) (eq-eqb found.station found.station refl) (same_bytes-refl found.block)
+same_block-refl found = search (rules, and_from, eq-eqb, same_bytes-refl)
 
 had : (blocks : List LineBlock) (block : LineBlock) → Contains blocks block → list_any (same_block block) blocks ≡ true
-had blocks block at =
-    list_any_at (same_block block) blocks at.0 block at.1 (subst (λ (b : LineBlock). same_block block b ≡ true) (sym at.2) (same_block-refl block))
+had blocks block at = search (rules, list_any_at, same_block-refl)
 
 pub none-kept : {X : Type 0} (test : X → Bool) (xs : List X) → All (λ x. test x ≡ false) xs → filter test xs ≡ []
 none-kept test [] all = refl
@@ -98,12 +91,7 @@ none-kept test (x ∷ xs) all = rw (All-head (λ x. test x ≡ false) x xs all) 
 
 stood-all : (found : LineArea) (old : List Member) → Contains (line_areas old) found
     → All (λ block. not (list_any (same_block block) (line_blocks old)) ≡ false) (blocks_of old found)
-stood-all found old at =
-    All-weaker (Contains (blocks_of old found)) (λ block. not (list_any (same_block block) (line_blocks old)) ≡ false)
-    (λ block own. not_from_true (list_any (same_block block) (line_blocks old))
-    (had (line_blocks old) block
-    (subst (λ (blocks : List LineBlock). Contains blocks block) (sym (blocks-of-areas old)) (contains-flat_map (blocks_of old) (line_areas old) found block at own))))
-    (blocks_of old found) (All-contains_itself (blocks_of old found))
+stood-all found old at = search (rules, All-weaker, not_from_true, had, blocks-of-areas, contains-flat_map, All-contains_itself)
 
 -- an area that isn't a candidate stood where it stands
 pub unchanged-stand : (changed : ℕ → Bool) (old new : State) → lowest_fault (groups_of old.groups) ≡ None → lowest_fault (groups_of new.groups) ≡ None → DifferAt changed (line old) (line new)
@@ -111,11 +99,7 @@ pub unchanged-stand : (changed : ℕ → Bool) (old new : State) → lowest_faul
     → IsAreaOf (line old) found × (place_of (line old) found ≡ place_of (line new) found)
 unchanged-stand changed old new was is differ found at other =
     let parts = or_parts (changed found.member.rank) (is_recut (line old) (line new) found) other in
-    let stood = line-area (line old) found (others-stand changed (line old) (line new) (line-ascends 1 new.groups) differ found at parts.0) in (
-      stood,
-      same-place found (line old) (line new) (line-ascends 1 old.groups) (project-list old found.area.task was) (project-list new found.area.task is)
-          stood (line-area (line new) found at) parts.1,
-    )
+    search (rules, line-area, others-stand, line-ascends, same-place, project-list)
 
 unmoved : (changed : ℕ → Bool) (old new : State) → lowest_fault (groups_of old.groups) ≡ None → lowest_fault (groups_of new.groups) ≡ None → DifferAt changed (line old) (line new)
     → (found : LineArea) → Contains (line_areas (line new)) found → is_candidate changed (line old) (line new) found ≡ false → moved_of (line old) (line new) found ≡ []
@@ -127,13 +111,11 @@ unmoved changed old new was is differ found at other =
 
 ranked-kept : (passes : Bool) (rank : ℕ) (block : LineBlock) (kept : List LineBlock) (rest : List RankedBlock) → rest ≡ map (ranked rank) kept
     → cond passes (ranked rank block ∷ rest) rest ≡ map (ranked rank) (cond passes (block ∷ kept) kept)
-ranked-kept true rank block kept rest is = ap (λ (blocks : List RankedBlock). ranked rank block ∷ blocks) is
-ranked-kept false rank block kept rest is = is
+ranked-kept passes rank block kept rest is = search rules
 
 filter-ranked : (test : LineBlock → Bool) (rank : ℕ) (blocks : List LineBlock) → filter (λ block. test block.found) (map (ranked rank) blocks) ≡ map (ranked rank) (filter test blocks)
 filter-ranked test rank [] = refl
-filter-ranked test rank (block ∷ blocks) =
-    ranked-kept (test block) rank block (filter test blocks) (filter (λ block. test block.found) (map (ranked rank) blocks)) (filter-ranked test rank blocks)
+filter-ranked test rank (block ∷ blocks) = search (rules, ranked-kept, filter-ranked test rank blocks)
 
 pub moved-told : (changed : ℕ → Bool) (old new : State) → lowest_fault (groups_of old.groups) ≡ None → lowest_fault (groups_of new.groups) ≡ None → DifferAt changed (line old) (line new)
     → moved_ranked (line old) (line new) ≡ flat_map (ranked_by (moved_of (line old) (line new))) (candidates changed (line old) (line new))

@@ -1,5 +1,5 @@
 -- The blocks that an edit moves are those of the candidates that differ from the blocks with their numbers.
-use Rattle.std.proofs.Common.{◌≡◌, ℕ, ◌+◌, ◌*◌, ◌<◌, ◌==◌, ◌&&◌, Bool, true, false, cond, List, [], ◌∷◌, ◌++◌, length, get_or, Contains, Option, Some, None, refl, sym, ap, subst, ◌∙◌, arith}
+use Rattle.std.proofs.Common.{◌≡◌, ℕ, ◌+◌, ◌*◌, ◌<◌, ◌==◌, ◌&&◌, Bool, true, cond, List, [], ◌∷◌, ◌++◌, length, get_or, Contains, Option, Some, None, refl, sym, ap, subst, ◌∙◌, rules}
 use Rattle.std.specs.Prelude.{All, find, map, not, option_and_then, option_map, slice_get}
 use Rattle.std.specs.List.{flat_map}
 use Rattle.std.specs.Option.{option_map_or}
@@ -29,7 +29,7 @@ use Rattle.hc_ranks.specs.Blocks.{RankedBlock, moved_ranked, ranked}
 use Rattle.hc_cuts.specs.Place.{place_of as place_by}
 use Rattle.hc_tasks.specs.Areas.{areas_at, areas_by_rank, list_by}
 use Rattle.hc_tasks.proofs.lemmas.Told.{place-told}
-use Rattle.hc_changes.specs.Candidates.{Candidate, DifferAt, LineArea, blocks_of, candidate_of, candidates, is_candidate, key_of, line_areas, place_of}
+use Rattle.hc_changes.specs.Candidates.{Candidate, LineArea, blocks_of, candidate_of, candidates, is_candidate, key_of, line_areas, place_of}
 use Rattle.hc_changes.specs.Compared.{counterpart, differing_of, unlike}
 use Rattle.hc_changes.specs.inner.Moved.{IsOfLine, IsWritable, blocks_if, blocks_moved, differ_from, mapping_by, two_blocks}
 use Rattle.hc_changes.specs.Movers.{Stood, area_before, mover_of, place_before}
@@ -63,14 +63,7 @@ area-writable groups none found of =
     let few = (All-contains (λ (m : Member). IsSlaveInside m.slave) (line_from 1 groups) found.member (line-inside groups none) of.member).few in
     let below = slice_get_within found.member.slave.areas found.index found.area (own-at found.member.slave.areas (found.index, found.area) of.own) in
     let inside : IsAreaInside found.area = area-inside (record { groups = groups; epoch = 0 }) none found of in
-    record {
-      early = omega arith;
-      manager = inside.manager;
-      task = inside.task;
-      narrow = inside.narrow;
-      bits = placed-width groups found of;
-      some = placed-some groups none found;
-    }
+    search (rules, placed-width, placed-some)
 
 -- the area that a slave with a rank has at an index is that of the line
 
@@ -78,24 +71,16 @@ area-by : (line : List Member) (found : LineArea) (member : Option Member) → f
     → slice_get (option_map_or (λ (s : Slave). s.areas) (option_map (λ (m : Member). m.slave) member) []) found.index
     ≡ option_map (λ (f : LineArea). f.area)
     (option_and_then (λ (m : Member). option_map (λ (a : Area). record { member = m; index = found.index; area = a }) (slice_get m.slave.areas found.index)) member)
-area-by line found None is = refl
-area-by line found (Some member) is = area-of (slice_get member.slave.areas found.index)
-  where
-    area-of : (area : Option Area) → area ≡ option_map (λ (f : LineArea). f.area) (option_map (λ (a : Area). record { member = member; index = found.index; area = a }) area)
-    area-of None = refl
-    area-of (Some area) = refl
+area-by line found member is = search rules
 
 pub area-told : (groups : List Declared) (found : LineArea)
     → slice_get (areas_at (areas_by_rank groups) found.member.rank) found.index ≡ option_map (λ (f : LineArea). f.area) (counterpart (line_from 1 groups) found)
-area-told groups found =
-    ap (λ (areas : List Area). slice_get areas found.index) (areas-of-rank groups found.member.rank)
-    ∙ area-by (line_from 1 groups) found (find (λ (m : Member). m.rank == found.member.rank) (line_from 1 groups)) refl
+area-told groups found = search (rules, areas-of-rank, area-by)
 
 -- those of two blocks that differ from two others, with a rank
 
 and-known : (a b : Bool) → a ≡ true → (a && b) ≡ b
-and-known true b is = refl
-and-known false b is = cc
+and-known a b is = search rules
 
 same-station : (a b : LineBlock) → a.station ≡ b.station → same_block a b ≡ same_bytes a.block b.block
 same-station a b station = and-known (a.station == b.station) (same_bytes a.block b.block) (eq-eqb a.station b.station station)
@@ -104,17 +89,11 @@ abbrev those : ℕ → LineBlock → LineBlock → Bool → Bool → List Ranked
 those rank a b x y = cond (not x) (ranked rank a ∷ []) [] ++ cond (not y) (ranked rank b ∷ []) []
 
 two-blocks : (rank : ℕ) (x y : Bool) (a b : LineBlock) → map (ranked rank) (cond x (cond y [] (b ∷ [])) (a ∷ cond y [] (b ∷ []))) ≡ those rank a b x y
-two-blocks rank true true a b = refl
-two-blocks rank true false a b = refl
-two-blocks rank false true a b = refl
-two-blocks rank false false a b = refl
+two-blocks rank x y a b = search rules
 
 unlike-blocks : (rank : ℕ) (a b c d : LineBlock) → a.station ≡ c.station → b.station ≡ d.station
     → map (ranked rank) (unlike (c ∷ d ∷ []) (a ∷ b ∷ [])) ≡ those rank a b (same_bytes a.block c.block) (same_bytes b.block d.block)
-unlike-blocks rank a b c d first second =
-    two-blocks rank (same_block a c) (same_block b d) a b
-    ∙ ap (λ (x : Bool). those rank a b x (same_block b d)) (same-station a c first)
-    ∙ ap (those rank a b (same_bytes a.block c.block)) (same-station b d second)
+unlike-blocks rank a b c d first second = search (rules, two-blocks, same-station)
 
 -- where an area stood, by the areas of the old line, and the FMMU block that it was there
 
@@ -131,10 +110,7 @@ place-by groups found was rank index =
 second-before : (groups : List Declared) (found was : LineArea) → was.member.rank ≡ found.member.rank → was.index ≡ found.index
     → fmmu_block was.index was.area (mapping_of (line_from 1 groups) was.area.task (key_of was))
     ≡ fmmu_block found.index was.area (mapping_by was.area (place_by (record { dir = was.area.dir; rank = found.member.rank; area = found.index }) (list_by was.area.task (areas_by_rank groups))))
-second-before groups found was rank index =
-    ap (λ (p : Option Placed). fmmu_block was.index was.area (mapping_by was.area p)) (place-by groups found was rank index)
-    ∙ ap (λ (i : ℕ). fmmu_block i was.area
-    (mapping_by was.area (place_by (record { dir = was.area.dir; rank = found.member.rank; area = found.index }) (list_by was.area.task (areas_by_rank groups))))) index
+second-before groups found was rank index = search (rules, place-by)
 
 -- so a candidate tells those of its blocks that differ from the blocks with their numbers
 
@@ -150,9 +126,7 @@ module _ (it : Outlook) (one : AreOfOneProject (line_from 1 it.old) (line_from 1
 
   blocks-by : (found : LineArea) → IsAreaOf new found → (was : Option LineArea) → counterpart old found ≡ was
       → map (ranked found.member.rank) (unlike (option_map_or (blocks_of old) was []) (blocks_of new found)) ≡ blocks_by it (candidate_of new found)
-  blocks-by found of None is =
-      let none : area_before it (candidate_of new found) ≡ None = area-told it.old found ∙ ap (option_map (λ (f : LineArea). f.area)) is in
-      rw none refl
+  blocks-by found of None is = search (rules, area-told)
   blocks-by found of (Some was) is =
       let stood : StoodAt old found was = area-stood old found was is in
       let candidate = candidate_of new found in
@@ -189,16 +163,11 @@ module _ (it : Outlook) (one : AreOfOneProject (line_from 1 it.old) (line_from 1
 -- an edit leads from the one line to the other
 
 pub edited-one-project : (it : Outlook) → IsOutlook it → AreOfOneProject (line_from 1 it.old) (line_from 1 it.new)
-edited-one-project it is =
-    subst (λ (groups : List Declared). AreOfOneProject (line_from 1 it.old) (line_from 1 groups)) (sym is.edited.leads) (edit-one-project it.old is.edited.edit is.was_project)
+edited-one-project it is = search (rules, edit-one-project)
 
 edited-compared : (it : Outlook) → IsOutlook it → moved_ranked (line_from 1 it.old) (line_from 1 it.new)
     ≡ flat_map (ranked_by (differing_of (line_from 1 it.old) (line_from 1 it.new))) (candidates (changes it) (line_from 1 it.old) (line_from 1 it.new))
-edited-compared it is =
-    subst (λ (groups : List Declared). lowest_fault (groups_of groups) ≡ None → DifferAt (changes it) (line_from 1 it.old) (line_from 1 groups)
-    → moved_ranked (line_from 1 it.old) (line_from 1 groups)
-    ≡ flat_map (ranked_by (differing_of (line_from 1 it.old) (line_from 1 groups))) (candidates (changes it) (line_from 1 it.old) (line_from 1 groups)))
-    (sym is.edited.leads) (all-compared (changes it) it.old is.edited.edit is.was_project) is.is_project is.slaves
+edited-compared it is = search (rules, all-compared)
 
 pub moved-told : (it : Outlook) → IsOutlook it
     → flat_map (blocks_by it) (map (candidate_of (line_from 1 it.new)) (candidates (changes it) (line_from 1 it.old) (line_from 1 it.new)))

@@ -1,13 +1,12 @@
 -- A candidate that doesn't move has the blocks that it had, and its variables stand where they stood.
-use Rattle.std.proofs.Common.{◌≡◌, ℕ, ◌<◌, ◌==◌, Bool, true, false, List, [], Contains, Option, Some, None, length, get_or, refl, sym, ap, subst, ◌∙◌}
-use Rattle.std.specs.Prelude.{All, filter, map, not, option_map, slice_get}
+use Rattle.std.proofs.Common.{◌≡◌, ℕ, ◌<◌, ◌==◌, Bool, true, false, List, [], Contains, Option, Some, None, length, get_or, refl, sym, ap, subst, ◌∙◌, rules}
+use Rattle.std.specs.Prelude.{All, filter, map, not, option_map}
 use Rattle.std.specs.List.{flat_map}
 use Rattle.std.specs.Option.{option_map_or}
 use Rattle.std.proofs.lemmas.Bool.{and_parts, eqb-true, not-false, not_from_true, or_parts}
 use Rattle.std.proofs.lemmas.List.Elements.{All-contains, All-contains_itself, All-filter, All-map, All-weaker}
 use Rattle.std.proofs.lemmas.List.Folds.{flat_map-map}
 use Rattle.hc_records.specs.declared.records.Area.{Area}
-use Rattle.hc_records.specs.declared.keys.Key.{Key}
 use Rattle.hc_records.specs.Edits.{crowded_task}
 use Rattle.hc_records.specs.Image.{task_places}
 use Rattle.hc_records.specs.Keys.{same_key}
@@ -16,7 +15,7 @@ use Rattle.hc_records.specs.Packing.{Placed}
 use Rattle.hc_records.proofs.lemmas.Finds.{mapped-some}
 use Rattle.hc_records.proofs.lemmas.KeyOrder.{same_key-same}
 use Rattle.hc_records.proofs.lemmas.Lines.{line-ascends}
-use Rattle.hc_registers.specs.Blocks.{RegisterBlock, same_bytes}
+use Rattle.hc_registers.specs.Blocks.{RegisterBlock}
 use Rattle.hc_ranks.specs.Blocks.{moved_ranked}
 use Rattle.hc_places.specs.Swap.{same_found}
 use Rattle.hc_places.specs.Table.{Row, place_in, table_of}
@@ -39,16 +38,10 @@ use Rattle.hc_changes.proofs.lemmas.Places.{area-stands-at}
 use Rattle.hc_changes.proofs.lemmas.Rows.{moved_row}
 
 same-placed : (a b : Placed) → a.key ≡ b.key → a.bits ≡ b.bits → a.datagram ≡ b.datagram → a.bit ≡ b.bit → a ≡ b
-same-placed a b key bits datagram bit =
-    ap (λ (k : Key). record { key = k; bits = a.bits; datagram = a.datagram; bit = a.bit }) key
-    ∙ ap (λ (n : ℕ). record { key = b.key; bits = n; datagram = a.datagram; bit = a.bit }) bits
-    ∙ ap (λ (n : ℕ). record { key = b.key; bits = b.bits; datagram = n; bit = a.bit }) datagram
-    ∙ ap (λ (n : ℕ). record { key = b.key; bits = b.bits; datagram = b.datagram; bit = n }) bit
+same-placed a b key bits datagram bit = search rules
 
 none-differ : (blocks : RegisterBlock × RegisterBlock) → differ_from blocks blocks ≡ (false, false)
-none-differ blocks =
-    ap (λ (x : Bool). (not x, not (same_bytes blocks.1 blocks.1))) (same_bytes-refl blocks.0)
-    ∙ ap (λ (x : Bool). (false, not x)) (same_bytes-refl blocks.1)
+none-differ blocks = search (rules, same_bytes-refl)
 
 module _ (it : Outlook) (is : IsOutlook it) where
   abbrev old : List Member
@@ -83,12 +76,7 @@ module _ (it : Outlook) (is : IsOutlook it) where
       let wide = sym (ap bits_of here) ∙ placed-width it.new found of in
       let wide' = sym (ap bits_of there) ∙ placed-width it.old found of' in
       let parts = and_parts (a.datagram == b.datagram) (a.bit == b.bit) same in
-      ap Some
-      (same-placed a b
-      (same_key-same a.key (key_of found) now.passes ∙ sym (same_key-same b.key (key_of found) was.passes))
-      (wide ∙ sym wide')
-      (eqb-true a.datagram b.datagram parts.0)
-      (eqb-true a.bit b.bit parts.1))
+      search (rules, same-placed, same_key-same, eqb-true)
 
   -- an area that doesn't move
   record Stays (found : LineArea) : Type 0 where
@@ -104,14 +92,9 @@ module _ (it : Outlook) (is : IsOutlook it) where
       let make : Area → Stood = λ area. record { area = area; place = place_before it candidate area } in
       let parts = or_parts (changes it found.member.rank) (elsewhere (stood_of it candidate)) still in
       let was = line-area old found (others-stand (changes it) old new (line-ascends 1 it.new) is.slaves found (area-stands new found of) parts.0) in
-      let area : area_before it candidate ≡ Some found.area =
-      ap (λ (areas : List Area). slice_get areas found.index) (other-at it is found.member.rank parts.0) ∙ area-named it.new found of in
+      let area : area_before it candidate ≡ Some found.area = search (rules, other-at, area-named) in
       let stood : place_before it candidate found.area ≡ place_of old found = sym (place-by it.old found found refl refl) in
-      let spot : same_spot candidate.place (place_of old found) ≡ true =
-      not-false (same_spot candidate.place (place_of old found))
-      (ap (λ (p : Option Placed). not (same_spot candidate.place p)) (sym stood)
-      ∙ sym (ap (λ (a : Option Area). elsewhere (option_map make a)) area)
-      ∙ parts.1) in
+      let spot : same_spot candidate.place (place_of old found) ≡ true = search (rules, not-false) in
       record { was = was; area = area; stood = stood; place = spot-place found of was (place_of new found) (place_of old found) refl refl spot }
 
   -- its blocks are those that it had
@@ -135,8 +118,7 @@ module _ (it : Outlook) (is : IsOutlook it) where
   stood-rows found of still =
       let it-stays = stays found of still in
       let rows = rows_of (own found) in
-      let here : (row : Row) → Contains rows row → Contains (rows_of (candidate_of old found)) row =
-      λ row at. subst (λ (p : Option Placed). Contains (rows_of (record { station = 0; rank = 0; index = 0; area = found.area; place = p })) row) it-stays.place at in
+      let here : (row : Row) → Contains rows row → Contains (rows_of (candidate_of old found)) row = search rules in
       All-weaker (Contains rows) (λ row. is_new_row (table_of old) row ≡ false)
       (λ row at. not_from_true (same_found (place_in (table_of old) row.0) (Some row.1))
       (found-same (place_in (table_of old) row.0) (Some row.1)
@@ -180,15 +162,10 @@ module _ (it : Outlook) (is : IsOutlook it) where
       (before-writable it is candidate (record { found = found; stands = area-stands new found of; is = refl }) had.0 had.1)
 
   movers-comparable : All IsComparable (movers_of it)
-  movers-comparable =
-      All-filter (moves it) IsComparable (map (mover_of it) (candidates_of it))
-      (each-mover IsComparable
-      (λ found of. record { new = area-writable it.new is.is_project found of; old = λ stood has. had-writable found of stood has }))
+  movers-comparable = search (rules, All-filter, each-mover, area-writable, had-writable)
 
   pub comparable-at : (movers : List Mover) (i : ℕ) (mover : Mover) → movers ≡ movers_of it → i < length movers → mover ≡ get_or movers i mover → IsComparable mover
-  comparable-at movers i mover all within met =
-      let each : All IsComparable movers = subst (λ (ms : List Mover). All IsComparable ms) (sym all) movers-comparable in
-      subst IsComparable (sym met) (each i mover within)
+  comparable-at movers i mover all within met = search (rules, movers-comparable)
 
   -- and where no task needs more, each stands in one of 16 datagrams
   pub movers-stand : crowded_task new ≡ None → All (λ mover. StandsInside mover.found) (movers_of it)

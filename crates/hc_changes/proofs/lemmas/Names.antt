@@ -1,5 +1,5 @@
 -- The variables that an area's assigned PDOs carry are those of its rows, and the area offers each of them.
-use Rattle.std.proofs.Common.{◌≡◌, ℕ, zero, suc, ◌+◌, ◌<◌, ◌≤◌, ◌==◌, List, [], ◌∷◌, ◌++◌, Contains, Option, Some, None, refl, sym, ap, subst, ◌∙◌, arith}
+use Rattle.std.proofs.Common.{◌≡◌, ℕ, zero, suc, ◌+◌, ◌<◌, ◌≤◌, ◌==◌, List, [], ◌∷◌, ◌++◌, Contains, Option, Some, None, refl, sym, ap, subst, ◌∙◌, arith, rules}
 use Rattle.std.specs.Prelude.{find, map}
 use Rattle.std.specs.List.{cons_option}
 use Rattle.std.specs.Option.{option_map_or}
@@ -15,7 +15,6 @@ use Rattle.hc_records.specs.Packing.{Placed}
 use Rattle.hc_records.specs.Project.{entry_names, pdo_names}
 use Rattle.hc_records.proofs.lemmas.Entries.{HasEntryWidths}
 use Rattle.hc_places.specs.Found.{area_rows}
-use Rattle.hc_places.specs.inner.Parts.{row_at}
 use Rattle.hc_places.specs.Table.{Row}
 use Rattle.hc_changes.specs.Rows.{area_variables_of}
 use Rattle.hc_changes.proofs.lemmas.Lists.{contains-behind, contains-first, contains-flat_map, flat_map-piece, found-among}
@@ -25,18 +24,14 @@ use Rattle.hc_changes.proofs.lemmas.Others.{contains-mapped, map-piece}
 
 name-front : (name : Option ℕ) (bit bits : ℕ) (rest : List (ℕ × (ℕ × ℕ))) (names : List ℕ) → map (λ found. found.0) rest ≡ names
     → map (λ found. found.0) (option_map_or (λ v. (v, (bit, bits)) ∷ []) name [] ++ rest) ≡ cons_option name names
-name-front None bit bits rest names is = is
-name-front (Some v) bit bits rest names is = ap (λ (ns : List ℕ). v ∷ ns) is
+name-front name bit bits rest names is = search rules
 
 from-names : (bit : ℕ) (entries : List Entry) → map (λ found. found.0) (variables_from bit entries) ≡ entry_names entries
 from-names bit [] = refl
-from-names bit (entry ∷ entries) =
-    name-front entry.0 bit entry.1 (variables_from (bit + entry.1) entries) (entry_names entries) (from-names (bit + entry.1) entries)
+from-names bit (entry ∷ entries) = search (rules, name-front, from-names (bit + entry.1) entries)
 
 row-names : (task : ℕ) (area : Area) (placed : Placed) → map (λ row. row.0) (area_rows task area placed) ≡ area_variables_of area
-row-names task area placed =
-    map-map (λ (row : Row). row.0) (row_at task placed.datagram area.dir) (variables_from placed.bit (assigned_entries area))
-    ∙ from-names placed.bit (assigned_entries area)
+row-names task area placed = search (rules, map-map, from-names)
 
 pub row-named : (task : ℕ) (area : Area) (placed : Placed) (row : Row) → Contains (area_rows task area placed) row → Contains (area_variables_of area) row.0
 row-named task area placed row at =
@@ -51,8 +46,7 @@ named-row task area placed variable at =
 -- what a filtered map contains
 
 here-mapped : {Y : Type 0} (made : Option Y) (y : Y) (rest : List Y) → made ≡ Some y → Contains (cons_option made rest) y
-here-mapped None y rest is = cc
-here-mapped (Some z) y rest is = (0, omega arith, let same : z ≡ y = cc in same)
+here-mapped made y rest is = search rules
 
 later-mapped : {Y : Type 0} (made : Option Y) (y : Y) (rest : List Y) → Contains rest y → Contains (cons_option made rest) y
 later-mapped None y rest at = at
@@ -60,10 +54,9 @@ later-mapped (Some z) y rest at = contains-behind y z rest at
 
 pub contains-named : (entries : List Entry) (entry : Entry) (variable : ℕ) → Contains entries entry → entry.0 ≡ Some variable → Contains (entry_names entries) variable
 contains-named [] entry variable (k, within, is) name = absurd (omega arith)
-contains-named (e ∷ entries) entry variable (zero, within, is) name =
-    here-mapped e.0 variable (entry_names entries) (ap (λ (x : Entry). x.0) is ∙ name)
+contains-named (e ∷ entries) entry variable (zero, within, is) name = search (rules, here-mapped)
 contains-named (e ∷ entries) entry variable (suc k, within, is) name =
-    later-mapped e.0 variable (entry_names entries) (contains-named entries entry variable (k, omega arith, is) name)
+    search (rules, later-mapped, contains-named entries entry variable (k, omega arith, is) name)
 
 -- the entry that has a variable
 pub record HasName (entries : List Entry) (variable : ℕ) : Type 0 where
@@ -73,13 +66,10 @@ pub record HasName (entries : List Entry) (variable : ℕ) : Type 0 where
 
 named-by : (made : Option ℕ) (e : Entry) (entries : List Entry) (variable : ℕ) → e.0 ≡ made → Contains (cons_option made (entry_names entries)) variable
     → (Contains (entry_names entries) variable → HasName entries variable) → HasName (e ∷ entries) variable
-named-by None e entries variable is at later =
-    let rest = later at in record { entry = rest.entry; among = contains-behind rest.entry e entries rest.among; name = rest.name }
+named-by None e entries variable is at later = search (rules, contains-behind)
 named-by (Some v) e entries variable is (zero, within, same) later =
     record { entry = e; among = contains-first e entries; name = is ∙ ap (λ (n : ℕ). Some n) same }
-named-by (Some v) e entries variable is (suc k, within, same) later =
-    let rest = later (k, omega arith, same) in
-    record { entry = rest.entry; among = contains-behind rest.entry e entries rest.among; name = rest.name }
+named-by (Some v) e entries variable is (suc k, within, same) later = search (rules, contains-behind)
 
 pub named-entry : (entries : List Entry) (variable : ℕ) → Contains (entry_names entries) variable → HasName entries variable
 named-entry [] variable (k, within, is) = absurd (omega arith)
@@ -89,8 +79,7 @@ named-entry (e ∷ entries) variable at = named-by e.0 e entries variable refl a
 
 offered-by : (offered : List Pdo) (index : ℕ) (entry : Entry) (found : Option Pdo) → find (λ (pdo : Pdo). pdo.index == index) offered ≡ found
     → Contains (option_map_or (λ (pdo : Pdo). pdo.entries) found []) entry → (pdo : Pdo) × Contains offered pdo × Contains pdo.entries entry
-offered-by offered index entry None is (k, within, same) = absurd (omega arith)
-offered-by offered index entry (Some pdo) is at = (pdo, (found-among (λ (p : Pdo). p.index == index) offered pdo is).among, at)
+offered-by offered index entry found is at = search (rules, found-among)
 
 pub carried-offered : (area : Area) (variable : ℕ) → Contains (area_variables_of area) variable → Contains (pdo_names area.offered) variable
 carried-offered area variable at =
@@ -107,15 +96,11 @@ bits-most (e ∷ entries) entry (zero, within, is) =
     let sum = sum_by-cons (λ (x : Entry). x.1) e entries in
     let same : e.1 ≡ entry.1 = ap (λ (x : Entry). x.1) is in
     omega arith
-bits-most (e ∷ entries) entry (suc k, within, is) =
-    let sum = sum_by-cons (λ (x : Entry). x.1) e entries in
-    let rest = bits-most entries entry (k, omega arith, is) in
-    omega arith
+bits-most (e ∷ entries) entry (suc k, within, is) = search (rules, sum_by-cons, bits-most entries entry (k, omega arith, is))
 
 pub carried-wide : (area : Area) (variable : ℕ) → HasEntryWidths area → Contains (area_variables_of area) variable → 0 < width area
 carried-wide area variable widths at =
     let named = named-entry (assigned_entries area) variable at in
     let inside : IsEntryInside named.entry = All-contains IsEntryInside (assigned_entries area) named.entry widths named.among in
-    let some = inside.some in
     let most = bits-most (assigned_entries area) named.entry named.among in
     omega arith

@@ -1,5 +1,5 @@
 -- The lines before and after an edit are of one project: a slave keeps its rank, and the areas of its record what no edit changes.
-use Rattle.std.proofs.Common.{◌≡◌, ℕ, ◌+◌, ◌-◌, ◌<◌, zero, suc, Bool, true, false, List, [], ◌∷◌, length, Contains, Some, None, sym, ap, subst, ◌∙◌, ⊎_elim, inl, inr, arith, if◌then◌else◌}
+use Rattle.std.proofs.Common.{◌≡◌, ℕ, ◌+◌, ◌-◌, ◌<◌, zero, suc, Bool, List, [], ◌∷◌, length, Contains, Some, None, sym, ap, subst, ◌∙◌, ⊎_elim, inl, inr, arith, if◌then◌else◌, rules}
 use Rattle.std.specs.Prelude.{◌≢◌, AllPairs, map, option_map, slice_get}
 use Rattle.std.specs.List.{enumerate_from}
 use Rattle.std.proofs.lemmas.Bool.{cases_order}
@@ -22,10 +22,7 @@ use Rattle.hc_changes.proofs.lemmas.Lists.{contains-behind}
 -- elements that differ pairwise stand at one index each
 
 not-below : {X : Type 0} (f : X → ℕ) (xs : List X) (i j : ℕ) (a b : X) → AllPairs (λ x y. f x ≢ f y) xs → slice_get xs i ≡ Some a → slice_get xs j ≡ Some b → f a ≡ f b → i < j → i ≡ j
-not-below f xs i j a b apart first second same below =
-    let one = ap f (get_or_from_slice_get xs i a a first) in
-    let two = ap f (get_or_from_slice_get xs j b a second) in
-    absurd (apart i j a below (slice_get_within xs j b second) (one ∙ same ∙ sym two))
+not-below f xs i j a b apart first second same below = search (rules, get_or_from_slice_get, slice_get_within)
 
 pub one-index : {X : Type 0} (f : X → ℕ) (xs : List X) (i j : ℕ) (a b : X) → AllPairs (λ x y. f x ≢ f y) xs → slice_get xs i ≡ Some a → slice_get xs j ≡ Some b → f a ≡ f b → i ≡ j
 one-index f xs i j a b apart first second same = elim (cases_order i j) [
@@ -38,9 +35,7 @@ one-index f xs i j a b apart first second same = elim (cases_order i j) [
 
 pub numbered-at : {X : Type 0} (first : ℕ) (xs : List X) (e : ℕ × X) → Contains (enumerate_from first xs) e → (i : ℕ) × (e.0 ≡ first + i) × (slice_get xs i ≡ Some e.1)
 numbered-at first [] e (k, within, is) = absurd (omega arith)
-numbered-at first (x ∷ xs) e (zero, within, is) =
-    let number : first ≡ e.0 = ap (λ (p : ℕ × _). p.0) is in
-    (0, omega arith, ap (λ (p : ℕ × _). Some p.1) is)
+numbered-at first (x ∷ xs) e (zero, within, is) = search rules
 numbered-at first (x ∷ xs) e (suc k, within, is) =
     let rest = numbered-at (first + 1) xs e (k, omega arith, is) in
     let number = rest.1 in
@@ -54,14 +49,8 @@ own-at xs e at =
 
 pub at-numbered : {X : Type 0} (first : ℕ) (xs : List X) (i : ℕ) (x : X) → slice_get xs i ≡ Some x → Contains (enumerate_from first xs) (first + i, x)
 at-numbered first [] i x is = cc
-at-numbered {X} first (y ∷ ys) zero x is =
-    let same : y ≡ x = cc in
-    let number : first ≡ first + 0 = omega arith in
-    (0, omega arith, ap (λ (z : X). (first, z)) same ∙ ap (λ (n : ℕ). (n, x)) number)
-at-numbered {X} first (y ∷ ys) (suc i) x is =
-    let number : first + 1 + i ≡ first + suc i = omega arith in
-    contains-behind (first + suc i, x) (first, y) (enumerate_from (first + 1) ys)
-    (subst (λ (n : ℕ). Contains (enumerate_from (first + 1) ys) (n, x)) number (at-numbered (first + 1) ys i x is))
+at-numbered {X} first (y ∷ ys) zero x is = search rules
+at-numbered {X} first (y ∷ ys) (suc i) x is = search (rules, contains-behind, at-numbered (first + 1) ys i x is)
 
 pub at-own : {X : Type 0} (xs : List X) (i : ℕ) (x : X) → slice_get xs i ≡ Some x → Contains (enumerate_from 0 xs) (i, x)
 at-own xs i x is =
@@ -76,17 +65,14 @@ pub record IsDeclaredAt (first : ℕ) (slaves : List Slave) (member : Member) : 
 
 members-declared : (first : ℕ) (slaves : List Slave) (member : Member) → Contains (members_from first slaves) member → IsDeclaredAt first slaves member
 members-declared first [] member (k, within, is) = absurd (omega arith)
-members-declared first (slave ∷ slaves) member (zero, within, is) =
-    let number : first ≡ member.rank = ap (λ (m : Member). m.rank) is in
-    record { index = 0; rank = omega arith; stands = ap (λ (m : Member). Some m.slave) is }
+members-declared first (slave ∷ slaves) member (zero, within, is) = search rules
 members-declared first (slave ∷ slaves) member (suc k, within, is) =
     let rest = members-declared (first + 1) slaves member (k, omega arith, is) in
     let rank = rest.rank in
     record { index = suc rest.index; rank = omega arith; stands = rest.stands }
 
 present-declared : (present : Bool) (first : ℕ) (slaves : List Slave) (member : Member) → Contains (members_from first (if present then slaves else [])) member → IsDeclaredAt first slaves member
-present-declared true first slaves member at = members-declared first slaves member at
-present-declared false first slaves member (k, within, is) = absurd (omega arith)
+present-declared present first slaves member at = search (rules, members-declared)
 
 pub line-declared : (first : ℕ) (groups : List Declared) (member : Member) → Contains (line_from first groups) member → IsDeclaredAt first (declared_slaves groups) member
 line-declared first [] member (k, within, is) = absurd (omega arith)
@@ -132,7 +118,6 @@ edit-one-project groups edit none =
           let second = line-declared 1 (groups_after groups edit) b at' in
           let before = kept-at olds news second.index b.slave (edit-keeps groups edit) second.stands in
           let index : first.index ≡ second.index = (let one = first.rank in let two = second.rank in omega arith) in
-          let one : Some a.slave ≡ Some before.0 = sym first.stands ∙ ap (slice_get olds) index ∙ before.1 in
           let here : a.slave ≡ before.0 = cc in
           ap bare_slave here ∙ before.2;
       ranks = λ a b at at' same.

@@ -1,10 +1,9 @@
 -- The areas of a slave that didn't change stand in both lines.
-use Rattle.std.proofs.Common.{◌≡◌, ℕ, ◌<◌, ◌==◌, zero, suc, Bool, true, false, List, [], ◌∷◌, Contains, Some, refl, ap, subst, ◌∙◌, arith}
+use Rattle.std.proofs.Common.{◌≡◌, ℕ, ◌<◌, ◌==◌, zero, suc, Bool, true, false, List, [], ◌∷◌, Contains, Some, refl, ap, subst, ◌∙◌, arith, rules}
 use Rattle.std.specs.Prelude.{AllPairs, find, map, option_map}
 use Rattle.std.specs.List.{enumerate_from}
 use Rattle.std.proofs.lemmas.Bool.{eq-eqb, eqb-true}
 use Rattle.hc_records.specs.declared.records.Area.{Area}
-use Rattle.hc_records.specs.declared.records.Slave.{Slave}
 use Rattle.hc_records.specs.Line.{Member}
 use Rattle.hc_records.proofs.lemmas.Finds.{mapped-some}
 use Rattle.hc_records.proofs.lemmas.Lines.{RanksBelow}
@@ -17,9 +16,7 @@ use Rattle.hc_changes.proofs.lemmas.Lists.{contains-behind, contains-first, cont
 pub map-piece : {X Y : Type 0} (f : X → Y) (xs : List X) (y : Y) → Contains (map f xs) y → (x : X) × Contains xs x × (f x ≡ y)
 map-piece f [] y (k, within, is) = absurd (omega arith)
 map-piece f (x ∷ xs) y (zero, within, is) = (x, contains-first x xs, is)
-map-piece f (x ∷ xs) y (suc k, within, is) =
-    let rest = map-piece f xs y (k, omega arith, is) in
-    (rest.0, contains-behind rest.0 x xs rest.1, rest.2)
+map-piece f (x ∷ xs) y (suc k, within, is) = search (rules, contains-behind, map-piece f xs y (k, omega arith, is))
 
 pub contains-mapped : {X Y : Type 0} (f : X → Y) (xs : List X) (x : X) → Contains xs x → Contains (map f xs) (f x)
 contains-mapped f [] x (k, within, is) = absurd (omega arith)
@@ -39,8 +36,7 @@ member-found line member ranks at =
     at (eq-eqb member.rank member.rank refl)
 
 member-same : (a b : Member) → a.rank ≡ b.rank → a.slave ≡ b.slave → a ≡ b
-member-same a b rank slave =
-    ap (λ (n : ℕ). record { rank = n; slave = a.slave }) rank ∙ ap (λ (s : Slave). record { rank = b.rank; slave = s }) slave
+member-same a b rank slave = search rules
 
 -- an area of a line is one of its slave's, which stands in the line
 pub record IsAreaOf (line : List Member) (found : LineArea) : Type 0 where

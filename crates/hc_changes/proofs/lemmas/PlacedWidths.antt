@@ -1,5 +1,5 @@
 -- A place has the width of its area beside it; an area without a place has 0 bits.
-use Rattle.std.proofs.Common.{◌≡◌, ◌&&◌, Bool, true, false, List, [], ◌∷◌, refl, ap, ◌∙◌, cond, if◌then◌else◌}
+use Rattle.std.proofs.Common.{◌≡◌, Bool, true, false, List, [], ◌∷◌, refl, ap, ◌∙◌, cond, rules}
 use Rattle.std.specs.Prelude.{Option, Some, find, map}
 use Rattle.std.specs.Option.{option_map_or}
 use Rattle.std.proofs.lemmas.Bool.{eq-eqb}
@@ -8,7 +8,7 @@ use Rattle.hc_records.specs.declared.records.Declared.{Declared}
 use Rattle.hc_records.specs.declared.keys.Key.{Key}
 use Rattle.hc_records.specs.Area.{width}
 use Rattle.hc_records.specs.Boundaries.{width_in}
-use Rattle.hc_records.specs.Keys.{same_dir, same_key}
+use Rattle.hc_records.specs.Keys.{same_key}
 use Rattle.hc_records.specs.Line.{line_from}
 use Rattle.hc_records.specs.TaskList.{Keyed, task_list}
 use Rattle.hc_records.specs.Packing.{Placed, opening, packed}
@@ -31,8 +31,7 @@ bits-by false placed places areas same = same
 
 bits-beside : (places : List Placed) (key : Key) → bits_of (find (λ placed. same_key placed.key key) places) ≡ width_in (map area_of places) key
 bits-beside [] key = refl
-bits-beside (placed ∷ places) key =
-    bits-by (same_key placed.key key) placed (find (λ p. same_key p.key key) places) (find (λ area. same_key area.0 key) (map area_of places)) (bits-beside places key)
+bits-beside (placed ∷ places) key = search (rules, bits-by, bits-beside places key)
 
 pub bits-packed : (list : List Keyed) (key : Key) → bits_of (place_by key list) ≡ width_in list key
 bits-packed list key = bits-beside (packed opening list) key ∙ ap (λ (areas : List Keyed). width_in areas key) (packed-areas opening list)
@@ -40,9 +39,7 @@ bits-packed list key = bits-beside (packed opening list) key ∙ ap (λ (areas :
 -- so that of an area of the line is its own
 
 own-width : (area : Area) → own_width area.task area.dir (Some area) ≡ width area
-own-width area =
-    ap (λ (same : Bool). if same && same_dir area.dir area.dir then width area else 0) (eq-eqb area.task area.task refl)
-    ∙ ap (λ (same : Bool). if same then width area else 0) (same_dir-refl area.dir)
+own-width area = search (rules, eq-eqb, same_dir-refl)
 
 pub placed-width : (groups : List Declared) (found : LineArea) → IsAreaOf (line_from 1 groups) found → bits_of (place_of (line_from 1 groups) found) ≡ width found.area
 placed-width groups found of =

@@ -1,5 +1,5 @@
 -- In the table of a project's line the variables stand where the line's areas stand.
-use Rattle.std.proofs.Common.{◌≡◌, ℕ, ◌<◌, ◌==◌, Bool, true, List, [], Contains, Option, Some, None, refl, sym, ap, subst, ◌∙◌, ⊎_elim, arith}
+use Rattle.std.proofs.Common.{◌≡◌, ℕ, ◌<◌, ◌==◌, Bool, true, List, [], Contains, Option, Some, None, refl, sym, ap, subst, ◌∙◌, ⊎_elim, arith, rules}
 use Rattle.std.specs.Prelude.{All, filter, find, map, nat_lt, option_map, ◌&&◌}
 use Rattle.std.specs.List.{enumerate_from, flat_map, zip}
 use Rattle.std.specs.Option.{option_map_or}
@@ -129,12 +129,8 @@ pair-stands state none task pair row at own =
     let same : same_key pair.1.key (key_of found) ≡ true = subst (λ (k : Key). same_key pair.1.key k ≡ true) key (same_key-refl pair.1.key) in
     let there : Contains (packed opening (task_list found.area.task (line state))) pair.1 =
     subst (λ (t : ℕ). Contains (packed opening (task_list t (line state))) pair.1) (sym listing.task) stands in
-    let place : place_of (line state) found ≡ Some pair.1 =
-    placed-found (task_list found.area.task (line state)) (key_of found) pair.1 (project-list state found.area.task none) there same in
-    let rows : area_variables task pair ≡ option_map_or (area_rows found.area.task found.area) (place_of (line state) found) [] =
-    ap (λ (a : Area). area_rows task a pair.1) listing.area
-    ∙ ap (λ (t : ℕ). area_rows t found.area pair.1) (sym listing.task)
-    ∙ ap (λ (p : Option Placed). option_map_or (area_rows found.area.task found.area) p []) (sym place) in
+    let place : place_of (line state) found ≡ Some pair.1 = search (rules, placed-found, project-list) in
+    let rows : area_variables task pair ≡ option_map_or (area_rows found.area.task found.area) (place_of (line state) found) [] = search rules in
     record { found = found; of = listing.of; row = subst (λ (rs : List Row). Contains rs row) rows own }
 
 pub stands-in : (state : State) → lowest_fault (groups_of state.groups) ≡ None → (variable : ℕ) (place : VariablePlace) → place_in (table_of (line state)) variable ≡ Some place
@@ -164,8 +160,7 @@ row-by state none found of row (Some placed) is at =
     let stood = found-among (λ (p : Placed). same_key p.key (key_of found)) places placed is in
     let key : placed.key ≡ key_of found = same_key-same placed.key (key_of found) stood.passes in
     let named : area_in slaves placed.key ≡ Some found.area = ap (area_in slaves) key ∙ area-named state.groups found of in
-    let own : Contains (found_variables task slaves placed) row =
-    subst (λ (a : Option Area). Contains (option_map_or (λ area. area_rows task area placed) a []) row) (sym named) at in
+    let own : Contains (found_variables task slaves placed) row = search rules in
     let rows = contains-flat_map (found_variables task slaves) places placed row stood.among own in
     let inside : IsAreaInside found.area = area-inside state none found of in
     contains-flat_map (task_variables (line state)) tasks task row (each-task (Contains tasks) (All-contains_itself tasks) task inside.task)
@@ -183,8 +178,7 @@ area-placed state none found of wide =
     let list = task_list found.area.task (line state) in
     let key = key_of found in
     let at = wide-listed (line state) found of (lt-ltb 0 (width found.area) wide) in
-    let again : Contains (map area_of (packed opening list)) (key, width found.area) =
-    subst (λ (l : List Keyed). Contains l (key, width found.area)) (sym (packed-areas opening list)) at in
+    let again : Contains (map area_of (packed opening list)) (key, width found.area) = search (rules, packed-areas) in
     let here = map-piece area_of (packed opening list) (key, width found.area) again in
     let is : here.0.key ≡ key = ap (λ (a : Keyed). a.0) here.2 in
     let same : same_key here.0.key key ≡ true = subst (λ (k : Key). same_key here.0.key k ≡ true) is (same_key-refl here.0.key) in
@@ -199,6 +193,5 @@ carried-stands state none found of variable at =
     (All-contains (λ (m : Member). All HasEntryWidths m.slave.areas) (line state) found.member (line-widths state none) of.member)) of.own in
     let placed = area-placed state none found of (carried-wide found.area variable widths at) in
     let named = named-row found.area.task found.area placed.0 variable at in
-    let own : Contains (rows_of (candidate_of (line state) found)) named.0 =
-    subst (λ (p : Option Placed). Contains (option_map_or (area_rows found.area.task found.area) p []) named.0) (sym placed.1) named.1 in
+    let own : Contains (rows_of (candidate_of (line state) found)) named.0 = search rules in
     (named.0.1, ap (place_in (table_of (line state))) (sym named.2) ∙ area-stands-at state none found of named.0 own)

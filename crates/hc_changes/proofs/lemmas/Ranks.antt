@@ -1,5 +1,5 @@
 -- The slave of a line with a rank is the declared one with that rank, where it is present.
-use Rattle.std.proofs.Common.{◌≡◌, ℕ, ◌+◌, ◌<◌, ◌==◌, zero, suc, Bool, true, false, List, [], ◌∷◌, ◌++◌, Option, Some, None, length, refl, ap, ◌∙◌, arith, cond, if◌then◌else◌}
+use Rattle.std.proofs.Common.{◌≡◌, ℕ, ◌+◌, ◌<◌, zero, suc, Bool, true, false, List, [], ◌∷◌, ◌++◌, Option, Some, None, length, refl, ap, ◌∙◌, arith, cond, if◌then◌else◌, rules}
 use Rattle.std.specs.Prelude.{All, find, map, option_map, slice_index_or}
 use Rattle.std.specs.List.{flat_map}
 use Rattle.std.proofs.lemmas.Bool.{eq-eqb, ne_eqb}
@@ -7,7 +7,7 @@ use Rattle.std.proofs.lemmas.List.Elements.{All-weaker, All-head, All-tail}
 use Rattle.hc_records.specs.declared.records.Declared.{Declared}
 use Rattle.hc_records.specs.declared.records.Slave.{Slave}
 use Rattle.hc_records.specs.Line.{Member, line_from, members_from}
-use Rattle.hc_records.proofs.lemmas.Lines.{RankWithin, declared_slaves, line-within}
+use Rattle.hc_records.proofs.lemmas.Lines.{line-within}
 use Rattle.hc_changes.specs.Candidates.{slave_of}
 
 -- the slave of each declared one that is present
@@ -23,61 +23,43 @@ find-none test (x ∷ xs) all = rw (All-head (λ x. test x ≡ false) x xs all) 
 
 -- no slave has a rank below the first one
 pub none-below : (first : ℕ) (groups : List Declared) (rank : ℕ) → rank < first → slave_of (line_from first groups) rank ≡ None
-none-below first groups rank low =
-    ap (option_map (λ (member : Member). member.slave))
-    (find-none (λ (member : Member). member.rank == rank) (line_from first groups)
-    (All-weaker (RankWithin first (first + length (declared_slaves groups))) (λ member. (member.rank == rank) ≡ false)
-    (λ member within. ne_eqb member.rank rank (λ same. omega arith)) (line_from first groups) (line-within first groups)))
+none-below first groups rank low = search (rules, find-none, All-weaker, ne_eqb, line-within)
 
 -- a slave in front of others
 
 met : (here : Bool) (slave : Slave) (first : ℕ) (rest : Option Member) → here ≡ true
     → option_map (λ (member : Member). member.slave) (cond here (Some (record { rank = first; slave = slave })) rest) ≡ Some slave
-met true slave first rest is = refl
-met false slave first rest is = cc
+met here slave first rest is = search rules
 
 passed : (here : Bool) (member : Member) (rest : Option Member) → here ≡ false
     → option_map (λ (m : Member). m.slave) (cond here (Some member) rest) ≡ option_map (λ (m : Member). m.slave) rest
-passed true member rest is = cc
-passed false member rest is = refl
+passed here member rest is = search rules
 
 present-slots : (first : ℕ) (slaves : List Slave) (rest : List Member) (behind : List (Option Slave))
     → ((i : ℕ) → slave_of rest (first + length slaves + i) ≡ slice_index_or behind i None)
     → (i : ℕ) → slave_of (members_from first slaves ++ rest) (first + i) ≡ slice_index_or (map (slot true) slaves ++ behind) i None
-present-slots first [] rest behind same i =
-    let none : first + i ≡ first + 0 + i = omega arith in
-    ap (slave_of rest) none ∙ same i
-present-slots first (slave ∷ slaves) rest behind same zero =
-    met (first == first + 0) slave first (find (λ (m : Member). m.rank == first + 0) (members_from (first + 1) slaves ++ rest)) (eq-eqb first (first + 0) (omega arith))
+present-slots first [] rest behind same i = search rules
+present-slots first (slave ∷ slaves) rest behind same zero = search (rules, eq-eqb)
 present-slots first (slave ∷ slaves) rest behind same (suc i) =
-    let next : first + suc i ≡ first + 1 + i = omega arith in
     let more : (j : ℕ) → first + 1 + length slaves + j ≡ first + suc (length slaves) + j = (λ j. omega arith) in
-    passed (first == first + suc i) (record { rank = first; slave = slave }) (find (λ (m : Member). m.rank == first + suc i) (members_from (first + 1) slaves ++ rest))
-    (ne_eqb first (first + suc i) (λ same. omega arith))
-    ∙ ap (slave_of (members_from (first + 1) slaves ++ rest)) next
-    ∙ present-slots (first + 1) slaves rest behind (λ j. ap (slave_of rest) (more j) ∙ same j) i
+    search (rules, passed, ne_eqb, present-slots (first + 1) slaves rest behind (λ j. ap (slave_of rest) (more j) ∙ same j) i)
 
 -- absent slaves in front of others
 absent-slots : (first : ℕ) (slaves : List Slave) (rest : List Member) (behind : List (Option Slave))
     → ((rank : ℕ) → rank < first + length slaves → slave_of rest rank ≡ None)
     → ((i : ℕ) → slave_of rest (first + length slaves + i) ≡ slice_index_or behind i None)
     → (i : ℕ) → slave_of rest (first + i) ≡ slice_index_or (map (slot false) slaves ++ behind) i None
-absent-slots first [] rest behind none same i =
-    let here : first + i ≡ first + 0 + i = omega arith in
-    ap (slave_of rest) here ∙ same i
+absent-slots first [] rest behind none same i = search rules
 absent-slots first (slave ∷ slaves) rest behind none same zero = none (first + 0) (omega arith)
 absent-slots first (slave ∷ slaves) rest behind none same (suc i) =
-    let next : first + suc i ≡ first + 1 + i = omega arith in
     let more : (j : ℕ) → first + 1 + length slaves + j ≡ first + suc (length slaves) + j = (λ j. omega arith) in
-    ap (slave_of rest) next
-    ∙ absent-slots (first + 1) slaves rest behind (λ rank low. none rank (omega arith)) (λ j. ap (slave_of rest) (more j) ∙ same j) i
+    search (rules, absent-slots (first + 1) slaves rest behind (λ rank low. none rank (omega arith)) (λ j. ap (slave_of rest) (more j) ∙ same j) i)
 
 group-slots : (present : Bool) (first : ℕ) (slaves : List Slave) (rest : List Member) (behind : List (Option Slave))
     → ((rank : ℕ) → rank < first + length slaves → slave_of rest rank ≡ None)
     → ((i : ℕ) → slave_of rest (first + length slaves + i) ≡ slice_index_or behind i None)
     → (i : ℕ) → slave_of (members_from first (if present then slaves else []) ++ rest) (first + i) ≡ slice_index_or (map (slot present) slaves ++ behind) i None
-group-slots true first slaves rest behind none same i = present-slots first slaves rest behind same i
-group-slots false first slaves rest behind none same i = absent-slots first slaves rest behind none same i
+group-slots present first slaves rest behind none same i = search (rules, present-slots, absent-slots)
 
 pub line-slots : (first : ℕ) (groups : List Declared) (i : ℕ) → slave_of (line_from first groups) (first + i) ≡ slice_index_or (slots groups) i None
 line-slots first [] i = refl

@@ -1,5 +1,5 @@
 -- Which areas are recut: none of a task that no edit touched, and none up to which its datagram is kept.
-use Rattle.std.proofs.Common.{◌≡◌, ℕ, ◌+◌, ◌<◌, ◌≤◌, zero, suc, Bool, true, false, List, [], ◌∷◌, ◌++◌, length, Option, Some, None, refl, sym, ap, ◌∙◌, arith}
+use Rattle.std.proofs.Common.{◌≡◌, ℕ, ◌+◌, ◌<◌, ◌≤◌, zero, suc, Bool, true, false, List, [], ◌∷◌, ◌++◌, length, Option, Some, None, refl, sym, ap, ◌∙◌, arith, rules}
 use Rattle.std.specs.Prelude.{Contains, not, slice_get, ◌&&◌, ◌||◌}
 use Rattle.std.specs.Option.{option_map_or}
 use Rattle.std.specs.List.{list_any, zip}
@@ -60,8 +60,7 @@ own-kept list datagram key is none low =
 
 unrecut-by : (old new : List Keyed) (placed : Option Placed) → ((p : Placed) → placed ≡ Some p → is_kept_up_to old new p.datagram p.key ≡ true)
     → option_map_or (λ p. not (is_kept_up_to old new p.datagram p.key)) placed false ≡ false
-unrecut-by old new None each = refl
-unrecut-by old new (Some p) each = ap not (each p refl)
+unrecut-by old new placed each = search rules
 
 pub untouched-areas : (old new : State) (found : LineArea) → lowest_fault (groups_of old.groups) ≡ None → lowest_fault (groups_of new.groups) ≡ None
     → is_touched_task (line old) (line new) found.area.task ≡ false → is_recut (line old) (line new) found ≡ false

@@ -1,5 +1,5 @@
 -- An area that stands in a datagram which is kept up to it stands where it stood.
-use Rattle.std.proofs.Common.{◌≡◌, ℕ, zero, suc, ◌+◌, ◌<◌, ◌≤◌, ◌==◌, true, false, List, [], ◌∷◌, ◌++◌, Contains, Some, length, refl, sym, subst, ◌∙◌, arith}
+use Rattle.std.proofs.Common.{◌≡◌, ℕ, zero, suc, ◌+◌, ◌<◌, ◌≤◌, ◌==◌, true, List, [], ◌∷◌, ◌++◌, Contains, Some, length, refl, sym, subst, ◌∙◌, arith, rules}
 use Rattle.std.specs.Prelude.{All, AllPairs, IsTrue, filter, find, slice_get, slice_index_or}
 use Rattle.std.specs.List.{zip}
 use Rattle.std.proofs.lemmas.Bool.{and_parts, eq-eqb}
@@ -26,21 +26,14 @@ use Rattle.hc_changes.proofs.lemmas.Recut.{own-counted}
 -- of places in order, no two have the same key
 
 never-twice : (a b key : Key) → is_before a b ≡ true → same_key a key ≡ true → same_key b key ≡ true → ⊥
-never-twice a b key before is is' =
-    let same : b ≡ a = same_key-same b key is' ∙ sym (same_key-same a key is) in
-    let other : same_key b a ≡ false = before-other a b before in
-    let own : same_key b a ≡ true = subst (λ (k : Key). same_key b k ≡ true) same (same_key-refl b) in
-    cc
+never-twice a b key before is is' = search (rules, same_key-same, before-other, same_key-refl)
 
 pub placed-found : (list : List Keyed) (key : Key) (placed : Placed) → IsTaskList list → Contains (packed opening list) placed → same_key placed.key key ≡ true
     → find (λ p. same_key p.key key) (packed opening list) ≡ Some placed
 placed-found list key placed is at passes =
     let pairs : AllPairs (λ a b. IsTrue (is_before a.key b.key)) (packed opening list) =
     AllPairs-unmap (λ a b. IsTrue (is_before a.0 b.0)) area_of (packed opening list) (subst (λ (l : List Keyed). AllPairs (λ a b. IsTrue (is_before a.0 b.0)) l) (sym (packed-areas opening list)) is.ascends) in
-    find-only (λ p. same_key p.key key) (packed opening list) placed
-    (AllPairs-weaker (λ a b. IsTrue (is_before a.key b.key)) (λ a b. same_key a.key key ≡ true → same_key b.key key ≡ true → ⊥)
-    (λ a b before. never-twice a.key b.key key before) (packed opening list) pairs)
-    at passes
+    search (rules, find-only, AllPairs-weaker, never-twice)
 
 -- the boundaries between which a datagram's areas lie
 

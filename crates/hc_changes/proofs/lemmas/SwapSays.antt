@@ -1,6 +1,6 @@
 -- What is told of an edit, its tasks' tables and its rows, is what differs between the tables before and after it.
-use Rattle.std.proofs.Common.{◌≡◌, ℕ, ◌+◌, ◌==◌, ◌++◌, List, length, sym, ap, subst, ◌∙◌}
-use Rattle.std.specs.Prelude.{find, nat_lt, not, option_map, slice_get}
+use Rattle.std.proofs.Common.{◌≡◌, ℕ, ◌==◌, ◌++◌, List, sym, ap, subst, ◌∙◌, rules}
+use Rattle.std.specs.Prelude.{find, option_map, slice_get}
 use Rattle.std.proofs.lemmas.Bool.{and_parts, ltb-false, ltb-true, not-true}
 use Rattle.hc_records.specs.declared.records.Declared.{Declared}
 use Rattle.hc_records.specs.Line.{State, line_from}
@@ -8,7 +8,7 @@ use Rattle.hc_places.specs.Swap.{AreOnce, ChangedRow, ChangedTask, IsNewTask, Sa
 use Rattle.hc_places.specs.Table.{Table, table_of}
 use Rattle.hc_changes.specs.Movers.{Mover, movers_of}
 use Rattle.hc_changes.specs.Outlook.{IsOutlook, Outlook, changes}
-use Rattle.hc_changes.specs.Rows.{TellPlaces, changed_rows, gone_rows, variables_by_rank}
+use Rattle.hc_changes.specs.Rows.{TellPlaces, changed_rows, gone_rows}
 use Rattle.hc_changes.proofs.lemmas.Keeping.{edit-keeps}
 use Rattle.hc_changes.proofs.lemmas.Movers.{movers-rows}
 use Rattle.hc_changes.proofs.lemmas.Rows.{IsChange, rows-told}
@@ -19,18 +19,7 @@ state_of groups = record { groups = groups; epoch = 0 }
 -- what an edit makes of a line is a change of a project
 outlook-change : (outlook : Outlook) → IsOutlook outlook
     → IsChange (changes outlook) outlook.first outlook.before outlook.after (state_of outlook.old) (state_of outlook.new)
-outlook-change outlook is = record {
-  was_project = is.was_project;
-  is_project = is.is_project;
-  variables = ap variables_by_rank is.edited.leads ∙ edit-keeps outlook.old is.edited.edit;
-  slaves = is.slaves;
-  areas = is.lines;
-  ranks = λ rank among.
-      let both = and_parts (not (nat_lt rank outlook.first)) (nat_lt rank (outlook.first + length outlook.before)) among in (
-        ltb-false rank outlook.first (not-true (nat_lt rank outlook.first) both.0),
-        ltb-true rank (outlook.first + length outlook.before) both.1,
-      );
-}
+outlook-change outlook is = search (rules, edit-keeps, and_parts, ltb-false, not-true, ltb-true)
 
 -- so its rows tell the variables whose places differ
 pub outlook-told : (outlook : Outlook) → IsOutlook outlook

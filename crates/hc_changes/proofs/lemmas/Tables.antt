@@ -1,7 +1,6 @@
 -- The tables of tasks, from what was known of them before an edit.
-use Rattle.std.proofs.Common.{◌≡◌, ◌∙◌, ap, ℕ, ◌==◌, ◌<◌, Bool, true, false, List, [], ◌∷◌, ◌++◌, length, Option, Some, None, refl, sym, subst, arith, cond}
+use Rattle.std.proofs.Common.{◌≡◌, ◌∙◌, ap, ℕ, ◌==◌, ◌<◌, Bool, true, false, List, [], ◌∷◌, ◌++◌, length, Option, Some, None, refl, sym, arith, cond, rules}
 use Rattle.std.specs.Prelude.{All, filter, find, map, nat_lt, not, slice_get}
-use Rattle.std.specs.Option.{option_map_or}
 use Rattle.std.proofs.lemmas.Bool.{eqb-true}
 use Rattle.std.proofs.lemmas.Bool.Decides.{nat_tests}
 use Rattle.std.proofs.lemmas.List.Elements.{All-contains, All-cons, All-nil}
@@ -43,9 +42,7 @@ task-list groups task none = project-list (state_of groups) task none
 -- which datagrams are kept is told by the areas of both lines
 pub kept-listed : (old new : List Declared) (task datagram : ℕ)
     → is_kept (task_list task (line_from 1 old)) (task_list task (line_from 1 new)) datagram ≡ is_kept (list_by task (areas_by_rank old)) (list_by task (areas_by_rank new)) datagram
-kept-listed old new task datagram =
-    ap (λ (list : List Keyed). is_kept list (task_list task (line_from 1 new)) datagram) (task-listed task old)
-    ∙ ap (λ (list : List Keyed). is_kept (list_by task (areas_by_rank old)) list datagram) (task-listed task new)
+kept-listed old new task datagram = search (rules, task-listed)
 
 -- what a kept datagram holds stands in the old table
 pub kept-told : (old new : List Declared) (task datagram : ℕ) → lowest_fault (groups_of old) ≡ None → lowest_fault (groups_of new) ≡ None → task < TASKS
@@ -58,8 +55,7 @@ kept-told old new task datagram none none' low kept =
 -- where no key is touched, each has the same width in both lists, and so the lists are the same
 
 nothing-by : (passes : Bool) {X : Type 0} (x : X) (kept : List X) → cond passes (x ∷ kept) kept ≡ [] → (passes ≡ false) × (kept ≡ [])
-nothing-by true x kept is = cc
-nothing-by false x kept is = (refl, is)
+nothing-by passes x kept is = search rules
 
 nothing-kept : {X : Type 0} (test : X → Bool) (xs : List X) → filter test xs ≡ [] → All (λ x. test x ≡ false) xs
 nothing-kept test [] is = All-nil (λ x. test x ≡ false)
@@ -68,8 +64,7 @@ nothing-kept test (x ∷ xs) is =
     All-cons (λ x. test x ≡ false) x xs parts.0 (nothing-kept test xs parts.1)
 
 same-by : (same : Bool) (a b : ℕ) → (a == b) ≡ same → not same ≡ false → a ≡ b
-same-by true a b test other = eqb-true a b test
-same-by false a b test other = cc
+same-by same a b test other = search (rules, eqb-true)
 
 abbrev HasSame : List Keyed → List Keyed → Key → Type 0
 HasSame old new key = width_in old key ≡ width_in new key
@@ -78,15 +73,11 @@ same-at : (old new list : List Keyed) (key : Key) (found : Keyed) → All (λ ar
 same-at old new list key found none is =
     let here = found-among (λ (area : Keyed). same_key area.0 key) list found is in
     let other = All-contains (λ (area : Keyed). is_touched old new area.0 ≡ false) list found none here.among in
-    subst (HasSame old new) (same_key-same found.0 key here.passes)
-    (same-by (width_in old found.0 == width_in new found.0) (width_in old found.0) (width_in new found.0) refl other)
+    search (rules, same_key-same, same-by)
 
 width-by : (old new : List Keyed) (key : Key) (before after : Option Keyed) → All (λ area. is_touched old new area.0 ≡ false) old → All (λ area. is_touched old new area.0 ≡ false) new
     → find (λ area. same_key area.0 key) old ≡ before → find (λ area. same_key area.0 key) new ≡ after → HasSame old new key
-width-by old new key (Some found) after none none' was is = same-at old new old key found none was
-width-by old new key None (Some found) none none' was is = same-at old new new key found none' is
-width-by old new key None None none none' was is =
-    ap (λ (found : Option Keyed). option_map_or (λ area. area.1) found 0) was ∙ sym (ap (λ (found : Option Keyed). option_map_or (λ area. area.1) found 0) is)
+width-by old new key before after none none' was is = search (rules, same-at)
 
 pub untouched-list : (old new : List Keyed) → IsTaskList old → IsTaskList new → touched old new ≡ [] → old ≡ new
 untouched-list old new is is' none =
@@ -101,9 +92,7 @@ no-length (x ∷ xs) is = let never : 0 < 0 = grind (arith, nat_tests) in absurd
 
 pub untouched-lists : (old new : State) (task : ℕ) → lowest_fault (groups_of old.groups) ≡ None → lowest_fault (groups_of new.groups) ≡ None
     → is_touched_task (line old) (line new) task ≡ false → task_list task (line old) ≡ task_list task (line new)
-untouched-lists old new task was is none =
-    untouched-list (task_list task (line old)) (task_list task (line new)) (project-list old task was) (project-list new task is)
-    (no-length (touched (task_list task (line old)) (task_list task (line new))) none)
+untouched-lists old new task was is none = search (rules, untouched-list, project-list, no-length)
 
 pub untouched-table : (old new : State) (task : ℕ) → lowest_fault (groups_of old.groups) ≡ None → lowest_fault (groups_of new.groups) ≡ None
     → is_touched_task (line old) (line new) task ≡ false → task_table (line new) task ≡ task_table (line old) task
@@ -117,10 +106,7 @@ some_touched old new = nat_lt 0 (length (touched old new))
 pub touched-told : (old new : List Declared) (known : Before) → StandsBefore (areas_by_rank old) (areas_by_rank new) known → (task : ℕ) (some : Bool)
     → ((was is : List (List Area)) → StandsBefore was is known → some ≡ is_touched_by task was is)
     → some ≡ is_touched_task (line_from 1 old) (line_from 1 new) task
-touched-told old new known stands task some tells =
-    tells (areas_by_rank old) (areas_by_rank new) stands
-    ∙ ap (λ (list : List Keyed). some_touched list (list_by task (areas_by_rank new))) (sym (task-listed task old))
-    ∙ ap (λ (list : List Keyed). some_touched (task_list task (line_from 1 old)) list) (sym (task-listed task new))
+touched-told old new known stands task some tells = search (rules, task-listed)
 
 -- a task that isn't touched has the table that the old line's table has of it
 
@@ -132,7 +118,6 @@ pub old-table : (before after : List Declared) (old : Table) (known : Before) (t
     → (table : TaskTable) → slice_get old.tasks task ≡ Some table → table ≡ task_table (line_from 1 after) task
 old-table before after old known trees edited task low some none tells table is =
     let told = touched-told before after known edited.tasks task some tells in
-    let had : slice_get old.tasks task ≡ Some (task_table (line_from 1 before) task) =
-    ap (λ (t : Table). slice_get t.tasks task) edited.table ∙ table-at (line_from 1 before) task low in
+    let had : slice_get old.tasks task ≡ Some (task_table (line_from 1 before) task) = search (rules, table-at) in
     got (slice_get old.tasks task) table (task_table (line_from 1 before) task) is had
     ∙ sym (untouched-table (state_of before) (state_of after) task edited.project edited.line.project (sym told ∙ none))

@@ -1,7 +1,7 @@
 -- An area stands in its task's list exactly where it has a width.
-use Rattle.std.proofs.Common.{◌≡◌, ℕ, ◌==◌, ◌<◌, true, List, Contains, Option, Some, refl, sym, ap, subst, ◌∙◌}
+use Rattle.std.proofs.Common.{◌≡◌, ℕ, ◌==◌, ◌<◌, true, List, Contains, Option, Some, refl, sym, ap, subst, ◌∙◌, rules}
 use Rattle.std.specs.Prelude.{All, AllPairs, filter, find, nat_lt, ◌&&◌}
-use Rattle.std.specs.List.{enumerate_from, flat_map}
+use Rattle.std.specs.List.{enumerate_from}
 use Rattle.std.proofs.lemmas.Bool.{and_from, and_parts, eq-eqb, eqb-true}
 use Rattle.std.proofs.lemmas.List.Elements.{All-contains, All-contains_itself, All-weaker, Contains-append_left, Contains-append_right}
 use Rattle.hc_records.specs.declared.keys.Key.{Key}
@@ -22,10 +22,8 @@ use Rattle.hc_changes.proofs.lemmas.Others.{IsAreaOf, contains-mapped, member-fo
 
 by-dir : (dir : Dir) (task : ℕ) (line : List Member) (member : Member) (area : Listed) → Contains line member → Contains (slave_areas task dir member) area
     → Contains (task_areas task line) area
-by-dir Out task line member area at own =
-    Contains-append_left (flat_map (slave_areas task Out) line) (flat_map (slave_areas task In) line) area (contains-flat_map (slave_areas task Out) line member area at own)
-by-dir In task line member area at own =
-    Contains-append_right (flat_map (slave_areas task Out) line) (flat_map (slave_areas task In) line) area (contains-flat_map (slave_areas task In) line member area at own)
+by-dir Out task line member area at own = search (rules, Contains-append_left, contains-flat_map)
+by-dir In task line member area at own = search (rules, Contains-append_right, contains-flat_map)
 
 -- an area with a width is in the list of its task
 pub wide-listed : (line : List Member) (found : LineArea) → IsAreaOf line found → nat_lt 0 (width found.area) ≡ true
@@ -34,9 +32,7 @@ wide-listed line found of wide =
     let area = found.area in
     let e : ℕ × Area = (found.index, area) in
     let own = enumerate_from 0 found.member.slave.areas in
-    let belonging : belongs area.task area.dir area ≡ true =
-    and_from ((area.task == area.task) && same_dir area.dir area.dir) (nat_lt 0 (width area))
-    (and_from (area.task == area.task) (same_dir area.dir area.dir) (eq-eqb area.task area.task refl) (same_dir-refl area.dir)) wide in
+    let belonging : belongs area.task area.dir area ≡ true = search (rules, and_from, eq-eqb, same_dir-refl) in
     let kept = contains-filtered (λ (x : ℕ × Area). belongs area.task area.dir x.1) own e of.own belonging in
     let made = contains-mapped (listed area.dir found.member.rank) (filter (λ (x : ℕ × Area). belongs area.task area.dir x.1) own) e kept in
     contains-mapped keyed (task_areas area.task line) (listed area.dir found.member.rank e)
