@@ -1,9 +1,19 @@
-//! A conductor with its seats: what the contracts of `hc_conductor` leave to tests, that all is opened, sent, published
-//! and seen with ample memory. There is nothing to call. The tests stand in a crate of their own since a crate that has
-//! tests is proved twice.
+//! A conductor with its seats: what the contracts of `hc_conductor` leave to tests, that all is opened, sent, published,
+//! posted and seen with ample memory. There is nothing to call. The tests stand in a crate of their own since a crate that
+//! has tests is proved twice.
 #![tactic(auto)]
 
 #[cfg(test)]
+mod dropped;
+#[cfg(test)]
 mod lines;
 #[cfg(test)]
+mod loops;
+#[cfg(test)]
+mod posting;
+#[cfg(test)]
+mod posts;
+#[cfg(test)]
 mod rows;
+#[cfg(test)]
+mod steps;

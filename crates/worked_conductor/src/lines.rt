@@ -1,5 +1,5 @@
 //! One axis, its conductor and its seats.
-ghost use Rattle.std.specs.Prelude.{◌≡◌, ◌<◌, ◌∷◌, All, IfSome, List, map};
+ghost use Rattle.std.specs.Prelude.{◌≡◌, ◌∷◌, All, IfSome, List, map};
 ghost use Rattle.hc_publish.specs.Seats.{IsFresh};
 ghost use Rattle.hc_conductor.specs.Conducting.{origin_of};
 ghost use Rattle.hc_conductor.specs.Seats.{seat_of};
@@ -36,13 +36,7 @@ pdo = [{ index = 0x1a00, entries = [[2, 12]] }]
 "#;
 
 /// The bytes of each frame of this line: no datagram fills more than the shortest frame.
-const FRAME: usize = 60;
-
-/// Where the counter stands behind the 26 bytes of headers and the 8 of a sync manager's block.
-const SYNC_MANAGER_COUNTER: usize = 34;
-
-/// The same behind the 16 bytes of an FMMU's block.
-const FMMU_COUNTER: usize = 42;
+pub const FRAME: usize = 60;
 
 /// The line at its opening.
 pub fn opened<R: Wait>(rt: &R, alloc: Global) -> Option<(Conductor, Vec<TaskSeat>)>
@@ -65,27 +59,40 @@ pub fn first_two(seats: Vec<TaskSeat>) -> Option<(TaskSeat, TaskSeat)>
     Some((first, second))
 }
 
-/// Whether the first owed block is written, and answered by the slave that has it.
-fn is_written(alloc: Global, conductor: &mut Conductor, counter: usize) -> bool
-    requires { counter < FRAME }
+/// Whether the first owed block is written, and answered by the slave that has it: its counter stands behind 26 bytes of
+/// headers and the block, whose length the datagram tells.
+fn is_written(alloc: Global, conductor: &mut Conductor) -> bool
     ensures { origin_of conductor.new ≡ origin_of conductor.old }
 {
     let mut frame = [0; FRAME];
     let Ok(FRAME) = conductor.next_write(&mut frame) else {
         return false;
     };
+    let counter = 26 + usize::from(frame[22]);
+    if counter >= FRAME {
+        return false;
+    }
     frame[counter] = 1;
     matches!(conductor.arrive(alloc, &frame), Answer::WriteDone)
 }
 
-/// Whether the four blocks of the axis are written: of each area the sync manager's, then the FMMU's.
+/// Whether so many blocks are written.
+pub fn are_written(alloc: Global, conductor: &mut Conductor, blocks: u32) -> bool
+    ensures { origin_of conductor.new ≡ origin_of conductor.old }
+{
+    for _ in 0..blocks {
+        if !is_written(alloc, conductor) {
+            return false;
+        }
+    }
+    true
+}
+
+/// Whether the four blocks of the axis are written: of each area the sync manager's and the FMMU's.
 pub fn is_programmed(alloc: Global, conductor: &mut Conductor) -> bool
     ensures { origin_of conductor.new ≡ origin_of conductor.old }
 {
-    is_written(alloc, conductor, SYNC_MANAGER_COUNTER)
-        && is_written(alloc, conductor, FMMU_COUNTER)
-        && is_written(alloc, conductor, SYNC_MANAGER_COUNTER)
-        && is_written(alloc, conductor, FMMU_COUNTER)
+    are_written(alloc, conductor, 4)
 }
 
 /// Whether the axis answers the frame of task 0 well: a byte of outputs and two of inputs, 0xa34, and the counter 3, 2

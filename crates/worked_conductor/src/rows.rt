@@ -12,13 +12,13 @@ use std::alloc::Global;
 use std::sync::Wait;
 
 /// A variable's number, and its value or the number of a fault.
-type Told = (u32, Result<u64, u8>);
+pub type Told = (u32, Result<u64, u8>);
 
 /// What a view shows: the epoch, the data of its task's first datagram, and what it tells of variables.
-struct Moment {
-    epoch: u32,
-    data: Option<&'static [u8]>,
-    told: &'static [Told],
+pub struct Moment {
+    pub epoch: u32,
+    pub data: Option<&'static [u8]>,
+    pub told: &'static [Told],
 }
 
 /// Before the publishing the answer is not shown.
@@ -61,7 +61,7 @@ fn tells_all(view: &TaskView, rows: &[Told]) -> bool {
 }
 
 /// Whether a datagram has just these data, or none.
-fn has(data: Option<&[u8]>, wanted: Option<&[u8]>) -> bool {
+pub fn has(data: Option<&[u8]>, wanted: Option<&[u8]>) -> bool {
     match (data, wanted) {
         (Some(data), Some(wanted)) => data == wanted,
         (None, None) => true,
@@ -70,7 +70,7 @@ fn has(data: Option<&[u8]>, wanted: Option<&[u8]>) -> bool {
 }
 
 /// A view is taken and left, and whether it showed this.
-fn sees(seat: TaskSeat, moment: &Moment) -> (TaskSeat, bool)
+pub fn sees(seat: TaskSeat, moment: &Moment) -> (TaskSeat, bool)
     ensures { seat_origin result.0 ≡ seat_origin seat }
 {
     match seat.view() {
