@@ -1,17 +1,16 @@
 -- The table of a project's line is laid out, and tells the lengths and the offsets of the line's datagrams.
-use Rattle.std.proofs.Common.{◌≡◌, ℕ, zero, suc, ◌+◌, ◌*◌, ◌<◌, ◌≤◌, nat_lt, Bool, false, List, length, map, refl, sym, ap, ◌∙◌, subst, arith, Some, None}
+use Rattle.std.proofs.Common.{◌≡◌, ℕ, zero, suc, ◌+◌, ◌*◌, ◌<◌, ◌≤◌, List, length, map, refl, sym, ap, ◌∙◌, subst, arith, Some, None}
 use Rattle.std.specs.Prelude.{option_map, slice_get}
 use Rattle.std.specs.Option.{option_and_then, option_map_or}
 use Rattle.std.specs.List.{flat_map, range_with_len}
-use Rattle.std.proofs.lemmas.Bool.Decides.{nat_tests}
 use Rattle.std.proofs.lemmas.List.FromFn.{get_or-map-range_with_len, length-map-range_with_len}
 use Rattle.std.proofs.lemmas.Option.{slice_get-get_or}
-use Rattle.hc_records.specs.declared.limits.TheConstants.{MOST_DATAGRAMS, TASKS}
+use Rattle.hc_records.specs.declared.limits.TheConstants.{TASKS}
 use Rattle.hc_records.specs.Edits.{crowded_task}
 use Rattle.hc_records.specs.Line.{Member, State, groups_of, line}
 use Rattle.hc_records.specs.Image.{datagram_count, datagram_length, datagram_offset, task_places, task_variables, tasks, variable_place}
 use Rattle.hc_records.specs.Project.{lowest_fault}
-use Rattle.hc_records.proofs.lemmas.Finds.{each-task, found-none}
+use Rattle.hc_records.proofs.lemmas.Addresses.{uncrowded-few}
 use Rattle.hc_records.proofs.lemmas.VariableBits.{variables-apart}
 use Rattle.hc_records.proofs.lemmas.VariablePlaces.{variables-lie}
 use Rattle.hc_places.specs.declared.table.Datagram.{Datagram}
@@ -53,22 +52,11 @@ pub offset-of_line : (line : List Member) (task d : ℕ) → task < TASKS → d 
     → offset_in (table_of line) task d ≡ datagram_offset (task_places task line) d
 offset-of_line line task d low stands = ap (λ found. option_map_or (λ (datagram : Datagram). datagram.offset) found 0) (datagram_there line task d low stands)
 
-abbrev is_crowded : List Member → ℕ → Bool
-is_crowded line task = nat_lt MOST_DATAGRAMS (datagram_count (task_places task line))
-
-not_more : (m n : ℕ) → nat_lt m n ≡ false → n ≤ m
-not_more m n e = grind (arith, nat_tests)
-
-few_datagrams : (line : List Member) (task : ℕ) → crowded_task line ≡ None → task < TASKS → datagram_count (task_places task line) ≤ MOST_DATAGRAMS
-few_datagrams line task none low =
-    not_more MOST_DATAGRAMS (datagram_count (task_places task line))
-    (each-task (λ t. is_crowded line t ≡ false) (found-none (is_crowded line) tasks none) task low)
-
 pub line-laid_out : (state : State) → lowest_fault (groups_of state.groups) ≡ None → crowded_task (line state) ≡ None → IsLaidOut (table_of (line state))
 line-laid_out state none uncrowded = record {
   inside = λ variable place there.
       let lies = variables-lie state variable place none (sym (place-of_line (line state) variable) ∙ there) in
-      let few = few_datagrams (line state) place.task uncrowded lies.task in
+      let few = uncrowded-few (line state) place.task uncrowded lies.task in
       let stands = lies.datagram in
       record {
         task = lies.task;
