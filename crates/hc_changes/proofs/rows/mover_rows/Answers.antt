@@ -1,15 +1,13 @@
-use Rattle.std.proofs.Common.{◌≡◌, ◌∙◌, Some, ap, sym, subst}
+use Rattle.std.proofs.Common.{◌≡◌, ◌∙◌, Some, ap, subst, rules}
 use Rattle.hc_records.specs.declared.records.Area.{Area}
 use Rattle.hc_places.specs.Ranges.{OffersBits}
 use Rattle.hc_changes.specs.Candidates.{Candidate}
-use Rattle.hc_changes.specs.Movers.{Mover}
 use Rattle.hc_changes.proofs.Adding.{stands-at}
 use Rattle.hc_changes.proofs.rows.mover_rows.Goals as goal
 
 pub add_area-requires-clause-offers : goal.add_area-requires-clause-offers
 add_area-requires-clause-offers c =
-    let same : c.mover-item.result.found ≡ record { station = c.found.inside.station; rank = c.found.inside.rank; index = c.found.inside.index; area = c.found.inside.area.now; place = c.found.inside.place } =
-    ap (λ (m : Mover). m.found) (sym c.mover.view_is) ∙ sym c.found.view_is in
+    let same : c.mover-item.result.found ≡ record { station = c.found.inside.station; rank = c.found.inside.rank; index = c.found.inside.index; area = c.found.inside.area.now; place = c.found.inside.place } = search rules in
     let place : c.mover-item.result.found.place ≡ Some c.in-Some.placed = ap (λ (f : Candidate). f.place) same ∙ c.in-Some.is in
     let area : c.mover-item.result.found.area ≡ c.found.inside.area.now = ap (λ (f : Candidate). f.area) same in
     let holds = stands-at c.args.movers.now c.loop-mover.mover-index c.mover-item.result c.in-Some.placed c.requires c.loop-mover-test.true c.mover-item.is place in

@@ -1,9 +1,9 @@
-use Rattle.std.proofs.Common.{◌∙◌, ap, List, subst, sym}
+use Rattle.std.proofs.Common.{◌∙◌, ap, List, subst, sym, rules}
 use Rattle.std.specs.Prelude.{All, ◌<◌}
 use Rattle.hc_records.specs.Laws.{LiesInside}
 use Rattle.hc_records.specs.Packing.{Placed}
 use Rattle.hc_places.proofs.lemmas.Lines.{datagram-of}
-use Rattle.hc_places.specs.Loads.{load_in, load_told}
+use Rattle.hc_places.specs.Loads.{load_told}
 use Rattle.hc_places.specs.Loads.{counted_inside}
 use Rattle.hc_places.specs.Table.{Table}
 use Rattle.hc_tasks.specs.Areas.{areas_by_rank}
@@ -32,7 +32,4 @@ returns-then-is_kept-clause-value c before after edited =
     (kept-listed before after c.args.task c.args.number ∙ sym said ∙ c.if-is_kept.true)
 
 pub returns-clause-value : goal.returns-clause-value
-returns-clause-value c before after edited =
-    c.of.ensures.value
-    ∙ ap (λ (areas : List Placed). load_in areas c.args.number) c.as_slice.ensures.value
-    ∙ (datagram-of after c.args.task c.args.number c.in_ok-areas.areas.items edited.line.project (c.in_ok-areas.ensures (areas_by_rank after) edited.line.stand)).load
+returns-clause-value c before after edited = search (rules, datagram-of)

@@ -1,4 +1,4 @@
-use Rattle.std.proofs.Common.{arith}
+use Rattle.std.proofs.Common.{arith, rules}
 use Rattle.hc_tasks.specs.Areas.{areas_by_rank}
 use Rattle.hc_changes.proofs.Loading.{adds-none, adds-some, all-loaded}
 use Rattle.hc_changes.proofs.lemmas.Tables.{old-table}
@@ -29,6 +29,4 @@ returns c before after edited =
 
 -- no width differs in the task
 pub returns-then-not-is_touched : goal.returns-then-not-is_touched
-returns-then-not-is_touched c before after edited =
-    old-table before after c.args.old.now c.args.before.now c.args.cuts.now edited c.args.task c.requires.task c.is_touched.result c.if-not-is_touched.true c.is_touched.ensures
-    c.task.result c.task.ensures
+returns-then-not-is_touched c before after edited = search (rules, old-table)

@@ -23,7 +23,6 @@ loop-task-preserved c =
 
 pub returns-clause-tables : goal.returns-clause-tables
 returns-clause-tables c before after edited =
-    let low = c.loop-task.auto.task-end in
     let high = c.loop-task-test.false in
     let last : c.loop-task.task ≡ 8 = omega arith in
     c.loop-task.invariant.tables before after edited

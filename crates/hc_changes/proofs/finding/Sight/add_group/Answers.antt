@@ -1,8 +1,7 @@
-use Rattle.std.proofs.Common.{◌≡◌, ◌∙◌, ◌+◌, ◌++◌, ℕ, List, length, ap, arith, refl}
+use Rattle.std.proofs.Common.{◌≡◌, ◌∙◌, ◌+◌, ℕ, List, length, ap, arith, refl, rules}
 use Rattle.std.specs.Prelude.{slice_index_or}
 use Rattle.hc_records.specs.declared.records.Slave.{Slave}
-use Rattle.hc_changes.specs.Candidates.{Candidate}
-use Rattle.hc_changes.specs.inner.Found.{found_below, rank_found}
+use Rattle.hc_changes.specs.inner.Found.{found_below}
 use Rattle.hc_changes.proofs.lemmas.FoundRanks.{behind-passed, front-passed, group-areas, group-station, rank-added}
 use Rattle.hc_changes.proofs.finding.Sight.add_group.Goals as goal
 
@@ -15,48 +14,23 @@ loop-i-init c = record {
 }
 
 pub overflow_cast-i : goal.overflow_cast-i
-overflow_cast-i c =
-    let low = c.requires.few in
-    let many = ap length c.as_slice-slaves.ensures in
-    let within = c.part-from.ensures.within in
-    let below = c.loop-i-test.true in
-    omega (arith, low, many, within, below)
+overflow_cast-i c = search rules
 
 pub overflow_add-first : goal.overflow_add-first
-overflow_add-first c =
-    let low = c.requires.few in
-    let many = ap length c.as_slice-slaves.ensures in
-    let within = c.part-from.ensures.within in
-    let below = c.loop-i-test.true in
-    omega (arith, low, many, within, below)
+overflow_add-first c = search rules
 
 pub add_slave-requires-clause-areas : goal.add_slave-requires-clause-areas
-add_slave-requires-clause-areas c =
-    let many = ap length c.as_slice-slaves.ensures in
-    let within = c.part-from.ensures.within in
-    let below = c.loop-i-test.true in
-    group-areas c.args.self.now.old c.args.first c.args.declared.now c.loop-i.i c.index-slaves-i.result c.requires.group (omega (arith, many, within, below))
-    (c.index-slaves-i.is ∙ ap (λ (slaves : List Slave). slice_index_or slaves c.loop-i.i c.index-slaves-i.result) c.as_slice-slaves.ensures)
+add_slave-requires-clause-areas c = search (rules, group-areas)
 
 pub add_slave-requires-clause-station : goal.add_slave-requires-clause-station
 add_slave-requires-clause-station c =
     let many = ap length c.as_slice-slaves.ensures in
-    let within = c.part-from.ensures.within in
     let below = c.loop-i-test.true in
-    group-station c.args.self.now.old c.args.first c.args.declared.now c.loop-i.i c.index-slaves-i.result c.requires.group (omega (arith, many, within, below))
+    group-station c.args.self.now.old c.args.first c.args.declared.now c.loop-i.i c.index-slaves-i.result c.requires.group (omega (arith, many, below))
     (c.index-slaves-i.is ∙ ap (λ (slaves : List Slave). slice_index_or slaves c.loop-i.i c.index-slaves-i.result) c.as_slice-slaves.ensures)
 
 pub loop-i-preserved : goal.loop-i-preserved
-loop-i-preserved c =
-    let it = c.args.self.now in
-    let rank = c.args.first + c.loop-i.i in
-    record {
-      places = c.in_ok-add_slave.ensures.places ∙ c.loop-i.invariant.places;
-      found =
-          c.in_ok-add_slave.ensures.found
-          ∙ ap (λ (items : List Candidate). items ++ rank_found it rank) c.loop-i.invariant.found
-          ∙ rank-added it rank (c.args.first + (c.loop-i.i + 1)) (omega arith);
-    }
+loop-i-preserved c = search (rules, rank-added)
 
 pub returns-clause-found : goal.returns-clause-found
 returns-clause-found c =

@@ -1,4 +1,4 @@
-use Rattle.std.proofs.Common.{◌≡◌, ◌∙◌, ◌+◌, ◌++◌, List, [], ◌∷◌, Vec, Global, append-nil, ap, drop, sym}
+use Rattle.std.proofs.Common.{◌≡◌, ◌∙◌, ◌+◌, ◌++◌, List, [], Vec, Global, append-nil, ap, drop, sym, rules}
 use Rattle.hc_changes.specs.Candidates.{Candidate}
 use Rattle.hc_changes.specs.inner.Found.{area_found, areas_found}
 use Rattle.hc_changes.proofs.lemmas.FoundRanks.{areas-added, areas-end, rank-is, task-below}
@@ -6,9 +6,7 @@ use Rattle.hc_changes.proofs.finding.Sight.add_slave.Goals as goal
 use Rattle.hc_changes.proofs.finding.Sight.add_slave.Goals.{in-Some+in_ok-push, in_default}
 
 pub judge-requires-clause-task : goal.judge-requires-clause-task
-judge-requires-clause-task c =
-    task-below c.self.inside.outlook.now.new c.args.rank c.loop-i.i c.areas_after-areas.result.now c.index-areas-i.result c.self.invariant.is.is_project
-    c.areas_after-areas.ensures c.loop-i-test.true c.index-areas-i.is
+judge-requires-clause-task c = search (rules, task-below)
 
 pub loop-i-preserved : goal.loop-i-preserved
 loop-i-preserved c =
@@ -19,16 +17,13 @@ loop-i-preserved c =
     let i = c.loop-i.i in
     let rest = areas_found it station rank (i + 1) (drop (i + 1) areas) in
     let all = c.args.found.now.items ++ areas_found it station rank 0 areas in
-    let added : (own : List Candidate) → own ≡ area_found it station rank i c.index-areas-i.result → (c.loop-i.found.items ++ own) ++ rest ≡ all =
-    λ own made. areas-added it station rank i areas c.index-areas-i.result own c.loop-i.found.items all c.loop-i-test.true c.index-areas-i.is made c.loop-i.invariant.found in
+    let added : (own : List Candidate) → own ≡ area_found it station rank i c.index-areas-i.result → (c.loop-i.found.items ++ own) ++ rest ≡ all = search (rules, areas-added) in
     elim c.match-judge.branch [
       | in-Some+in_ok-push w ↦
           record {
             areas = c.loop-i.invariant.areas;
             places = c.judge.ensures.places ∙ c.loop-i.invariant.places;
-            found =
-                ap (λ (items : List Candidate). items ++ rest) (ap (λ (vec : Vec Candidate Global). vec.items) w.found-is ∙ w.in_ok-push.ensures.items)
-                ∙ added (w.in-Some.candidate ∷ []) w.in-Some.ensures.found;
+            found = search rules;
           }
       | in_default w ↦
           record {

@@ -1,27 +1,15 @@
-use Rattle.std.proofs.Common.{◌∙◌, ◌+◌, ◌≤◌, List, length, ap, refl, sym, arith}
+use Rattle.std.proofs.Common.{◌∙◌, List, length, ap, arith, rules}
 use Rattle.std.specs.Prelude.{slice_index_or}
 use Rattle.hc_records.specs.declared.records.Declared.{Declared}
-use Rattle.hc_tasks.specs.Areas.{areas_by_rank}
-use Rattle.hc_tasks.specs.Kept.{line_kept}
-use Rattle.hc_changes.specs.Outlook.{Outlook}
 use Rattle.hc_changes.proofs.lemmas.FoundAll.{found-all}
 use Rattle.hc_changes.proofs.lemmas.FoundRanks.{group-at, group-low, none-yet, taken-all}
 use Rattle.hc_changes.proofs.finding.Sight.all.Goals as goal
 
 pub loop-declared-init : goal.loop-declared-init
-loop-declared-init c = record {
-  places = c.of-places.ensures ∙ c.self.invariant.turned ∙ ap (λ (o : Outlook). line_kept (areas_by_rank o.new)) c.self.view_is;
-  first = refl;
-  found = c.new-found.ensures.items ∙ sym (none-yet c.args.self.now);
-}
+loop-declared-init c = search (rules, none-yet)
 
 pub add_group-requires-clause-group : goal.add_group-requires-clause-group
-add_group-requires-clause-group c =
-    let groups = c.requires.groups in
-    let i = c.loop-declared.declared-index in
-    let declared = c.declared-item.result in
-    group-at c.args.self.now.old c.loop-declared.first i declared c.loop-declared.invariant.first (omega (arith, c.loop-declared-test.true, ap length groups))
-    (c.declared-item.is ∙ ap (λ (all : List Declared). slice_index_or all i declared) groups)
+add_group-requires-clause-group c = search (rules, group-at)
 
 pub add_group-requires-clause-few : goal.add_group-requires-clause-few
 add_group-requires-clause-few c =
@@ -53,9 +41,4 @@ overflow_add-first c =
     omega (arith, low, c.len.ensures)
 
 pub returns : goal.returns
-returns c =
-    let it = c.args.self.now in
-    let past : length it.old ≤ c.loop-declared.declared-index = omega (arith, c.loop-declared-test.false, ap length c.requires.groups) in
-    c.loop-declared.invariant.found
-    ∙ found-all it c.loop-declared.first c.requires.known
-    (c.loop-declared.invariant.first ∙ ap (λ (all : List Declared). length (areas_by_rank all) + 1) (taken-all it.old c.loop-declared.declared-index past))
+returns c = search (rules, found-all, taken-all)

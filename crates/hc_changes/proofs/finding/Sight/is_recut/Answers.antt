@@ -1,6 +1,5 @@
-use Rattle.std.proofs.Common.{◌≡◌, ◌∙◌, ℕ, Bool, false, true, Option, ap, sym, subst}
-use Rattle.std.specs.Prelude.{IfSome, not}
-use Rattle.std.specs.Option.{option_map_or}
+use Rattle.std.proofs.Common.{◌≡◌, ◌∙◌, ℕ, Bool, true, Option, ap, subst, rules}
+use Rattle.std.specs.Prelude.{IfSome}
 use Rattle.hc_records.specs.declared.keys.Key.{Key}
 use Rattle.hc_records.specs.declared.keys.TheConstants.Key.{END}
 use Rattle.hc_records.specs.Keys.{is_before}
@@ -9,7 +8,6 @@ use Rattle.hc_records.specs.Packing.{Placed}
 use Rattle.hc_records.specs.TaskList.{task_list}
 use Rattle.hc_cuts.specs.Keeping.{is_kept_up_to}
 use Rattle.hc_changes.specs.inner.Found.{IsSight}
-use Rattle.hc_changes.specs.Outlook.{Outlook}
 use Rattle.hc_changes.proofs.lemmas.Finding.{kept-is}
 use Rattle.hc_changes.proofs.finding.Sight.is_recut.Goals as goal
 
@@ -19,11 +17,9 @@ returns-in-Some c =
     let task = c.args.task in
     let placed = c.in-Some.placed in
     let kept : ℕ → Key → Bool = λ number key. is_kept_up_to (task_list task (line_from 1 it.old)) (task_list task (line_from 1 it.new)) number key in
-    let sight : IsSight it c.self.inside.before.now c.self.inside.cuts.now =
-    subst (λ (o : Outlook). IsSight o c.self.inside.before.now c.self.inside.cuts.now) c.self.view_is c.self.invariant in
+    let sight : IsSight it c.self.inside.before.now c.self.inside.cuts.now = search rules in
     let below : is_before placed.key END ≡ true = subst (λ (place : Option Placed). IfSome place (λ p. is_before p.key END ≡ true)) c.in-Some.is c.requires.below in
     let told : is_before placed.key c.kept_until-kept.result ≡ kept placed.datagram placed.key =
     kept-is it c.self.inside.before.now c.self.inside.cuts.now sight task c.datagram.result c.kept_until-kept.result c.kept_until-kept.ensures placed.key below
     ∙ ap (λ (number : ℕ). kept number placed.key) c.datagram.ensures in
-    ap not (c.is_before.ensures ∙ ap (λ (key : Key). is_before key c.kept_until-kept.result) c.key.ensures ∙ told)
-    ∙ sym (ap (λ (place : Option Placed). option_map_or (λ (p : Placed). not (kept p.datagram p.key)) place false) c.in-Some.is)
+    search rules

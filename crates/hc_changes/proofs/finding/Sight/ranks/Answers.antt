@@ -1,8 +1,7 @@
-use Rattle.std.proofs.Common.{ℕ, subst, sym, ⊎_elim, arith}
+use Rattle.std.proofs.Common.{ℕ, subst, sym, ⊎_elim, arith, rules}
 use Rattle.std.proofs.Math.Nat.{eq-or-lt_of_le}
 use Rattle.hc_changes.specs.declared.ranks.Ranks.{Ranks}
 use Rattle.hc_changes.specs.inner.Found.{HoldChanged, HoldRecut, IsSight}
-use Rattle.hc_changes.specs.Outlook.{Outlook}
 use Rattle.hc_changes.proofs.lemmas.FoundWithin.{all-within, changed-wider, recut-wider, untouched-held}
 use Rattle.hc_changes.proofs.finding.Sight.ranks.Goals as goal
 use Rattle.hc_changes.proofs.finding.Sight.ranks.Goals.{then-is_touched, else-is_touched}
@@ -13,8 +12,7 @@ loop-task-preserved c =
     let last = c.loop-task.task in
     let low = c.loop-task.ranks.low in
     let high = c.loop-task.ranks.high in
-    let sight : IsSight it c.self.inside.before.now c.self.inside.cuts.now =
-    subst (λ (o : Outlook). IsSight o c.self.inside.before.now c.self.inside.cuts.now) c.self.view_is c.self.invariant in
+    let sight : IsSight it c.self.inside.before.now c.self.inside.cuts.now = search rules in
     elim c.if-is_touched.branch [
       | then-is_touched w ↦
           let wide = w.with_recut-ranks.result in

@@ -1,4 +1,4 @@
-use Rattle.std.proofs.Common.{◌≡◌, ◌∙◌, ◌+◌, ℕ, false, true, ap, subst, sym, arith}
+use Rattle.std.proofs.Common.{◌≡◌, ◌∙◌, ◌+◌, ℕ, false, true, subst, sym, arith, rules}
 use Rattle.std.specs.Prelude.{slice_index_or}
 use Rattle.std.proofs.lemmas.Bool.{and_from}
 use Rattle.hc_records.specs.declared.keys.Key.{Key}
@@ -23,8 +23,7 @@ HoldSoFar it task count given all = record {
 pub loop-number-preserved : goal.loop-number-preserved
 loop-number-preserved c =
     let it = c.args.self.now in
-    let sight : IsSight it c.self.inside.before.now c.self.inside.cuts.now =
-    subst (λ (o : Outlook). IsSight o c.self.inside.before.now c.self.inside.cuts.now) c.self.view_is c.self.invariant in
+    let sight : IsSight it c.self.inside.before.now c.self.inside.cuts.now = search rules in
     let number = c.loop-number.number in
     let task = c.args.task in
     let starts = c.starts-starts.result.now in
@@ -60,8 +59,7 @@ loop-number-preserved c =
                 c.loop-number.invariant.first;
           })
       | else-is_before w ↦
-          let none : is_before from (slice_index_or starts (number + 1) END) ≡ false =
-          ap (is_before from) (sym c.start_at-next.ensures) ∙ sym c.is_before.ensures ∙ w.if-is_before.false in
+          let none : is_before from (slice_index_or starts (number + 1) END) ≡ false = search rules in
           subst (λ (all : Ranks). HoldSoFar it task (number + 1) c.args.ranks all) (sym w.all-is)
           (record {
             own = own;
@@ -74,7 +72,6 @@ loop-number-preserved c =
 pub returns-clause-recut : goal.returns-clause-recut
 returns-clause-recut c =
     let it = c.args.self.now in
-    let sight : IsSight it c.self.inside.before.now c.self.inside.cuts.now =
-    subst (λ (o : Outlook). IsSight o c.self.inside.before.now c.self.inside.cuts.now) c.self.view_is c.self.invariant in
+    let sight : IsSight it c.self.inside.before.now c.self.inside.cuts.now = search rules in
     recut-held it c.args.task c.loop-number.number c.loop-number.all.low c.loop-number.all.high c.starts-starts.result.now sight.is
     (c.starts-starts.ensures.starts (areas_by_rank it.new) sight.turned) c.loop-number-test.false c.loop-number.invariant.first
