@@ -1,5 +1,5 @@
 -- Steps of the publisher and the seats keep the rule of the copies.
-use Rattle.std.proofs.Common.{◌⊎◌, inl, inr, MatchResult, Result, Ok, Err, ◌≡◌, ◌≢◌, ℕ, ◌<◌, false, arith, length, List, [], ◌∷◌, ◌++◌, fold, set, refl, ap, sym, subst, ◌∙◌, ⊎_elim, append_assoc}
+use Rattle.std.proofs.Common.{Bool, true, suc, length-append, ◌⊎◌, inl, inr, MatchResult, Result, Ok, Err, ◌≡◌, ◌≢◌, ℕ, ◌<◌, false, arith, length, List, [], ◌∷◌, ◌++◌, fold, set, refl, ap, sym, subst, ◌∙◌, ⊎_elim, append_assoc}
 use Rattle.std.specs.Result.{is_err}
 use Rattle.std.proofs.lemmas.List.{append-nil}
 use mathlib.Core.Option.{some}
@@ -15,7 +15,7 @@ use Rattle.hc_publish.specs.declared.absorb.Step.{Step}
 use Rattle.hc_publish.specs.declared.absorb.Step.TheVariants.{Changed, Sealed}
 use Rattle.hc_publish.specs.Stories.{Story}
 use Rattle.hc_publish.specs.Book.{Extends, TheSeen, top}
-use Rattle.hc_publish.specs.Rule.{books, taken, changes_in, behind_steps, Bound, IsSealed, Holds, Sees}
+use Rattle.hc_publish.specs.Rule.{books, taken, AreFew, changes_in, seals_in, behind_steps, Bound, IsSealed, Holds, Sees}
 use Rattle.hc_publish.proofs.Rising.{extends_more}
 
 bound_same : (v : List TheSeen) (x y : Story) → Bound v x → x.token.book ≡ y.token.book → Bound v y
@@ -63,6 +63,34 @@ pub changes-append : (xs ys : List Step) → changes_in (xs ++ ys) ≡ changes_i
 changes-append [] ys = refl
 changes-append (Changed c ∷ xs) ys = ap (λ z. c ∷ z) (changes-append xs ys)
 changes-append (Sealed f ∷ xs) ys = changes-append xs ys
+
+-- the seals behind an append of a change
+seals-append : (xs : List Step) (c : Change) → seals_in (xs ++ Changed c ∷ []) ≡ seals_in xs
+seals-append [] c = refl
+seals-append (Changed d ∷ xs) c = seals-append xs c
+seals-append (Sealed f ∷ xs) c = ap suc (seals-append xs c)
+
+-- and of a seal
+seals-more : (xs : List Step) (f : TheSeen) → seals_in (xs ++ Sealed f ∷ []) ≡ suc (seals_in xs)
+seals-more [] f = refl
+seals-more (Changed d ∷ xs) f = seals-more xs f
+seals-more (Sealed g ∷ xs) f = ap suc (seals-more xs f)
+
+grows : (old new : List Step) (c : Change) → new ≡ old ++ Changed c ∷ [] → length (changes_in new) ≡ suc (length (changes_in old))
+grows old new c e =
+    let is = ap (λ z. length (changes_in z)) e ∙ ap length (changes-append old (Changed c ∷ [])) in
+    omega (arith, is, length-append (changes_in old) (c ∷ []))
+
+-- the seals are few behind a change
+pub few_grown : (sealed : Bool) (old new : List Step) (c : Change) → new ≡ old ++ Changed c ∷ [] → AreFew sealed old → AreFew false new
+few_grown true old new c e h = omega (arith, ap seals_in e ∙ seals-append old c, grows old new c e, h)
+few_grown false old new c e h = omega (arith, ap seals_in e ∙ seals-append old c, grows old new c e, h)
+
+-- and behind the first seal since
+pub few_sealed : (old new : List Step) (f : TheSeen) → new ≡ old ++ Sealed f ∷ [] → AreFew false old → AreFew true new
+few_sealed old new f e h =
+    let same = ap (λ z. length (changes_in z)) e ∙ ap length (changes-append old (Sealed f ∷ []) ∙ append-nil (changes_in old)) in
+    omega (arith, ap seals_in e ∙ seals-more old f, same, h)
 
 -- what is shown after some steps
 pub fold_shown : (s : Story) (steps : List Step) → (fold taken s steps).shown ≡ behind_steps s.shown steps

@@ -7,7 +7,7 @@ use Rattle.hc_publish.specs.declared.absorb.Step.TheVariants.{Sealed}
 use Rattle.hc_publish.specs.declared.publisher.Publisher.TheInside.{Inside}
 use Rattle.hc_publish.specs.Book.{Extends, head_of, top}
 use Rattle.hc_publish.specs.Board.{Board, all_shown, origin_of, published, pending}
-use Rattle.hc_publish.specs.Rule.{IsSealed}
+use Rattle.hc_publish.specs.Rule.{AreFew, IsSealed}
 
 -- what contracts see of it
 abbrev pub board_in : Inside → Board
@@ -19,7 +19,7 @@ pub record IsReady (p : Board) : Type 0 where
   pub ends : p.steps ≡ before ++ Sealed p.front ∷ []
   pub last : top p.front.log ≡ all_shown p
 
--- what is shown is legal with all that is pending, and sealed; the front is of one book with it, and what it saw last is a beginning of all
+-- what is shown is legal with all that is pending, and sealed; refused publishings pile no seals up; the front is of one book with it, and what it saw last is a beginning of all
 pub record Stands (p : Inside) : Type 0 where
   pub legal : AreLegal p.writer.desk.shown.value.shown.groups (published (board_in p) ++ pending (board_in p))
   pub knows : view p.writer.desk.place ≡ p.writer.desk.shown.value.token ∷ []
@@ -27,6 +27,7 @@ pub record Stands (p : Inside) : Type 0 where
   pub head_is : p.head ≡ head_of p.front.book
   pub one_book : p.writer.desk.shown.value.token.book ≡ p.front.book
   pub extends : Extends (top p.front.log) (all_shown (board_in p))
+  pub few : AreFew p.is_sealed (board_in p).steps
   pub ready : p.is_sealed ≡ true → IsReady (board_in p)
 
 -- nothing that callers see has changed

@@ -1,5 +1,5 @@
 -- What the seats and the publisher know of the published copy.
-use Rattle.std.specs.Prelude.{◌≡◌, ℕ, List, [], ◌∷◌, ◌++◌, map}
+use Rattle.std.specs.Prelude.{◌≡◌, ℕ, ◌≤◌, suc, Bool, true, false, List, [], ◌∷◌, ◌++◌, length, map}
 use mathlib.Core.Option.{some}
 use lib.ListN.{get_elem?}
 use Rattle.logbook.specs.Pages.{Book}
@@ -20,6 +20,17 @@ abbrev pub changes_in : List Step → List Change
 changes_in [] = []
 changes_in (Changed c ∷ steps) = c ∷ changes_in steps
 changes_in (Sealed f ∷ steps) = changes_in steps
+
+-- how many of the steps are seals
+abbrev pub seals_in : List Step → ℕ
+seals_in [] = 0
+seals_in (Changed c ∷ steps) = seals_in steps
+seals_in (Sealed f ∷ steps) = suc (seals_in steps)
+
+-- the seals are no more than the changes, and one where a refused publishing left one behind them
+abbrev pub AreFew : Bool → List Step → Type 0
+AreFew true steps = seals_in steps ≤ suc (length (changes_in steps))
+AreFew false steps = seals_in steps ≤ length (changes_in steps)
 
 -- what is shown behind some steps
 abbrev pub behind_steps : Told → List Step → Told

@@ -1,8 +1,9 @@
 //! What the publisher does.
-ghost use Rattle.std.specs.Prelude.{◌≡◌, [], ◌∷◌, ◌++◌, IfOk, MatchResult};
+ghost use Rattle.std.specs.Prelude.{◌≡◌, [], ◌∷◌, ◌++◌, false, IfOk, MatchResult};
 ghost use Rattle.hc_events.specs.Changes.{AreLegal};
 ghost use Rattle.hc_publish.specs.Board.{published, pending, origin_of};
 ghost use Rattle.hc_publish.specs.Published.{IsReady, AreSame};
+ghost use Rattle.hc_publish.specs.Rule.{AreFew};
 ghost use Rattle.hc_publish.specs.Seats.{carried, note_origin, known, seat_origin};
 
 use super::{Copies, Kept, Note, Publisher};
@@ -46,6 +47,7 @@ impl Publisher {
 
     // Puts what is about to be shown into the book, and a seal behind the pending changes.
     fn seal(&mut self) -> Result<(), AllocError>
+        requires { AreFew false self.old.steps }
         ensures same { AreSame self.old self.new }
         ensures ready { IfOk result (λ _. IsReady self.new) }
     {

@@ -1,9 +1,9 @@
-use Rattle.std.proofs.Common.{◌≡◌, [], true, false, sym, ◌∙◌, ap, subst, fold}
+use Rattle.std.proofs.Common.{◌≡◌, arith, [], true, false, sym, ◌∙◌, ap, subst, fold}
 use Rattle.std.proofs.lemmas.List.{append-nil}
 use Rattle.hc_events.specs.Changes.{AreLegal}
 use Rattle.hc_copies.specs.Told.{IsLegal}
 use Rattle.hc_publish.specs.Book.{top}
-use Rattle.hc_publish.specs.Rule.{IsSealed, behind_steps, changes_in, taken}
+use Rattle.hc_publish.specs.Rule.{AreFew, IsSealed, behind_steps, changes_in, taken}
 use Rattle.hc_publish.proofs.Rising.{extends_same}
 use Rattle.hc_publish.proofs.Ruled.{shows_again, of_ok, fold_shown}
 use Rattle.hc_publish.proofs.opening.opened.Goals as goal
@@ -33,6 +33,7 @@ invariant_of-result g c =
       head_is = c.in-Some.ensures.0;
       one_book = ap (λ z. z.token.book) copy ∙ ap (λ t. t.book) c.again.ensures;
       extends = rw (values.1) (extends_same _ _ all);
+      few = subst (AreFew false) (sym values.1) (omega arith);
       ready = λ (e : false ≡ true). absurd (cc e);
     }
 

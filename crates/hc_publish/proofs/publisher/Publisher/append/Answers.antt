@@ -3,7 +3,7 @@ use Rattle.hc_publish.specs.Book.{top}
 use Rattle.hc_publish.specs.Rule.{changes_in}
 use Rattle.hc_publish.specs.Board.{published, pending}
 use Rattle.hc_publish.specs.Published.{board_in}
-use Rattle.hc_publish.proofs.Ruled.{changes-append, appended, stays_legal, stays_begun}
+use Rattle.hc_publish.proofs.Ruled.{changes-append, appended, few_grown, stays_legal, stays_begun}
 use Rattle.hc_publish.proofs.publisher.Publisher.append.Goals as goal
 
 pub invariant_of-self : goal.invariant_of-self
@@ -21,6 +21,7 @@ invariant_of-self c =
       head_is = i.head_is;
       one_book = rw same i.one_book;
       extends = rw same (stays_begun (top p.front.log) b.shown.shown old (drop c.append.new.self.behind c.append.new.self.log.items) c.args.change grown i.extends);
+      few = few_grown p.is_sealed old _ c.args.change c.in-Ok.ensures.pending i.few;
       ready = λ (e : false ≡ true). absurd (cc e);
     }
 

@@ -1,8 +1,8 @@
-use Rattle.std.proofs.Common.{◌≡◌, [], ◌∷◌, drop, true, false, sym, ap, ◌∙◌, subst}
+use Rattle.std.proofs.Common.{◌≡◌, arith, [], ◌∷◌, drop, true, false, sym, ap, ◌∙◌, subst}
 use Rattle.std.proofs.lemmas.List.{append-nil}
 use Rattle.hc_events.specs.Changes.{AreLegal}
 use Rattle.hc_publish.specs.Book.{top}
-use Rattle.hc_publish.specs.Rule.{IsSealed, behind_steps}
+use Rattle.hc_publish.specs.Rule.{AreFew, IsSealed, behind_steps}
 use Rattle.hc_publish.specs.Published.{IsReady}
 use Rattle.hc_publish.proofs.Rising.{extends_same}
 use Rattle.hc_publish.proofs.Ruled.{fold_shown, seals, sealed_shown, sealed_token}
@@ -35,6 +35,7 @@ invariant_of-publisher g c =
       head_is = i.head_is;
       one_book = ap (λ t. t.book) token;
       extends = rw (values.1) (extends_same _ _ all);
+      few = subst (AreFew false) (sym values.1) (omega arith);
       ready = λ (e : false ≡ true). absurd (cc e);
     }
 
@@ -52,5 +53,6 @@ invariant_of-publisher-in_default-Err g c =
       head_is = i.head_is;
       one_book = ap (λ z. z.token.book) values.0 ∙ i.one_book;
       extends = rw (values.0, values.1) i.extends;
+      few = subst (AreFew p.is_sealed) (sym values.1) i.few;
       ready = λ (e : p.is_sealed ≡ true). record { before = ready.before; ends = values.1 ∙ ready.ends; last = rw (values.0, values.1) ready.last };
     }

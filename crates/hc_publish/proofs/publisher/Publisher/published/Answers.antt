@@ -1,6 +1,6 @@
-use Rattle.std.proofs.Common.{◌≡◌, ◌<◌, [], ◌++◌, length, ap, drop, subst, sym, ◌∙◌}
+use Rattle.std.proofs.Common.{◌≡◌, ◌<◌, [], ◌++◌, length, ap, drop, false, subst, sym, ◌∙◌}
 use Rattle.std.proofs.lemmas.List.{append-nil}
-use Rattle.hc_publish.specs.Rule.{changes_in}
+use Rattle.hc_publish.specs.Rule.{AreFew, changes_in}
 use Rattle.hc_publish.specs.Board.{published}
 use Rattle.hc_publish.specs.Published.{IsReady, board_in}
 use Rattle.hc_publish.proofs.Ruled.{none_in}
@@ -16,3 +16,7 @@ returns-then-not-has_pending_operations-clause-lists g c =
 
 pub exchanged-requires : goal.exchanged-requires
 exchanged-requires g c = subst IsReady c.self.view_is (c.self.invariant.ready c.if-self.true)
+
+pub seal-requires : goal.seal-requires
+seal-requires g c =
+    subst (λ b. AreFew false b.steps) c.self.view_is (subst (λ s. AreFew s (board_in c.self.inside).steps) c.if-self.false c.self.invariant.few)

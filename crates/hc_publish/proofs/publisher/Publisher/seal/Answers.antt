@@ -1,11 +1,12 @@
-use Rattle.std.proofs.Common.{◌≡◌, true, [], ◌∷◌, ◌++◌, drop, sym, ◌∙◌, ap}
+use Rattle.std.proofs.Common.{◌≡◌, true, false, subst, [], ◌∷◌, ◌++◌, drop, sym, ◌∙◌, ap}
 use Rattle.hc_publish.specs.Book.{head_of, top}
 use Rattle.hc_publish.specs.declared.absorb.Step.TheVariants.{Sealed}
+use Rattle.hc_publish.specs.Rule.{AreFew}
 use Rattle.hc_publish.specs.Stories.{origin}
 use Rattle.hc_publish.specs.Board.{all_shown}
 use Rattle.hc_publish.specs.Published.{board_in}
 use Rattle.hc_publish.proofs.Rising.{extends_same, top-append}
-use Rattle.hc_publish.proofs.Ruled.{append_sealed}
+use Rattle.hc_publish.proofs.Ruled.{append_sealed, few_sealed}
 use Rattle.hc_publish.proofs.publisher.Publisher.seal.Goals as goal
 
 pub invariant_of-self : goal.invariant_of-self
@@ -25,6 +26,7 @@ invariant_of-self c =
       head_is = i.head_is ∙ ap head_of (sym next.0);
       one_book = rw same (i.one_book ∙ sym next.0);
       extends = rw (same, kept) (extends_same _ _ last);
+      few = few_sealed old _ _ c.in-Ok.ensures.pending (subst (λ z. AreFew false z.steps) (sym c.self.view_is) c.requires);
       ready = λ (e : true ≡ true). record { before = old; ends = c.in-Ok.ensures.pending ∙ ap (λ f. old ++ Sealed f ∷ []) c.again.ensures; last = rw (same, kept) last };
     }
 
