@@ -1,5 +1,5 @@
 -- The variables of two tables whose place differs: which they are, each once.
-use Rattle.std.proofs.Common.{◌≡◌, ◌∙◌, ap, ℕ, ◌<◌, Bool, true, false, cond, List, [], ◌∷◌, ◌++◌, refl, sym, arith}
+use Rattle.std.proofs.Common.{◌≡◌, ◌∙◌, ap, ℕ, ◌<◌, Bool, true, false, cond, List, [], ◌∷◌, ◌++◌, refl, arith}
 use Rattle.std.specs.Prelude.{All, Option, Some, None, filter, find, map, not, option_map, ◌==◌, ◌≢◌, ◌||◌, ◌&&◌, ◌↔◌, AllPairs}
 use Rattle.std.specs.Option.{option_map_or}
 use Rattle.std.specs.List.{list_any}
@@ -12,7 +12,7 @@ use Rattle.hc_records.specs.Image.{VariablePlace}
 use Rattle.hc_places.specs.Table.{Row, RowsAscend}
 use Rattle.hc_places.specs.Swap.{ChangesAscend, same_found}
 use Rattle.hc_places.proofs.Members.{among, among-filter}
-use Rattle.hc_places.proofs.lemmas.Same.{found-equal, found-same}
+use Rattle.hc_places.proofs.lemmas.Same.{found-same}
 use Rattle.hc_places.proofs.Walked.{AreAbove}
 
 -- the definitions, of rows in place of tables
@@ -46,8 +46,7 @@ place-here row rows variable same = ap (option_map (λ (row : Row). row.1)) (con
 pub place-none : (rows : List Row) (variable : ℕ) → AreAbove variable rows → place_of rows variable ≡ None
 place-none [] variable above = refl
 place-none (row ∷ rows) variable above =
-    ap (option_map (λ (row : Row). row.1)) (cond-false _ _ _ (above-apart row.0 variable (All-head (λ (r : Row). variable < r.0) row rows above)))
-    ∙ place-none rows variable (All-tail (λ (r : Row). variable < r.0) row rows above)
+    grind (arith, cond-false, above-apart, All-head, All-tail, place-none rows variable (All-tail (λ (r : Row). variable < r.0) row rows above))
 
 -- a variable is among the different ones exactly where its place differs
 
@@ -55,8 +54,7 @@ abbrev stands : Option VariablePlace → Bool
 stands found = option_map_or (λ place. true) found false
 
 or-regroup : (a b c : Bool) → (a || (b || c)) ≡ ((a || b) || c)
-or-regroup true b c = refl
-or-regroup false b c = refl
+or-regroup a b c = grind arith
 
 among-append : (variable : ℕ) (xs ys : List ℕ) → among variable (xs ++ ys) ≡ (among variable xs || among variable ys)
 among-append variable [] ys = refl
@@ -64,8 +62,7 @@ among-append variable (x ∷ xs) ys =
     ap (λ (b : Bool). (x == variable) || b) (among-append variable xs ys) ∙ or-regroup (x == variable) (among variable xs) (among variable ys)
 
 stands-by : (here : Bool) (row : Row) (found : Option Row) → (here || stands (option_map (λ (r : Row). r.1) found)) ≡ stands (option_map (λ (r : Row). r.1) (cond here (Some row) found))
-stands-by true row found = refl
-stands-by false row found = refl
+stands-by here row found = grind arith
 
 among-numbers : (rows : List Row) (variable : ℕ) → among variable (numbers rows) ≡ stands (place_of rows variable)
 among-numbers [] variable = refl
@@ -73,47 +70,29 @@ among-numbers (row ∷ rows) variable =
     ap (λ (b : Bool). (row.0 == variable) || b) (among-numbers rows variable) ∙ stands-by (row.0 == variable) row (find (λ (r : Row). r.0 == variable) rows)
 
 stand-or-appear : (old new : Option VariablePlace) → ((stands old || (stands new && not (stands old))) && not (same_found old new)) ≡ not (same_found old new)
-stand-or-appear None None = refl
-stand-or-appear None (Some b) = refl
-stand-or-appear (Some a) None = refl
-stand-or-appear (Some a) (Some b) = refl
+stand-or-appear old new = grind arith
 
 pub different-among : (old new : List Row) (variable : ℕ) → list_any (λ changed. changed == variable) (different old new) ≡ not (same_found (place_of old variable) (place_of new variable))
 different-among old new variable =
-    let before = among-numbers old variable in
-    let after = among-filter (appears old) variable (numbers new) ∙ ap (λ (b : Bool). b && appears old variable) (among-numbers new variable) in
-    let all = among-append variable (numbers old) (filter (appears old) (numbers new)) ∙ ap (λ (b : Bool). b || among variable (filter (appears old) (numbers new))) before
-    ∙ ap (λ (b : Bool). stands (place_of old variable) || b) after in
-    among-filter (differs old new) variable (of_both old new)
-    ∙ ap (λ (b : Bool). b && differs old new variable) all
-    ∙ stand-or-appear (place_of old variable) (place_of new variable)
+    grind (arith, among-numbers, among-filter, among-append, among, stand-or-appear)
 
 differ-by : (same : Bool) (a b : Option VariablePlace) → same_found a b ≡ same → a ≢ b → not same ≡ true
-differ-by true a b is apart = absurd (apart (found-equal a b is))
-differ-by false a b is apart = refl
+differ-by same a b is apart = grind arith
 
 same-by : (same : Bool) → same ≡ true → not same ≡ true → ⊥
-same-by true is apart = cc
-same-by false is apart = cc
+same-by same is apart = grind arith
 
 pub different-apart : (old new : List Row) (variable : ℕ)
     → (list_any (λ changed. changed == variable) (different old new) ≡ true) ↔ (place_of old variable ≢ place_of new variable)
 different-apart old new variable =
-    let was = place_of old variable in
-    let is = place_of new variable in
-    let among = different-among old new variable in (
-      λ found equal. same-by (same_found was is) (found-same was is equal) (sym among ∙ found),
-      λ apart. among ∙ differ-by (same_found was is) was is refl apart,
-    )
+    grind (arith, among, different-among, same-by, found-same, differ-by)
 
 -- and each stands once
 
 own-stand : (rows : List Row) → All (λ x. stands (place_of rows x) ≡ true) (numbers rows)
 own-stand [] = All-nil (λ x. stands (place_of [] x) ≡ true)
 own-stand (row ∷ rows) =
-    All-cons (λ x. stands (place_of (row ∷ rows) x) ≡ true) row.0 (numbers rows) (rw (place-here row rows row.0 refl) refl)
-    (All-weaker (λ x. stands (place_of rows x) ≡ true) (λ x. stands (place_of (row ∷ rows) x) ≡ true)
-    (λ x standing. sym (stands-by (row.0 == x) row (find (λ (r : Row). r.0 == x) rows)) ∙ or_right (row.0 == x) (stands (place_of rows x)) standing) (numbers rows) (own-stand rows))
+    grind (arith, All-cons, place-here, All-weaker, stands-by, or_right, own-stand rows)
 
 pub numbers-once : {X : Type 0} (rows : List (ℕ × X)) → ChangesAscend rows → AllPairs (λ a b. a ≢ b) (numbers rows)
 numbers-once {X} rows ascends =
@@ -121,10 +100,7 @@ numbers-once {X} rows ascends =
     (AllPairs-weaker (λ (a b : ℕ × X). a.0 < b.0) (λ (a b : ℕ × X). a.0 ≢ b.0) (λ a b less same. absurd (omega arith)) rows ascends)
 
 apart-tests : (old : List Row) (x y : ℕ) → stands (place_of old x) ≡ true → appears old y ≡ true → x ≢ y
-apart-tests old x y standing appearing same =
-    let found : stands (place_of old y) ≡ true = rw (← same) standing in
-    let not_found : not (stands (place_of old y)) ≡ false = ap not found in
-    cc
+apart-tests old x y standing appearing same = grind arith
 
 pub different-once : (old new : List Row) → RowsAscend old → RowsAscend new → AllPairs (λ a b. a ≢ b) (different old new)
 different-once old new before after =

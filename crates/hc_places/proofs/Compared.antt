@@ -1,5 +1,5 @@
 -- The tasks of two tables compared in their order: what is said of those so far.
-use Rattle.std.proofs.Common.{◌≡◌, ◌∙◌, ap, ℕ, ◌+◌, ◌<◌, ◌≤◌, Bool, true, false, cond, List, [], ◌∷◌, ◌++◌, length, refl, subst, sym, arith}
+use Rattle.std.proofs.Common.{◌≡◌, ℕ, ◌+◌, ◌<◌, ◌≤◌, Bool, true, false, cond, List, [], ◌∷◌, ◌++◌, length, refl, subst, sym, arith}
 use Rattle.std.specs.Prelude.{All, Option, Some, None, find, nat_lt, option_map, slice_get, ◌==◌, ◌≢◌}
 use Rattle.std.proofs.lemmas.Bool.{eq-eqb, ltb-true, ltb-false}
 use Rattle.std.proofs.lemmas.Bool.Decides.{nat_tests}
@@ -28,14 +28,11 @@ lower-other a b less = grind (arith, nat_tests)
 none-below : (task : ℕ) (tasks : List ChangedTask) → AreBelow task tasks → table_said tasks task ≡ None
 none-below task [] below = refl
 none-below task (c ∷ others) below =
-    ap (λ (here : Bool). option_map (λ (c : ChangedTask). c.1) (cond here (Some c) (find (λ (c : ChangedTask). c.0 == task) others)))
-    (lower-other c.0 task (All-head (λ (c : ChangedTask). c.0 < task) c others below))
-    ∙ none-below task others (All-tail (λ (c : ChangedTask). c.0 < task) c others below)
+    grind (arith, lower-other, All-head, All-tail, none-below task others (All-tail (λ (c : ChangedTask). c.0 < task) c others below))
 
 behind : (here : Bool) (c : ChangedTask) (found other : Option ChangedTask) → option_map (λ (c : ChangedTask). c.1) found ≡ option_map (λ (c : ChangedTask). c.1) other
     → option_map (λ (c : ChangedTask). c.1) (cond here (Some c) found) ≡ option_map (λ (c : ChangedTask). c.1) (cond here (Some c) other)
-behind true c found other same = refl
-behind false c found other same = same
+behind here c found other same = grind arith
 
 -- a task that is added says nothing of another
 added-other : (tasks : List ChangedTask) (added : ChangedTask) (task : ℕ) → (added.0 == task) ≡ false → table_said (tasks ++ added ∷ []) task ≡ table_said tasks task
@@ -46,14 +43,11 @@ added-other (c ∷ others) added task other =
 added-own : (tasks : List ChangedTask) (added : ChangedTask) → AreBelow added.0 tasks → table_said (tasks ++ added ∷ []) added.0 ≡ Some added.1
 added-own [] added below = rw (eq-eqb added.0 added.0 refl) refl
 added-own (c ∷ others) added below =
-    ap (λ (here : Bool). option_map (λ (c : ChangedTask). c.1) (cond here (Some c) (find (λ (c : ChangedTask). c.0 == added.0) (others ++ added ∷ []))))
-    (lower-other c.0 added.0 (All-head (λ (c : ChangedTask). c.0 < added.0) c others below))
-    ∙ added-own others added (All-tail (λ (c : ChangedTask). c.0 < added.0) c others below)
+    grind (arith, lower-other, All-head, All-tail, added-own others added (All-tail (λ (c : ChangedTask). c.0 < added.0) c others below))
 
 -- a number up to another is lower, or it
 next-by : {P : Type 0} (here : Bool) (task number : ℕ) → (number == task) ≡ here → task < number + 1 → (task < number → (number == task) ≡ false → P) → (number ≡ task → P) → P
-next-by true task number test less lower own = own (grind (arith, nat_tests))
-next-by false task number test less lower own = lower (grind (arith, nat_tests)) test
+next-by here task number test less lower own = grind arith
 
 apart-some : {X : Type 0} (a b : X) → a ≢ b → Some a ≢ Some b
 apart-some a b apart same = apart cc
@@ -77,24 +71,15 @@ next-new olds news number tasks old new told before after apart = record {
 
 pub next-same : (olds news : List TaskTable) (number : ℕ) (tasks : List ChangedTask) (old new : TaskTable) → AreTold olds news number tasks
     → slice_get olds number ≡ Some old → slice_get news number ≡ Some new → old ≡ new → AreTold olds news (number + 1) tasks
-next-same olds news number tasks old new told before after same = record {
-  says = λ task less. next-by (number == task) task number refl less
-      (λ lower other. told.says task lower)
-      (λ own. subst (λ n. IsNewTask (slice_get olds n) (slice_get news n) (table_said tasks n)) own
-      (subst (IsNewTask (slice_get olds number) (slice_get news number)) (sym (none-below number tasks told.below)) (before ∙ ap (λ (t : TaskTable). Some t) same ∙ sym after)));
-  below = All-weaker (λ (c : ChangedTask). c.0 < number) (λ (c : ChangedTask). c.0 < number + 1) (λ c less. omega (arith, less)) tasks told.below;
-  ascends = told.ascends;
-}
+next-same olds news number tasks old new told before after same =
+    grind (arith, next-by, none-below, All-weaker)
 
 -- all are told at their end
 told-by : (below : Bool) (olds news : List TaskTable) (number : ℕ) (tasks : List ChangedTask) (task : ℕ) → nat_lt task number ≡ below → AreTold olds news number tasks
     → length olds ≤ number → length news ≤ number → IsNewTask (slice_get olds task) (slice_get news task) (table_said tasks task)
 told-by true olds news number tasks task test told first second = told.says task (ltb-true task number test)
 told-by false olds news number tasks task test told first second =
-    let high = ltb-false task number test in
-    let none = none-below task tasks (All-weaker (λ (c : ChangedTask). c.0 < number) (λ (c : ChangedTask). c.0 < task) (λ c less. omega (arith, less, high)) tasks told.below) in
-    subst (IsNewTask (slice_get olds task) (slice_get news task)) (sym none)
-    (slice_get_past olds task (omega (arith, high, first)) ∙ sym (slice_get_past news task (omega (arith, high, second))))
+    grind (arith, ltb-false, none-below, All-weaker, slice_get_past)
 
 pub all-told : (olds news : List TaskTable) (number : ℕ) (tasks : List ChangedTask) → AreTold olds news number tasks → length olds ≤ number → length news ≤ number
     → (task : ℕ) → IsNewTask (slice_get olds task) (slice_get news task) (table_said tasks task)

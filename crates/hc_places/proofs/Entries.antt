@@ -1,7 +1,6 @@
 -- The variables of entries that follow one another.
-use Rattle.std.proofs.Common.{◌≡◌, ℕ, ◌+◌, ◌<◌, List, [], ◌∷◌, ◌++◌, length, drop, get_or, refl, sym, ap, ◌∙◌, arith, append_assoc, drop-cons, add-one}
+use Rattle.std.proofs.Common.{◌≡◌, ℕ, ◌+◌, ◌<◌, List, [], ◌∷◌, ◌++◌, length, drop, get_or, refl, ap, arith, append_assoc, drop-cons, add-one}
 use Rattle.std.specs.Prelude.{map}
-use Rattle.std.specs.Option.{option_map_or}
 use Rattle.std.specs.List.{flat_map}
 use Rattle.std.proofs.lemmas.List.{map-append}
 use Rattle.std.proofs.lemmas.List.Sums.{sum_by-append, sum_by-cons}
@@ -20,10 +19,7 @@ bits-cons entry entries = sum_by-cons (λ (e : Entry). e.1) entry entries
 variables-append : (bit : ℕ) (first second : List Entry) → variables_from bit (first ++ second) ≡ variables_from bit first ++ variables_from (bit + bits_of first) second
 variables-append bit [] second = ap (λ start. variables_from start second) (omega arith)
 variables-append bit (entry ∷ first) second =
-    let own : List (ℕ × (ℕ × ℕ)) = option_map_or (λ variable. (variable, (bit, entry.1)) ∷ []) entry.0 [] in
-    let start : bit + entry.1 + bits_of first ≡ bit + bits_of (entry ∷ first) = omega (arith, bits-cons entry first) in
-    ap (λ rest. own ++ rest) (variables-append (bit + entry.1) first second ∙ ap (λ from. variables_from (bit + entry.1) first ++ variables_from from second) start)
-    ∙ sym (append_assoc own (variables_from (bit + entry.1) first) (variables_from (bit + bits_of (entry ∷ first)) second))
+    grind (arith, bits-cons, append_assoc, variables-append (bit + entry.1) first second)
 
 -- a PDO whose entries are added, and the entries behind them
 pub record AddsEntries (row : ℕ × (ℕ × ℕ) → Row) (rows added : List Row) (bit next : ℕ) (entries rest whole : List Entry) : Type 0 where
@@ -34,17 +30,11 @@ pub record AddsEntries (row : ℕ × (ℕ × ℕ) → Row) (rows added : List Ro
 pub added-rows : (row : ℕ × (ℕ × ℕ) → Row) (rows added all : List Row) (bit next : ℕ) (entries rest whole : List Entry) → AddsEntries row rows added bit next entries rest whole
     → rows ++ map row (variables_from bit whole) ≡ all → added ++ map row (variables_from next rest) ≡ all
 added-rows row rows added all bit next entries rest whole adds so_far =
-    let split = ap (variables_from bit) adds.whole_is ∙ variables-append bit entries rest in
-    rw (adds.adds, adds.behind) (append_assoc rows (map row (variables_from bit entries)) (map row (variables_from (bit + bits_of entries) rest))
-    ∙ ap (λ l. rows ++ l) (sym (map-append row (variables_from bit entries) (variables_from (bit + bits_of entries) rest)) ∙ sym (ap (map row) split))
-    ∙ so_far)
+    grind (arith, variables-append, append_assoc, map-append)
 
 pub added-bits : (row : ℕ × (ℕ × ℕ) → Row) (rows added : List Row) (bit next all : ℕ) (entries rest whole : List Entry) → AddsEntries row rows added bit next entries rest whole
     → bit + bits_of whole ≡ all → next + bits_of rest ≡ all
-added-bits row rows added bit next all entries rest whole adds so_far =
-    let bits = ap bits_of adds.whole_is ∙ bits-append entries rest in
-    let behind = adds.behind in
-    omega (arith, bits)
+added-bits row rows added bit next all entries rest whole adds so_far = grind (arith, bits-append)
 
 -- the entries of the assigned PDOs from an index on
 pub entries-drop : (offered : List Pdo) (assigned : List ℕ) (i : ℕ) → i < length assigned

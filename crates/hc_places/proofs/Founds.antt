@@ -1,5 +1,5 @@
 -- The variables of a task, where its areas are found under their keys.
-use Rattle.std.proofs.Common.{◌≡◌, ℕ, ◌+◌, ◌<◌, ◌≤◌, List, [], ◌∷◌, ◌++◌, length, get_or, refl, sym, ap, subst, ◌∙◌, arith}
+use Rattle.std.proofs.Common.{◌≡◌, ℕ, ◌+◌, ◌<◌, ◌≤◌, List, [], ◌∷◌, ◌++◌, length, get_or, refl, sym, ap, ◌∙◌, arith}
 use Rattle.std.specs.Prelude.{All, Option, Some, None, map}
 use Rattle.std.specs.Option.{option_map_or}
 use Rattle.std.specs.List.{flat_map, zip}
@@ -62,12 +62,7 @@ found-all task slaves (listed ∷ areas) (placed ∷ places) same names =
 -- and they suit their places
 
 own-suits : (slaves : List (List Area)) (listed : Listed) (placed : Placed) → area_of placed ≡ keyed listed → NamesIn slaves listed → OffersBits listed.area → IsFoundSuiting slaves placed
-own-suits slaves listed placed same names offers area found =
-    let is : listed.area ≡ area = some-same (sym (own-found slaves listed placed same names) ∙ found) in
-    record { bits = ap (λ (k : Keyed). k.1) same ∙ ap width is; offers = subst (λ (a : Area). OffersBits a) is offers }
-  where
-    some-same : {x y : Area} → Some x ≡ Some y → x ≡ y
-    some-same same' = cc
+own-suits slaves listed placed same names offers area found = grind arith
 
 pub suit-all : (slaves : List (List Area)) (areas : List Listed) (places : List Placed) → map area_of places ≡ map keyed areas → All (NamesIn slaves) areas
     → All (λ (l : Listed). OffersBits l.area) areas → All (IsFoundSuiting slaves) places

@@ -14,7 +14,6 @@ use Rattle.hc_places.proofs.Changed.{different-among, different-once, numbers, n
 use Rattle.hc_places.proofs.Members.{among, as-long}
 use Rattle.hc_places.proofs.Swapped.{merged-rows-ascend, place-merged, tables-told}
 use Rattle.hc_places.proofs.Walked.{AreAbove, ascends-above, ascends-rest}
-use Rattle.hc_places.proofs.lemmas.Same.{found-equal}
 
 -- what changed rows say of a variable
 abbrev pub said : List ChangedRow → ℕ → Option (Option VariablePlace)
@@ -26,8 +25,7 @@ abbrev table_said : List ChangedTask → ℕ → Option TaskTable
 table_said changed task = option_map (λ (c : ChangedTask). c.1) (find (λ (c : ChangedTask). c.0 == task) changed)
 
 kept-as-is : {X : Type 0} (found : Option X) → found ≡ option_map (λ x. x) found
-kept-as-is None = refl
-kept-as-is (Some x) = refl
+kept-as-is found = grind arith
 
 next-tests : (i j : ℕ) → (i == j) ≡ (suc i == suc j)
 next-tests i j = grind (arith, nat_tests)
@@ -52,18 +50,14 @@ above-other a b less = grind (arith, nat_tests)
 none-said : (task : ℕ) (others : List ChangedTask) → AreAbove task others → table_said others task ≡ None
 none-said task [] above = refl
 none-said task (c ∷ others) above =
-    ap (λ (here : Bool). option_map (λ (c : ChangedTask). c.1) (cond here (Some c) (find (λ (c : ChangedTask). c.0 == task) others)))
-    (above-other task c.0 (All-head (λ (c : ChangedTask). task < c.0) c others above))
-    ∙ none-said task others (All-tail (λ (c : ChangedTask). task < c.0) c others above)
+    grind (arith, above-other, All-head, All-tail, none-said task others (All-tail (λ (c : ChangedTask). task < c.0) c others above))
 
 -- a task behind the first change
 said-by : (here : Bool) (c : ChangedTask) (found : Option ChangedTask) (old : Option TaskTable)
     → (here ≡ true → option_map (λ (c : ChangedTask). c.1) found ≡ None)
     → option_map (λ old. unwrap_or (option_map (λ (c : ChangedTask). c.1) found) old) (cond here (option_map (λ _. c.1) old) old)
     ≡ option_map (λ old. unwrap_or (option_map (λ (c : ChangedTask). c.1) (cond here (Some c) found)) old) old
-said-by true c found None none = refl
-said-by true c found (Some old) none = rw (none refl) refl
-said-by false c found old none = refl
+said-by here c found old none = grind arith
 
 pub task-replaced : (changed : List ChangedTask) (tasks : List TaskTable) (task : ℕ) → ChangesAscend changed
     → slice_get (replaced changed tasks) task ≡ option_map (λ old. unwrap_or (table_said changed task) old) (slice_get tasks task)
@@ -105,20 +99,15 @@ tasks-lead old new change before after ascends says =
 -- so is a variable's place
 
 told-by : (same : Bool) (old new : Option VariablePlace) → same_found old new ≡ same → unwrap_or (cond same None (Some new)) old ≡ new
-told-by true old new is = found-equal old new is
-told-by false old new is = refl
+told-by same old new is = grind arith
 
 place-leads : (old new : Table) (change : Change) → IsTable old → SaysWhatDiffers old new change → (variable : ℕ)
     → place_of (merged change.rows old.variables) variable ≡ place_of new.variables variable
-place-leads old new change before says variable =
-    place-merged change.rows old.variables variable before.ascends
-    ∙ ap (λ told. unwrap_or told (place_of old.variables variable)) (says.places variable)
-    ∙ told-by (same_found (place_of old.variables variable) (place_of new.variables variable)) (place_of old.variables variable) (place_of new.variables variable) refl
+place-leads old new change before says variable = grind (arith, place-merged, place_of, told-by)
 
 pub says-leads : (old new : Table) (change : Change) → IsTable old → IsTable new → ChangesAscend change.tasks → SaysWhatDiffers old new change → swapped change old ≡ new
 says-leads old new change before after ascends says =
-    tables-told (swapped change old) new (merged-rows-ascend change.rows old.variables before.ascends) after.ascends
-    (tasks-lead old new change before after ascends says) (place-leads old new change before says)
+    grind (arith, tables-told, merged-rows-ascend, tasks-lead, place-leads)
 
 -- the variables of which something is said are those whose place differs
 
@@ -127,8 +116,7 @@ is_told told = option_map_or (λ _. true) told false
 
 told-or : (here : Bool) (row : ChangedRow) (found : Option ChangedRow)
     → (here || is_told (option_map (λ (c : ChangedRow). c.1) found)) ≡ is_told (option_map (λ (c : ChangedRow). c.1) (cond here (Some row) found))
-told-or true row found = refl
-told-or false row found = refl
+told-or here row found = grind arith
 
 among-said : (rows : List ChangedRow) (variable : ℕ) → among variable (numbers rows) ≡ is_told (said rows variable)
 among-said [] variable = refl
@@ -136,8 +124,7 @@ among-said (row ∷ rows) variable =
     ap (λ (rest : Bool). (row.0 == variable) || rest) (among-said rows variable) ∙ told-or (row.0 == variable) row (find (λ (c : ChangedRow). c.0 == variable) rows)
 
 told-differs : (same : Bool) (new : Option VariablePlace) → is_told (cond same None (Some new)) ≡ not same
-told-differs true new = refl
-told-differs false new = refl
+told-differs same new = grind arith
 
 pub says-count : (old new : Table) (change : Change) → IsTable old → IsTable new → ChangesAscend change.rows → SaysWhatDiffers old new change
     → length change.rows ≡ length (changed_variables old new)

@@ -1,5 +1,5 @@
 -- Two lists of numbers, each once, that have the same members are as long.
-use Rattle.std.proofs.Common.{◌≡◌, ◌∙◌, ap, ℕ, suc, ◌≤◌, Bool, true, false, cond, List, [], ◌∷◌, length, refl, sym, arith, zero-le}
+use Rattle.std.proofs.Common.{◌≡◌, ℕ, suc, ◌≤◌, Bool, true, false, cond, List, [], ◌∷◌, length, refl, sym, arith, zero-le}
 use Rattle.std.specs.Prelude.{All, AllPairs, filter, not, ◌==◌, ◌≢◌, ◌||◌, ◌&&◌}
 use Rattle.std.specs.List.{list_any}
 use Rattle.std.proofs.lemmas.Bool.{eq-eqb, eqb-true}
@@ -10,22 +10,15 @@ abbrev pub among : ℕ → List ℕ → Bool
 among variable xs = list_any (λ x. x == variable) xs
 
 kept-among : (keeps : Bool) (variable x : ℕ) (kept : List ℕ) → among variable (cond keeps (x ∷ kept) kept) ≡ cond keeps ((x == variable) || among variable kept) (among variable kept)
-kept-among true variable x kept = refl
-kept-among false variable x kept = refl
+kept-among keeps variable x kept = grind arith
 
 kept-tests : (keeps is rest passes : Bool) → (is ≡ true → keeps ≡ passes) → cond keeps (is || (rest && passes)) (rest && passes) ≡ ((is || rest) && passes)
-kept-tests true true rest passes same = same refl
-kept-tests true false rest passes same = refl
-kept-tests false true true passes same = refl
-kept-tests false true false passes same = same refl
-kept-tests false false rest passes same = refl
+kept-tests keeps is rest passes same = grind arith
 
 pub among-filter : (p : ℕ → Bool) (variable : ℕ) (xs : List ℕ) → among variable (filter p xs) ≡ (among variable xs && p variable)
 among-filter p variable [] = refl
 among-filter p variable (x ∷ xs) =
-    kept-among (p x) variable x (filter p xs)
-    ∙ ap (λ (b : Bool). cond (p x) ((x == variable) || b) b) (among-filter p variable xs)
-    ∙ kept-tests (p x) (x == variable) (among variable xs) (p variable) (λ is. ap p (eqb-true x variable is))
+    grind (arith, kept-among, kept-tests, eqb-true, among-filter p variable xs)
 
 -- the others of a member are one fewer
 
@@ -34,12 +27,10 @@ others x ys = filter (λ y. not (y == x)) ys
 
 fewer-by : (here : Bool) (y : ℕ) (kept ys : List ℕ) → length kept ≤ length ys → (here ≡ false → suc (length kept) ≤ length ys)
     → suc (length (cond (not here) (y ∷ kept) kept)) ≤ suc (length ys)
-fewer-by true y kept ys few rest = omega (arith, few)
-fewer-by false y kept ys few rest = let less = rest refl in omega (arith, less)
+fewer-by here y kept ys few rest = grind arith
 
 member-by : (here rest : Bool) → (here || rest) ≡ true → here ≡ false → rest ≡ true
-member-by true rest is not_here = cc
-member-by false rest is not_here = is
+member-by here rest is not_here = grind arith
 
 others-fewer : (x : ℕ) (ys : List ℕ) → among x ys ≡ true → suc (length (others x ys)) ≤ length ys
 others-fewer x [] is = cc
@@ -50,8 +41,7 @@ others-fewer x (y ∷ ys) is =
 -- a list each of whose numbers is a member of another is no longer
 
 none-by : (here rest : Bool) → (here ≡ true → ⊥) → rest ≡ false → (here || rest) ≡ false
-none-by true rest never is = absurd (never refl)
-none-by false rest never is = is
+none-by here rest never is = grind arith
 
 none-among : (x : ℕ) (xs : List ℕ) → All (λ y. x ≢ y) xs → among x xs ≡ false
 none-among x [] apart = refl
@@ -59,26 +49,17 @@ none-among x (y ∷ ys) apart =
     none-by (y == x) (among x ys) (λ same. All-head (λ y. x ≢ y) y ys apart (sym (eqb-true y x same))) (none-among x ys (All-tail (λ y. x ≢ y) y ys apart))
 
 or-right : (here rest : Bool) → rest ≡ true → (here || rest) ≡ true
-or-right true rest is = refl
-or-right false rest is = is
+or-right here rest is = grind arith
 
 or-left : (here rest : Bool) → here ≡ true → (here || rest) ≡ true
-or-left true rest is = refl
-or-left false rest is = cc
+or-left here rest is = grind arith
 
 other-by : (here : Bool) (v x : ℕ) (xs : List ℕ) → (v == x) ≡ here → among x xs ≡ false → among v xs ≡ true → here ≡ false
-other-by true v x xs test apart is =
-    let same = eqb-true v x test in
-    let never : among x xs ≡ true = rw (← same) is in
-    cc
-other-by false v x xs test apart is = refl
+other-by here v x xs test apart is = grind arith
 
 -- a member of the rest is a member, and not the first
 rest-member : (x v : ℕ) (xs ys : List ℕ) → among x xs ≡ false → ((v : ℕ) → among v (x ∷ xs) ≡ true → among v ys ≡ true) → among v xs ≡ true → among v (others x ys) ≡ true
-rest-member x v xs ys apart within is =
-    let member = within v (or-right (x == v) (among v xs) is) in
-    let other : (v == x) ≡ false = other-by (v == x) v x xs refl apart is in
-    among-filter (λ y. not (y == x)) v ys ∙ rw (member, other) refl
+rest-member x v xs ys apart within is = grind (arith, or-right, other-by, among-filter)
 
 pub no-longer : (xs ys : List ℕ) → AllPairs (λ a b. a ≢ b) xs → ((v : ℕ) → among v xs ≡ true → among v ys ≡ true) → length xs ≤ length ys
 no-longer [] ys once within = zero-le
@@ -89,7 +70,4 @@ no-longer (x ∷ xs) ys once within =
     omega (arith, rest, fewer)
 
 pub as-long : (xs ys : List ℕ) → AllPairs (λ a b. a ≢ b) xs → AllPairs (λ a b. a ≢ b) ys → ((v : ℕ) → among v xs ≡ among v ys) → length xs ≡ length ys
-as-long xs ys first second same =
-    let up = no-longer xs ys first (λ v is. sym (same v) ∙ is) in
-    let down = no-longer ys xs second (λ v is. same v ∙ is) in
-    omega (arith, up, down)
+as-long xs ys first second same = grind (arith, no-longer)

@@ -1,6 +1,6 @@
 -- Changes and rows that are walked at once are merged.
 use Rattle.std.proofs.Common.{◌≡◌, ◌∙◌, ap, ℕ, ◌<◌, false, List, [], ◌∷◌, ◌++◌, refl, sym, arith, append-nil}
-use Rattle.std.specs.Prelude.{Option, Some, None, nat_lt, ◌==◌}
+use Rattle.std.specs.Prelude.{Option, nat_lt, ◌==◌}
 use Rattle.std.proofs.lemmas.Bool.{cond-true, cond-false, eq-eqb, lt-ltb}
 use Rattle.std.proofs.lemmas.Bool.Decides.{nat_tests}
 use Rattle.std.proofs.lemmas.List.Elements.{All-head, All-nil, All-tail}
@@ -8,27 +8,21 @@ use Rattle.hc_records.specs.Image.{VariablePlace}
 use Rattle.hc_places.specs.Table.{Row, RowsAscend}
 use Rattle.hc_places.specs.Swap.{ChangedRow, ChangesAscend, merged, new_row, with_changed}
 use Rattle.hc_places.specs.inner.Walk.{merges, walked}
-use Rattle.hc_places.proofs.Walked.{AreAbove, AreOf, Keeps, above-cons, ascends-above, ascends-rest, by-order, none-of, of-heads, one-of, walked-above, walked-both, walked-first, walked-second}
+use Rattle.hc_places.proofs.Walked.{AreAbove, AreOf, Keeps, above-cons, ascends-above, ascends-rest, by-order, of-heads, walked-above, walked-both, walked-first, walked-second}
 
 -- what a walk of rows, or of changes and rows, adds
 
 pub of-option : (number : ℕ) (place : Option VariablePlace) → AreOf number (new_row (number, place))
-of-option number None = none-of number
-of-option number (Some place) = one-of number place
+of-option number place = grind arith
 
 pub merges-keep : Keeps merges
-merges-keep = record {
-  first = λ changed. of-option changed.0 changed.1;
-  second = λ row. one-of row.0 row.1;
-  both = λ changed row same. rw (← same) (of-option changed.0 changed.1);
-}
+merges-keep = grind arith
 
 -- changes above a row leave it in front
 pub skip : (row : Row) (rows : List Row) (others : List ChangedRow) → AreAbove row.0 others → merged others (row ∷ rows) ≡ row ∷ merged others rows
 skip row rows [] above = refl
 skip row rows (changed ∷ others) above =
-    ap (with_changed changed) (skip row rows others (All-tail (λ (c : ChangedRow). row.0 < c.0) changed others above))
-    ∙ cond-true _ _ _ (lt-ltb row.0 changed.0 (All-head (λ (c : ChangedRow). row.0 < c.0) changed others above))
+    grind (arith, All-tail, cond-true, lt-ltb, All-head, skip row rows others (All-tail (λ (c : ChangedRow). row.0 < c.0) changed others above))
 
 lower-apart : (a b : ℕ) → a < b → (b == a) ≡ false
 lower-apart a b less = grind (arith, nat_tests)
@@ -39,9 +33,7 @@ lower-not-below a b less = grind (arith, nat_tests)
 -- a changed variable below all rows has its new row in front
 pub front : (changed : ChangedRow) (rows : List Row) → AreAbove changed.0 rows → with_changed changed rows ≡ new_row changed ++ rows
 front changed [] above = sym (append-nil (new_row changed))
-front changed (row ∷ rows) above =
-    let less = All-head (λ (r : Row). changed.0 < r.0) row rows above in
-    cond-false _ _ _ (lower-not-below changed.0 row.0 less) ∙ ap (λ (l : List Row). new_row changed ++ l) (cond-false _ _ _ (lower-apart changed.0 row.0 less))
+front changed (row ∷ rows) above = grind (arith, All-head, cond-false, lower-not-below, lower-apart)
 
 same-not-below : (a b : ℕ) → a ≡ b → nat_lt a b ≡ false
 same-not-below a b same = grind (arith, nat_tests)

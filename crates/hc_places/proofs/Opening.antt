@@ -1,5 +1,5 @@
 -- The tasks of a project's line, opened, and the table that is made of them.
-use Rattle.std.proofs.Common.{◌≡◌, ◌∙◌, ℕ, suc, ◌+◌, ◌-◌, ◌<◌, ◌≤◌, List, [], ◌∷◌, ◌++◌, None, refl, sym, ap, subst, arith, append_assoc, append-nil}
+use Rattle.std.proofs.Common.{◌≡◌, ◌∙◌, ℕ, ◌+◌, ◌-◌, ◌<◌, ◌≤◌, List, [], ◌∷◌, ◌++◌, None, refl, sym, ap, subst, arith, append_assoc, append-nil}
 use Rattle.std.specs.Prelude.{map}
 use Rattle.std.specs.List.{flat_map, range_with_len}
 use Rattle.hc_records.specs.declared.records.Area.{Area}
@@ -39,26 +39,18 @@ abbrev pub tasks_from : ℕ → List ℕ
 tasks_from task = range_with_len task (8 - task)
 
 pub tasks-next : (task : ℕ) → task < 8 → tasks_from task ≡ task ∷ tasks_from (task + 1)
-tasks-next task low =
-    let left : 8 - task ≡ suc (8 - (task + 1)) = omega arith in
-    ap (range_with_len task) left
+tasks-next task low = grind arith
 
 pub tasks-none : (task : ℕ) → 8 ≤ task → tasks_from task ≡ []
-tasks-none task high =
-    let left : 8 - task ≡ 0 = omega arith in
-    ap (range_with_len task) left
+tasks-none task high = grind arith
 
 pub map-next : {X : Type 0} (f : ℕ → X) (task : ℕ) (done more all : List X) → task < 8 → more ≡ done ++ f task ∷ []
     → done ++ map f (tasks_from task) ≡ all → more ++ map f (tasks_from (task + 1)) ≡ all
-map-next f task done more all low adds so_far =
-    rw adds (append_assoc done (f task ∷ []) (map f (tasks_from (task + 1))))
-    ∙ ap (λ tasks. done ++ map f tasks) (sym (tasks-next task low)) ∙ so_far
+map-next f task done more all low adds so_far = grind (arith, append_assoc, tasks-next)
 
 pub flat_map-next : {X : Type 0} (f : ℕ → List X) (task : ℕ) (done more all : List X) → task < 8 → more ≡ done ++ f task
     → done ++ flat_map f (tasks_from task) ≡ all → more ++ flat_map f (tasks_from (task + 1)) ≡ all
-flat_map-next f task done more all low adds so_far =
-    rw adds (append_assoc done (f task) (flat_map f (tasks_from (task + 1))))
-    ∙ ap (λ tasks. done ++ flat_map f tasks) (sym (tasks-next task low)) ∙ so_far
+flat_map-next f task done more all low adds so_far = grind (arith, append_assoc, tasks-next)
 
 pub map-last : {X : Type 0} (f : ℕ → X) (task : ℕ) (done all : List X) → 8 ≤ task → done ++ map f (tasks_from task) ≡ all → done ≡ all
 map-last f task done all high so_far = sym (append-nil done) ∙ ap (λ tasks. done ++ map f tasks) (sym (tasks-none task high)) ∙ so_far

@@ -1,5 +1,5 @@
 -- Rows that are overwritten where they stand are merged, where each changed variable keeps its row.
-use Rattle.std.proofs.Common.{◌≡◌, ◌∙◌, ap, ℕ, suc, ◌+◌, ◌<◌, Bool, true, false, cond, List, [], ◌∷◌, drop, drop-cons, get_or, length, map, refl, sym, subst, arith}
+use Rattle.std.proofs.Common.{◌≡◌, ◌∙◌, ap, ℕ, ◌+◌, ◌<◌, Bool, true, false, cond, List, [], ◌∷◌, drop, drop-cons, get_or, length, map, refl, sym, subst, arith}
 use Rattle.std.specs.Prelude.{IsTrue, Option, Some, None, find, is_some, option_map, unwrap_or, ◌==◌, ◌&&◌}
 use Rattle.std.proofs.lemmas.Bool.{cond-true, cond-false, eq-eqb, eqb-true}
 use Rattle.std.proofs.lemmas.Bool.Decides.{nat_tests}
@@ -18,8 +18,7 @@ use Rattle.hc_places.proofs.Walked.{AreAbove, ascends-above, ascends-rest, by-or
 -- a row that is overwritten keeps its number
 
 own-number : (own : Bool) (row : Row) (place : VariablePlace) → (cond own (row.0, place) row).0 ≡ row.0
-own-number true row place = refl
-own-number false row place = refl
+own-number own row place = grind arith
 
 pub same-number : (changed : ChangedRow) (row : Row) → (row_with changed row).0 ≡ row.0
 same-number changed row = own-number (row.0 == changed.0) row (unwrap_or changed.1 row.1)
@@ -31,17 +30,14 @@ overwritten-ascends changed rows ascends =
     (λ a b less. let first = same-number changed a in let second = same-number changed b in omega (arith, less, first, second)) rows ascends)
 
 found-by : (here : Bool) (one two : Row) (ones twos : Option Row) → is_some ones ≡ is_some twos → is_some (cond here (Some one) ones) ≡ is_some (cond here (Some two) twos)
-found-by true one two ones twos same = refl
-found-by false one two ones twos same = same
+found-by here one two ones twos same = grind arith
 
 -- so it is found as before
 found-still : (changed : ChangedRow) (rows : List Row) (variable : ℕ)
     → is_some (find (λ (row : Row). row.0 == variable) (map (row_with changed) rows)) ≡ is_some (find (λ (row : Row). row.0 == variable) rows)
 found-still changed [] variable = refl
 found-still changed (row ∷ rows) variable =
-    ap (λ (n : ℕ). is_some (cond (n == variable) (Some (row_with changed row)) (find (λ (r : Row). r.0 == variable) (map (row_with changed) rows)))) (same-number changed row)
-    ∙ found-by (row.0 == variable) (row_with changed row) row (find (λ (r : Row). r.0 == variable) (map (row_with changed) rows)) (find (λ (r : Row). r.0 == variable) rows)
-    (found-still changed rows variable)
+    grind (arith, same-number, found-by, found-still changed rows variable)
 
 pub keeps-still : (changed : ChangedRow) (rows : List Row) (others : List ChangedRow) → KeepRows rows others → KeepRows (map (row_with changed) rows) others
 keeps-still changed rows others keep =
@@ -62,16 +58,12 @@ above-other a b less = grind (arith, nat_tests)
 pub above-stay : (changed : ChangedRow) (rows : List Row) → AreAbove changed.0 rows → rows ≡ map (row_with changed) rows
 above-stay changed [] above = refl
 above-stay changed (row ∷ rows) above =
-    let here = other-row changed row (above-other row.0 changed.0 (All-head (λ (r : Row). changed.0 < r.0) row rows above)) in
-    let rest = above-stay changed rows (All-tail (λ (r : Row). changed.0 < r.0) row rows above) in
-    ap (λ (r : Row). r ∷ rows) (sym here) ∙ ap (λ (l : List Row). row_with changed row ∷ l) rest
+    grind (arith, other-row, above-other, All-head, All-tail, above-stay changed rows (All-tail (λ (r : Row). changed.0 < r.0) row rows above))
 
 -- a variable that keeps its row has its new place there
 
 not-found : (variable : ℕ) (rows : List Row) → AreAbove variable rows → find (λ (row : Row). row.0 == variable) rows ≡ None
-not-found variable rows above =
-    find-none (λ (row : Row). row.0 == variable) rows
-    (All-weaker (λ (row : Row). variable < row.0) (λ (row : Row). (row.0 == variable) ≡ false) (λ row less. above-other row.0 variable less) rows above)
+not-found variable rows above = grind (arith, find-none, All-weaker, above-other)
 
 found-behind : (changed : ChangedRow) (row : Row) (rows : List Row) → (row.0 == changed.0) ≡ false → IsTrue (keeps_row (row ∷ rows) changed) → IsTrue (keeps_row rows changed)
 found-behind changed row rows other keeps =
@@ -81,9 +73,7 @@ own-row : (number : ℕ) (place : Option VariablePlace) (row : Row) (rows : List
     → map (row_with (number, place)) (row ∷ rows) ≡ with_changed (number, place) (row ∷ rows)
 own-row number None row rows same keeps above = cc
 own-row number (Some place) row rows same keeps above =
-    ap (λ (r : Row). r ∷ map (row_with (number, Some place)) rows) (cond-true _ _ _ (eq-eqb row.0 number same) ∙ ap (λ (n : ℕ). (n, place)) same)
-    ∙ ap (λ (l : List Row). (number, place) ∷ l) (sym (above-stay (number, Some place) rows above))
-    ∙ sym (in-place (number, Some place) row rows same)
+    grind (arith, cond-true, eq-eqb, above-stay, in-place)
 
 row-overwritten : (changed : ChangedRow) (rows : List Row) → RowsAscend rows → IsTrue (keeps_row rows changed) → map (row_with changed) rows ≡ with_changed changed rows
 row-overwritten changed [] ascends keeps = cc
@@ -108,14 +98,10 @@ row-overwritten changed (row ∷ rows) ascends keeps =
 
 swapped-by : (here : Bool) (place : Option VariablePlace) (told : Option (Option VariablePlace)) (old : Option VariablePlace) → (here ≡ true → told ≡ None)
     → unwrap_or told (cond here place old) ≡ cond here place (unwrap_or told old)
-swapped-by true place told old none = rw (none refl) refl
-swapped-by false place told old none = refl
+swapped-by here place told old none = grind arith
 
 none-told : (others : List ChangedRow) (variable : ℕ) → AreAbove variable others → option_map (λ (c : ChangedRow). c.1) (find (λ (c : ChangedRow). c.0 == variable) others) ≡ None
-none-told others variable above =
-    ap (option_map (λ (c : ChangedRow). c.1))
-    (find-none (λ (c : ChangedRow). c.0 == variable) others
-    (All-weaker (λ (c : ChangedRow). variable < c.0) (λ (c : ChangedRow). (c.0 == variable) ≡ false) (λ c less. above-other c.0 variable less) others above))
+none-told others variable above = grind (arith, find-none, All-weaker, above-other)
 
 pub first-made : (changed : ChangedRow) (others : List ChangedRow) (rows : List Row) → AreAbove changed.0 others → RowsAscend rows
     → merged others (with_changed changed rows) ≡ with_changed changed (merged others rows)
@@ -143,8 +129,4 @@ overwritten-merged (changed ∷ others) rows changes ascends keep =
 -- the changes in their order: behind the first so many the next one is made
 pub overwritten-more : (changed : List ChangedRow) (rows next : List Row) (index : ℕ) (change : ChangedRow) → index < length changed → change ≡ get_or changed index change → next ≡ map (row_with change) rows
     → overwritten (drop (index + 1) changed) next ≡ overwritten (drop index changed) rows
-overwritten-more changed rows next index change within is made =
-    let more : suc index ≡ index + 1 = omega arith in
-    let first : drop index changed ≡ change ∷ drop (index + 1) changed =
-    drop-cons changed index change within ∙ ap (λ (c : ChangedRow). c ∷ drop (suc index) changed) (sym is) ∙ ap (λ (n : ℕ). change ∷ drop n changed) more in
-    ap (overwritten (drop (index + 1) changed)) made ∙ sym (ap (λ (l : List ChangedRow). overwritten l rows) first)
+overwritten-more changed rows next index change within is made = grind (arith, drop-cons)

@@ -1,9 +1,9 @@
 -- Changes and rows in three parts: those in front, in the middle and behind.
-use Rattle.std.proofs.Common.{◌≡◌, ◌∙◌, ap, ℕ, ◌+◌, ◌-◌, ◌<◌, ◌≤◌, Bool, true, false, cond, List, [], ◌∷◌, ◌++◌, drop, get_or, length, map, take, refl, sym, subst, arith}
-use Rattle.std.specs.Prelude.{All, IsTrue, Some, nat_lt, slice_get, slice_range, ◌==◌, ◌≢◌}
+use Rattle.std.proofs.Common.{◌≡◌, ◌∙◌, ap, ℕ, ◌+◌, ◌-◌, ◌<◌, ◌≤◌, Bool, cond, List, [], ◌∷◌, ◌++◌, drop, get_or, length, map, take, refl, sym, subst, arith}
+use Rattle.std.specs.Prelude.{All, IsTrue, Some, slice_get, slice_range, ◌≢◌}
 use Rattle.std.specs.List.{AllWithin}
 use Rattle.std.proofs.lemmas.Bool.{ltb-false, ltb-true}
-use Rattle.std.proofs.lemmas.List.{append_assoc, drop-drop, get_or_append_left, get_or-drop, get_or-take, get_or_default, length-append, length-drop, length-take, take-append-drop}
+use Rattle.std.proofs.lemmas.List.{drop-drop, get_or_append_left, get_or-drop, get_or-take, get_or_default, length-append, length-drop, length-take, take-append-drop}
 use Rattle.std.proofs.lemmas.List.Elements.{All-head, All-tail}
 use Rattle.std.proofs.lemmas.List.Folds.{drop_split}
 use Rattle.std.proofs.lemmas.Option.{get_or_from_slice_get}
@@ -21,22 +21,14 @@ parts : {X : Type 0} (xs : List X) (i j : ℕ) → i ≤ j → xs ≡ take i xs 
 parts xs i j order = sym (take-append-drop i xs) ∙ ap (λ rest. take i xs ++ rest) (drop_split xs i j order)
 
 of-taken : {X : Type 0} (P : X → Type 0) (xs : List X) (i : ℕ) → AllWithin P xs 0 i → All P (take i xs)
-of-taken P xs i holds k d inside =
-    let size = length-take i xs in
-    subst P (sym (get_or-take i xs k d (omega (arith, size, inside)))) (holds k d (omega arith) (omega (arith, size, inside)))
+of-taken P xs i holds k d inside = grind (arith, length-take, get_or-take)
 
 of-dropped : {X : Type 0} (P : X → Type 0) (xs : List X) (j : ℕ) → AllWithin P xs j (length xs) → All P (drop j xs)
-of-dropped P xs j holds k d inside =
-    let size = length-drop j xs in
-    subst P (sym (get_or-drop j xs k d)) (holds (j + k) d (omega arith) (omega (arith, size, inside)))
+of-dropped P xs j holds k d inside = grind (arith, length-drop, get_or-drop)
 
 first-ascend : {X : Type 0} (firsts others : List (ℕ × X)) → Ascends (firsts ++ others) → Ascends firsts
 first-ascend {X} firsts others ascends i j d lower within =
-    let size = length-append firsts others in
-    let one = ap (λ (x : ℕ × X). x.0) (get_or_append_left firsts others d i (omega arith)) in
-    let two = ap (λ (x : ℕ × X). x.0) (get_or_append_left firsts others d j within) in
-    let less = ascends i j d lower (omega (arith, size, within)) in
-    omega (arith, one, two, less)
+    grind (arith, length-append, get_or_append_left)
 
 pub part-ascends : {X : Type 0} (xs : List (ℕ × X)) (i j : ℕ) → i ≤ j → Ascends xs → Ascends (slice_range xs i j)
 part-ascends {X} xs i j order ascends =
@@ -44,10 +36,7 @@ part-ascends {X} xs i j order ascends =
     (AllPairs-append_right (λ (a b : ℕ × X). a.0 < b.0) (take i xs) (slice_range xs i j ++ drop j xs) (subst Ascends (parts xs i j order) ascends))
 
 pub part-few : {X : Type 0} (all front inner behind : List X) → all ≡ front ++ (inner ++ behind) → length inner ≤ length all
-part-few all front inner behind is =
-    let whole = ap length is ∙ length-append front (inner ++ behind) in
-    let rest = length-append inner behind in
-    omega (arith, whole, rest)
+part-few all front inner behind is = grind (arith, length-append, front)
 
 -- changes in front and behind are as well made first
 
@@ -101,15 +90,12 @@ front-stays (row ∷ lower) rest changed below =
 
 behind-by : (below same : Bool) (changed : ChangedRow) (row : Row) (rows higher made : List Row)
     → cond below (row ∷ (made ++ higher)) (new_row changed ++ cond same (rows ++ higher) (row ∷ (rows ++ higher))) ≡ cond below (row ∷ made) (new_row changed ++ cond same rows (row ∷ rows)) ++ higher
-behind-by true same changed row rows higher made = refl
-behind-by false true changed row rows higher made = sym (append_assoc (new_row changed) rows higher)
-behind-by false false changed row rows higher made = sym (append_assoc (new_row changed) (row ∷ rows) higher)
+behind-by below same changed row rows higher made = grind arith
 
 with-behind : (changed : ChangedRow) (rows higher : List Row) → AreAbove changed.0 higher → with_changed changed (rows ++ higher) ≡ with_changed changed rows ++ higher
 with-behind changed [] higher above = front changed higher above
 with-behind changed (row ∷ rows) higher above =
-    ap (λ (l : List Row). cond (nat_lt row.0 changed.0) (row ∷ l) (new_row changed ++ cond (row.0 == changed.0) (rows ++ higher) (row ∷ (rows ++ higher)))) (with-behind changed rows higher above)
-    ∙ behind-by (nat_lt row.0 changed.0) (row.0 == changed.0) changed row rows higher (with_changed changed rows)
+    grind (arith, behind-by, with-behind changed rows higher above)
 
 behind-stays : (changed : List ChangedRow) (rows higher : List Row) → All (λ (c : ChangedRow). AreAbove c.0 higher) changed → merged changed (rows ++ higher) ≡ merged changed rows ++ higher
 behind-stays [] rows higher above = refl
@@ -121,20 +107,11 @@ behind-stays (c ∷ changed) rows higher above =
 
 first-lowest : (changed : List ChangedRow) (first : ChangedRow) → ChangesAscend changed → slice_get changed 0 ≡ Some first → All (λ (c : ChangedRow). first.0 ≤ c.0) changed
 first-lowest changed first changes is k d inside =
-    let here = ap (λ (c : ChangedRow). c.0) (get_or_from_slice_get changed 0 first d is) in
-    by-order 0 k
-    (λ t less. let up = changes 0 k d less inside in omega (arith, here, up))
-    (λ t u less. absurd (omega arith))
-    (λ t u same. let own = ap (λ (n : ℕ). (get_or changed n d).0) same in omega (arith, here, own))
+    grind (arith, get_or_from_slice_get, by-order, get_or)
 
 last-highest : (changed : List ChangedRow) (last : ChangedRow) → ChangesAscend changed → slice_get changed (length changed - 1) ≡ Some last → All (λ (c : ChangedRow). c.0 ≤ last.0) changed
 last-highest changed last changes is k d inside =
-    let end = length changed - 1 in
-    let here = ap (λ (c : ChangedRow). c.0) (get_or_from_slice_get changed end last d is) in
-    by-order k end
-    (λ t less. let up = changes k end d less (omega arith) in omega (arith, here, up))
-    (λ t u less. absurd (omega arith))
-    (λ t u same. let own = ap (λ (n : ℕ). (get_or changed n d).0) same in omega (arith, here, own))
+    grind (arith, get_or_from_slice_get, by-order, get_or)
 
 -- so rows are parted by them
 pub rows-parted : (changed : List ChangedRow) (rows : List Row) (low count : ℕ) (first last : ChangedRow) → ChangesAscend changed → slice_get changed 0 ≡ Some first → slice_get changed (length changed - 1) ≡ Some last
@@ -172,9 +149,4 @@ above-own rows variable at row ascends is within own k d low high =
 pub above-other : (rows : List Row) (variable at : ℕ) (row : Row) → RowsAscend rows → AreBelow rows variable at → row ≡ get_or rows at row → at < length rows → row.0 ≢ variable
     → AllWithin (λ (r : Row). variable < r.0) rows at (length rows)
 above-other rows variable at row ascends below is within other k d low high =
-    let here = ap (λ (r : Row). r.0) (is ∙ get_or_default rows at row d within) in
-    let reached = ltb-false (get_or rows at d).0 variable (below.1 at d (omega arith) within) in
-    by-order at k
-    (λ t less. let up = ascends at k d less high in omega (arith, here, up, reached, other))
-    (λ t u less. absurd (omega (arith, low, less)))
-    (λ t u same. let own = ap (λ (n : ℕ). (get_or rows n d).0) same in omega (arith, here, own, reached, other))
+    grind (arith, get_or_default, ltb-false, get_or, by-order)

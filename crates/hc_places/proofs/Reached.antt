@@ -39,15 +39,7 @@ reached-row rows variable reach row ascends is reached k d low within =
 pub below-reached : (rows : List Row) (variable reach count : ℕ) → count ≤ length (take reach rows) → AreBelow (take reach rows) variable count
     → ((k : ℕ) (d : Row) → reach ≤ k → k < length rows → nat_lt (get_or rows k d).0 variable ≡ false) → AreBelow rows variable count
 below-reached rows variable reach count bound below behind =
-    let size = length-take reach rows in
-    let kept : (k : ℕ) (d : Row) → k < reach → nat_lt (get_or (take reach rows) k d).0 variable ≡ nat_lt (get_or rows k d).0 variable =
-    λ k d inside. ap (λ (row : Row). nat_lt row.0 variable) (get_or-take reach rows k d inside) in (
-      (λ k d low high. sym (kept k d (omega (arith, size, bound, high))) ∙ below.0 k d low high),
-      (λ k d low high. by-order k reach
-          (λ t inside. sym (kept k d inside) ∙ below.1 k d low (omega (arith, size, inside, high)))
-          (λ t u past. behind k d (omega (arith, past)) high)
-          (λ t u same. behind k d (omega (arith, same)) high)),
-    )
+    grind (arith, length-take, get_or, get_or-take, by-order)
 
 -- those behind some lower ones are the rest of all
 pub below-behind : (rows : List Row) (variable front count : ℕ) → front ≤ length rows → AllWithin (λ (row : Row). row.0 < variable) rows 0 front → AreBelow (drop front rows) variable count
@@ -108,14 +100,11 @@ none-set changed (row ∷ rows) (suc at) ascends below none =
 -- nothing is overwritten where there is no new place
 
 as-it-was : (own : Bool) (row : Row) → row ≡ cond own (row.0, row.1) row
-as-it-was true row = refl
-as-it-was false row = refl
+as-it-was own row = grind arith
 
 pub no-place : (changed : ChangedRow) (rows : List Row) → changed.1 ≡ None → rows ≡ map (row_with changed) rows
 no-place changed [] none = refl
-no-place changed (row ∷ rows) none =
-    ap (λ (r : Row). r ∷ rows) (as-it-was (row.0 == changed.0) row ∙ ap (λ (p : Option VariablePlace). cond (row.0 == changed.0) (row.0, unwrap_or p row.1) row) (sym none))
-    ∙ ap (λ (l : List Row). row_with changed row ∷ l) (no-place changed rows none)
+no-place changed (row ∷ rows) none = grind (arith, as-it-was, no-place changed rows none)
 
 -- the first rows are lower than the changes from one on
 abbrev pub AreLower : List Row → ℕ → List ChangedRow → ℕ → Type 0

@@ -2,12 +2,10 @@
 use Rattle.std.proofs.Common.{◌≡◌, ◌∙◌, ap, ℕ, suc, ◌+◌, ◌<◌, ◌≤◌, Bool, true, false, cond, List, [], ◌∷◌, filter, length, nat_cmp, is_lt, refl, sym, arith, suc-le-suc, zero-le, if◌then◌else◌}
 use Rattle.std.specs.Prelude.{All, nat_lt, ◌==◌}
 use Rattle.std.specs.List.Sorted.{ties, IsNonDecreasingBy, IsStableByKey}
-use Rattle.std.proofs.lemmas.Bool.{cond-true, eq-eqb, eqb-true}
+use Rattle.std.proofs.lemmas.Bool.{cond-true, eq-eqb}
 use Rattle.std.proofs.lemmas.Bool.Decides.{nat_tests}
-use Rattle.std.proofs.lemmas.List.Elements.{All-nil, All-cons, All-head, All-tail, All-weaker, filter_agree}
+use Rattle.std.proofs.lemmas.List.Elements.{All-nil, All-cons, All-head, All-tail, filter_agree}
 use Rattle.std.proofs.lemmas.List.Kept.{AllPairs-cons}
-use Rattle.hc_records.specs.declared.records.Dir.TheVariants.{Out}
-use Rattle.hc_records.specs.Image.{VariablePlace}
 use Rattle.hc_records.proofs.lemmas.Lists.{AllPairs-nil}
 use Rattle.hc_places.specs.Swap.{ChangesAscend}
 use Rattle.hc_places.specs.Table.{Row, RowsAscend, by_number, put}
@@ -31,29 +29,20 @@ Rises (row ∷ rows) = AreAtLeast row.0 rows × Rises rows
 
 put-least : (number : ℕ) (past : Bool) (row other : Row) (rest others : List Row) → number ≤ row.0 → AreAtLeast number (other ∷ others) → AreAtLeast number rest
     → AreAtLeast number (if past then other ∷ rest else row ∷ other ∷ others)
-put-least number true row other rest others low all put = All-cons (λ row. number ≤ row.0) other rest (All-head (λ row. number ≤ row.0) other others all) put
-put-least number false row other rest others low all put = All-cons (λ row. number ≤ row.0) row (other ∷ others) low all
+put-least number past row other rest others low all put = grind arith
 
 least-put : (number : ℕ) (row : Row) (rows : List Row) → number ≤ row.0 → AreAtLeast number rows → AreAtLeast number (put row rows)
 least-put number row [] low all = All-cons (λ row. number ≤ row.0) row [] low all
 least-put number row (other ∷ others) low all =
-    put-least number (nat_lt other.0 row.0) row other (put row others) others low all
-    (least-put number row others low (All-tail (λ row. number ≤ row.0) other others all))
+    grind (arith, put-least, All-tail, least-put number row others low (All-tail (λ row. number ≤ row.0) other others all))
 
 past-less : (a b : ℕ) → nat_lt a b ≡ true → a ≤ b
 past-less a b test = grind (arith, nat_tests)
 
-not-past : (a b : ℕ) → nat_lt a b ≡ false → b ≤ a
-not-past a b test = grind (arith, nat_tests)
-
 rises-put-by : (past : Bool) (row other : Row) (others : List Row) → nat_lt other.0 row.0 ≡ past → AreAtLeast other.0 others → Rises others → Rises (put row others)
     → Rises (if past then other ∷ put row others else row ∷ other ∷ others)
 rises-put-by true row other others test least rises put-rises = (least-put other.0 row others (past-less other.0 row.0 test) least, put-rises)
-rises-put-by false row other others test least rises put-rises =
-    let low = not-past other.0 row.0 test in (
-      All-cons (λ later. row.0 ≤ later.0) other others low (All-weaker (λ later. other.0 ≤ later.0) (λ later. row.0 ≤ later.0) (λ later less. omega arith) others least),
-      (least, rises),
-    )
+rises-put-by false row other others test least rises put-rises = grind arith
 
 rises-put : (row : Row) (rows : List Row) → Rises rows → Rises (put row rows)
 rises-put row [] rises = (All-nil (λ later. row.0 ≤ later.0), tt)
@@ -78,18 +67,15 @@ filter-own row rows = cond-true _ _ _ (eq-eqb row.0 row.0 refl)
 -- a number that is among them is no lower
 least-found-by : (passes : Bool) (number least : ℕ) (row : Row) (rows kept : List Row) → (row.0 == number) ≡ passes → least ≤ row.0 → (filter (numbered number) rows ≡ kept → least ≤ number)
     → cond passes (row ∷ filter (numbered number) rows) (filter (numbered number) rows) ≡ kept → least ≤ number
-least-found-by true number least row rows kept test low later is = let same = eqb-true row.0 number test in omega arith
-least-found-by false number least row rows kept test low later is = later is
+least-found-by passes number least row rows kept test low later is = grind arith
 
 least-found : (number least : ℕ) (rows : List Row) (one : Row) (more : List Row) → AreAtLeast least rows → filter (numbered number) rows ≡ one ∷ more → least ≤ number
 least-found number least [] one more all is = cc
 least-found number least (row ∷ rows) one more all is =
-    least-found-by (row.0 == number) number least row rows (one ∷ more) refl (All-head (λ row. least ≤ row.0) row rows all)
-    (least-found number least rows one more (All-tail (λ row. least ≤ row.0) row rows all)) is
+    grind (arith, least-found-by, All-head, All-tail, least-found number least rows one more (All-tail (λ row. least ≤ row.0) row rows all))
 
 tails-by : (passes : Bool) (one two : Row) (ones twos : List Row) → one ≡ two → cond passes (one ∷ ones) ones ≡ cond passes (two ∷ twos) twos → ones ≡ twos
-tails-by true one two ones twos head is = cc
-tails-by false one two ones twos head is = is
+tails-by passes one two ones twos head is = grind arith
 
 tails : (one two : Row) (ones twos : List Row) → one ≡ two → ((number : ℕ) → filter (numbered number) (one ∷ ones) ≡ filter (numbered number) (two ∷ twos))
     → (number : ℕ) → filter (numbered number) ones ≡ filter (numbered number) twos
@@ -127,19 +113,15 @@ stable-kept {X} x rows sorted stable number =
     ∙ filter_agree (tied_with (number, x)) (numbered number) tied rows
 
 -- a place, whatever its bits
-abbrev a_place : VariablePlace
-a_place = record { task = 0; datagram = 0; bit = 0; bits = 0; dir = Out }
 
 pub sorted-by_number : (rows sorted : List Row) → IsNonDecreasingBy (λ row. row.0) sorted → IsStableByKey (λ (row : Row). row.0) nat_cmp rows sorted → sorted ≡ by_number rows
 sorted-by_number rows sorted rises stable =
-    same-rows sorted (by_number rows) (rises-sorted sorted rises) (rises-by_number rows)
-    (λ number. stable-kept a_place rows sorted stable number ∙ sym (filter-by_number number rows))
+    grind (arith, same-rows, rises-sorted, rises-by_number, stable-kept, filter-by_number)
 
 -- rows that rise, of which no two have one number, ascend
 
 none-kept-by : {X : Type 0} (passes : Bool) (row : X) (kept : List X) → length (cond passes (row ∷ kept) kept) ≤ 0 → (passes ≡ false) × (length kept ≤ 0)
-none-kept-by true row kept few = absurd (omega arith)
-none-kept-by false row kept few = (refl, few)
+none-kept-by passes row kept few = grind arith
 
 none-kept : {X : Type 0} (number : ℕ) (rows : List (ℕ × X)) → length (filter (numbered number) rows) ≤ 0 → All (λ row. (row.0 == number) ≡ false) rows
 none-kept number [] few = All-nil (λ row. (row.0 == number) ≡ false)
@@ -151,8 +133,7 @@ strictly : (a b : ℕ) → a ≤ b → (b == a) ≡ false → a < b
 strictly a b low other = grind (arith, nat_tests)
 
 kept-fewer : {X : Type 0} (passes : Bool) (row : X) (kept : List X) → length (cond passes (row ∷ kept) kept) ≤ 1 → length kept ≤ 1
-kept-fewer true row kept few = omega arith
-kept-fewer false row kept few = few
+kept-fewer passes row kept few = grind arith
 
 pub rising-ascends : {X : Type 0} (rows : List (ℕ × X)) → Rises rows → ((number : ℕ) → length (filter (numbered number) rows) ≤ 1) → ChangesAscend rows
 rising-ascends [] rises few = AllPairs-nil (λ a b. a.0 < b.0)
@@ -171,13 +152,9 @@ same-both : (a b : ℕ) → (a == b) ≡ (b == a)
 same-both a b = grind (arith, nat_tests)
 
 kept-length-by : (passes : Bool) (row : Row) (kept : List Row) → length (cond passes (row ∷ kept) kept) ≡ cond passes 1 0 + length kept
-kept-length-by true row kept = omega arith
-kept-length-by false row kept = omega arith
+kept-length-by passes row kept = grind arith
 
 -- how many rows a number has
 pub kept-length : (number : ℕ) (rows : List Row) → length (filter (numbered number) rows) ≡ total (of_row number) rows
 kept-length number [] = refl
-kept-length number (row ∷ rows) =
-    kept-length-by (row.0 == number) row (filter (numbered number) rows)
-    ∙ ap (λ (b : Bool). cond b 1 0 + length (filter (numbered number) rows)) (same-both row.0 number)
-    ∙ ap (λ (n : ℕ). cond (number == row.0) 1 0 + n) (kept-length number rows)
+kept-length number (row ∷ rows) = grind (arith, kept-length-by, same-both, kept-length number rows)

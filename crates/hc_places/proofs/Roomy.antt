@@ -1,6 +1,6 @@
 -- Rows that are merged into memory of their number find room; tasks that are replaced are as many.
-use Rattle.std.proofs.Common.{◌≡◌, ◌∙◌, ap, ℕ, suc, ◌+◌, ◌<◌, ◌≤◌, Bool, true, false, cond, List, [], ◌∷◌, ◌++◌, length, length-append, length-set, refl, sym, arith, suc-le-suc, zero-le}
-use Rattle.std.specs.Prelude.{Option, Some, None, nat_lt, option_to_list, set, ◌==◌}
+use Rattle.std.proofs.Common.{◌≡◌, ◌∙◌, ℕ, suc, ◌+◌, ◌<◌, ◌≤◌, Bool, cond, List, [], ◌∷◌, ◌++◌, length, length-append, length-set, refl, arith}
+use Rattle.std.specs.Prelude.{Option, Some, nat_lt, option_to_list, set, ◌==◌}
 use Rattle.hc_records.specs.Image.{VariablePlace}
 use Rattle.hc_places.specs.Table.{Row, TaskTable}
 use Rattle.hc_places.specs.Swap.{ChangedRow, ChangedTask, merged, new_row, replaced, with_changed}
@@ -8,30 +8,16 @@ use Rattle.hc_places.specs.Swap.{ChangedRow, ChangedTask, merged, new_row, repla
 -- a row that is still to come has room
 pub room-left : (rows rest all more : List Row) (found : Option Row) (row : Row) (room : ℕ) → found ≡ Some row → option_to_list found ++ more ≡ rest → rows ++ rest ≡ all → length all ≤ room
     → length rows < room
-room-left rows rest all more found row room is next whole few =
-    let first : row ∷ more ≡ rest = ap (λ (o : Option Row). option_to_list o ++ more) (sym is) ∙ next in
-    let here = ap length first in
-    let both = sym (length-append rows rest) ∙ ap length whole in
-    omega (arith, here, both, few)
+room-left rows rest all more found row room is next whole few = grind (arith, length-append)
 
 -- a changed variable adds at most one row
 
 new-few : (number : ℕ) (place : Option VariablePlace) → length (new_row (number, place)) ≤ 1
-new-few number None = zero-le
-new-few number (Some place) = suc-le-suc zero-le
-
-kept-few : (same : Bool) (row : Row) (rows : List Row) → length (cond same rows (row ∷ rows)) ≤ suc (length rows)
-kept-few true row rows = omega arith
-kept-few false row rows = omega arith
+new-few number place = grind arith
 
 with-few-by : (below same : Bool) (changed : ChangedRow) (row : Row) (rows rest : List Row) → length rest ≤ length rows + 1
     → length (cond below (row ∷ rest) (new_row changed ++ cond same rows (row ∷ rows))) ≤ suc (length rows) + 1
-with-few-by true same changed row rows rest few = omega (arith, few)
-with-few-by false same changed row rows rest few =
-    let own = new-few changed.0 changed.1 in
-    let others = kept-few same row rows in
-    let all = length-append (new_row changed) (cond same rows (row ∷ rows)) in
-    omega (arith, own, others, all)
+with-few-by below same changed row rows rest few = grind arith
 
 with-few : (changed : ChangedRow) (rows : List Row) → length (with_changed changed rows) ≤ length rows + 1
 with-few changed [] = let own = new-few changed.0 changed.1 in omega (arith, own)
@@ -39,10 +25,7 @@ with-few changed (row ∷ rows) = with-few-by (nat_lt row.0 changed.0) (row.0 ==
 
 pub merged-few : (others : List ChangedRow) (rows : List Row) → length (merged others rows) ≤ length rows + length others
 merged-few [] rows = omega arith
-merged-few (changed ∷ others) rows =
-    let last = with-few changed (merged others rows) in
-    let rest = merged-few others rows in
-    omega (arith, last, rest)
+merged-few (changed ∷ others) rows = grind (arith, with-few, merged-few others rows)
 
 -- no task comes or goes
 pub replaced-length : (changed : List ChangedTask) (tasks : List TaskTable) → length (replaced changed tasks) ≡ length tasks

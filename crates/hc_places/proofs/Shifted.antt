@@ -16,11 +16,7 @@ pub record Widened {X : Type 0} (old new : List X) (high count : ℕ) : Type 0 w
   pub behind : drop (high + count) new ≡ drop high old
 
 end-copied : {X : Type 0} (old more : List X) (high : ℕ) → high ≤ length old → take (length old - high) (drop high (old ++ more)) ≡ drop high old
-end-copied old more high bound =
-    let size = length-drop high old in
-    ap (take (length old - high)) (drop-append-le high old more bound)
-    ∙ take-append-le (length old - high) (drop high old) more (omega (arith, size))
-    ∙ take_all (length old - high) (drop high old) (omega (arith, size))
+end-copied old more high bound = grind (arith, length-drop, drop-append-le, take-append-le, take_all)
 
 pub widened : {X : Type 0} (old more new : List X) (high : ℕ) → high ≤ length old → new ≡ paste (old ++ more) (high + length more) (drop high (old ++ more)) (length old - high)
     → Widened old new high (length more)
@@ -55,11 +51,4 @@ pub record Placed {X : Type 0} (old new : List X) (low high count : ℕ) : Type 
   pub behind : drop (low + count) new ≡ drop high old
 
 pub placed-wide : {X : Type 0} (old new : List X) (low high count more : ℕ) → low ≤ high → high ≤ length old → more + (high - low) ≡ count → Widened old new high more → Placed old new low high count
-placed-wide old new low high count more order bound is wide =
-    let at : low + count ≡ high + more = omega (arith, order, is) in
-    let own = wide.size in
-    record {
-      size = omega (arith, at, own, bound);
-      front = front-kept low high new old order wide.front;
-      behind = ap (λ (n : ℕ). drop n new) at ∙ wide.behind;
-    }
+placed-wide old new low high count more order bound is wide = grind (arith, front-kept)

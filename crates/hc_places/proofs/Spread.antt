@@ -7,9 +7,7 @@ from-first : {X : Type 0} (number : X → ℕ) (xs : List X) (i : ℕ) (d : X) �
     → number (slice_index_or xs 0 d) + i ≤ number (slice_index_or xs i d)
 from-first number xs zero d ascend within = omega arith
 from-first number xs (suc i) d ascend within =
-    let before = from-first number xs i d ascend (omega arith) in
-    let next : number (slice_index_or xs i d) < number (slice_index_or xs (suc i) d) = ascend i (suc i) d (omega arith) within in
-    omega (arith, before, next)
+    grind (arith, from-first number xs i d ascend (omega arith))
 
 pub first-to-last : {X : Type 0} (number : X → ℕ) (xs : List X) (first last : X) → AllPairs (λ a b. number a < number b) xs
     → slice_get xs 0 ≡ Some first → slice_get xs (length xs - 1) ≡ Some last → (0 < length xs) × (number first + length xs ≤ number last + 1)

@@ -54,15 +54,13 @@ merged-rows-ascend (changed ∷ others) rows ascends = with-ascends changed (mer
 -- where a variable stands behind a row
 
 behind-row : (here : Bool) (row : Row) (found : Option Row) → option_map (λ (r : Row). r.1) (cond here (Some row) found) ≡ cond here (Some row.1) (option_map (λ (r : Row). r.1) found)
-behind-row true row found = refl
-behind-row false row found = refl
+behind-row here row found = grind arith
 
 pub place-of-cons : (row : Row) (rows : List Row) (variable : ℕ) → place_of (row ∷ rows) variable ≡ cond (row.0 == variable) (Some row.1) (place_of rows variable)
 place-of-cons row rows variable = behind-row (row.0 == variable) row (find (λ (r : Row). r.0 == variable) rows)
 
 gone-by : (here : Bool) (found : Option VariablePlace) → (here ≡ true → found ≡ None) → found ≡ cond here None found
-gone-by true found none = none refl
-gone-by false found none = refl
+gone-by here found none = grind arith
 
 -- behind the new row of a changed variable that has none there
 behind-new : (number : ℕ) (place : Option VariablePlace) (rows : List Row) (variable : ℕ) → AreAbove number rows
@@ -72,19 +70,10 @@ behind-new number None rows variable above =
 behind-new number (Some place) rows variable above = place-of-cons (number, place) rows variable
 
 exchanged : {A : Type 0} (a b : Bool) (x y z : A) → (a ≡ true → b ≡ false) → cond a x (cond b y z) ≡ cond b y (cond a x z)
-exchanged true true x y z apart =
-    let never : true ≡ false = apart refl in
-    cc
-exchanged true false x y z apart = refl
-exchanged false true x y z apart = refl
-exchanged false false x y z apart = refl
+exchanged a b x y z apart = grind arith
 
 covered : {A : Type 0} (a b : Bool) (x y z : A) → (b ≡ true → a ≡ true) → cond a x z ≡ cond a x (cond b y z)
-covered true b x y z same = refl
-covered false false x y z same = refl
-covered false true x y z same =
-    let never : false ≡ true = same refl in
-    cc
+covered a b x y z same = grind arith
 
 apart-from : (a b variable : ℕ) → a < b → (a == variable) ≡ true → (b == variable) ≡ false
 apart-from a b variable less is = grind (arith, nat_tests)
@@ -92,9 +81,7 @@ apart-from a b variable less is = grind (arith, nat_tests)
 -- a changed variable has its new place or none, any other its old one
 pub place-with : (changed : ChangedRow) (rows : List Row) (variable : ℕ) → RowsAscend rows
     → place_of (with_changed changed rows) variable ≡ cond (changed.0 == variable) changed.1 (place_of rows variable)
-place-with changed [] variable ascends =
-    let above = All-nil (λ (r : Row). changed.0 < r.0) in
-    ap (λ (l : List Row). place_of l variable) (front changed [] above) ∙ behind-new changed.0 changed.1 [] variable above
+place-with changed [] variable ascends = grind arith
 place-with changed (row ∷ rows) variable ascends =
     let others-above = ascends-above row rows ascends in
     by-order row.0 changed.0
@@ -115,8 +102,7 @@ place-with changed (row ∷ rows) variable ascends =
 
 said-first : (here : Bool) (changed : ChangedRow) (found : Option ChangedRow) (old : Option VariablePlace)
     → cond here changed.1 (unwrap_or (option_map (λ (c : ChangedRow). c.1) found) old) ≡ unwrap_or (option_map (λ (c : ChangedRow). c.1) (cond here (Some changed) found)) old
-said-first true changed found old = refl
-said-first false changed found old = refl
+said-first here changed found old = grind arith
 
 -- so of all changed variables
 pub place-merged : (others : List ChangedRow) (rows : List Row) (variable : ℕ) → RowsAscend rows
@@ -136,20 +122,15 @@ abbrev pub Told : List Row → List Row → Type 0
 Told xs ys = RowsAscend xs → RowsAscend ys → SamePlaces xs ys → xs ≡ ys
 
 row-stands : {P : Type 0} (row : Row) (rows others : List Row) → AreAbove row.0 others → place_of (row ∷ rows) row.0 ≡ place_of others row.0 → P
-row-stands row rows others above same =
-    let never : Some row.1 ≡ None = sym (place-here row rows row.0 refl) ∙ same ∙ place-none others row.0 above in
-    cc
+row-stands row rows others above same = grind (arith, place-here, place-none)
 
 -- what two answers behind one row are, where the row hides them and where it doesn't
 rest-by : (test : Bool) (x : VariablePlace) (found other : Option VariablePlace) → (test ≡ true → found ≡ other) → cond test (Some x) found ≡ cond test (Some x) other → found ≡ other
-rest-by true x found other here all = here refl
-rest-by false x found other here all = all
+rest-by test x found other here all = grind arith
 
 rest-places : (x : Row) (xs : List Row) (y : Row) (ys : List Row) → x ≡ y → AreAbove x.0 xs → AreAbove x.0 ys → SamePlaces (x ∷ xs) (y ∷ ys) → SamePlaces xs ys
 rest-places x xs y ys heads first second same variable =
-    rest-by (x.0 == variable) x.1 (place_of xs variable) (place_of ys variable)
-    (λ is. rw (← (eqb-true x.0 variable is)) (place-none xs x.0 first ∙ sym (place-none ys x.0 second)))
-    (sym (place-of-cons x xs variable) ∙ same variable ∙ ap (λ (row : Row). place_of (row ∷ ys) variable) (sym heads) ∙ place-of-cons x ys variable)
+    grind (arith, rest-by, place_of, eqb-true, place-none, place-of-cons)
 
 some-same : (a b : VariablePlace) → Some a ≡ Some b → a ≡ b
 some-same a b same = cc

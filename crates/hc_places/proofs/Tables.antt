@@ -1,15 +1,14 @@
 -- The table of a task of a line, by the places of its areas.
-use Rattle.std.proofs.Common.{◌≡◌, ◌∙◌, ℕ, ◌≤◌, List, refl, arith}
-use Rattle.std.specs.List.{range_with_len}
+use Rattle.std.proofs.Common.{◌≡◌, ℕ, ◌≤◌, List, refl, arith}
 use Rattle.hc_records.specs.declared.limits.TheConstants.{MOST_DATAGRAMS}
 use Rattle.hc_records.specs.Line.{Member}
 use Rattle.hc_records.specs.TaskList.{task_list}
 use Rattle.hc_records.specs.Packing.{opening}
-use Rattle.hc_records.specs.Image.{datagram_count, input_length, output_length, task_places}
+use Rattle.hc_records.specs.Image.{datagram_count, task_places}
 use Rattle.hc_records.proofs.lemmas.Inside.{packed-inside}
 use Rattle.hc_records.proofs.lemmas.Lengths.{length-sendable}
 use Rattle.hc_places.specs.declared.table.Datagram.{Datagram}
-use Rattle.hc_places.specs.Table.{TaskTable, datagram_of, task_table}
+use Rattle.hc_places.specs.Table.{TaskTable, task_table}
 use Rattle.hc_places.specs.Loads.{table_at}
 use Rattle.hc_places.specs.inner.Parts.{AreSendable}
 use Rattle.hc_places.proofs.Project.{IsConfigurable}
@@ -26,7 +25,6 @@ places-sendable task line configurable few = record {
   counted = λ d.
       let same = configurable.counted task d in
       let low = expected-low task d line in
-      let slaves = configurable.few in
       omega (arith, same, low);
 }
 
@@ -39,12 +37,4 @@ same-fields ds ds' outs outs' ins ins' one two three = rw (one, two, three) refl
 -- its table is put together from what its datagrams hold
 pub table-same : (task : ℕ) (line : List Member) → IsConfigurable line → table_at task (task_places task line) ≡ task_table line task
 table-same task line configurable =
-    let areas = task_places task line in
-    let is = is-loaded task (task_list task line) (datagram_count areas) (configurable.ascends task) in
-    let inside = outputs-inside areas in
-    let sum = is.bytes in
-    let outs = is.outputs in
-    let outputs : (table_at task areas).outputs ≡ output_length areas = omega arith in
-    let inputs : (table_at task areas).inputs ≡ input_length areas = omega arith in
-    let datagrams = is.datagrams ∙ map-agree (datagram_at task areas) (datagram_of line task) (datagram-same task line configurable) (range_with_len 0 (datagram_count areas)) in
-    same-fields (table_at task areas).datagrams (task_table line task).datagrams _ _ _ _ datagrams outputs inputs
+    grind (arith, is-loaded, outputs-inside, map-agree, datagram_at, datagram-same, same-fields)

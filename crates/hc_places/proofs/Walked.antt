@@ -1,7 +1,7 @@
 -- Two lists in the order of their numbers, walked at once.
 use Rattle.std.proofs.Common.{◌≡◌, ◌∙◌, ℕ, ◌<◌, Bool, true, false, List, [], ◌∷◌, ◌++◌, refl, arith}
 use Rattle.std.specs.Prelude.{All, AllPairs, nat_lt}
-use Rattle.std.proofs.lemmas.Bool.{cond-true, cond-false, ltb-true, ltb-false}
+use Rattle.std.proofs.lemmas.Bool.{cond-true, cond-false}
 use Rattle.std.proofs.lemmas.List.Elements.{All-nil, All-cons, All-append, All-head, All-tail, All-weaker}
 use Rattle.hc_records.proofs.lemmas.Lists.{AllPairs-nil, AllPairs-head, AllPairs-tail, AllPairs-append}
 use Rattle.hc_places.specs.inner.Walk.{Gives, walked}
@@ -30,12 +30,7 @@ of-heads P none first second both (y ∷ ys) xs =
 -- which of two numbers is lower
 order-by : {P : Type 0} (low high : Bool) (a b : ℕ) → nat_lt a b ≡ low → nat_lt b a ≡ high
     → (nat_lt a b ≡ true → a < b → P) → (nat_lt a b ≡ false → nat_lt b a ≡ true → b < a → P) → (nat_lt a b ≡ false → nat_lt b a ≡ false → a ≡ b → P) → P
-order-by true high a b first second below above same = below first (ltb-true a b first)
-order-by false true a b first second below above same = above first second (ltb-true b a second)
-order-by false false a b first second below above same =
-    let up = ltb-false a b first in
-    let down = ltb-false b a second in
-    same first second (omega arith)
+order-by low high a b first second below above same = grind arith
 
 pub by-order : {P : Type 0} (a b : ℕ)
     → (nat_lt a b ≡ true → a < b → P) → (nat_lt a b ≡ false → nat_lt b a ≡ true → b < a → P) → (nat_lt a b ≡ false → nat_lt b a ≡ false → a ≡ b → P) → P
@@ -71,10 +66,7 @@ pub none-of : {X : Type 0} (number : ℕ) → AreOf {X = X} number []
 none-of {X} number = record { numbers = All-nil (λ (x : ℕ × X). x.0 ≡ number); ascends = AllPairs-nil (λ (a b : ℕ × X). a.0 < b.0) }
 
 pub one-of : {X : Type 0} (number : ℕ) (x : X) → AreOf number ((number, x) ∷ [])
-one-of {X} number x = record {
-  numbers = All-cons (λ (x : ℕ × X). x.0 ≡ number) (number, x) [] refl (All-nil (λ (x : ℕ × X). x.0 ≡ number));
-  ascends = λ i j d lower within. absurd (omega arith);
-}
+one-of {X} number x = grind arith
 
 -- what a walk adds has the numbers of what it meets
 pub record Keeps {X Y Z : Type 0} (gives : Gives X Y (ℕ × Z)) : Type 0 where

@@ -1,9 +1,7 @@
 -- The rows of a table ascend.
 use Rattle.std.proofs.Common.{◌≡◌, arith}
 use Rattle.std.specs.Prelude.{List, None}
-use Rattle.std.specs.List.{flat_map}
 use Rattle.hc_records.specs.declared.records.Declared.{Declared}
-use Rattle.hc_records.specs.Image.{task_variables, tasks}
 use Rattle.hc_records.specs.Line.{groups_of, line_from}
 use Rattle.hc_records.specs.Project.{lowest_fault}
 use Rattle.hc_places.specs.Table.{RowsAscend, table_of}
@@ -12,6 +10,4 @@ use Rattle.hc_places.proofs.Rising.{ascends-by_number, kept-length}
 
 -- the table of a project's line has each variable once, in the order of their numbers
 pub table-ascends : (groups : List Declared) → lowest_fault (groups_of groups) ≡ None → RowsAscend (table_of (line_from 1 groups)).variables
-table-ascends groups none =
-    let rows = flat_map (task_variables (line_from 1 groups)) tasks in
-    ascends-by_number rows (λ number. let same = kept-length number rows in let once = variable-once groups none number in omega arith)
+table-ascends groups none = grind (arith, ascends-by_number, kept-length, variable-once)

@@ -1,6 +1,6 @@
 -- The place of an area by a layout of a line is that by the areas of the line.
 use Rattle.std.specs.Prelude.{find, option_and_then, option_map, slice_get, Some}
-use Rattle.std.proofs.Common.{◌≡◌, ℕ, zero, suc, ◌<◌, List, sym, refl, ap, ◌∙◌, arith}
+use Rattle.std.proofs.Common.{◌≡◌, ℕ, ◌<◌, List, sym, ap, ◌∙◌, arith}
 use Rattle.std.proofs.lemmas.Option.{slice_get-map}
 use Rattle.hc_records.specs.declared.keys.Key.{Key}
 use Rattle.hc_records.specs.declared.limits.TheConstants.{TASKS}
@@ -17,15 +17,7 @@ use Rattle.hc_places.specs.Layout.{layout_of, placed_in}
 -- a layout's place of a key in a task is its place in the task's list
 
 pub task-at : (task : ℕ) → task < TASKS → slice_get tasks task ≡ Some task
-task-at zero below = refl
-task-at (suc zero) below = refl
-task-at (suc (suc zero)) below = refl
-task-at (suc (suc (suc zero))) below = refl
-task-at (suc (suc (suc (suc zero)))) below = refl
-task-at (suc (suc (suc (suc (suc zero))))) below = refl
-task-at (suc (suc (suc (suc (suc (suc zero)))))) below = refl
-task-at (suc (suc (suc (suc (suc (suc (suc zero))))))) below = refl
-task-at (suc (suc (suc (suc (suc (suc (suc (suc n)))))))) below = absurd (omega arith)
+task-at task below = grind arith
 
 pub placed-in-line : (members : List Member) (task : ℕ) (key : Key) → task < TASKS
     → placed_in (layout_of members) task key ≡ find (λ placed. same_key placed.key key) (task_places task members)

@@ -1,5 +1,5 @@
 -- The tables of the tasks of a project's line, and what is known of their datagrams.
-use Rattle.std.proofs.Common.{◌≡◌, ◌∙◌, ap, ℕ, ◌<◌, Bool, true, false, cond, List, [], ◌∷◌, refl, sym, subst, arith}
+use Rattle.std.proofs.Common.{◌≡◌, ◌∙◌, ap, ℕ, ◌<◌, Bool, cond, List, [], ◌∷◌, refl, sym, subst, arith}
 use Rattle.std.specs.Prelude.{All, None, filter, ◌==◌}
 use Rattle.std.proofs.lemmas.List.Elements.{All-filter}
 use Rattle.hc_records.specs.declared.records.Declared.{Declared}
@@ -27,10 +27,7 @@ table-loaded groups task none = sym (table-same task (line_from 1 groups) (proje
 -- so its list tells it
 pub same-table : (old new : List Declared) (task : ℕ) → lowest_fault (groups_of old) ≡ None → lowest_fault (groups_of new) ≡ None
     → task_list task (line_from 1 old) ≡ task_list task (line_from 1 new) → task_table (line_from 1 old) task ≡ task_table (line_from 1 new) task
-same-table old new task none none' same =
-    table-loaded old task none
-    ∙ ap (λ (list : List Keyed). table_at task (packed opening list)) same
-    ∙ sym (table-loaded new task none')
+same-table old new task none none' same = grind (arith, table-loaded)
 
 -- the areas of one datagram by themselves
 pub record IsDatagramOf (groups : List Declared) (task datagram : ℕ) (areas : List Placed) : Type 0 where
@@ -39,8 +36,7 @@ pub record IsDatagramOf (groups : List Declared) (task datagram : ℕ) (areas : 
   pub load : load_in areas datagram ≡ load_in (task_places task (line_from 1 groups)) datagram
 
 kept-by : {X : Type 0} (here : Bool) (test : X → Bool) (x : X) (kept : List X) → test x ≡ here → filter test kept ≡ kept → filter test (cond here (x ∷ kept) kept) ≡ cond here (x ∷ kept) kept
-kept-by true test x kept is rest = rw is (ap (λ (xs : List _). x ∷ xs) rest)
-kept-by false test x kept is rest = rest
+kept-by here test x kept is rest = grind arith
 
 kept-twice : {X : Type 0} (test : X → Bool) (xs : List X) → filter test (filter test xs) ≡ filter test xs
 kept-twice test [] = refl

@@ -1,10 +1,10 @@
 -- What the datagrams of a task hold, and its table put together from that.
-use Rattle.std.proofs.Common.{◌≡◌, ◌∙◌, ap, ℕ, zero, suc, ◌+◌, ◌-◌, ◌*◌, ◌/◌, ◌<◌, ◌≤◌, Bool, true, false, cond, List, [], ◌∷◌, ◌++◌, length, refl, sym, subst, arith}
-use Rattle.std.specs.Prelude.{All, Option, Some, None, find, if◌then◌else◌, map, min, nat_lt, option_map, slice_get, ◌==◌}
+use Rattle.std.proofs.Common.{◌≡◌, ◌∙◌, ap, ℕ, zero, suc, ◌+◌, ◌-◌, ◌*◌, ◌/◌, ◌<◌, ◌≤◌, Bool, true, false, cond, List, [], ◌∷◌, ◌++◌, length, refl, sym, arith}
+use Rattle.std.specs.Prelude.{All, Option, Some, None, find, map, min, nat_lt, option_map, slice_get, ◌==◌}
 use Rattle.std.specs.Option.{option_map_or}
 use Rattle.std.specs.List.{range_with_len}
-use Rattle.std.proofs.Math.Nat.{min-eq_left, min-eq_right, min-le_right}
-use Rattle.std.proofs.lemmas.Bool.{eqb-false, eqb-true, ltb-false, ltb-true, or_right}
+use Rattle.std.proofs.Math.Nat.{min-eq_left, min-eq_right}
+use Rattle.std.proofs.lemmas.Bool.{eqb-false, ltb-false, ltb-true}
 use Rattle.std.proofs.lemmas.List.Elements.{All-filter, All-head, All-tail, All-weaker}
 use Rattle.std.proofs.lemmas.List.FromFn.{get_or-map-range_with_len, length-map-range_with_len, map-range_with_len_more}
 use Rattle.std.proofs.lemmas.Option.{slice_get-get_or, slice_get-map, slice_get_past}
@@ -12,11 +12,11 @@ use Rattle.hc_records.specs.declared.limits.TheConstants.{TASKS}
 use Rattle.hc_records.specs.declared.records.Declared.{Declared}
 use Rattle.hc_records.specs.declared.records.Dir.{Dir}
 use Rattle.hc_records.specs.declared.records.Dir.TheVariants.{Out, In}
-use Rattle.hc_records.specs.Keys.{is_turn, same_dir}
+use Rattle.hc_records.specs.Keys.{same_dir}
 use Rattle.hc_records.specs.Line.{Member, groups_of, line_from}
 use Rattle.hc_records.specs.Project.{lowest_fault}
 use Rattle.hc_records.specs.TaskList.{Keyed, task_list}
-use Rattle.hc_records.specs.Packing.{Front, Placed, beginning, behind, fits, next_byte, opening, packed, placed_at}
+use Rattle.hc_records.specs.Packing.{Front, Placed, behind, fits, opening, packed, placed_at}
 use Rattle.hc_records.specs.Image.{datagram_count, datagram_length, datagram_offset, end_of, inside, logical_address, output_length, task_places, tasks}
 use Rattle.hc_records.specs.Laws.{Ascends, KeepsToItsPart}
 use Rattle.hc_records.proofs.lemmas.Finds.{found-none}
@@ -27,7 +27,7 @@ use Rattle.hc_records.proofs.lemmas.Parts.{EndsInDatagram, ends-in-datagram, out
 use Rattle.hc_cuts.proofs.lemmas.Datagrams.{inside-none, inside-numbered}
 use Rattle.hc_places.specs.declared.loads.Load.{Load}
 use Rattle.hc_places.specs.declared.table.Datagram.{Datagram}
-use Rattle.hc_places.specs.Loads.{load_in, load_in_table, load_of, load_told, loaded, no_load, told_of}
+use Rattle.hc_places.specs.Loads.{load_in, load_in_table, load_told, loaded, no_load, told_of}
 use Rattle.hc_places.specs.Loads.{counted_inside}
 use Rattle.hc_places.proofs.Project.{IsConfigurable}
 use Rattle.hc_places.specs.Table.{TaskTable, datagram_of, table_of, task_table}
@@ -42,40 +42,26 @@ is_input area = same_dir area.key.dir In
 
 starts-low : (fitting : Bool) (bytes datagram : ℕ) (front : Front) (area : Keyed) → area.0.dir ≡ In → (place fitting front area).datagram ≡ datagram
     → (front.datagram ≡ datagram → (front.last ≡ Out) × (front.bit ≤ 8 * bytes)) → (place fitting front area).bit ≤ 8 * bytes
-starts-low true bytes datagram front area input at filled =
-    let low = filled at in
-    let turn : is_turn front.last area.0.dir ≡ true = ap (λ (dir : Dir). is_turn dir area.0.dir) low.0 ∙ ap (is_turn Out) input in
-    let begins : beginning front area ≡ next_byte front.bit = ap (λ (aligned : Bool). if aligned then next_byte front.bit else front.bit) (or_right _ (is_turn front.last area.0.dir) turn) in
-    let bit = low.1 in
-    omega arith
-starts-low false bytes datagram front area input at filled = omega arith
+starts-low fitting bytes datagram front area input at filled = grind arith
 
 dir-in : (dir : Dir) → same_dir dir In ≡ true → dir ≡ In
-dir-in Out test = cc
-dir-in In test = refl
+dir-in dir test = grind arith
 
 dir-out : (dir : Dir) → same_dir dir In ≡ false → dir ≡ Out
-dir-out Out test = refl
-dir-out In test = cc
+dir-out dir test = grind arith
 
 abbrev FillsTo : ℕ → Placed → Type 0
 FillsTo bytes area = area.key.dir ≡ Out → area.bit + area.bits ≤ 8 * bytes
 
 place-dir : (fitting : Bool) (front : Front) (area : Keyed) → (place fitting front area).key.dir ≡ area.0.dir
-place-dir true front area = refl
-place-dir false front area = refl
+place-dir fitting front area = grind arith
 
 first-by : (here input : Bool) (bytes datagram : ℕ) (placed : Placed) (rest : List Placed) (first : Placed) → (placed.datagram == datagram) ≡ here → is_input placed ≡ input
     → All (FillsTo bytes) (cond here (placed ∷ rest) rest) → find is_input (cond here (placed ∷ rest) rest) ≡ Some first
     → (placed.datagram ≡ datagram → placed.key.dir ≡ In → placed.bit ≤ 8 * bytes)
     → ((placed.datagram ≡ datagram → (placed.key.dir ≡ Out) × (placed.bit + placed.bits ≤ 8 * bytes)) → All (FillsTo bytes) rest → find is_input rest ≡ Some first → first.bit ≤ 8 * bytes)
     → first.bit ≤ 8 * bytes
-first-by true true bytes datagram placed rest first at input all found own later =
-    let is : placed ≡ first = some-same (sym (ap (λ (b : Bool). cond b (Some placed) (find is_input rest)) input) ∙ found) in
-    subst (λ (p : Placed). p.bit ≤ 8 * bytes) is (own (eqb-true placed.datagram datagram at) (dir-in placed.key.dir input))
-  where
-    some-same : {x y : Placed} → Some x ≡ Some y → x ≡ y
-    some-same same = cc
+first-by true true bytes datagram placed rest first at input all found own later = grind arith
 first-by true false bytes datagram placed rest first at input all found own later =
     later (λ same. (dir-out placed.key.dir input, All-head (FillsTo bytes) placed rest all (dir-out placed.key.dir input))) (All-tail (FillsTo bytes) placed rest all)
     (sym (ap (λ (b : Bool). cond b (Some placed) (find is_input rest)) input) ∙ found)
@@ -110,10 +96,7 @@ keeps-inside areas datagram parts k d within = record {
 }
 
 fills : (areas : List Placed) (datagram : ℕ) (area : Placed) → Keeps areas datagram area → FillsTo (output_length areas - datagram_offset areas datagram) area
-fills areas datagram area keeps output =
-    let offset : datagram_offset areas area.datagram ≡ datagram_offset areas datagram = ap (datagram_offset areas) keeps.number in
-    let end = keeps.part.output output in
-    omega arith
+fills areas datagram area keeps output = grind arith
 
 bytes-low : (bytes end : ℕ) → end ≤ 8 * bytes → (end + 7) / 8 ≤ bytes
 bytes-low bytes end low = omega arith
@@ -175,7 +158,6 @@ is-loaded task list (suc count) ascends =
     let before = is-loaded task list count ascends in
     let load = load_in areas count in
     let part : load.outputs ≡ min (output_length areas - datagram_offset areas count) (datagram_length areas count) = load-part list count ascends in
-    let low = min-le_right (output_length areas - datagram_offset areas count) (datagram_length areas count) in
     let many : length (loaded task areas count).datagrams ≡ count = ap length before.datagrams ∙ length-map-range_with_len (datagram_at task areas) 0 count in
     let sum = before.bytes in
     let outs = before.outputs in
@@ -208,15 +190,7 @@ map-agree f g same [] = refl
 map-agree f g same (x ∷ xs) = rw (same x, map-agree f g same xs) refl
 
 pub datagram-same : (task : ℕ) (line : List Member) → IsConfigurable line → (datagram : ℕ) → datagram_at task (task_places task line) datagram ≡ datagram_of line task datagram
-datagram-same task line configurable datagram =
-    let areas = task_places task line in
-    let made : ℕ → Datagram = λ count. record {
-      address = logical_address task datagram;
-      length = datagram_length areas datagram;
-      expected = count;
-      offset = datagram_offset areas datagram;
-    } in
-    ap made (configurable.counted task datagram)
+datagram-same task line configurable datagram = grind arith
 
 -- what a table tells of a datagram is what it holds
 
@@ -242,13 +216,7 @@ told-by true task datagram line test configurable =
     ∙ load-is own.length (datagram_length areas datagram) own.expected (counted_inside datagram areas) (told_of (task_table line task) own).outputs (load_in areas datagram).outputs
     refl (sym (configurable.counted task datagram)) (sym (load-part (task_list task line) datagram (configurable.ascends task)))
 told-by false task datagram line test configurable =
-    let areas = task_places task line in
-    let count = datagram_count areas in
-    let behind = ltb-false datagram count test in
-    let many = length-map-range_with_len (datagram_of line task) 0 count in
-    let none = slice_get_past (map (datagram_of line task) (range_with_len 0 count)) datagram (omega arith) in
-    ap (λ (found : Option Datagram). option_map_or (told_of (task_table line task)) found no_load) none
-    ∙ ap load_of (sym (inside-none datagram areas (omega arith)))
+    grind (arith, ltb-false, length-map-range_with_len, slice_get_past, inside-none)
 
 -- a task's table stands at its number
 pub table-at : (line : List Member) (task : ℕ) → task < TASKS → slice_get (table_of line).tasks task ≡ Some (task_table line task)

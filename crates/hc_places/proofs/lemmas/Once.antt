@@ -1,6 +1,6 @@
 -- In the line of a project's groups each variable has one row at most.
-use Rattle.std.proofs.Common.{◌≡◌, ◌∙◌, ap, ℕ, ◌+◌, ◌≤◌, Bool, true, false, cond, List, [], ◌∷◌, ◌++◌, filter, length, refl, arith, if◌then◌else◌}
-use Rattle.std.specs.Prelude.{All, Option, Some, None, find, map, nat_lt, slice_index_or, ◌==◌, ◌||◌, ◌&&◌}
+use Rattle.std.proofs.Common.{◌≡◌, ◌∙◌, ap, ℕ, ◌+◌, ◌≤◌, Bool, true, false, cond, List, [], ◌∷◌, ◌++◌, length, refl, arith, if◌then◌else◌}
+use Rattle.std.specs.Prelude.{All, Option, Some, None, find, map, nat_lt, slice_index_or, ◌==◌, ◌&&◌}
 use Rattle.std.specs.Option.{option_map_or}
 use Rattle.std.specs.List.{cons_option, enumerate_from, flat_map, list_any, zip}
 use Rattle.std.proofs.lemmas.Bool.{cond-false, eqb-true, or_parts}
@@ -12,21 +12,19 @@ use Rattle.hc_records.specs.declared.records.Pdo.{Pdo}
 use Rattle.hc_records.specs.declared.records.Slave.{Slave}
 use Rattle.hc_records.specs.declared.records.Group.{Group}
 use Rattle.hc_records.specs.declared.records.Declared.{Declared}
-use Rattle.hc_records.specs.Lists.{has_repeat, some_pair}
+use Rattle.hc_records.specs.Lists.{has_repeat}
 use Rattle.hc_records.specs.Keys.{same_dir}
 use Rattle.hc_records.specs.Area.{Entry, assigned_entries, entries_at, width}
-use Rattle.hc_records.specs.Edits.{has_unknown}
 use Rattle.hc_records.specs.Line.{Member, line_from, members_from, present_slaves}
 use Rattle.hc_records.specs.TaskList.{Listed, belongs, slave_areas, task_areas}
 use Rattle.hc_records.specs.Packing.{Placed}
 use Rattle.hc_records.specs.Image.{area_variables, task_places, task_variables, tasks, variables_from}
-use Rattle.hc_records.specs.Project.{area_names, entry_names, has_unknown_pdo, lowest_fault, pdo_names, same_index, slave_names, slaves_of, some_area}
+use Rattle.hc_records.specs.Project.{area_names, entry_names, has_unknown_pdo, lowest_fault, pdo_names, slave_names, slaves_of, some_area}
 use Rattle.hc_records.proofs.lemmas.Lines.{declared_slaves}
 use Rattle.hc_records.proofs.lemmas.Lists.{All-flat_map, All-from_none}
 use Rattle.hc_records.proofs.lemmas.Projects.{project-assigned, project-names}
 use Rattle.hc_records.proofs.lemmas.Tasks.{listed}
 use Rattle.hc_places.specs.Table.{Row}
-use Rattle.hc_places.specs.inner.Parts.{row_at}
 use Rattle.hc_places.proofs.lemmas.Totals.{total, total-append, total-enumerate, total-filter, total-flat_map, total-less, total-map, total-plus, total-same, total-swap, total-within, total-zero, total-zip}
 
 -- how often a variable stands at a number, in an entry, in an area's assigned entries, in a row, in an area's offered entries
@@ -77,8 +75,7 @@ once k value (x ∷ xs) none =
 
 offered-first : (same : Bool) (pdo : Pdo) (found : Option Pdo) (variable : ℕ)
     → total (held variable) (option_map_or (λ (p : Pdo). p.entries) (cond same (Some pdo) found) []) ≤ cond same (of_pdo variable pdo) 0 + total (held variable) (option_map_or (λ (p : Pdo). p.entries) found [])
-offered-first true pdo found variable = omega arith
-offered-first false pdo found variable = omega arith
+offered-first same pdo found variable = grind arith
 
 offered-once : (variable : ℕ) (offered : List Pdo) (assigned : List ℕ) → has_repeat assigned ≡ false
     → total (λ i. total (held variable) (entries_at offered i)) assigned ≤ total (of_pdo variable) offered
@@ -104,19 +101,15 @@ area-once variable area none =
 entry-total : (variable bit bits : ℕ) (name : Option ℕ) (rest : List (ℕ × (ℕ × ℕ)))
     → total (λ (found : ℕ × (ℕ × ℕ)). own variable found.0) (option_map_or (λ v. (v, (bit, bits)) ∷ []) name [] ++ rest)
     ≡ option_map_or (own variable) name 0 + total (λ (found : ℕ × (ℕ × ℕ)). own variable found.0) rest
-entry-total variable bit bits None rest = omega arith
-entry-total variable bit bits (Some name) rest = refl
+entry-total variable bit bits name rest = grind arith
 
 entries-total : (variable bit : ℕ) (entries : List Entry) → total (λ (found : ℕ × (ℕ × ℕ)). own variable found.0) (variables_from bit entries) ≡ total (held variable) entries
 entries-total variable bit [] = refl
 entries-total variable bit (entry ∷ entries) =
-    entry-total variable bit entry.1 entry.0 (variables_from (bit + entry.1) entries)
-    ∙ ap (λ (n : ℕ). held variable entry + n) (entries-total variable (bit + entry.1) entries)
+    grind (arith, entry-total, entries-total variable (bit + entry.1) entries)
 
 pub rows-total : (variable task : ℕ) (pair : Listed × Placed) → total (of_row variable) (area_variables task pair) ≡ weight variable pair.0.area
-rows-total variable task pair =
-    total-map (of_row variable) (row_at task pair.1.datagram pair.0.area.dir) (variables_from pair.1.bit (assigned_entries pair.0.area))
-    ∙ entries-total variable pair.1.bit (assigned_entries pair.0.area)
+rows-total variable task pair = grind (arith, total-map, entries-total)
 
 abbrev of_listed : ℕ → Listed → ℕ
 of_listed variable l = weight variable l.area
@@ -139,9 +132,7 @@ shares variable task area = share variable task Out area + share variable task I
 
 slave-total : (variable task : ℕ) (dir : Dir) (member : Member) → total (of_listed variable) (slave_areas task dir member) ≡ total (share variable task dir) member.slave.areas
 slave-total variable task dir member =
-    total-map (of_listed variable) (listed dir member.rank) (filter (λ (e : ℕ × Area). belongs task dir e.1) (enumerate_from 0 member.slave.areas))
-    ∙ total-filter (λ (e : ℕ × Area). weight variable e.1) (λ (e : ℕ × Area). belongs task dir e.1) (enumerate_from 0 member.slave.areas)
-    ∙ total-enumerate (share variable task dir) 0 member.slave.areas
+    grind (arith, total-map, listed, total-filter, total-enumerate)
 
 line-total : (variable task : ℕ) (line : List Member) → total (of_listed variable) (task_areas task line) ≡ total (λ (m : Member). total (shares variable task) m.slave.areas) line
 line-total variable task line =
@@ -157,12 +148,7 @@ line-total variable task line =
 -- an area belongs to one task, in one direction
 
 share-two : (dir : Dir) (own_task some : Bool) (value : ℕ) → cond (own_task && same_dir dir Out && some) value 0 + cond (own_task && same_dir dir In && some) value 0 ≤ cond own_task value 0
-share-two Out true true value = omega arith
-share-two Out true false value = omega arith
-share-two Out false some value = omega arith
-share-two In true true value = omega arith
-share-two In true false value = omega arith
-share-two In false some value = omega arith
+share-two dir own_task some value = grind arith
 
 tasks-area : (variable : ℕ) (area : Area) → total (λ task. shares variable task area) tasks ≤ weight variable area
 tasks-area variable area =
@@ -216,27 +202,20 @@ line-declared f rank (declared ∷ groups) =
 -- the names of a project
 
 name-total : (variable : ℕ) (name : Option ℕ) (rest : List ℕ) → total (own variable) (cons_option name rest) ≡ option_map_or (own variable) name 0 + total (own variable) rest
-name-total variable None rest = omega arith
-name-total variable (Some name) rest = refl
+name-total variable name rest = grind arith
 
 pub entry-names : (variable : ℕ) (entries : List Entry) → total (own variable) (entry_names entries) ≡ total (held variable) entries
 entry-names variable [] = refl
 entry-names variable (entry ∷ entries) = name-total variable entry.0 (entry_names entries) ∙ ap (λ (n : ℕ). held variable entry + n) (entry-names variable entries)
 
 pdo-names : (variable : ℕ) (pdos : List Pdo) → total (own variable) (pdo_names pdos) ≡ total (of_pdo variable) pdos
-pdo-names variable pdos =
-    total-flat_map (own variable) (λ (pdo : Pdo). entry_names pdo.entries) pdos
-    ∙ total-same (λ (pdo : Pdo). total (own variable) (entry_names pdo.entries)) (of_pdo variable) (λ pdo. entry-names variable pdo.entries) pdos
+pdo-names variable pdos = grind (arith, total-flat_map, total-same, total, entry-names)
 
 area-names : (variable : ℕ) (areas : List Area) → total (own variable) (area_names areas) ≡ total (offers variable) areas
-area-names variable areas =
-    total-flat_map (own variable) (λ (area : Area). pdo_names area.offered) areas
-    ∙ total-same (λ (area : Area). total (own variable) (pdo_names area.offered)) (offers variable) (λ area. pdo-names variable area.offered) areas
+area-names variable areas = grind (arith, total-flat_map, total-same, total, pdo-names)
 
 slave-names : (variable : ℕ) (slaves : List Slave) → total (own variable) (slave_names slaves) ≡ total (λ (slave : Slave). total (offers variable) slave.areas) slaves
-slave-names variable slaves =
-    total-flat_map (own variable) (λ (slave : Slave). area_names slave.areas) slaves
-    ∙ total-same (λ (slave : Slave). total (own variable) (area_names slave.areas)) (λ (slave : Slave). total (offers variable) slave.areas) (λ slave. area-names variable slave.areas) slaves
+slave-names variable slaves = grind (arith, total-flat_map, total-same, total, area-names)
 
 -- each area assigns a PDO once
 
@@ -244,14 +223,10 @@ abbrev AssignsOnce : Area → Type 0
 AssignsOnce area = has_repeat area.assigned ≡ false
 
 area-assigns : (area : Area) → has_unknown_pdo area ≡ false → AssignsOnce area
-area-assigns area none =
-    let two = or_parts (has_unknown area.assigned area || has_repeat area.assigned) (some_pair same_index area.offered) none in
-    (or_parts (has_unknown area.assigned area) (has_repeat area.assigned) two.0).1
+area-assigns area none = grind arith
 
 slaves-assign : (slaves : List Slave) → list_any (λ (slave : Slave). list_any has_unknown_pdo slave.areas) slaves ≡ false → All (λ (slave : Slave). All AssignsOnce slave.areas) slaves
-slaves-assign slaves none i d below j e under =
-    let slave = slice_index_or slaves i d in
-    area-assigns (slice_index_or slave.areas j e) (All-from_none has_unknown_pdo slave.areas (All-from_none (λ (slave : Slave). list_any has_unknown_pdo slave.areas) slaves none i d below) j e under)
+slaves-assign slaves none i d below j e under = grind (arith, area-assigns, All-from_none)
 
 project-assigns : (groups : List Group) → some_area has_unknown_pdo groups ≡ false → All (λ (slave : Slave). All AssignsOnce slave.areas) (slaves_of groups)
 project-assigns groups none =

@@ -1,5 +1,5 @@
 -- The keys of a datagram's areas, and the ranks of the line's slaves.
-use Rattle.std.proofs.Common.{◌≡◌, ℕ, ◌+◌, ◌<◌, ◌≤◌, ◌*◌, Bool, true, false, List, length, sym, arith}
+use Rattle.std.proofs.Common.{◌≡◌, ℕ, ◌+◌, ◌<◌, ◌≤◌, ◌*◌, Bool, true, List, length, sym, arith}
 use Rattle.std.specs.Prelude.{if◌then◌else◌, All, AllPairs, Contains, IsTrue, map, ◌==◌}
 use Rattle.std.specs.List.{enumerate_from}
 use Rattle.std.proofs.lemmas.List.{length-map}
@@ -10,7 +10,7 @@ use Rattle.hc_records.specs.Keys.{is_before}
 use Rattle.hc_records.specs.Line.{Member}
 use Rattle.hc_records.specs.TaskList.{Keyed, belongs, keyed, task_list}
 use Rattle.hc_records.specs.Packing.{Placed, opening, packed}
-use Rattle.hc_records.specs.Image.{counter_share, expected_counter, inside, task_places}
+use Rattle.hc_records.specs.Image.{expected_counter, inside, task_places}
 use Rattle.hc_records.specs.Laws.{Ascends}
 use Rattle.hc_records.proofs.lemmas.Lists.{All-unmap, AllPairs-map, AllPairs-unmap}
 use Rattle.hc_records.proofs.lemmas.Lines.{RanksBelow}
@@ -64,16 +64,8 @@ counted-expected task d line ascends ranks =
     (ranks-inside task d line))
 
 share-low : (writes reads : Bool) → (if writes then 2 else 0) + (if reads then 1 else 0) ≤ 3
-share-low true true = omega arith
-share-low true false = omega arith
-share-low false true = omega arith
-share-low false false = omega arith
+share-low writes reads = grind arith
 
 -- each slave adds 3 at most
 pub expected-low : (task d : ℕ) (line : List Member) → expected_counter task d line ≤ length line * 3
-expected-low task d line =
-    let keys = keys_inside d (task_places task line) in
-    let each : All (λ rank. counter_share keys rank ≤ 3) (ranks_of line) = λ k e within. share-low _ _ in
-    let most = sum_by-le (counter_share keys) 3 (ranks_of line) each in
-    let count = length-map line (λ (member : Member). member.rank) in
-    omega (arith, most, count)
+expected-low task d line = grind (arith, share-low, sum_by-le, length-map)

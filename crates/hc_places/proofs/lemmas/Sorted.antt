@@ -1,7 +1,6 @@
 -- Rows that are put in the order of their numbers are the same rows of each number, in their order.
-use Rattle.std.proofs.Common.{◌≡◌, ◌∙◌, ap, ℕ, zero, suc, Bool, true, false, cond, List, [], ◌∷◌, filter, refl, sym, arith, if◌then◌else◌}
+use Rattle.std.proofs.Common.{◌≡◌, ◌∙◌, ap, ℕ, Bool, true, false, cond, List, [], ◌∷◌, filter, refl, sym, arith, if◌then◌else◌}
 use Rattle.std.specs.Prelude.{Option, Some, None, find, nat_lt, ◌==◌}
-use Rattle.std.proofs.lemmas.Bool.Decides.{nat_tests}
 use Rattle.hc_places.specs.Table.{Row, by_number, put}
 
 -- rows of a number
@@ -10,24 +9,10 @@ numbered number row = row.0 == number
 
 -- a row that is put among others keeps the rows of each number, in their order
 
-kept-both : (first second : Bool) (row other : Row) (with without : List Row) → (first ≡ true → second ≡ true → zero ≡ suc zero)
-    → with ≡ cond first (row ∷ without) without
-    → cond second (other ∷ with) with ≡ cond first (row ∷ cond second (other ∷ without) without) (cond second (other ∷ without) without)
-kept-both true true row other with without apart is = let no = apart refl refl in cc
-kept-both true false row other with without apart is = is
-kept-both false true row other with without apart is = ap (λ rows. other ∷ rows) is
-kept-both false false row other with without apart is = is
-
-numbers-apart : (low high number : ℕ) → nat_lt low high ≡ true → (high == number) ≡ true → (low == number) ≡ true → zero ≡ suc zero
-numbers-apart low high number less first second = grind (arith, nat_tests)
-
 filter-put-by : (past : Bool) (number : ℕ) (row other : Row) (others : List Row) → nat_lt other.0 row.0 ≡ past
     → filter (numbered number) (put row others) ≡ filter (numbered number) (row ∷ others)
     → filter (numbered number) (if past then other ∷ put row others else row ∷ other ∷ others) ≡ filter (numbered number) (row ∷ other ∷ others)
-filter-put-by true number row other others test rest =
-    kept-both (row.0 == number) (other.0 == number) row other (filter (numbered number) (put row others)) (filter (numbered number) others)
-    (numbers-apart other.0 row.0 number test) rest
-filter-put-by false number row other others test rest = refl
+filter-put-by past number row other others test rest = grind arith
 
 filter-put : (number : ℕ) (row : Row) (rows : List Row) → filter (numbered number) (put row rows) ≡ filter (numbered number) (row ∷ rows)
 filter-put number row [] = refl
@@ -35,9 +20,7 @@ filter-put number row (other ∷ others) = filter-put-by (nat_lt other.0 row.0) 
 
 pub filter-by_number : (number : ℕ) (rows : List Row) → filter (λ row. row.0 == number) (by_number rows) ≡ filter (λ row. row.0 == number) rows
 filter-by_number number [] = refl
-filter-by_number number (row ∷ rows) =
-    filter-put number row (by_number rows)
-    ∙ ap (λ kept. cond (row.0 == number) (row ∷ kept) kept) (filter-by_number number rows)
+filter-by_number number (row ∷ rows) = grind (arith, filter-put, filter-by_number number rows)
 
 -- the first that passes a test is the first that is kept
 first : {X : Type 0} → List X → Option X

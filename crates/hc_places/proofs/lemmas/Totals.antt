@@ -1,5 +1,5 @@
 -- Sums over lists, by recursion.
-use Rattle.std.proofs.Common.{◌≡◌, ℕ, ◌+◌, ◌≤◌, Bool, true, false, cond, List, [], ◌∷◌, ◌++◌, filter, refl, sym, arith}
+use Rattle.std.proofs.Common.{◌≡◌, ℕ, ◌+◌, ◌≤◌, Bool, cond, List, [], ◌∷◌, ◌++◌, filter, refl, sym, arith}
 use Rattle.std.specs.Prelude.{All, map}
 use Rattle.std.specs.List.{enumerate_from, flat_map, zip}
 use Rattle.std.proofs.lemmas.List.Elements.{All-head, All-tail}
@@ -14,25 +14,18 @@ total-append f (x ∷ xs) ys = let rest = total-append f xs ys in omega arith
 
 pub total-flat_map : {X Y : Type 0} (f : Y → ℕ) (pieces : X → List Y) (xs : List X) → total f (flat_map pieces xs) ≡ total (λ x. total f (pieces x)) xs
 total-flat_map f pieces [] = refl
-total-flat_map f pieces (x ∷ xs) =
-    let joined = total-append f (pieces x) (flat_map pieces xs) in
-    let rest = total-flat_map f pieces xs in
-    omega arith
+total-flat_map f pieces (x ∷ xs) = grind (arith, total-append, total-flat_map f pieces xs)
 
 pub total-map : {X Y : Type 0} (f : Y → ℕ) (made : X → Y) (xs : List X) → total f (map made xs) ≡ total (λ x. f (made x)) xs
 total-map f made [] = refl
 total-map f made (x ∷ xs) = let rest = total-map f made xs in omega arith
 
 kept-total : {X : Type 0} (passes : Bool) (f : X → ℕ) (x : X) (kept : List X) → total f (cond passes (x ∷ kept) kept) ≡ cond passes (f x) 0 + total f kept
-kept-total true f x kept = refl
-kept-total false f x kept = omega arith
+kept-total passes f x kept = grind arith
 
 pub total-filter : {X : Type 0} (f : X → ℕ) (test : X → Bool) (xs : List X) → total f (filter test xs) ≡ total (λ x. cond (test x) (f x) 0) xs
 total-filter f test [] = refl
-total-filter f test (x ∷ xs) =
-    let here = kept-total (test x) f x (filter test xs) in
-    let rest = total-filter f test xs in
-    omega arith
+total-filter f test (x ∷ xs) = grind (arith, kept-total, total-filter f test xs)
 
 pub total-enumerate : {X : Type 0} (f : X → ℕ) (number : ℕ) (xs : List X) → total (λ e. f e.1) (enumerate_from number xs) ≡ total f xs
 total-enumerate f number [] = refl
@@ -46,19 +39,14 @@ total-zip f (x ∷ xs) (y ∷ ys) = let rest = total-zip f xs ys in omega arith
 pub total-within : {X : Type 0} (f g : X → ℕ) (xs : List X) → All (λ x. f x ≤ g x) xs → total f xs ≤ total g xs
 total-within f g [] less = omega arith
 total-within f g (x ∷ xs) less =
-    let here : f x ≤ g x = All-head (λ x. f x ≤ g x) x xs less in
-    let rest = total-within f g xs (All-tail (λ x. f x ≤ g x) x xs less) in
-    omega arith
+    grind (arith, All-head, All-tail, total-within f g xs (All-tail (λ x. f x ≤ g x) x xs less))
 
 pub total-less : {X : Type 0} (f g : X → ℕ) → ((x : X) → f x ≤ g x) → (xs : List X) → total f xs ≤ total g xs
 total-less f g less xs = total-within f g xs (λ k d within. less _)
 
 pub total-same : {X : Type 0} (f g : X → ℕ) → ((x : X) → f x ≡ g x) → (xs : List X) → total f xs ≡ total g xs
 total-same f g same [] = refl
-total-same f g same (x ∷ xs) =
-    let here = same x in
-    let rest = total-same f g same xs in
-    omega arith
+total-same f g same (x ∷ xs) = grind arith
 
 pub total-zero : {X : Type 0} (xs : List X) → total (λ (x : X). 0) xs ≡ 0
 total-zero [] = refl

@@ -1,11 +1,10 @@
-use Rattle.std.proofs.Common.{◌≡◌, ◌∙◌, ◌<◌, ◌≤◌, ℕ, ap, arith, false, get_or, length, sym}
-use Rattle.std.specs.Prelude.{nat_lt}
+use Rattle.std.proofs.Common.{ap, arith, false, get_or}
 use Rattle.std.proofs.lemmas.Bool.{eqb-true}
 use Rattle.std.proofs.lemmas.List.Sorted.{IsNonDecreasingBy-take}
 use Rattle.hc_places.specs.Table.{Row}
 use Rattle.hc_places.proofs.Reached.{ascends-rises, below-reached, reached-row}
 use Rattle.hc_places.proofs.merging.count_near.Goals as goal
-use Rattle.hc_places.proofs.merging.count_near.Goals.{then-loop-reach-test+else-number-2, else-loop-reach-test, then-is_empty-via-then-is_empty, then-is_empty-via-else-is_empty+then-number}
+use Rattle.hc_places.proofs.merging.count_near.Goals.{then-loop-reach-test+else-number-2, else-loop-reach-test}
 
 pub count_below-requires : goal.count_below-requires
 count_below-requires c =
@@ -22,15 +21,4 @@ returns-clause-below c =
     ])
 
 pub returns-then-is_empty-clause-below : goal.returns-then-is_empty-clause-below
-returns-then-is_empty-clause-below c =
-    let rows = c.args.rows.now in
-    let first : (k : ℕ) (d : Row) → 0 ≤ k → k < length rows → nat_lt (get_or rows k d).0 c.args.variable ≡ false =
-    elim c.then-is_empty.branch [
-      | then-is_empty-via-then-is_empty w ↦ λ k d low high.
-          let none = eqb-true (length rows) 0 (sym c.is_empty.ensures ∙ w.if-is_empty.true) in
-          absurd (omega (arith, none, high))
-      | then-is_empty-via-else-is_empty+then-number w ↦
-          reached-row rows c.args.variable 0 w.index-rows-0.result c.requires w.index-rows-0.is
-          (omega (arith, w.number.ensures, w.number-else-is_empty.ensures, w.if-number.true, ap (λ (row : Row). row.0) w.index-rows-0.is))
-    ] in
-    (λ k d low high. absurd (omega (arith, high)), first)
+returns-then-is_empty-clause-below c = grind (arith, get_or, eqb-true, reached-row)

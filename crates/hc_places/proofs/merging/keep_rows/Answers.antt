@@ -1,8 +1,8 @@
-use Rattle.std.proofs.Common.{◌∙◌, ◌<◌, arith, length, refl, subst, sym}
+use Rattle.std.proofs.Common.{◌∙◌, ◌<◌, arith, length, subst, sym}
 use Rattle.std.specs.Prelude.{IsTrue}
 use Rattle.std.proofs.lemmas.List.{take_all}
 use Rattle.std.proofs.lemmas.List.Elements.{All-more}
-use Rattle.hc_places.specs.Swap.{ChangedRow, KeepRows, keeps_row}
+use Rattle.hc_places.specs.Swap.{ChangedRow, keeps_row}
 use Rattle.hc_places.proofs.Reached.{lower-next}
 use Rattle.hc_places.proofs.merging.keep_rows.Goals as goal
 
@@ -22,6 +22,4 @@ loop-change-preserved c =
     }
 
 pub returns : goal.returns
-returns c =
-    let all = take_all c.loop-change.change-index c.args.changed.now c.loop-change-test.false in
-    (λ yes. subst (KeepRows c.args.rows.now) all c.loop-change.invariant.kept, λ keep. refl)
+returns c = grind (arith, take_all)

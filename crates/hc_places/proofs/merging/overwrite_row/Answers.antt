@@ -1,4 +1,4 @@
-use Rattle.std.proofs.Common.{◌≡◌, ◌∙◌, ◌<◌, ap, arith, false, length, sym, true}
+use Rattle.std.proofs.Common.{◌≡◌, ◌∙◌, ap, arith, false, sym, true}
 use Rattle.std.proofs.lemmas.Bool.{eq-eqb, eqb-true}
 use Rattle.std.proofs.lemmas.List.{get_or_default}
 use Rattle.hc_places.specs.Table.{Row}
@@ -10,13 +10,7 @@ pub returns-in_default : goal.returns-in_default
 returns-in_default c = no-place c.args.changed.now c.args.rows.now.items c.in_default.is
 
 pub returns-then-eq : goal.returns-then-eq
-returns-then-eq c =
-    let rows = c.args.rows.now.items in
-    let changed = c.args.changed.now in
-    let row : Row = c.index.result.now in
-    let inside : c.args.at < length rows = omega (arith, c.if-at-len.true, c.len.ensures, c.args.rows.now.ok.0) in
-    let same = eqb-true row.0 changed.0 (sym c.eq.ensures ∙ c.if-eq.true) in
-    row-set changed c.in-Some.place rows c.args.at row c.in-Some.is c.requires.ascends c.requires.below inside (ap (λ (r : Row). r.0) (sym c.index.ensures) ∙ same)
+returns-then-eq c = grind (arith, eqb-true, row-set)
 
 pub returns-else-at-len : goal.returns-else-at-len
 returns-else-at-len c =

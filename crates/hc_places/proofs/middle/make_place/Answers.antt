@@ -5,12 +5,7 @@ use Rattle.hc_places.proofs.Shifted.{Widened, placed-wide}
 use Rattle.hc_places.proofs.middle.make_place.Goals as goal
 
 pub widen-requires-clause-room : goal.widen-requires-clause-room
-widen-requires-clause-room c =
-    let old = c.args.high - c.args.low in
-    let new = c.args.new.now in
-    let rest = length-drop old new in
-    let size = length-take (length new - old) (drop old new) in
-    omega (arith, rest, size, c.requires.room, c.if-old-new.true)
+widen-requires-clause-room c = grind arith
 
 pub returns-then-old-new : goal.returns-then-old-new
 returns-then-old-new c =

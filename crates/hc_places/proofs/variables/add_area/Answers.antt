@@ -26,8 +26,4 @@ loop-index-preserved c =
     }
 
 pub add_entries-requires-clause-widths : goal.add_entries-requires-clause-widths
-add_entries-requires-clause-widths c =
-    let area = c.args.area.now in
-    let entries = c.offered_entries-entries.result.now in
-    let is : entries ≡ entries_at area.offered (get_or area.assigned c.loop-index.index-index 0) = cc in
-    rw is (entries-bits area.offered _ c.requires.offers)
+add_entries-requires-clause-widths c = grind (arith, get_or, entries-bits)

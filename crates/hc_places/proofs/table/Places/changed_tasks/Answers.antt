@@ -24,7 +24,6 @@ loop-number-preserved c =
           let apart : old ≢ new = λ same. let is = c.is_same.ensures.1 same in let not_same = w.if-not-is_same.true in cc in
           rw (w.tasks-is, w.in_ok-push.ensures.items, w.duplicate.ensures) (next-new olds news number tasks old new c.loop-number.invariant before after apart)
       | else-not-is_same w ↦
-          let is = w.if-not-is_same.false in
           let same : old ≡ new = c.is_same.ensures.0 cc in
           rw w.tasks-is (next-same olds news number tasks old new c.loop-number.invariant before after same)
     ]
