@@ -1,5 +1,5 @@
 -- What the bytes carry once their values are taken up, their lengths are changed, and the values are put down.
-use Rattle.std.proofs.Common.{◌≡◌, ◌≢◌, ◌⊎◌, inl, inr, ℕ, ◌+◌, ◌-◌, ◌*◌, ◌<◌, ◌≤◌, Bool, true, false, cond, List, ◌++◌, length, take, refl, sym, ap, ◌∙◌, subst, arith, Option, Some, None}
+use Rattle.std.proofs.Common.{◌≡◌, ◌≢◌, ◌⊎◌, inl, inr, ℕ, ◌+◌, ◌-◌, ◌*◌, ◌<◌, ◌≤◌, Bool, true, false, cond, List, ◌++◌, length, take, refl, sym, ap, ◌∙◌, subst, arith, Option, Some, None, rules}
 use Rattle.std.specs.Prelude.{is_some, option_and_then, slice_get, slice_index_or}
 use Rattle.std.specs.Int.{bit_at}
 use Rattle.std.proofs.lemmas.Bool.{cases_lt}
@@ -106,7 +106,6 @@ kept_none old value ones variable k none = sym (ap (λ found. cond (is_some foun
 put_by : (e : Course) (value : ℕ → ℕ → ℕ) (i k : ℕ) (row : ChangedRow) (place : VariablePlace) (found : Option VariablePlace) → AreMoved e → Carries e.old value e.first → slice_get e.change.rows i ≡ Some row → IsOutput (next e) row.0 place → k < place.bits → k < 64
     → place_in e.old row.0 ≡ found → bit_at (slice_index_or e.values i 0) k ≡ carried e.old value e.ones row.0 k
 put_by e value i k row place None moved carries there is below word none =
-    let count = moved.stand.count in
     let inside = slice_get_within e.change.rows i row there in
     let low : i < length e.places = omega arith in
     let lacks : of_list e.places i ≡ None = moved.stand.each i row there ∙ ap (λ f. option_and_then output_of f) none in
@@ -134,15 +133,13 @@ put_value e value i k row place moved carries there is below =
 
 apart_from : (table : Table) (variable other : ℕ) (place another : VariablePlace) (k : ℕ) → IsLaidOut table → other ≢ variable → place_in table variable ≡ Some place → place_in table other ≡ Some another → k < place.bits
     → ¬ (LiesIn another place.task place.datagram (place.bit + k))
-apart_from table variable other place another k laid differ there there' below lies =
-    not-two place another k (laid.apart variable other place another (λ same. differ (sym same)) there there') below lies
+apart_from table variable other place another k laid differ there there' below lies = search (rules, not-two)
 
 stayed : (e : Course) (value : ℕ → ℕ → ℕ) (variable k : ℕ) (place : VariablePlace) → AreMoved e → Carries e.old value e.first → HasNone e.change.rows variable → IsOutput (next e) variable place → k < place.bits
     → bit_of (bytes_of e.last place.task place.datagram) (place.bit + k) ≡ carried e.old value e.ones variable k
 stayed e value variable k place moved carries none is below =
     let there : place_in e.old variable ≡ Some place = sym (same-place e.change e.old variable moved.table.ascends none) ∙ is.there in
     let lies = moved.laid_out.inside variable place is.there in
-    let within = lies.within in
     let count = moved.stand.count in
     moved.puts.rest place.task place.datagram (place.bit + k) lies.datagram
     (λ i other low at. let own = row-at e.change.rows i low in
@@ -167,10 +164,7 @@ taken_zero e i task d k row place moved there is lies =
     let low : i < length e.places = omega arith in
     let whole : place.bit + (k - place.bit) ≡ k = omega arith in
     let stood : of_list e.places i ≡ Some place = moved.stand.each i row there ∙ found-output e.old row.0 place is in
-    subst (λ t. bit_of (bytes_of e.taken t d) k ≡ 0) lies.task_is
-    (subst (λ n. bit_of (bytes_of e.taken place.task n) k ≡ 0) lies.datagram
-    (subst (λ n. bit_of (bytes_of e.taken place.task place.datagram) n ≡ 0) whole
-    (moved.takes.own i (k - place.bit) place low stood (omega arith) ∙ bit_at-zero (k - place.bit))))
+    search (rules, bit_at-zero)
 
 free_bit : (e : Course) (value : ℕ → ℕ → ℕ) (task d k : ℕ) → AreMoved e → Carries e.old value e.first → task < TASKS → d < MOST_DATAGRAMS → HasNoBit (next e) task d k
     → HasBit e.old task d k ⊎ HasNoBit e.old task d k → bit_of (bytes_of e.taken task d) k ≡ 0
@@ -183,7 +177,6 @@ free_bit e value task d k moved carries low few misses (inl has) = elim (by-numb
       (record { there = same-place e.change e.old has.variable moved.table.ascends none ∙ has.is.there; output = has.is.output }) has.lies)
 ]
 free_bit e value task d k moved carries low few misses (inr none) =
-    let count = moved.stand.count in
     moved.takes.rest task d k few
     (λ i other inside at lies. let own = row-at e.change.rows i (omega arith) in
     none own.row.0 other (old-are e.change e.old e.places moved.stand i own.row other own.there at) lies)
@@ -222,12 +215,10 @@ moved-carries e value moved carries = record {
 
 -- ones stay ones, and those of variables that appear are ones
 both_one : (found : Bool) → cond {A = ℕ} found 1 1 ≡ 1
-both_one true = refl
-both_one false = refl
+both_one found = search rules
 
 pub carried-ones : (old new : Table) (bytes : Bytes) → Carries new (carried old (λ variable k. 1) true) bytes → Carries new (λ variable k. 1) bytes
-carried-ones old new bytes carries =
-    carries-alike new (carried old (λ variable k. 1) true) (λ variable k. 1) bytes (λ variable k place is low. both_one (is_some (place_in old variable))) carries
+carried-ones old new bytes carries = search (rules, carries-alike, both_one)
 
 -- what a list is once all of it was lent
 pub all-lent : (size : ℕ) (new rest : Bytes) → length new ≡ size → take size (new ++ rest) ≡ new

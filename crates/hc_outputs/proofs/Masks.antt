@@ -1,11 +1,10 @@
 -- Ones in a run, and bytes under a mask.
-use Rattle.std.proofs.Common.{◌≡◌, inl, inr, ℕ, ◌+◌, ◌-◌, ◌/◌, ◌%◌, ◌^◌, ◌<◌, ◌≤◌, List, ◌++◌, length, get_or, min, replicate, sym, subst, ap, ◌∙◌, arith, bit_and, pow_pos}
+use Rattle.std.proofs.Common.{◌≡◌, inl, inr, ℕ, ◌+◌, ◌-◌, ◌/◌, ◌^◌, ◌<◌, ◌≤◌, List, ◌++◌, length, get_or, min, replicate, ap, ◌∙◌, arith, bit_and, pow_pos, rules}
 use Rattle.std.proofs.lemmas.Bool.{cases_lt}
 use Rattle.std.proofs.lemmas.List.{get_or_append_left, get_or_past, get_or-replicate, length-replicate}
 use Rattle.std.proofs.Math.Seq.{get_or-append_right}
 use Rattle.std.proofs.lemmas.Nat.Bits.{bit_at-lt, bit_at_and, bit_at_ones, ones_shr}
 use Rattle.std.specs.Int.{bit_at}
-use Rattle.std.specs.Int.Bits.{and_zero_l, and_zero_r}
 use Rattle.hc_bits.specs.Bits.{AreBytes, bit_of, ReplacesRun}
 
 -- the n lowest ones of a word
@@ -27,21 +26,16 @@ lowest-bit value mask k one = let small = bit_at-lt value k in bit_at_and value 
 
 -- a run that is told by a number whose bits are those of another
 pub run-told : (old new : List ℕ) (at n : ℕ) (run told : ℕ → ℕ) → ((k : ℕ) → k < n → run k ≡ told k) → ReplacesRun old new at n run → ReplacesRun old new at n told
-run-told old new at n run told same replaced =
-    record { inside = λ k low. replaced.inside k low ∙ same k low; before = replaced.before; after = replaced.after }
+run-told old new at n run told same replaced = search rules
 
 -- a bit of bytes under a mask
 masked_bit : (new bytes mask : List ℕ) → ((i : ℕ) → get_or new i 0 ≡ bit_and (get_or bytes i 0) (get_or mask i 0))
     → (k : ℕ) → bit_of new k ≡ min (bit_of bytes k) (bit_of mask k)
 unfolding bit_of
-masked_bit new bytes mask each k =
-    ap (λ b. bit_at b (k % 8)) (each (k / 8)) ∙ bit_at_and (get_or bytes (k / 8) 0) (get_or mask (k / 8) 0) (k % 8)
+masked_bit new bytes mask each k = search (rules, bit_at_and)
 
 pub same-at : (n i z : ℕ) → get_or (replicate n z) i z ≡ z
-same-at n i z = elim (cases_lt i n) [
-  | inl low ↦ get_or-replicate n i z z low
-  | inr past ↦ get_or_past (replicate n z) i z (omega (arith, length-replicate n z))
-]
+same-at n i z = search (rules, cases_lt, get_or-replicate, get_or_past, length-replicate)
 
 -- zeros are bytes
 
@@ -49,17 +43,12 @@ pub zero-small : 0 < 256
 zero-small = omega arith
 
 pub zero-bytes : (n : ℕ) → AreBytes (replicate n 0)
-zero-bytes n i low =
-    let there : get_or (replicate n 0) i 0 ≡ 0 = get_or-replicate n i 0 0 (omega (arith, length-replicate {A = ℕ} n 0)) in
-    subst (λ (b : ℕ). b < 256) (sym there) zero-small
+zero-bytes n i low = search (rules, get_or-replicate, length-replicate, zero-small)
 
 -- behind the front either the post or the mask has ended
 ended : (front bytes mask : List ℕ) (rest i : ℕ) → length mask ≡ length front + rest → length front ≡ min (length front + rest) (length bytes) → length front ≤ i
     → 0 ≡ bit_and (get_or bytes i 0) (get_or mask i 0)
-ended front bytes mask rest i whole count behind = elim (cases_lt i (length bytes)) [
-  | inl low ↦ sym (ap (bit_and (get_or bytes i 0)) (get_or_past mask i 0 (omega arith)) ∙ and_zero_r (get_or bytes i 0))
-  | inr past ↦ sym (ap (λ b. bit_and b (get_or mask i 0)) (get_or_past bytes i 0 past) ∙ and_zero_l (get_or mask i 0))
-]
+ended front bytes mask rest i whole count behind = search (rules, cases_lt, get_or_past)
 
 masked_parts : (front bytes mask : List ℕ) (rest : ℕ) → length mask ≡ length front + rest → length front ≡ min (length front + rest) (length bytes)
     → ((i : ℕ) → i < length front → get_or front i 0 ≡ bit_and (get_or bytes i 0) (get_or mask i 0))
@@ -72,6 +61,4 @@ masked_parts front bytes mask rest whole count own i = elim (cases_lt i (length 
 pub masked-copy : (front bytes mask back : List ℕ) (rest : ℕ) → back ≡ replicate rest 0 → length mask ≡ length front + rest → length front ≡ min (length front + rest) (length bytes)
     → ((i : ℕ) → i < length front → get_or front i 0 ≡ bit_and (get_or bytes i 0) (get_or mask i 0))
     → (k : ℕ) → bit_of (front ++ back) k ≡ min (bit_of bytes k) (bit_of mask k)
-masked-copy front bytes mask back rest zeros whole count own =
-    masked_bit (front ++ back) bytes mask
-    (λ i. ap (λ end. get_or (front ++ end) i 0) zeros ∙ masked_parts front bytes mask rest whole count own i)
+masked-copy front bytes mask back rest zeros whole count own = search (rules, masked_bit, masked_parts)

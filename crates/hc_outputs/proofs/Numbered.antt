@@ -1,5 +1,5 @@
 -- Numbered rows, each number once: a row is found by its number.
-use Rattle.std.proofs.Common.{◌≡◌, ◌≢◌, ◌⊎◌, inl, inr, ℕ, zero, suc, ◌<◌, ◌==◌, Bool, true, false, cond, List, [], ◌∷◌, get_or, refl, sym, ap, ◌∙◌, subst, arith, Option, Some, None}
+use Rattle.std.proofs.Common.{◌≡◌, ◌≢◌, ◌⊎◌, inl, inr, ℕ, suc, ◌<◌, ◌==◌, Bool, true, false, cond, List, [], ◌∷◌, get_or, refl, sym, ap, ◌∙◌, subst, arith, Option, Some, None, rules}
 use Rattle.std.specs.Prelude.{All, AllPairs, find, slice_get}
 use Rattle.std.proofs.lemmas.Bool.{cases_eq}
 use Rattle.std.proofs.lemmas.Bool.Decides.{nat_tests}
@@ -14,8 +14,7 @@ is_another : (m n : ℕ) → m ≢ n → (m == n) ≡ false
 is_another m n other = grind (arith, nat_tests)
 
 passed : {Y : Type 0} (test : Bool) (row : ℕ × Y) (rest : Option (ℕ × Y)) (other : ℕ × Y) → test ≡ false → rest ≡ Some other → cond test (Some row) rest ≡ Some other
-passed true row rest other e there = cc
-passed false row rest other e there = there
+passed test row rest other e there = search rules
 
 -- two that are found in one place are the same, and nothing is found where there is none
 
@@ -50,9 +49,7 @@ pub ascend-once : {Y : Type 0} (rows : List (ℕ × Y)) → Ascend rows → AllP
 ascend-once rows ascend = λ i j e less low. less_differs (get_or rows i e).0 (get_or rows j e).0 (ascend i j e less low)
 
 pub ascend-differ : {Y : Type 0} (rows : List (ℕ × Y)) (i j : ℕ) (row other : ℕ × Y) → Ascend rows → i < j → slice_get rows i ≡ Some row → slice_get rows j ≡ Some other → row.0 ≢ other.0
-ascend-differ rows i j row other ascend less there there' same =
-    ascend-once rows ascend i j row less (slice_get_within rows j other there')
-    (ap (λ (r : ℕ × _). r.0) (get_or_from_slice_get rows i row row there) ∙ same ∙ sym (ap (λ (r : ℕ × _). r.0) (get_or_from_slice_get rows j other row there')))
+ascend-differ rows i j row other ascend less there there' same = search (rules, ascend-once, slice_get_within, get_or_from_slice_get)
 
 -- each is found by its number
 pub found-at : {Y : Type 0} (rows : List (ℕ × Y)) (i : ℕ) (row : ℕ × Y) → Ascend rows → slice_get rows i ≡ Some row → IsFoundIn rows row
@@ -72,16 +69,14 @@ abbrev pub HasNone : {Y : Type 0} → List (ℕ × Y) → ℕ → Type 0
 HasNone rows number = (i : ℕ) (row : ℕ × _) → slice_get rows i ≡ Some row → row.0 ≢ number
 
 none_behind : {Y : Type 0} (row : ℕ × Y) (rows : List (ℕ × Y)) (number : ℕ) → row.0 ≢ number → HasNone rows number → HasNone (row ∷ rows) number
-none_behind row rows number other none zero own there is = other (ap (λ (r : ℕ × _). r.0) (same-some row own there) ∙ is)
-none_behind row rows number other none (suc i) own there is = none i own there is
+none_behind row rows number other none n own there is = search (rules, same-some)
 
 behind : {Y : Type 0} (row : ℕ × Y) (rows : List (ℕ × Y)) (number : ℕ) → row.0 ≢ number → HasNumber rows number ⊎ HasNone rows number → HasNumber (row ∷ rows) number ⊎ HasNone (row ∷ rows) number
 behind row rows number other (inl has) = inl (record { index = suc has.index; row = has.row; there = has.there; is = has.is })
 behind row rows number other (inr none) = inr (λ i. none_behind row rows number other none i)
 
 nothing : {Y : Type 0} (number : ℕ) → HasNone {Y = Y} [] number
-nothing number zero row there = cc
-nothing number (suc i) row there = cc
+nothing number n row there = search rules
 
 pub by-number : {Y : Type 0} (rows : List (ℕ × Y)) (number : ℕ) → HasNumber rows number ⊎ HasNone rows number
 by-number [] number = inr (nothing number)

@@ -1,5 +1,5 @@
 -- What the bytes carry after each call, by what they carried before.
-use Rattle.std.proofs.Common.{◌≡◌, ◌≢◌, inl, inr, ℕ, ◌+◌, ◌*◌, ◌/◌, ◌%◌, ◌<◌, ◌≤◌, ◌==◌, Bool, true, false, cond, get_or, List, [], drop, length, min, refl, sym, ap, ◌∙◌, subst, arith, Option, Some, None}
+use Rattle.std.proofs.Common.{◌≡◌, ◌≢◌, inl, inr, ℕ, ◌+◌, ◌*◌, ◌/◌, ◌%◌, ◌<◌, ◌≤◌, ◌==◌, Bool, true, false, cond, get_or, List, [], drop, length, min, sym, ap, ◌∙◌, subst, arith, Option, Some, rules}
 use Rattle.std.specs.Prelude.{slice_get}
 use Rattle.std.specs.Option.{option_and_then, option_map_or}
 use Rattle.std.proofs.lemmas.Bool.{cases_eq, cases_lt, eq-eqb}
@@ -11,7 +11,6 @@ use Rattle.hc_bits.specs.Bits.{AreBytes, bit_of}
 use Rattle.hc_bits.proofs.lemmas.Places.{bit_of-drop, bit_of-zeros}
 use Rattle.hc_records.specs.declared.limits.TheConstants.{MOST_DATAGRAMS, TASKS}
 use Rattle.hc_records.specs.Image.{VariablePlace}
-use Rattle.hc_places.specs.declared.table.Datagram.{Datagram}
 use Rattle.hc_places.specs.Table.{Table, TaskTable, datagrams_in, place_in}
 use Rattle.hc_outputs.specs.Packed.{Bytes, Carries, HasSizes, IsLaidOut, IsOutput, IsWhole, bytes_of, length_in, offset_in}
 use Rattle.hc_outputs.specs.Pieces.{AreBlank, Posts}
@@ -28,8 +27,7 @@ at_datagram P each n low =
     subst P whole (each (n / MOST_DATAGRAMS) (n % MOST_DATAGRAMS) task d)
 
 both_past : (a b : Bytes) (n : ℕ) → length a ≤ n → length b ≤ n → length (get_or b n []) ≡ length (get_or a n [])
-both_past a b n past past' =
-    ap (λ (own : List ℕ). length own) (get_or_past b n [] past') ∙ sym (ap (λ (own : List ℕ). length own) (get_or_past a n [] past))
+both_past a b n past past' = search (rules, get_or_past)
 
 pub are-whole : (table : Table) (sent masks : Bytes) → length sent ≡ MOST_DATAGRAMS * TASKS → length masks ≡ MOST_DATAGRAMS * TASKS → HasSizes table sent → HasSizes table masks
     → IsWhole (record { sent = sent; masks = masks })
@@ -52,7 +50,6 @@ blank-bit table bytes k n blank = elim (cases_lt n (MOST_DATAGRAMS * TASKS)) [
       at_datagram (λ m. bit_of (get_or bytes m []) k ≡ 0)
       (λ task d t e. ap (λ own. bit_of own k) (blank.zeros task d t e) ∙ bit_of-zeros (length_in table task d) k) n low
   | inr past ↦
-      let size = blank.all in
       ap (λ own. bit_of own k) (get_or_past bytes n [] (omega arith)) ∙ bit_of-zeros 0 k
 ]
 
@@ -81,8 +78,7 @@ under_zero b m none = omega arith
 
 no_datagram : (found : Option TaskTable) (d : ℕ) → length (option_map_or (λ (t : TaskTable). t.datagrams) found []) ≤ d
     → option_map_or (λ datagram. datagram.length) (option_and_then (λ (t : TaskTable). slice_get t.datagrams d) found) 0 ≡ 0
-no_datagram None d past = refl
-no_datagram (Some task) d past = ap (λ found. option_map_or (λ (datagram : Datagram). datagram.length) found 0) (slice_get_past task.datagrams d past)
+no_datagram found d past = search (rules, slice_get_past)
 
 nothing_there : (table : Table) (task d : ℕ) → length (datagrams_in table task) ≤ d → length_in table task d ≡ 0
 nothing_there table task d past = no_datagram (slice_get table.tasks task) d past
@@ -94,9 +90,7 @@ TakesPost table new masks bytes task =
 
 posted_there : (table : Table) (task : ℕ) (bytes : List ℕ) (value : ℕ → ℕ → ℕ) (variable k : ℕ) (place : VariablePlace) (own : Bool) → place_in table variable ≡ Some place → (place.task == task) ≡ own
     → posted table task bytes value variable k ≡ cond own (bit_of bytes (image_bit table place k)) (value variable k)
-posted_there table task bytes value variable k place own there is =
-    ap (λ found. option_map_or (λ (p : VariablePlace). cond (p.task == task) (bit_of bytes (image_bit table p k)) (value variable k)) found (value variable k)) there
-    ∙ ap (λ b. cond b (bit_of bytes (image_bit table place k)) (value variable k)) is
+posted_there table task bytes value variable k place own there is = search rules
 
 not_same : (m n : ℕ) → m ≢ n → (m == n) ≡ false
 not_same m n other = grind (arith, nat_tests)
@@ -114,7 +108,6 @@ post_taken table new masks bytes variable k place out takes ones is low = elim (
       ∙ ap (bit_of bytes) order
   | inr past ↦
       let lies = out.inside variable place is.there in
-      let within = lies.within in
       let none : length_in table place.task place.datagram ≡ 0 = nothing_there table place.task place.datagram past in
       absurd (omega arith)
 ]
@@ -123,13 +116,7 @@ pub posted-carries : (table : Table) (task : ℕ) (bytes : List ℕ) (value : �
     → Posts table sent new masks task bytes → Carries table (posted table task bytes value) new
 posted-carries table task bytes value sent new masks out carries ones posts = record {
   sizes = λ t d low few. posts.sizes (MOST_DATAGRAMS * t + d) ∙ carries.sizes t d low few;
-  all_bytes = λ t d low few. elim (cases_eq t task) [
-    | inr other ↦ subst AreBytes (sym (posts.rest t d few (inl other))) (carries.all_bytes t d low few)
-    | inl same ↦ elim (cases_lt d (length (datagrams_in table task))) [
-      | inr past ↦ subst AreBytes (sym (posts.rest t d few (inr past))) (carries.all_bytes t d low few)
-      | inl inside ↦ subst (λ u. AreBytes (bytes_of new u d)) (sym same) (posts.own_bytes d inside)
-    ]
-  ];
+  all_bytes = search (rules, cases_eq, cases_lt);
   values = λ variable k place is low. elim (cases_eq place.task task) [
     | inl same ↦
         post_taken table new masks bytes variable k place out (subst (TakesPost table new masks bytes) (sym same) posts.own) ones is low
@@ -139,15 +126,5 @@ posted-carries table task bytes value sent new masks out carries ones posts = re
         ∙ carries.values variable k place is low
         ∙ sym (posted_there table task bytes value variable k place false is.there (not_same place.task task other))
   ];
-  others = λ t d k low few misses. elim (cases_eq t task) [
-    | inr other ↦ ap (λ own. bit_of own k) (posts.rest t d few (inl other)) ∙ carries.others t d k low few misses
-    | inl same ↦ elim (cases_lt d (length (datagrams_in table task))) [
-      | inr past ↦ ap (λ own. bit_of own k) (posts.rest t d few (inr past)) ∙ carries.others t d k low few misses
-      | inl inside ↦
-          subst (λ u. bit_of (bytes_of new u d) k ≡ 0) (sym same)
-          (posts.own d k inside
-          ∙ under_zero (bit_of (drop (offset_in table task d) bytes) k) (bit_of (bytes_of masks task d) k)
-          (subst (λ u. bit_of (bytes_of masks u d) k ≡ 0) same (ones.others t d k low few misses)))
-    ]
-  ];
+  others = search (rules, cases_eq, cases_lt, under_zero);
 }

@@ -1,5 +1,5 @@
 -- Bytes of another length, and the lengths of the table to which a change leads.
-use Rattle.std.proofs.Common.{◌≡◌, inl, inr, ℕ, ◌+◌, ◌-◌, ◌*◌, ◌/◌, ◌%◌, ◌<◌, ◌≤◌, get_or, List, [], ◌++◌, length, replicate, take, sym, ap, ◌∙◌, subst, arith, Option, Some, None}
+use Rattle.std.proofs.Common.{◌≡◌, inl, inr, ℕ, ◌+◌, ◌-◌, ◌*◌, ◌/◌, ◌%◌, ◌<◌, ◌≤◌, get_or, List, [], ◌++◌, length, replicate, sym, ap, ◌∙◌, subst, arith, Option, Some, None, rules}
 use Rattle.std.specs.Prelude.{option_and_then, option_map, slice_get, unwrap_or}
 use Rattle.std.specs.Int.{bit_at}
 use Rattle.std.specs.Option.{option_map_or}
@@ -11,7 +11,6 @@ use Rattle.std.proofs.Math.Seq.{get_or-append_right, take-length}
 use Rattle.hc_bits.specs.Bits.{AreBytes, bit_of}
 use Rattle.hc_bits.proofs.lemmas.Places.{bit_of-append_left, bit_of-append_right, bit_of-take, bit_of-zeros}
 use Rattle.hc_records.specs.declared.limits.TheConstants.{MOST_DATAGRAMS, TASKS}
-use Rattle.hc_places.specs.declared.table.Datagram.{Datagram}
 use Rattle.hc_places.specs.Swap.{Change, ChangedTask, ChangesAscend, swapped, table_said_of}
 use Rattle.hc_places.specs.Table.{IsTable, Table, TaskTable}
 use Rattle.hc_places.proofs.lemmas.Swaps.{swaps-replace}
@@ -29,38 +28,19 @@ bit-past xs k past = ap (λ b. bit_at b (k % 8)) (get_or_past xs (k / 8) 0 (omeg
 zeros_behind : (xs : List ℕ) (n k : ℕ) → 8 * length xs ≤ k → bit_of (xs ++ replicate n 0) k ≡ 0
 zeros_behind xs n k past =
     let whole : 8 * length xs + (k - 8 * length xs) ≡ k = omega arith in
-    subst (λ j. bit_of (xs ++ replicate n 0) j ≡ 0) whole
-    (bit_of-append_right xs (replicate n 0) (k - 8 * length xs) ∙ bit_of-zeros n (k - 8 * length xs))
+    search (rules, bit_of-append_right, bit_of-zeros)
 
 pub resized-size : (size : ℕ) (xs : List ℕ) → length (resized size xs) ≡ size
-resized-size size xs =
-    let all = length-append (take size xs) (replicate (size - length xs) 0) in
-    let front = length-take size xs in
-    let rest = length-replicate {A = ℕ} (size - length xs) 0 in
-    omega arith
+resized-size size xs = search (rules, length-append, length-take, length-replicate)
 
 pub resized-bit : (size : ℕ) (xs : List ℕ) (k : ℕ) → k < 8 * size → bit_of (resized size xs) k ≡ bit_of xs k
-resized-bit size xs k low = elim (cases_lt k (8 * length (take size xs))) [
-  | inl inside ↦ bit_of-append_left (take size xs) (replicate (size - length xs) 0) k inside ∙ bit_of-take xs size k low
-  | inr past ↦
-      let front = length-take size xs in
-      zeros_behind (take size xs) (size - length xs) k past ∙ sym (bit-past xs k (omega arith))
-]
+resized-bit size xs k low = search (rules, cases_lt, bit_of-append_left, bit_of-take, length-take, zeros_behind, bit-past)
 
 pub resized-past : (size : ℕ) (xs : List ℕ) (k : ℕ) → 8 * size ≤ k → bit_of (resized size xs) k ≡ 0
 resized-past size xs k past = bit-past (resized size xs) k (let all = resized-size size xs in omega arith)
 
 pub resized-bytes : (size : ℕ) (xs : List ℕ) → AreBytes xs → AreBytes (resized size xs)
-resized-bytes size xs bytes i low =
-    let front = length-take size xs in
-    elim (cases_lt i (length (take size xs))) [
-      | inl inside ↦
-          let below : i < length xs = omega arith in
-          let cut : i < size = omega arith in
-          subst (λ (b : ℕ). b < 256) (sym (get_or_append_left (take size xs) (replicate (size - length xs) 0) 0 i inside ∙ get_or-take size xs i 0 cut)) (bytes i below)
-      | inr past ↦
-          subst (λ (b : ℕ). b < 256) (sym (get_or-append_right (take size xs) (replicate (size - length xs) 0) i 0 past ∙ same-at (size - length xs) (i - length (take size xs)) 0)) zero-small
-    ]
+resized-bytes size xs bytes i low = search (rules, length-take, cases_lt, get_or_append_left, get_or-take, get_or-append_right, same-at, zero-small)
 
 none_missing : (n : ℕ) → replicate {A = ℕ} (n - n) 0 ≡ []
 none_missing n = let e : n - n ≡ 0 = omega arith in ap (λ m. replicate m 0) e
@@ -94,8 +74,7 @@ next-resized n changed last old mid new is ascend each resizes = record {
 
 by_task : (found : Option TaskTable) (table : Table) (task d : ℕ) → slice_get table.tasks task ≡ found
     → length_in table task d ≡ option_map_or (λ datagram. datagram.length) (option_and_then (λ (t : TaskTable). slice_get t.datagrams d) found) 0
-by_task found table task d there =
-    ap (λ f. option_map_or (λ (datagram : Datagram). datagram.length) (option_and_then (λ (t : TaskTable). slice_get t.datagrams d) f) 0) there
+by_task found table task d there = search rules
 
 replaced_by : (said : Option TaskTable) (old new : Option TaskTable) (own : TaskTable) → old ≡ Some own → new ≡ option_map (λ (o : TaskTable). unwrap_or said o) old → new ≡ Some (unwrap_or said own)
 replaced_by said old new own there is = is ∙ ap (option_map (λ (o : TaskTable). unwrap_or said o)) there
@@ -106,7 +85,6 @@ blank = record { datagrams = []; outputs = 0; inputs = 0 }
 new_task : (change : Change) (table : Table) (task : ℕ) (said : Option TaskTable) → IsTable table → ChangesAscend change.tasks → task < TASKS → table_said_of change task ≡ said
     → (own : TaskTable) × (slice_get table.tasks task ≡ Some own) × (slice_get (swapped change table).tasks task ≡ Some (unwrap_or said own))
 new_task change table task said is ascend low told =
-    let eight = is.eight in
     let own = get_or table.tasks task blank in
     let there = slice_get-get_or table.tasks task blank (omega arith) in (
       own,
@@ -125,23 +103,17 @@ said_length change table old new task d is ascend low few each has =
     let told : table_said_of change row.0 ≡ Some row.1 = ap (option_map (λ (c : ChangedTask). c.1)) (found-at change.tasks has.index row ascend has.there) in
     let there = new_task change table row.0 (Some row.1) is ascend (subst (λ (t : ℕ). t < TASKS) (sym has.is) low) told in
     let size = by_task (Some row.1) (swapped change table) row.0 d there.2 in
-    subst (λ t. GetsLength change table old new t d) has.is
-    (each.own has.index d row (slice_get_within change.tasks has.index row has.there) has.there few ∙ ap (λ n. resized n (bytes_of old row.0 d)) (sym size))
+    search (rules, slice_get_within)
 
 kept_length : (change : Change) (table : Table) (old new : Bytes) (task d : ℕ) → IsTable table → ChangesAscend change.tasks → task < TASKS → d < MOST_DATAGRAMS → HasSizes table old
     → ResizesEach (length change.tasks) change.tasks old new → HasNone change.tasks task → GetsLength change table old new task d
 kept_length change table old new task d is ascend low few sizes each none =
     let told : table_said_of change task ≡ None = ap (option_map (λ (c : ChangedTask). c.1)) (none-found change.tasks task none) in
     let there = new_task change table task None is ascend low told in
-    let size : length (bytes_of old task d) ≡ length_in (swapped change table) task d =
-    sizes task d low few ∙ by_task (Some there.0) table task d there.1 ∙ sym (by_task (Some there.0) (swapped change table) task d there.2) in
-    each.rest task d few (λ i own below at. none i own at)
-    ∙ sym (resized-same (bytes_of old task d)) ∙ ap (λ n. resized n (bytes_of old task d)) size
+    let size : length (bytes_of old task d) ≡ length_in (swapped change table) task d = search (rules, by_task) in
+    search (rules, resized-same)
 
 -- once the changed tasks have the lengths of their new tables, each datagram has that of the new table
 pub lengths-changed : (change : Change) (table : Table) (old new : Bytes) → IsTable table → ChangesAscend change.tasks → HasSizes table old
     → ResizesEach (length change.tasks) change.tasks old new → (task d : ℕ) → task < TASKS → d < MOST_DATAGRAMS → GetsLength change table old new task d
-lengths-changed change table old new is ascend sizes each task d low few = elim (by-number change.tasks task) [
-  | inl has ↦ said_length change table old new task d is ascend low few each has
-  | inr none ↦ kept_length change table old new task d is ascend low few sizes each none
-]
+lengths-changed change table old new is ascend sizes each task d low few = search (rules, by-number, said_length, kept_length)

@@ -1,5 +1,5 @@
 -- Where output variables stand: in a table, and in the one to which a change leads.
-use Rattle.std.proofs.Common.{◌≡◌, inl, inr, ℕ, ◌+◌, ◌*◌, ◌<◌, ◌≤◌, Bool, true, false, cond, get_or, List, [], ◌∷◌, ◌++◌, length, refl, sym, ap, ◌∙◌, subst, arith, Option, Some, None}
+use Rattle.std.proofs.Common.{◌≡◌, inl, inr, ℕ, ◌+◌, ◌*◌, ◌<◌, ◌≤◌, Bool, true, cond, List, [], ◌∷◌, ◌++◌, length, refl, sym, ap, ◌∙◌, subst, arith, Option, Some, None, rules}
 use Rattle.std.specs.Prelude.{All, option_and_then, option_map, slice_get, unwrap_or}
 use Rattle.std.proofs.lemmas.Bool.{cases_lt}
 use Rattle.std.proofs.lemmas.List.{get_or_append_left, get_or_push}
@@ -18,14 +18,10 @@ use Rattle.hc_outputs.proofs.Numbered.{same-some, none-some, Ascend, HasNone, as
 -- the place of an output variable
 
 by_dir : (test : Bool) (place other : VariablePlace) → cond test (Some place) None ≡ Some other → (test ≡ true) × (place ≡ other)
-by_dir true place other e = (refl, same-some place other e)
-by_dir false place other e = cc
+by_dir test place other e = search (rules, same-some)
 
 found_by : (table : Table) (variable : ℕ) (place : VariablePlace) (found : Option VariablePlace) → place_in table variable ≡ found → option_and_then output_of found ≡ Some place → IsOutput table variable place
-found_by table variable place None there is = cc
-found_by table variable place (Some own) there is =
-    let parts = by_dir (same_dir own.dir Out) own place is in
-    record { there = there ∙ ap Some parts.1; output = ap (λ (p : VariablePlace). p.dir) (sym parts.1) ∙ same-dirs own.dir Out parts.0 }
+found_by table variable place found there is = search (rules, by_dir, same-dirs)
 
 pub output-found : (table : Table) (variable : ℕ) (place : VariablePlace) → output_in table variable ≡ Some place → IsOutput table variable place
 output-found table variable place is = found_by table variable place (place_in table variable) refl is
@@ -71,12 +67,10 @@ row_place table i row ascend there = ap (option_map (λ (r : Row). r.1)) (found-
 
 -- where each row's variable stands
 pub rows-placed : (table : Table) → RowsAscend table.variables → All (λ (row : Row). place_in table row.0 ≡ Some row.1) table.variables
-rows-placed table ascend i e inside =
-    row_place table i (get_or table.variables i e) ascend (slice_get-get_or table.variables i e inside)
+rows-placed table ascend i e inside = search (rules, row_place, slice_get-get_or)
 
 of_row : (table : Table) (i : ℕ) (row : Row) → RowsAscend table.variables → slice_get table.variables i ≡ Some row → of_rows table.variables i ≡ output_in table row.0
-of_row table i row ascend there =
-    ap (option_and_then (λ (r : Row). output_of r.1)) there ∙ sym (ap (option_and_then output_of) (row_place table i row ascend there))
+of_row table i row ascend there = search (rules, row_place)
 
 pub rows-are : (table : Table) → RowsAscend table.variables → AreOutputs table table.variables (of_rows table.variables)
 rows-are table ascend i row place there is = output-found table row.0 place (sym (of_row table i row ascend there) ∙ is)
@@ -105,14 +99,11 @@ new-place change table i row ascend order there =
     swaps-move change table ascend row.0 ∙ ap (λ s. unwrap_or s (place_in table row.0)) said
 
 pub same-place : (change : Change) (table : Table) (variable : ℕ) → RowsAscend table.variables → HasNone change.rows variable → place_in (swapped change table) variable ≡ place_in table variable
-same-place change table variable ascend none =
-    let said : said_of change variable ≡ None = ap (option_map (λ (c : ChangedRow). c.1)) (none-found change.rows variable none) in
-    swaps-move change table ascend variable ∙ ap (λ s. unwrap_or s (place_in table variable)) said
+same-place change table variable ascend none = search (rules, none-found, swaps-move)
 
 pub of-new : (change : Change) (table : Table) (i : ℕ) (row : ChangedRow) → RowsAscend table.variables → ChangesAscend change.rows → slice_get change.rows i ≡ Some row
     → of_changed change.rows i ≡ output_in (swapped change table) row.0
-of-new change table i row ascend order there =
-    ap (option_and_then (λ (r : ChangedRow). option_and_then output_of r.1)) there ∙ sym (ap (option_and_then output_of) (new-place change table i row ascend order there))
+of-new change table i row ascend order there = search (rules, new-place)
 
 pub new-are : (change : Change) (table : Table) → RowsAscend table.variables → ChangesAscend change.rows → AreOutputs (swapped change table) change.rows (of_changed change.rows)
 new-are change table ascend order i row place there is =
@@ -125,11 +116,4 @@ old-are change table places stand i row place there is = output-found table row.
 pub next-stands : (table : Table) (changed : List ChangedRow) (places : List (Option VariablePlace)) (n : ℕ) (last : ChangedRow) → slice_get changed n ≡ Some last → length places ≡ n
     → ((i : ℕ) (row : ChangedRow) → i < n → slice_get changed i ≡ Some row → of_list places i ≡ output_in table row.0)
     → (i : ℕ) (row : ChangedRow) → i < n + 1 → slice_get changed i ≡ Some row → of_list (places ++ output_in table last.0 ∷ []) i ≡ output_in table row.0
-next-stands table changed places n last is count before i row below there = elim (cases_lt i n) [
-  | inl less ↦ get_or_append_left places (output_in table last.0 ∷ []) None i (omega arith) ∙ before i row less there
-  | inr more ↦
-      let index : n ≡ i = omega arith in
-      let same : last ≡ row = same-some last row (sym is ∙ ap (slice_get changed) index ∙ there) in
-      let own : of_list (places ++ output_in table last.0 ∷ []) n ≡ output_in table last.0 = get_or_push places (output_in table last.0) None n count in
-      subst (λ (m : ℕ). of_list (places ++ output_in table last.0 ∷ []) m ≡ output_in table row.0) index (own ∙ ap (λ (r : ChangedRow). output_in table r.0) same)
-]
+next-stands table changed places n last is count before i row below there = search (rules, cases_lt, get_or_append_left, same-some, get_or_push)

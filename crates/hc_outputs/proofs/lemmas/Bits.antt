@@ -1,5 +1,5 @@
 -- Each bit of a datagram lies in one output variable's place or in none, so values that agree at outputs' bits are held alike.
-use Rattle.std.proofs.Common.{◌≡◌, ◌⊎◌, inl, inr, ℕ, ◌+◌, ◌-◌, ◌<◌, ◌≤◌, ◌==◌, ◌&&◌, nat_le, nat_lt, Bool, true, false, cond, [], refl, sym, ap, ◌∙◌, subst, arith, Option, Some, None}
+use Rattle.std.proofs.Common.{◌≡◌, ◌⊎◌, inl, inr, ℕ, ◌+◌, ◌-◌, ◌<◌, ◌≤◌, ◌==◌, ◌&&◌, nat_le, nat_lt, Bool, true, false, refl, sym, ◌∙◌, arith, Option, Some, None, rules}
 use Rattle.std.specs.Prelude.{find}
 use Rattle.std.proofs.lemmas.Bool.{and_from, and_parts, eq-eqb, eqb-true}
 use Rattle.std.proofs.lemmas.Bool.Decides.{nat_tests}
@@ -28,29 +28,10 @@ within_is : (bit bits k : ℕ) → bit ≤ k → k < bit + bits → (nat_le bit 
 within_is bit bits k from below = grind (arith, nat_tests)
 
 lies_there : (task d k : ℕ) (row : Row) → bit_lies task d k row ≡ true → (row.1.dir ≡ Out) × LiesIn row.1 task d k
-lies_there task d k row e =
-    let place = row.1 in
-    let parts = and_parts (same_dir place.dir Out) (stands_in_datagram task d place && (nat_le place.bit k && nat_lt k (place.bit + place.bits))) e in
-    let both = and_parts (stands_in_datagram task d place) (nat_le place.bit k && nat_lt k (place.bit + place.bits)) parts.1 in
-    let where_it_is = and_parts (place.task == task) (place.datagram == d) both.0 in
-    let within = is_within place.bit place.bits k both.1 in (
-      same-dirs place.dir Out parts.0,
-      record {
-        task_is = eqb-true place.task task where_it_is.0;
-        datagram = eqb-true place.datagram d where_it_is.1;
-        from = within.0;
-        below = within.1;
-      },
-    )
+lies_there task d k row e = search (rules, and_parts, is_within, same-dirs, eqb-true)
 
 there_lies : (task d k : ℕ) (row : Row) → row.1.dir ≡ Out → LiesIn row.1 task d k → bit_lies task d k row ≡ true
-there_lies task d k row out lies =
-    let place = row.1 in
-    and_from (same_dir place.dir Out) (stands_in_datagram task d place && (nat_le place.bit k && nat_lt k (place.bit + place.bits)))
-    (ap (λ dir. same_dir dir Out) out)
-    (and_from (stands_in_datagram task d place) (nat_le place.bit k && nat_lt k (place.bit + place.bits))
-    (and_from (place.task == task) (place.datagram == d) (eq-eqb place.task task lies.task_is) (eq-eqb place.datagram d lies.datagram))
-    (within_is place.bit place.bits k lies.from lies.below))
+there_lies task d k row out lies = search (rules, and_from, eq-eqb, within_is)
 
 -- an output variable of the table in whose place the bit lies
 pub record HasBit (table : Table) (task d k : ℕ) : Type 0 where
@@ -71,8 +52,7 @@ found_bit table task d k ascend None e =
     inr (λ variable place is lies.
     let row = mapped-some (λ (r : Row). r.1) (find (λ r. r.0 == variable) table.variables) place is.there in
     let misses = (find-holds (λ (r : Row). bit_lies task d k r ≡ false) (λ r. r.0 == variable) table.variables row.0 row.1 (found-none (bit_lies task d k) table.variables e)).0 in
-    let own : bit_lies task d k row.0 ≡ true =
-    there_lies task d k row.0 (ap (λ (p : VariablePlace). p.dir) row.2 ∙ is.output) (subst (λ (p : VariablePlace). LiesIn p task d k) (sym row.2) lies) in
+    let own : bit_lies task d k row.0 ≡ true = search (rules, there_lies) in
     let never : true ≡ false = sym own ∙ misses in
     cc)
 
@@ -106,15 +86,11 @@ carried-bit table value bytes task d k carries has =
     let inside : k - place.bit < place.bits = omega arith in
     let whole : place.bit + (k - place.bit) ≡ k = omega arith in
     let held = carries.values has.variable (k - place.bit) place has.is inside in
-    subst (λ n. bit_of (bytes_of bytes task d) n ≡ value has.variable (k - place.bit)) whole
-    (subst (λ e. bit_of (bytes_of bytes task e) (place.bit + (k - place.bit)) ≡ value has.variable (k - place.bit)) has.lies.datagram
-    (subst (λ t. bit_of (bytes_of bytes t place.datagram) (place.bit + (k - place.bit)) ≡ value has.variable (k - place.bit)) has.lies.task_is held))
+    search rules
 
 within_limits : (task d : ℕ) → task < TASKS → d < MOST_DATAGRAMS → (nat_lt task TASKS && nat_lt d MOST_DATAGRAMS) ≡ true
 within_limits task d low few = grind (arith, nat_tests)
 
 -- what is sent of a task and a number that a line can have
 pub sent-there : (packed : Packed) (task d : ℕ) → task < TASKS → d < MOST_DATAGRAMS → sent_bytes packed task d ≡ bytes_of packed.sent task d
-sent-there packed task d low few =
-    let is : (nat_lt task TASKS && nat_lt d MOST_DATAGRAMS) ≡ true = within_limits task d low few in
-    ap (λ b. cond b (bytes_of packed.sent task d) []) is
+sent-there packed task d low few = search (rules, within_limits)

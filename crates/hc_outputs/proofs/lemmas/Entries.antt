@@ -1,5 +1,5 @@
 -- Over an edit each variable keeps its bits and its direction: it stands in one declared entry, and edits leave what is declared.
-use Rattle.std.proofs.Common.{◌≡◌, ◌≢◌, ℕ, zero, suc, ◌+◌, ◌==◌, Bool, true, false, cond, List, [], ◌∷◌, ◌++◌, map, refl, sym, ap, ap₂, ◌∙◌, subst, Option, Some, None}
+use Rattle.std.proofs.Common.{◌≡◌, ◌≢◌, ℕ, zero, suc, ◌+◌, ◌==◌, Bool, true, cond, List, [], ◌∷◌, ◌++◌, map, refl, sym, ap, ap₂, ◌∙◌, subst, Option, Some, None, rules}
 use Rattle.std.specs.Prelude.{All, find}
 use Rattle.std.specs.Option.{option_map_or}
 use Rattle.std.specs.Result.{result_unwrap_or}
@@ -14,15 +14,14 @@ use Rattle.hc_records.specs.declared.records.Area.{Area}
 use Rattle.hc_records.specs.declared.records.Slave.{Slave}
 use Rattle.hc_records.specs.declared.records.Declared.{Declared}
 use Rattle.hc_records.specs.declared.edit.Edit.{Edit}
-use Rattle.hc_records.specs.declared.edit.Edit.TheVariants.{Connect, Disconnect, Remap, Move}
 use Rattle.hc_records.specs.declared.faults.EditFault.{EditFault}
 use Rattle.hc_records.specs.Area.{Entry, assigned_entries}
 use Rattle.hc_records.specs.Lists.{changed_at, has_repeat, lowest}
 use Rattle.hc_records.specs.Line.{Member, State, groups_of, line, line_from}
-use Rattle.hc_records.specs.Edits.{changed, edit_faults, groups_after, refused_by, state_after, with_area, with_presence, with_slaves}
+use Rattle.hc_records.specs.Edits.{changed, edit_faults, groups_after, refused_by, state_after, with_area, with_slaves}
 use Rattle.hc_records.specs.Image.{VariablePlace, area_variables, task_places, task_variables, tasks, variable_place, variables_from}
 use Rattle.hc_records.specs.Packing.{Placed}
-use Rattle.hc_records.specs.Project.{area_names, entry_names, lowest_fault, pdo_names, slave_names, slaves_of}
+use Rattle.hc_records.specs.Project.{entry_names, lowest_fault, slave_names, slaves_of}
 use Rattle.hc_records.specs.TaskList.{Listed, belongs, task_areas}
 use Rattle.hc_records.proofs.lemmas.Entries.{assigned-all, task-areas-all}
 use Rattle.hc_records.proofs.lemmas.Finds.{all-tasks, mapped-some}
@@ -71,31 +70,22 @@ flat_changed f g zero (x ∷ xs) same = ap (λ own. own ++ flat_map f xs) (same 
 flat_changed f g (suc index) (x ∷ xs) same = ap (λ rest. f x ++ rest) (flat_changed f g index xs same)
 
 presence_by : (own present : Bool) (declared : Declared) → group_named (cond own (record declared { present = present }) declared) ≡ group_named declared
-presence_by true present declared = refl
-presence_by false present declared = refl
+presence_by own present declared = search rules
 
 area_by : (own : Bool) (index : ℕ) (change : Area → Area) (slave : Slave) → ((area : Area) → area_named (change area) ≡ area_named area)
     → slave_named (cond own (record slave { areas = changed_at index change slave.areas }) slave) ≡ slave_named slave
-area_by true index change slave same = flat_changed area_named change index slave.areas same
-area_by false index change slave same = refl
+area_by own index change slave same = search (rules, flat_changed)
 
 area_kept : (station index : ℕ) (change : Area → Area) (groups : List Declared) → ((area : Area) → area_named (change area) ≡ area_named area)
     → named_in (map (with_slaves (with_area station index change)) groups) ≡ named_in groups
-area_kept station index change groups same =
-    flat_same group_named (with_slaves (with_area station index change)) groups
-    (λ declared. flat_same slave_named (with_area station index change) declared.group.slaves
-    (λ slave. area_by (slave.station == station) index change slave same))
+area_kept station index change groups same = search (rules, flat_same, area_by)
 
 named_after : (groups : List Declared) (edit : Edit) → named_in (groups_after groups edit) ≡ named_in groups
-named_after groups (Connect alias) = flat_same group_named (with_presence alias true) groups (λ declared. presence_by (declared.group.alias == alias) true declared)
-named_after groups (Disconnect alias) = flat_same group_named (with_presence alias false) groups (λ declared. presence_by (declared.group.alias == alias) false declared)
-named_after groups (Remap station area pdos) = area_kept station area (λ a. record a { assigned = pdos }) groups (λ a. refl)
-named_after groups (Move station area task) = area_kept station area (λ a. record a { task = task }) groups (λ a. refl)
+named_after groups edit = search (rules, flat_same, presence_by, area_kept)
 
 either_state : (fault : Option EditFault) (state next : State) → named_in next.groups ≡ named_in state.groups
     → named_in (result_unwrap_or (refused_by fault next) state).groups ≡ named_in state.groups
-either_state None state next same = same
-either_state (Some fault) state next same = refl
+either_state fault state next same = search rules
 
 named_kept : (state : State) (edit : Edit) → named_in (state_after state edit).groups ≡ named_in state.groups
 named_kept state edit = either_state (lowest (edit_faults state edit)) state (changed state edit) (named_after state.groups edit)
@@ -115,18 +105,11 @@ names_flat f g [] same = refl
 names_flat f g (x ∷ xs) same = map-append name (f x) (flat_map f xs) ∙ ap₂ (λ own rest. own ++ rest) (same x) (names_flat f g xs same)
 
 slaves_names : (slaves : List Slave) → map name (flat_map slave_named slaves) ≡ slave_names slaves
-slaves_names slaves =
-    names_flat slave_named (λ slave. area_names slave.areas) slaves
-    (λ slave. names_flat area_named (λ area. pdo_names area.offered) slave.areas
-    (λ area. names_flat (pdo_named area.dir) (λ pdo. entry_names pdo.entries) area.offered
-    (λ pdo. entries_names area.dir pdo.entries)))
+slaves_names slaves = search (rules, names_flat, entries_names)
 
 groups_names : (groups : List Declared) → map name (named_in groups) ≡ slave_names (slaves_of (groups_of groups))
 groups_names [] = refl
-groups_names (declared ∷ groups) =
-    map-append name (group_named declared) (named_in groups)
-    ∙ ap₂ (λ own rest. own ++ rest) (slaves_names declared.group.slaves) (groups_names groups)
-    ∙ sym (flat_map-append (λ slave. area_names slave.areas) declared.group.slaves (slaves_of (groups_of groups)))
+groups_names (declared ∷ groups) = search (rules, map-append, slaves_names, flat_map-append, groups_names groups)
 
 each_named : (groups : List Declared) → lowest_fault (groups_of groups) ≡ None → All (IsFoundIn (named_in groups)) (named_in groups)
 each_named groups none =
@@ -147,9 +130,7 @@ entry_variables P dir bit [] all = All-nil (λ found. P (found.0, (found.1.1, di
 entry_variables P dir bit ((None, bits) ∷ entries) all =
     entry_variables P dir (bit + bits) entries (All-tail (λ entry. All P (entry_named dir entry)) (None, bits) entries all)
 entry_variables P dir bit ((Some variable, bits) ∷ entries) all =
-    All-cons (λ found. P (found.0, (found.1.1, dir))) (variable, (bit, bits)) (variables_from (bit + bits) entries)
-    (All-head P (variable, (bits, dir)) [] (All-head (λ entry. All P (entry_named dir entry)) (Some variable, bits) entries all))
-    (entry_variables P dir (bit + bits) entries (All-tail (λ entry. All P (entry_named dir entry)) (Some variable, bits) entries all))
+    search (rules, All-cons, All-head, All-tail, entry_variables P dir (bit + bits) entries (All-tail (λ entry. All P (entry_named dir entry)) (Some variable, bits) entries all))
 
 abbrev OfRow : (Named → Type 0) → Row → Type 0
 OfRow P row = P (row.0, (row.1.bits, row.1.dir))
@@ -185,8 +166,7 @@ all_rows P groups all =
     (All-weaker (λ declared. All P (group_named declared)) (λ declared. All (λ slave. All (OfArea P) slave.areas) declared.group.slaves)
     (λ declared own. All-weaker (λ slave. All P (slave_named slave)) (λ slave. All (OfArea P) slave.areas)
     (λ slave its. each_flat P area_named slave.areas its) declared.group.slaves (each_flat P slave_named declared.group.slaves own)) groups (each_flat P group_named groups all)) in
-    All-flat_map (OfRow P) (task_variables (line_from 1 groups)) tasks
-    (all-tasks (λ task. All (OfRow P) (task_variables (line_from 1 groups) task)) (λ task low. task_rows P task (line_from 1 groups) slaves))
+    search (rules, All-flat_map, all-tasks, task_rows)
 
 abbrev IsNamed : List Named → ℕ → VariablePlace → Type 0
 IsNamed named variable place = find (λ other. other.0 == variable) named ≡ Some (variable, (place.bits, place.dir))
@@ -205,9 +185,7 @@ same_named a b e = cc
 
 same_entry : (found : Option Named) (variable : ℕ) (place another : VariablePlace) → found ≡ Some (variable, (place.bits, place.dir)) → found ≡ Some (variable, (another.bits, another.dir))
     → KeepsItsEntry place another
-same_entry found variable place another first second =
-    let same = same_named (variable, (another.bits, another.dir)) (variable, (place.bits, place.dir)) (sym second ∙ first) in
-    record { bits = ap (λ (n : Named). n.1.0) same; dir = ap (λ (n : Named). n.1.1) same }
+same_entry found variable place another first second = search (rules, same_named)
 
 pub edit-keeps_entries : (state : State) (edit : Edit) → lowest_fault (groups_of state.groups) ≡ None → KeepEntries (table_of (line state)) (table_of (line (state_after state edit)))
 edit-keeps_entries state edit none variable place another there there' =

@@ -1,5 +1,5 @@
 -- The table of a project's line is laid out, and tells the lengths and the offsets of the line's datagrams.
-use Rattle.std.proofs.Common.{◌≡◌, ℕ, zero, suc, ◌+◌, ◌*◌, ◌<◌, ◌≤◌, List, length, map, refl, sym, ap, ◌∙◌, subst, arith, Some, None}
+use Rattle.std.proofs.Common.{◌≡◌, ℕ, suc, ◌+◌, ◌*◌, ◌<◌, ◌≤◌, List, length, map, refl, sym, ap, ◌∙◌, subst, arith, Some, None, rules}
 use Rattle.std.specs.Prelude.{option_map, slice_get}
 use Rattle.std.specs.Option.{option_and_then, option_map_or}
 use Rattle.std.specs.List.{flat_map, range_with_len}
@@ -22,15 +22,8 @@ pub place-of_line : (line : List Member) (variable : ℕ) → place_in (table_of
 place-of_line line variable = ap (option_map (λ (row : Row). row.1)) (find-by_number variable (flat_map (task_variables line) tasks))
 
 task_there : (line : List Member) (task : ℕ) → task < TASKS → slice_get (map (task_table line) tasks) task ≡ Some (task_table line task)
-task_there line zero low = refl
-task_there line (suc zero) low = refl
-task_there line (suc (suc zero)) low = refl
-task_there line (suc (suc (suc zero))) low = refl
-task_there line (suc (suc (suc (suc zero)))) low = refl
-task_there line (suc (suc (suc (suc (suc zero))))) low = refl
-task_there line (suc (suc (suc (suc (suc (suc zero)))))) low = refl
-task_there line (suc (suc (suc (suc (suc (suc (suc zero))))))) low = refl
 task_there line (suc (suc (suc (suc (suc (suc (suc (suc task)))))))) low = absurd (omega arith)
+task_there line other low = refl
 
 abbrev blank : Datagram
 blank = record { address = 0; length = 0; expected = 0; offset = 0 }
@@ -63,7 +56,5 @@ line-laid_out state none uncrowded = record {
         datagram = omega arith;
         within = subst (λ (size : ℕ). place.bit + place.bits ≤ 8 * size) (sym (length-of_line (line state) place.task place.datagram lies.task lies.datagram)) lies.within;
       };
-  apart = λ variable other place another different there there'.
-      variables-apart (line state) variable other place another different
-      (sym (place-of_line (line state) variable) ∙ there) (sym (place-of_line (line state) other) ∙ there');
+  apart = search (rules, variables-apart, place-of_line);
 }
