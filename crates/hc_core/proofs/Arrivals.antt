@@ -1,7 +1,6 @@
 -- What is kept stays right behind each arrival.
-use Rattle.std.proofs.Common.{◌≡◌, ℕ, ◌<◌, ◌≤◌, arith, true, false, cond, List, [], ◌∷◌, ◌++◌, map, sym, ap, ◌∙◌, subst, Some, None}
+use Rattle.std.proofs.Common.{◌≡◌, ℕ, ◌<◌, ◌≤◌, arith, true, false, List, [], ◌∷◌, ◌++◌, map, sym, ap, ◌∙◌, subst, Some, None, rules}
 use Rattle.std.specs.Prelude.{All, fold}
-use Rattle.std.specs.List.{flat_map, list_any}
 use Rattle.std.proofs.lemmas.Bool.{not-true}
 use Rattle.std.proofs.lemmas.List.Elements.{All-weaker}
 use Rattle.hc_records.specs.declared.limits.TheConstants.{MOST_DATAGRAMS, MOST_DATAGRAM_BYTES}
@@ -16,10 +15,10 @@ use Rattle.hc_registers.specs.Blocks.{LineBlock}
 use Rattle.hc_plan.specs.Reports.{name_of}
 use Rattle.hc_events.specs.Arrivals.{Arrival}
 use Rattle.hc_events.specs.Accepted.{AreAccepted, StandsIn}
-use Rattle.hc_events.specs.Entries.{Record, Opened, Edited, Posted, Sent, Wrote, Came}
+use Rattle.hc_events.specs.Entries.{Record, Opened, Sent, Came}
 use Rattle.hc_events.specs.Points.{line_of, state_of}
-use Rattle.hc_events.specs.Answering.{is_news, is_stale_to, judged_by}
-use Rattle.hc_events.specs.Images.{FitsImage, Fresh, fresh, fresh_by, renewed, slot_of}
+use Rattle.hc_events.specs.Answering.{is_stale_to}
+use Rattle.hc_events.specs.Images.{FitsImage, Fresh, fresh_by, renewed, slot_of}
 use Rattle.hc_events.specs.Owed.{known_bytes, owed_blocks}
 use Rattle.hc_events.specs.declared.answer.Outcome.{Outcome}
 use Rattle.hc_events.proofs.lemmas.SameBehind.{same-says, same-stale}
@@ -42,9 +41,7 @@ use Rattle.hc_core.specs.Goods.{change_of, goods_in}
 -- a stale one
 
 none_fresh : (past : Record) (arrival : Arrival) → is_stale_to past arrival ≡ true → fresh_by past arrival ≡ []
-none_fresh past arrival stale =
-    goods-of_news (judged_by past arrival)
-    ∙ ap (λ b. flat_map fresh (cond b (judged_by past arrival) [])) (not-true (list_any is_news (judged_by past arrival)) stale)
+none_fresh past arrival stale = search (rules, goods-of_news, not-true)
 
 pub agree-stale : (kept : Kept) (past taken : Record) (arrival : Arrival) → is_stale_to past arrival ≡ true → Agree kept past taken → Agree kept (Came arrival ∷ past) taken
 agree-stale kept past taken arrival stale agree =
@@ -66,11 +63,8 @@ agree-stale kept past taken arrival stale agree =
 all_sent : (past : Record) → AreAccepted past → AllSent StandsIn past
 all_sent [] all = absurd all
 all_sent (Opened groups ∷ past) all = tt
-all_sent (Edited edit ∷ past) all = all_sent past all.1
-all_sent (Posted task bytes ∷ past) all = all_sent past all.1
 all_sent (Sent frame ∷ past) all = (all.0.stands, all_sent past all.1)
-all_sent (Wrote block ∷ past) all = all_sent past all.1
-all_sent (Came arrival ∷ past) all = all_sent past all.1
+all_sent (other ∷ past) all = all_sent past all.1
 
 -- one that answers a frame of tasks
 
@@ -85,13 +79,9 @@ agree-inputs kept past taken arrival outcomes inputs tells puts agree = record {
   serial = agree.serial;
   left = agree.left;
   waits = waits-ended past kept.awaited arrival agree.accepted agree.waits tells.news;
-  slots = λ task d below.
-      puts task d below
-      ∙ ap (λ slot. fold (renewed task d) slot (goods_in outcomes arrival.parts)) (agree.slots task d below)
-      ∙ ap (fold (renewed task d) (slot_of past task d)) (sym tells.goods);
+  slots = search rules;
   values = values-came past arrival kept.outputs agree.values;
-  known = agree.known
-      ∙ kept-alike (known_bytes past) (known_bytes (Came arrival ∷ past)) (state_of past) (λ station number. sym (known-framed past arrival tells.sending tells.there tells.frame station number));
+  known = search (rules, kept-alike, known-framed);
   tells = news-came taken past arrival kept.changes (goods_in outcomes arrival.parts) tells.goods (fresh-fits StandsIn past arrival (all_sent past agree.accepted)) agree.tells;
 }
 

@@ -1,5 +1,5 @@
 -- What is kept as awaited stays what the record awaits: at the opening, and behind each entry but frames of tasks.
-use Rattle.std.proofs.Common.{◌≡◌, ℕ, true, false, cond, List, ◌∷◌, refl, ap, ◌∙◌, subst, Some, None}
+use Rattle.std.proofs.Common.{◌≡◌, ℕ, true, false, List, ◌∷◌, refl, ap, ◌∙◌, subst, Some, None, rules}
 use Rattle.std.specs.Prelude.{is_some}
 use Rattle.hc_records.specs.declared.edit.Edit.{Edit}
 use Rattle.hc_records.specs.declared.records.Group.{Group}
@@ -12,7 +12,7 @@ use Rattle.hc_events.specs.Entries.{Record, Edited, Posted, Wrote, Came}
 use Rattle.hc_events.specs.Points.{next_serial, state_of}
 use Rattle.hc_events.specs.Heads.{Block, block_item, same_item}
 use Rattle.hc_events.specs.Answering.{is_stale_to}
-use Rattle.hc_events.specs.Owed.{last_write, owed_blocks}
+use Rattle.hc_events.specs.Owed.{owed_blocks}
 use Rattle.hc_events.proofs.lemmas.Answers.{awaited-answered}
 use Rattle.hc_events.proofs.lemmas.Awaited.{same_is}
 use Rattle.hc_events.proofs.lemmas.SameBehind.{same-owed, same-says, same-stale}
@@ -71,13 +71,7 @@ itself block = rw (same_is block.station, same_is block.number) refl
 
 way_new : (past : Record) (block : LineBlock) (rest : List LineBlock) → lowest_fault (groups_of (state_of past).groups) ≡ None → owed_blocks past ≡ block ∷ rest
     → IsUnderWay (Wrote block ∷ past) (written (next_serial past) block)
-way_new past block rest project first = record {
-  block = block;
-  head = refl;
-  last = ap (λ b. cond b (Some (next_serial past, block.block.bytes)) (last_write past block.station block.number)) (itself block);
-  rest = rest;
-  first = owed-wrote past block rest project first ∙ first;
-}
+way_new past block rest project first = search (rules, itself, owed-wrote)
 
 same_write : (a b : AwaitedWrite) → Some a ≡ Some b → a ≡ b
 same_write a b e = cc

@@ -1,7 +1,7 @@
 -- What a commit asks of the present proposal, and what is kept behind it.
-use Rattle.std.proofs.Common.{◌≡◌, ℕ, ◌+◌, ◌<◌, ◌≤◌, Bool, true, false, not, nat_lt, List, [], ◌∷◌, length, map, refl, sym, ◌∙◌, subst, arith, suc, None}
+use Rattle.std.proofs.Common.{◌≡◌, ℕ, ◌+◌, ◌<◌, ◌≤◌, Bool, true, false, not, nat_lt, List, [], ◌∷◌, length, map, refl, sym, ◌∙◌, subst, arith, suc, None, rules}
 use Rattle.std.specs.Prelude.{All, AllPairs}
-use Rattle.std.specs.List.{list_any, range_with_len}
+use Rattle.std.specs.List.{range_with_len}
 use Rattle.std.proofs.lemmas.Bool.{ltb-false}
 use Rattle.std.proofs.lemmas.Bool.Decides.{nat_tests}
 use Rattle.std.proofs.lemmas.List.Elements.{All-nil, All-cons, All-weaker}
@@ -14,14 +14,12 @@ use Rattle.hc_records.proofs.lemmas.Addresses.{uncrowded-few}
 use Rattle.hc_records.proofs.lemmas.Lists.{AllPairs-nil}
 use Rattle.hc_registers.specs.Blocks.{LineBlock}
 use Rattle.hc_frames.specs.declared.limits.TheConstants.{SETUP_SERIAL}
-use Rattle.hc_events.specs.declared.faults.CoreFault.{CoreFault}
-use Rattle.hc_events.specs.declared.faults.CoreFault.TheVariants.{NoSuchTask, SerialsSpent, Unprogrammed}
 use Rattle.hc_events.specs.Accepted.{StandsIn}
 use Rattle.hc_events.specs.Entries.{Record}
 use Rattle.hc_events.specs.Owed.{owed_blocks}
 use Rattle.hc_events.specs.Points.{line_of, next_serial, state_of}
 use Rattle.hc_events.specs.Sendings.{Frame, Named}
-use Rattle.hc_events.specs.Steps.{has_serials, is_no_task, proposal, task_faults, with_sent}
+use Rattle.hc_events.specs.Steps.{proposal, task_faults, with_sent}
 use Rattle.hc_events.proofs.lemmas.Accepted.{passed, proposal-stands}
 use Rattle.hc_events.proofs.lemmas.Frames.{proposals-numbered}
 use Rattle.hc_sendings.proofs.lemmas.Listed.{standing-task}
@@ -34,10 +32,7 @@ use Rattle.hc_core.specs.Proposed.{IsProposal}
 -- a datagram of the line has a number that tasks can have
 
 named : (past : Record) → lowest_fault (groups_of (state_of past).groups) ≡ None → crowded_task (line_of past) ≡ None → (one : Named) → StandsIn (line_of past) one → IsNamed one
-named past project uncrowded one stands =
-    let task = standing-task (state_of past) one.0 one.1 project stands in
-    let few = uncrowded-few (line_of past) one.0 uncrowded task in
-    record { task = task; number = omega (arith, few, stands) }
+named past project uncrowded one stands = search (rules, standing-task, uncrowded-few)
 
 pub proposal-named : (kept : Kept) (past taken : Record) (frames : List Frame) → IsProposal past frames → Agree kept past taken → All (λ frame. All IsNamed frame.datagrams) frames
 proposal-named kept past taken frames is agree =
@@ -55,9 +50,8 @@ from_number : (frames : List Frame) (serial low : ℕ) → numbers_of frames ≡
 from_number [] serial low numbers below = All-nil (λ (frame : Frame). low ≤ frame.serial)
 from_number (frame ∷ frames) serial low numbers below =
     let first = first-number frame (numbers_of frames) serial (range_with_len (serial + 1) (length frames)) numbers in
-    let is = first.0 in
     let next : low ≤ serial + 1 = omega (arith, below) in
-    All-cons (λ (one : Frame). low ≤ one.serial) frame frames (omega (arith, is, below)) (from_number frames (serial + 1) low first.1 next)
+    All-cons (λ (one : Frame). low ≤ one.serial) frame frames (omega (arith, below)) (from_number frames (serial + 1) low first.1 next)
 
 above_number : (a n b : ℕ) → a ≡ n → n + 1 ≤ b → a < b
 above_number a n b is low = omega (arith, is, low)
@@ -75,10 +69,7 @@ numbers_ascend : (frames : List Frame) (serial : ℕ) → numbers_of frames ≡ 
 numbers_ascend [] serial numbers = AllPairs-nil (λ (a b : Frame). a.serial < b.serial)
 numbers_ascend (frame ∷ frames) serial numbers =
     let first = first-number frame (numbers_of frames) serial (range_with_len (serial + 1) (length frames)) numbers in
-    AllPairs-cons (λ (a b : Frame). a.serial < b.serial) frame frames
-    (All-weaker (λ (one : Frame). serial + 1 ≤ one.serial) (λ (one : Frame). frame.serial < one.serial) (λ one low. above_number frame.serial serial one.serial first.0 low) frames
-    (from_number frames (serial + 1) (serial + 1) first.1 (next_low serial)))
-    (numbers_ascend frames (serial + 1) first.1)
+    search (rules, first-number, AllPairs-cons, All-weaker, above_number, from_number, next_low, numbers_ascend frames (serial + 1) first.1)
 
 pub proposal-behind : (kept : Kept) (past taken : Record) (frames : List Frame) → IsProposal past frames → Agree kept past taken → ComeBehind kept.awaited frames
 proposal-behind kept past taken frames is agree =
@@ -99,34 +90,18 @@ none_owed [] e = refl
 none_owed (block ∷ blocks) e = let some : nat_lt 0 (suc (length blocks)) ≡ true = grind (arith, nat_tests) in let never : true ≡ false = sym some ∙ e in cc
 
 not_not : (b : Bool) → not (not b) ≡ false → b ≡ false
-not_not true e = cc
-not_not false e = refl
+not_not b e = search rules
 
 pub record Allowed (past : Record) (tasks : List ℕ) : Type 0 where
   pub owed : owed_blocks past ≡ []
   pub left : next_serial past + length (proposal past tasks) ≤ SETUP_SERIAL
 
 pub allowed : (past : Record) (tasks : List ℕ) → lowest (task_faults past tasks) ≡ None → Allowed past tasks
-allowed past tasks none =
-    let serials = (not (has_serials past (length (proposal past tasks))), SerialsSpent) ∷ [] in
-    let owed : Bool × CoreFault = (nat_lt 0 (length (owed_blocks past)), Unprogrammed (length (owed_blocks past))) in
-    let first = passed (list_any is_no_task tasks) NoSuchTask (owed ∷ serials) none in
-    let second = passed owed.0 owed.1 serials first.1 in
-    let third = passed (not (has_serials past (length (proposal past tasks)))) SerialsSpent [] second.1 in
-    record {
-      owed = none_owed (owed_blocks past) second.0;
-      left = ltb-false SETUP_SERIAL (next_serial past + length (proposal past tasks)) (not_not (nat_lt SETUP_SERIAL (next_serial past + length (proposal past tasks))) third.0);
-    }
+allowed past tasks none = search (rules, passed, none_owed, ltb-false, not_not)
 
 pub proposal-left : (kept : Kept) (past taken : Record) (frames : List Frame) → IsProposal past frames → Agree kept past taken → kept.serial + length frames ≤ SETUP_SERIAL
-proposal-left kept past taken frames is agree =
-    subst (λ (n : ℕ). n + length frames ≤ SETUP_SERIAL) (sym agree.serial)
-    (subst (λ (all : List Frame). next_serial past + length all ≤ SETUP_SERIAL) (sym is.whole) (allowed past is.tasks is.accepted).left)
+proposal-left kept past taken frames is agree = search rules
 
 pub agree-committed : (kept : Kept) (past taken : Record) (frames : List Frame) → IsProposal past frames → Agree kept past taken
     → Agree (record kept { awaited = all_sent kept.awaited frames; serial = kept.serial + length frames }) (with_sent past frames) taken
-agree-committed kept past taken frames is agree =
-    let left : kept.serial + length (proposal past is.tasks) ≤ SETUP_SERIAL =
-    subst (λ (all : List Frame). kept.serial + length all ≤ SETUP_SERIAL) is.whole (proposal-left kept past taken frames is agree) in
-    subst (λ (all : List Frame). Agree (record kept { awaited = all_sent kept.awaited all; serial = kept.serial + length all }) (with_sent past all) taken) (sym is.whole)
-    (agree-sent kept past taken is.tasks is.accepted (allowed past is.tasks is.accepted).owed left agree)
+agree-committed kept past taken frames is agree = search (rules, proposal-left, agree-sent, allowed)

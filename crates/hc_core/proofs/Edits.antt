@@ -1,6 +1,6 @@
 -- What is kept stays right behind an accepted edit.
-use Rattle.std.proofs.Common.{◌≡◌, ℕ, ◌+◌, List, [], ◌∷◌, ◌++◌, length, map, refl, sym, ap, ◌∙◌, subst, append_assoc, length-append, Some, None, Option}
-use Rattle.std.specs.Prelude.{Err, IfSome, IsOk, Ok, Result}
+use Rattle.std.proofs.Common.{◌≡◌, ℕ, ◌+◌, List, [], ◌∷◌, ◌++◌, length, refl, sym, ap, ◌∙◌, subst, append_assoc, length-append, Some, None, Option, rules}
+use Rattle.std.specs.Prelude.{Err, IfSome, Ok, Result}
 use Rattle.std.specs.Result.{result_unwrap_or}
 use Rattle.std.proofs.lemmas.List.{length-map, map-append}
 use Rattle.hc_records.specs.declared.edit.Edit.{Edit}
@@ -12,7 +12,6 @@ use Rattle.hc_records.specs.Lists.{lowest}
 use Rattle.hc_records.specs.Project.{lowest_fault}
 use Rattle.hc_edits.specs.Edits.{own_fault}
 use Rattle.hc_edits.proofs.lemmas.Accepted.{accepted-project}
-use Rattle.hc_edits.proofs.lemmas.Refusals.{own-refuses}
 use Rattle.hc_places.specs.declared.swap.Swap.{Swap}
 use Rattle.hc_places.specs.Swap.{swapped}
 use Rattle.hc_places.specs.Table.{Table, table_of}
@@ -26,7 +25,7 @@ use Rattle.hc_plan.specs.Reports.{Tells}
 use Rattle.hc_events.specs.declared.answer.Answer.TheVariants as answer
 use Rattle.hc_events.specs.declared.change.Change.{Change}
 use Rattle.hc_events.specs.declared.change.Change.TheVariants as change
-use Rattle.hc_events.specs.Changes.{Swapped, news_of, told_by}
+use Rattle.hc_events.specs.Changes.{Swapped, news_of}
 use Rattle.hc_events.specs.Entries.{Record, Edited}
 use Rattle.hc_events.specs.NewsLaws.{state_behind}
 use Rattle.hc_events.specs.Outputs.{value_bit}
@@ -52,8 +51,7 @@ use Rattle.hc_core.specs.State.{CoreState}
 -- the state that an accepted edit leads to is that behind it
 
 accepted_next : (fault : Option EditFault) (made next : State) → refused_by fault made ≡ Ok next → fault ≡ None
-accepted_next None made next e = refl
-accepted_next (Some fault) made next e = cc
+accepted_next fault made next e = search rules
 
 pub after-is : (state : State) (edit : Edit) (next : State) → edited state edit ≡ Ok next → state_after state edit ≡ next
 after-is state edit next e = ap (λ (made : Result State EditFault). result_unwrap_or made state) e
@@ -64,24 +62,17 @@ err_ok : {X : Type 0} (fault : EditFault) (made : X) → Err fault ≡ Ok made �
 err_ok fault made e = cc
 
 none_own : (found : Option EditFault) → ((fault : EditFault) → found ≡ Some fault → ⊥) → found ≡ None
-none_own None refuses = refl
-none_own (Some fault) refuses = absurd (refuses fault refl)
+none_own found refuses = search rules
 
 tells_none : {X : Type 0} (found : Option EditFault) (told : Result X EditFault) → found ≡ None → IfSome found (λ fault. told ≡ Err fault)
-tells_none None told none = tt
-tells_none (Some fault) told none = cc
+tells_none found told none = search rules
 
 pub accepted-own : {X : Type 0} (state : State) (edit : Edit) (new : State) (told : Result X EditFault) → edited state edit ≡ Ok new → IfSome (own_fault state.groups edit) (λ fault. told ≡ Err fault)
-accepted-own state edit new told accepted =
-    tells_none (own_fault state.groups edit) told (none_own (own_fault state.groups edit) (λ fault own. err_ok fault new (sym (own-refuses state edit fault own) ∙ accepted)))
+accepted-own state edit new told accepted = search rules
 
 pub edited-told : (old new : State) (edit : Edit) (report : Report) → edited old edit ≡ Ok new → Tells old edit new report
     → answer.Edited report.epoch report.recut report.moved ≡ told_of_edit old (state_after old edit)
-edited-told old new edit report accepted tell =
-    ap (λ n. answer.Edited n report.recut report.moved) tell.epoch
-    ∙ ap (λ n. answer.Edited new.epoch n report.moved) tell.recut
-    ∙ ap (λ n. answer.Edited new.epoch (recut (line old) (line new)) n) tell.moved
-    ∙ ap (told_of_edit old) (sym (after-is old edit new accepted))
+edited-told old new edit report accepted tell = search rules
 
 -- a swap behind the changes
 
@@ -97,14 +88,10 @@ news-edited taken past edit changes new report accepted tell tells =
     let behind : state_behind (state_of taken) changes ≡ state_of past = tells.behind in
     let after : state_after (state_of past) swap.edit ≡ new = ap (state_after (state_of past)) tell.named ∙ after-is (state_of past) edit new accepted in
     record {
-      told = ap (λ news. news ++ Swapped edit ∷ []) tells.told
-          ∙ append_assoc (news_of taken) (map told_by changes) (Swapped edit ∷ [])
-          ∙ ap (λ one. news_of taken ++ (map told_by changes ++ Swapped one ∷ [])) (sym tell.named)
-          ∙ ap (λ told. news_of taken ++ told) (sym (map-append told_by changes (change.Swapped swap ∷ [])));
+      told = search (rules, append_assoc, map-append);
       legal = legal-joined (state_of taken) changes (change.Swapped swap ∷ []) tells.legal (
         record {
-          accepted = subst (λ (one : Edit). IsOk (edited (state_behind (state_of taken) changes) one)) (sym tell.named)
-              (subst (λ (state : State). IsOk (edited state edit)) (sym behind) (subst (λ (made : Result State EditFault). IsOk made) (sym accepted) refl));
+          accepted = search rules;
           leads = ap (λ state. swapped swap.change (table_of (line state))) behind ∙ tell.leads ∙ ap (λ state. table_of (line state)) (sym after) ∙ ap (λ state. table_of (line (state_after state swap.edit))) (sym behind);
         },
         tt,
@@ -140,9 +127,7 @@ agree-edited kept past taken new report inputs outputs owed accepted tell uncrow
       slots = λ task d below. none task d;
       values = values-edited past edit outputs
           (subst (λ (state : State). Holds (table_of (line state)) (kept_over (table_of (line_of past)) (value_bit past)) outputs) (sym after) carried);
-      known = known
-          ∙ kept-alike (known_over (state_of past) (known_bytes past)) (known_bytes (Edited edit ∷ past)) new (λ station number. sym (known-edited past edit station number))
-          ∙ ap (kept_of (known_bytes (Edited edit ∷ past))) (sym after);
+      known = search (rules, kept-alike, known-edited);
       tells = news-edited taken past edit kept.changes new report accepted tell agree.tells;
     }
 
@@ -150,13 +135,10 @@ agree-edited kept past taken new report inputs outputs owed accepted tell uncrow
 
 pub ready-here : (made own now : CoreState) (ready : CoreEdit) (edit : PreparedEdit) (moves : Moves) (room : List Change) (capacity : ℕ) → IsReady made edit moves room capacity
     → (let seen : CoreEdit = record { core = made; edit = edit } in seen) ≡ ready → ready.core ≡ now → own ≡ now → IsReady own edit moves room capacity
-ready-here made own now ready edit moves room capacity is view asked sees =
-    subst (λ (core : CoreState). IsReady core edit moves room capacity) (ap (λ (one : CoreEdit). one.core) view ∙ asked ∙ sym sees) is
+ready-here made own now ready edit moves room capacity is view asked sees = search rules
 
 pub table-leads : (core : CoreState) (edit : PreparedEdit) (moves : Moves) (room : List Change) (capacity : ℕ) → IsReady core edit moves room capacity → IsPrepared edit → table_after moves ≡ table_of (line edit.new)
-table-leads core edit moves room capacity ready prepared =
-    let swap = edit.report.swap.change in
-    ap (λ said. swapped said moves.before) ready.change ∙ ap (swapped swap) ready.table ∙ ap (λ (state : State). swapped swap (table_of (line state))) (sym ready.made) ∙ prepared.told.leads
+table-leads core edit moves room capacity ready prepared = search rules
 
 pub new-project : (edit : PreparedEdit) → IsPrepared edit → lowest_fault (groups_of edit.new.groups) ≡ None
 new-project edit prepared = accepted-project edit.old edit.new edit.report.swap.edit prepared.project prepared.accepted
@@ -201,5 +183,4 @@ agree-carried kept past taken edit moves room capacity inputs outputs owed ready
 -- room that was taken for the changes of a core suffices for them and one more
 
 pub count-waiting : (taken past : Record) (changes : List Change) → TellNews taken past changes → length (news_of past) ≡ length (news_of taken) + length changes
-count-waiting taken past changes tells =
-    ap (λ news. length news) tells.told ∙ length-append (news_of taken) (map told_by changes) ∙ ap (λ n. length (news_of taken) + n) (length-map changes told_by)
+count-waiting taken past changes tells = search (rules, length-append, length-map)

@@ -1,8 +1,8 @@
 -- Which frames can be filled, and what `fill` asks for.
-use Rattle.std.proofs.Common.{◌≡◌, ℕ, ◌+◌, ◌<◌, ◌≤◌, ◌&&◌, nat_lt, Bool, true, false, cond, List, [], ◌∷◌, length, map, refl, sym, ap, ◌∙◌, subst, arith, Option, Some, None}
-use Rattle.std.specs.Prelude.{All, IfOk, IfSome, OnOk, Result, Ok, Err, sum_by}
+use Rattle.std.proofs.Common.{◌≡◌, ℕ, ◌+◌, ◌<◌, ◌≤◌, ◌&&◌, nat_lt, Bool, false, cond, List, [], ◌∷◌, length, refl, sym, ap, ◌∙◌, subst, arith, Option, Some, None, rules}
+use Rattle.std.specs.Prelude.{All, IfOk, IfSome, OnOk, Result, sum_by}
 use Rattle.std.specs.List.{flat_map, range_with_len}
-use Rattle.std.proofs.lemmas.Bool.{ltb-false, ltb-true, not-true}
+use Rattle.std.proofs.lemmas.Bool.{ltb-false}
 use Rattle.std.proofs.lemmas.List.Elements.{All-cons, All-head, All-nil, All-tail, All-weaker}
 use Rattle.std.proofs.lemmas.List.Sums.{sum_by-cons}
 use Rattle.hc_records.specs.declared.limits.TheConstants.{TASKS}
@@ -19,8 +19,7 @@ use Rattle.hc_events.specs.Owed.{owed_blocks}
 use Rattle.hc_events.specs.Points.{line_of, next_serial, state_of}
 use Rattle.hc_events.specs.Sendings.{Frame, Named, alone, length_of, sendings_of, task_datagrams}
 use Rattle.hc_events.specs.declared.answer.Answer.TheVariants as answer
-use Rattle.hc_events.specs.declared.faults.CoreFault.{CoreFault}
-use Rattle.hc_events.specs.Steps.{has_serials, kept_if, proposal, sent_text, task_faults, unless, with_sent}
+use Rattle.hc_events.specs.Steps.{has_serials, proposal, task_faults}
 use Rattle.hc_events.proofs.lemmas.Accepted.{proposal-stands}
 use Rattle.hc_events.proofs.lemmas.Frames.{frames-counted, proposals-numbered}
 use Rattle.hc_events.proofs.lemmas.SentBits.{sent-data}
@@ -40,8 +39,7 @@ abbrev HasTask : Named → Type 0
 HasTask named = named.0 < TASKS
 
 pub known-tasks : (past : Record) (names : List Named) → lowest_fault (groups_of (state_of past).groups) ≡ None → All (StandsIn (line_of past)) names → All (λ named. named.0 < TASKS) names
-known-tasks past names project stands =
-    All-weaker (StandsIn (line_of past)) HasTask (λ named there. standing-task (state_of past) named.0 named.1 project there) names stands
+known-tasks past names project stands = search (rules, All-weaker, standing-task)
 
 -- the bytes of what is carried
 
@@ -63,8 +61,7 @@ below_number : (frames : List Frame) (serial most : ℕ) → numbers_of frames �
 below_number [] serial most numbers left = All-nil (λ (frame : Frame). frame.serial < most)
 below_number (frame ∷ frames) serial most numbers left =
     let first = first-number frame (numbers_of frames) serial (range_with_len (serial + 1) (length frames)) numbers in
-    let is = first.0 in
-    All-cons (λ (one : Frame). one.serial < most) frame frames (omega (arith, is, left)) (below_number frames (serial + 1) most first.1 (omega (arith, left)))
+    All-cons (λ (one : Frame). one.serial < most) frame frames (omega (arith, left)) (below_number frames (serial + 1) most first.1 (omega (arith, left)))
 
 pub proposal-filled : (past : Record) (tasks : List ℕ) → lowest (task_faults past tasks) ≡ None → All (CanBeFilled past) (proposal past tasks)
 proposal-filled past tasks none =
@@ -82,21 +79,10 @@ proposal-few past tasks none = few-frames (next_serial past) (length (proposal p
 
 pub proposed-as : (past : Record) (state : State) (serial owed : ℕ) (tasks : List ℕ) → state ≡ state_of past → serial ≡ next_serial past → owed ≡ length (owed_blocks past) → AreSentTogether tasks
     → (frames : List Frame) → frames ≡ sendings_of (line state) serial tasks → lowest (sending_faults (line state) serial owed tasks) ≡ None → IsProposal past frames
-proposed-as past state serial owed tasks same number count together frames is none =
-    let faults : lowest (sending_faults (line state) serial owed tasks) ≡ lowest (task_faults past tasks) =
-    ap (λ (s : State). lowest (sending_faults (line s) serial owed tasks)) same
-    ∙ ap (λ (n : ℕ). lowest (sending_faults (line_of past) n owed tasks)) number
-    ∙ ap (λ (n : ℕ). lowest (sending_faults (line_of past) (next_serial past) n tasks)) count in
-    record {
-      tasks = tasks;
-      together = together;
-      accepted = sym faults ∙ none;
-      whole = is ∙ ap (λ (s : State). sendings_of (line s) serial tasks) same ∙ ap (λ (n : ℕ). sendings_of (line_of past) n tasks) number;
-    }
+proposed-as past state serial owed tasks same number count together frames is none = search rules
 
 pub if-proposed : {X E : Type 0} (P : X → Type 0) (Q : Type 0) (R : X → Type 0) (result : Result X E) → ((x : X) → P x → Q → R x) → IfOk result P → OnOk result Q → IfOk result R
-if-proposed P Q R (Ok x) next is on = next x is on
-if-proposed P Q R (Err e) next is on = tt
+if-proposed P Q R result next is on = search rules
 
 -- a preview
 
@@ -108,24 +94,13 @@ alone_counted n = omega arith
 
 shown_filled : (past : Record) (task d : ℕ) (frame : Frame) (there left : Bool) → nat_lt d (datagram_count (task_places task (line_of past))) ≡ there → has_serials past 1 ≡ left
     → cond (there && left) (Some (alone (next_serial past) (task, d) (length_of (line_of past) (task, d)))) None ≡ Some frame → CanBeFilled past frame
-shown_filled past task d frame false left stands serials e = cc
-shown_filled past task d frame true false stands serials e = cc
-shown_filled past task d frame true true stands serials e =
-    let one = alone (next_serial past) (task, d) (length_of (line_of past) (task, d)) in
-    let can : CanBeFilled past one = record {
-      stands = All-cons (StandsIn (line_of past)) (task, d) [] (ltb-true d (datagram_count (task_places task (line_of past))) stands) (All-nil (StandsIn (line_of past)));
-      counted = alone_counted (12 + length_of (line_of past) (task, d));
-      serial = one_left (next_serial past) SETUP_SERIAL (not-true (nat_lt SETUP_SERIAL (next_serial past + 1)) serials);
-    } in
-    let same : one ≡ frame = cc in
-    subst (CanBeFilled past) same can
+shown_filled past task d frame there left stands serials e = search rules
 
 previews : (past : Record) (task d : ℕ) (frame : Frame) → preview past task d ≡ Some frame → CanBeFilled past frame
 previews past task d frame e = shown_filled past task d frame (nat_lt d (datagram_count (task_places task (line_of past)))) (has_serials past 1) refl refl e
 
 pub preview-filled : (past : Record) (task d : ℕ) (found : Option Frame) → found ≡ preview past task d → IfSome found (CanBeFilled past)
-preview-filled past task d None e = tt
-preview-filled past task d (Some frame) e = previews past task d frame (sym e)
+preview-filled past task d found e = search rules
 
 -- proposed, filled and committed they are the event
 
@@ -133,10 +108,6 @@ pub pieces : PiecesAreTheEvent
 pieces past frames is = record {
   filled = subst (All (CanBeFilled past)) (sym is.whole) (proposal-filled past is.tasks is.accepted);
   few = subst (λ (all : List Frame). length all ≤ SETUP_SERIAL) (sym is.whole) (proposal-few past is.tasks is.accepted);
-  answer =
-      ap (λ (refused : Option CoreFault). unless refused (answer.Sent (map (sent_text past) (proposal past is.tasks)))) is.accepted
-      ∙ ap (λ (all : List Frame). answer.Sent (map (sent_text past) all)) (sym is.whole);
-  entries =
-      ap (λ (refused : Option CoreFault). kept_if refused past (with_sent past (proposal past is.tasks))) is.accepted
-      ∙ ap (with_sent past) (sym is.whole);
+  answer = search rules;
+  entries = search rules;
 }

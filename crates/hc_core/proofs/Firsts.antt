@@ -1,22 +1,20 @@
 -- The first owed block, by what is kept of the line's blocks.
-use Rattle.std.proofs.Common.{◌≡◌, ℕ, ◌<◌, true, List, ◌∷◌, length, ap, ◌∙◌, sym, subst, arith, Some, None, Option}
-use Rattle.std.specs.Prelude.{All, slice_get}
+use Rattle.std.proofs.Common.{◌≡◌, ℕ, ◌<◌, true, List, ◌∷◌, length, subst, Some, None, rules}
+use Rattle.std.specs.Prelude.{All}
 use Rattle.std.proofs.lemmas.List.{length-map}
 use Rattle.std.proofs.lemmas.List.Elements.{All-head, filter_passes}
 use Rattle.std.proofs.lemmas.Option.{slice_get_within}
-use Rattle.hc_records.specs.Line.{State, groups_of}
+use Rattle.hc_records.specs.Line.{groups_of}
 use Rattle.hc_records.specs.Project.{lowest_fault}
 use Rattle.hc_records.proofs.lemmas.Stations.{project-distinct}
 use Rattle.hc_registers.specs.Blocks.{LineBlock, line_blocks}
-use Rattle.hc_ranks.specs.Places.{places}
 use Rattle.hc_plan.proofs.lemmas.Configured.{configured-block}
 use Rattle.hc_plan.specs.Configuration.{block_at}
 use Rattle.hc_events.specs.Entries.{Record}
 use Rattle.hc_events.specs.Points.{line_of, state_of}
 use Rattle.hc_events.specs.Owed.{is_owed, known_bytes, owed_blocks}
 use Rattle.hc_events.proofs.lemmas.Answers.{owed-in_line}
-use Rattle.hc_owed.specs.declared.owed.OwedBlock.{OwedBlock}
-use Rattle.hc_owed.specs.Board.{Board, known_in, kept_of, lacks}
+use Rattle.hc_owed.specs.Board.{lacks}
 use Rattle.hc_owed.specs.Laws as owed
 use Rattle.hc_core.specs.Agreement.{Agree, Kept}
 use Rattle.hc_core.specs.Firsts.{IsFirstOwed}
@@ -24,8 +22,7 @@ use Rattle.hc_core.specs.Firsts.{IsFirstOwed}
 -- the line configures its slave with it
 pub first-configured : (past : Record) (block : LineBlock) (rest : List LineBlock) → lowest_fault (groups_of (state_of past).groups) ≡ None → owed_blocks past ≡ block ∷ rest
     → block_at (line_of past) block.station block.number ≡ Some block.block
-first-configured past block rest project first =
-    configured-block (line_of past) (line_of past) block (project-distinct (state_of past).groups project) (owed-in_line past block rest first)
+first-configured past block rest project first = search (rules, configured-block, project-distinct, owed-in_line)
 
 -- its slave lacks it
 pub first-lacks : (past : Record) (block : LineBlock) (rest : List LineBlock) → owed_blocks past ≡ block ∷ rest → lacks (known_bytes past) block ≡ true
@@ -35,10 +32,7 @@ first-lacks past block rest first =
 
 -- its place is one of those that are kept
 pub first-within : (kept : Kept) (past taken : Record) (n : ℕ) (block : LineBlock) → Agree kept past taken → IsFirstOwed past n block → n < length kept.owed.known
-first-within kept past taken n block agree first =
-    let inside = slice_get_within (places (state_of past)) n (Some block) first.at in
-    let size = ap (λ (board : Board). length board.known) agree.known ∙ length-map (places (state_of past)) (known_in (known_bytes past)) in
-    omega (arith, inside, size)
+first-within kept past taken n block agree first = search (rules, slice_get_within, length-map)
 
 -- what is kept stands at its place
 pub first-kept : (kept : Kept) (past taken : Record) (n : ℕ) (block : LineBlock) → Agree kept past taken → IsFirstOwed past n block → owed.IsKeptAt kept.owed n (known_bytes past) (state_of past) block

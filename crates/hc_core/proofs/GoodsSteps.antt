@@ -1,5 +1,5 @@
 -- The good answers of an arrival, outcome by outcome.
-use Rattle.std.proofs.Common.{◌≡◌, ℕ, ◌+◌, ◌<◌, ◌≤◌, List, [], ◌∷◌, ◌++◌, drop, drop-cons, add-one, get_or, length, refl, ap, ◌∙◌, subst}
+use Rattle.std.proofs.Common.{◌≡◌, ℕ, ◌+◌, ◌<◌, ◌≤◌, List, [], ◌∷◌, ◌++◌, drop, drop-cons, add-one, get_or, length, refl, ap, ◌∙◌, subst, rules}
 use Rattle.std.specs.Prelude.{All}
 use Rattle.std.proofs.lemmas.List.{drop_all}
 use Rattle.std.proofs.lemmas.List.Elements.{All-head}
@@ -17,10 +17,7 @@ parts-back start (part ∷ parts) = ap (λ rest. part ∷ rest) (parts-back (sta
 
 pub goods-step : (outcomes : List Outcome) (i : ℕ) (d : Outcome) (parts rest : List Placed) (part : Placed) → i < length outcomes → parts ≡ part ∷ rest
     → goods_in (drop i outcomes) (parts_of parts) ≡ good_of (get_or outcomes i d) part.carried ++ goods_in (drop (i + 1) outcomes) (parts_of rest)
-goods-step outcomes i d parts rest part within split =
-    let first : drop i outcomes ≡ get_or outcomes i d ∷ drop (i + 1) outcomes = rw add-one (drop-cons outcomes i d within) in
-    ap (λ all. goods_in (drop i outcomes) (parts_of all)) split
-    ∙ ap (λ all. goods_in all (part.carried ∷ parts_of rest)) first
+goods-step outcomes i d parts rest part within split = search (rules, add-one, drop-cons)
 
 no_parts : (outcomes : List Outcome) → goods_in outcomes [] ≡ []
 no_parts [] = refl

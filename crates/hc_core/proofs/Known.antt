@@ -1,25 +1,24 @@
 -- Which bytes blocks are known to have, behind each entry.
-use Rattle.std.proofs.Common.{◌≡◌, ℕ, ◌==◌, ◌≤◌, Bool, true, false, cond, ◌&&◌, ◌||◌, List, [], ◌∷◌, ◌++◌, map, refl, sym, ap, ◌∙◌, arith, Option, Some, None}
+use Rattle.std.proofs.Common.{◌≡◌, ℕ, ◌==◌, ◌≤◌, Bool, true, false, cond, ◌&&◌, ◌||◌, List, [], ◌∷◌, ◌++◌, map, refl, sym, ap, ◌∙◌, arith, Option, Some, None, rules}
 use Rattle.std.specs.Prelude.{option_and_then}
 use Rattle.std.specs.List.{list_any}
-use Rattle.std.proofs.lemmas.Bool.{and_parts, eq-eqb, eqb-true}
+use Rattle.std.proofs.lemmas.Bool.{and_parts, eqb-true}
 use Rattle.hc_records.specs.declared.edit.Edit.{Edit}
 use Rattle.hc_records.specs.Line.{State}
 use Rattle.hc_registers.specs.Blocks.{LineBlock}
-use Rattle.hc_ranks.specs.Places.{places}
 use Rattle.hc_plan.specs.Reports.{name_of}
 use Rattle.hc_events.specs.Arrivals.{Arrival}
-use Rattle.hc_events.specs.Entries.{Entry, Record, Opened, Edited, Posted, Sent, Wrote, Came}
+use Rattle.hc_events.specs.Entries.{Entry, Record, Opened, Edited, Wrote, Came}
 use Rattle.hc_events.specs.Points.{next_serial, state_of}
 use Rattle.hc_events.specs.Heads.{Block, Head, block_item, is_block, same_item, write_head}
 use Rattle.hc_events.specs.Answering.{Sending, has_good, judged_by, sending_of}
 use Rattle.hc_events.specs.Awaited.{alive, awaited, is_write}
-use Rattle.hc_events.specs.Owed.{if_confirmed, is_in_line, known_bytes, last_write, was_confirmed}
+use Rattle.hc_events.specs.Owed.{if_confirmed, is_in_line, known_bytes, last_write}
 use Rattle.hc_events.specs.SendingLaws.{is_opening}
-use Rattle.hc_events.proofs.lemmas.Awaited.{by_bool, same_is}
+use Rattle.hc_events.proofs.lemmas.Awaited.{by_bool}
 use Rattle.hc_events.proofs.lemmas.OneWrite.{awaited-heads, known-same, unconfirmed}
 use Rattle.hc_events.proofs.lemmas.Standing.{found-under}
-use Rattle.hc_owed.specs.Board.{Board, Knowledge, differs, kept_of, known_in, owed_in}
+use Rattle.hc_owed.specs.Board.{Knowledge, kept_of, known_in, owed_in}
 use Rattle.hc_owed.specs.Laws.{known_over, known_with, same_name}
 
 -- what is kept by the same knowledge is the same
@@ -29,17 +28,13 @@ map_alike f g k [] = refl
 map_alike f g k (x ∷ xs) = ap (λ y. y ∷ map f xs) (k x) ∙ ap (λ ys. g x ∷ ys) (map_alike f g k xs)
 
 known_same : (a b : Knowledge) → ((station number : ℕ) → a station number ≡ b station number) → (place : Option LineBlock) → known_in a place ≡ known_in b place
-known_same a b same None = refl
-known_same a b same (Some block) = same block.station block.number
+known_same a b same number = search rules
 
 owed_same : (a b : Knowledge) → ((station number : ℕ) → a station number ≡ b station number) → (place : Option LineBlock) → owed_in a place ≡ owed_in b place
-owed_same a b same None = refl
-owed_same a b same (Some block) = ap (differs block.block.bytes) (same block.station block.number)
+owed_same a b same number = search rules
 
 pub kept-alike : (a b : Knowledge) (state : State) → ((station number : ℕ) → a station number ≡ b station number) → kept_of a state ≡ kept_of b state
-kept-alike a b state same =
-    ap (λ (known : List (Option (List ℕ))). let board : Board = record (kept_of a state) { known = known } in board) (map_alike (known_in a) (known_in b) (known_same a b same) (places state))
-    ∙ ap (λ (owed : List Bool). let board : Board = record (kept_of b state) { owed = owed } in board) (map_alike (owed_in a) (owed_in b) (owed_same a b same) (places state))
+kept-alike a b state same = search rules
 
 -- where the last write of a block stands
 
@@ -73,9 +68,6 @@ stands_last (Edited edit ∷ past) station number write e =
     by_bool (is_in_line past station)
     (λ t. behind (Edited edit) past station number write refl (stands_last past station number write (sym (ap (λ b. cond b (last_write past station number) None) t) ∙ e)))
     (λ t. let never : None ≡ Some write = sym (ap (λ b. cond b (last_write past station number) None) t) ∙ e in cc)
-stands_last (Posted task bytes ∷ past) station number write e = behind (Posted task bytes) past station number write refl (stands_last past station number write e)
-stands_last (Sent frame ∷ past) station number write e = behind (Sent frame) past station number write refl (stands_last past station number write e)
-stands_last (Came arrival ∷ past) station number write e = behind (Came arrival) past station number write refl (stands_last past station number write e)
 stands_last (Wrote block ∷ past) station number write e =
     by_bool (same_item (Block station number) (block_item block))
     (λ t. record {
@@ -88,6 +80,7 @@ stands_last (Wrote block ∷ past) station number write e =
       serial = serial_first (next_serial past) block.block.bytes write (sym (ap (λ b. cond b (Some (next_serial past, block.block.bytes)) (last_write past station number)) t) ∙ e);
     })
     (λ t. behind (Wrote block) past station number write refl (stands_last past station number write (sym (ap (λ b. cond b (Some (next_serial past, block.block.bytes)) (last_write past station number)) t) ∙ e)))
+stands_last (other ∷ past) station number write e = behind other past station number write refl (stands_last past station number write e)
 
 -- what is awaited with its serial is this write
 
@@ -100,17 +93,14 @@ awaited_last : (past : Record) (station number : ℕ) (write : ℕ × List ℕ) 
 awaited_last past station number write sending e there =
     let last = stands_last past station number write e in
     let made : Sending = record { heads = write_head last.block ∷ []; since = last.since } in
-    let found : sending_of past write.0 ≡ Some made =
-    ap (sending_of past) last.serial ∙ ap (λ entries. sending_of entries (next_serial last.before)) last.split ∙ found-under last.since last.before (Wrote last.block) refl last.running in
+    let found : sending_of past write.0 ≡ Some made = search (rules, found-under) in
     record { block = last.block; heads = awaited-heads write.0 made sending (sym (ap (option_and_then (alive write.0)) found) ∙ there); same = last.same }
 
 -- an arrival makes no other bytes known where it is no good answer to the last write
 
 came_same : (past : Record) (arrival : Arrival) (found : Option (ℕ × List ℕ)) → ((write : ℕ × List ℕ) → found ≡ Some write → (arrival.serial == write.0) ≡ false)
     → option_and_then (if_confirmed (Came arrival ∷ past)) found ≡ option_and_then (if_confirmed past) found
-came_same past arrival None other = refl
-came_same past arrival (Some write) other =
-    ap (λ b. cond ((b && list_any has_good (judged_by past arrival)) || was_confirmed past write.0) (Some write.1) None) (other write refl)
+came_same past arrival found other = search rules
 
 -- so it is where a frame of tasks is answered
 
@@ -138,12 +128,7 @@ one_head : (a b : LineBlock) → write_head a ∷ [] ≡ write_head b ∷ [] →
 one_head a b e = let same : write_head a ≡ write_head b = cc in ap (λ (head : Head). head.item) same
 
 turned : (a b : ℕ) → (a == b) ≡ (b == a)
-turned a b =
-    by_bool (a == b)
-    (λ t. t ∙ sym (eq-eqb b a (sym (eqb-true a b t))))
-    (λ t. by_bool (b == a)
-    (λ u. let never : true ≡ false = sym (eq-eqb a b (sym (eqb-true b a u))) ∙ t in cc)
-    (λ u. t ∙ sym u))
+turned a b = search rules
 
 name_turned : (a b c d : ℕ) → ((a == b) && (c == d)) ≡ ((b == a) && (d == c))
 name_turned a b c d = ap (λ t. t && (c == d)) (turned a b) ∙ ap (λ t. (b == a) && t) (turned c d)
@@ -154,10 +139,7 @@ pub known-done : (past : Record) (arrival : Arrival) (sending : Sending) (block 
 known-done past arrival sending block there heads last good station number =
     by_bool (same_name (name_of block) (station, number))
     (λ t. let both = and_parts (block.station == station) (block.number == number) t in
-    let known : known_bytes (Came arrival ∷ past) block.station block.number ≡ Some block.block.bytes =
-    ap (option_and_then (if_confirmed (Came arrival ∷ past))) last
-    ∙ ap (λ b. cond ((b && list_any has_good (judged_by past arrival)) || was_confirmed past arrival.serial) (Some block.block.bytes) None) (same_is arrival.serial)
-    ∙ ap (λ b. cond (b || was_confirmed past arrival.serial) (Some block.block.bytes) None) good in
+    let known : known_bytes (Came arrival ∷ past) block.station block.number ≡ Some block.block.bytes = search rules in
     ap (λ n. known_bytes (Came arrival ∷ past) n number) (sym (eqb-true block.station station both.0))
     ∙ ap (known_bytes (Came arrival ∷ past) block.station) (sym (eqb-true block.number number both.1))
     ∙ known
@@ -176,19 +158,12 @@ at_least : (n : ℕ) → n ≤ n
 at_least n = omega arith
 
 pub known-wrote : (past : Record) (block : LineBlock) (station number : ℕ) → known_bytes (Wrote block ∷ past) station number ≡ known_with (name_of block) None (known_bytes past) station number
-known-wrote past block station number =
-    by_bool (same_item (Block station number) (block_item block))
-    (λ t. ap (λ b. option_and_then (if_confirmed (Wrote block ∷ past)) (cond b (Some (next_serial past, block.block.bytes)) (last_write past station number))) t
-    ∙ ap (λ b. cond b (Some block.block.bytes) None) (unconfirmed past (next_serial past) (at_least (next_serial past)))
-    ∙ sym (ap (λ b. cond b None (known_bytes past station number)) (name_turned block.station station block.number number ∙ t)))
-    (λ t. ap (λ b. option_and_then (if_confirmed (Wrote block ∷ past)) (cond b (Some (next_serial past, block.block.bytes)) (last_write past station number))) t
-    ∙ sym (ap (λ b. cond b None (known_bytes past station number)) (name_turned block.station station block.number number ∙ t)))
+known-wrote past block station number = search (rules, by_bool, unconfirmed, at_least, name_turned)
 
 -- behind an edit the same is known of the slaves that were in the line
 
 over_line : (past : Record) (inside : Bool) (found : Option (ℕ × List ℕ)) → option_and_then (if_confirmed past) (cond inside found None) ≡ cond inside (option_and_then (if_confirmed past) found) None
-over_line past true found = refl
-over_line past false found = refl
+over_line past inside found = search rules
 
 pub known-edited : (past : Record) (edit : Edit) (station number : ℕ) → known_bytes (Edited edit ∷ past) station number ≡ known_over (state_of past) (known_bytes past) station number
 known-edited past edit station number = over_line past (is_in_line past station) (last_write past station number)

@@ -1,5 +1,5 @@
 -- What a task reads of a datagram is its last good answer.
-use Rattle.std.proofs.Common.{◌≡◌, ◌⊎◌, inl, inr, ℕ, zero, suc, ◌+◌, ◌<◌, ◌==◌, Bool, true, false, cond, ◌&&◌, ◌||◌, List, [], ◌∷◌, ◌++◌, length, map, slice_get, refl, sym, ap, ◌∙◌, subst, arith, Option, Some, None}
+use Rattle.std.proofs.Common.{◌≡◌, ◌⊎◌, inl, inr, ℕ, zero, suc, ◌+◌, ◌<◌, ◌==◌, Bool, true, false, cond, ◌&&◌, ◌||◌, List, [], ◌∷◌, ◌++◌, length, map, slice_get, refl, sym, ap, ◌∙◌, subst, arith, Option, Some, None, rules}
 use Rattle.std.specs.Prelude.{All, fold}
 use Rattle.std.specs.Option.{option_map_or}
 use Rattle.std.specs.List.{flat_map, list_any, range_with_len, zip}
@@ -11,7 +11,7 @@ use Rattle.hc_records.specs.Image.{datagram_count, expected_counter, task_places
 use Rattle.hc_registers.specs.Blocks.{LineBlock}
 use Rattle.hc_events.specs.declared.faults.CoreFault.TheVariants.{NoSuchTask}
 use Rattle.hc_events.specs.Arrivals.{Arrival, Part}
-use Rattle.hc_events.specs.Entries.{Entry, Record, Opened, Edited, Posted, Sent, Wrote, Came}
+use Rattle.hc_events.specs.Entries.{Entry, Record, Opened, Edited, Sent, Wrote, Came}
 use Rattle.hc_events.specs.Points.{epoch_of, line_of, next_serial}
 use Rattle.hc_events.specs.Sendings.{Named}
 use Rattle.hc_events.specs.Heads.{Datagram, Head, data_head, data_heads, item_of, write_head}
@@ -51,9 +51,7 @@ same_sending : (a b : Sending) → Some a ≡ Some b → a ≡ b
 same_sending a b e = cc
 
 same_split : (since : List Entry) (one other : Entry) (a b : Record) → since ++ one ∷ a ≡ since ++ other ∷ b → (one ≡ other) × (a ≡ b)
-same_split [] one other a b e =
-    let same : one ∷ a ≡ other ∷ b = e in
-    (cc, cc)
+same_split [] one other a b e = search rules
 same_split (entry ∷ since) one other a b e =
     let same : entry ∷ (since ++ one ∷ a) ≡ entry ∷ (since ++ other ∷ b) = e in
     let rest : since ++ one ∷ a ≡ since ++ other ∷ b = cc in
@@ -81,13 +79,10 @@ is_own since line task d named part = has_good (judge since (data_head line name
 
 fold_one : (task d : ℕ) (slot : Option (List ℕ)) (good : Bool) (named : Named) (bytes : List ℕ) (rest : List Fresh)
     → fold (renewed task d) slot (cond good (fresh_item (item_of named) bytes) [] ++ rest) ≡ fold (renewed task d) (cond (good && ((named.0 == task) && (named.1 == d))) (Some bytes) slot) rest
-fold_one task d slot true named bytes rest = refl
-fold_one task d slot false named bytes rest = refl
+fold_one task d slot good named bytes rest = search rules
 
 good_means : (again same : Bool) → is_good (cond again Stale (cond same Good Wrong)) ≡ true → (again ≡ false) × (same ≡ true)
-good_means true same good = cc
-good_means false true good = (refl, refl)
-good_means false false good = cc
+good_means again same good = search rules
 
 named_is : (named : Named) (task d : ℕ) → named.0 ≡ task → named.1 ≡ d → named ≡ (task, d)
 named_is (t, e) task d first second = ap (λ (n : ℕ). (n, e)) first ∙ ap (λ (n : ℕ). (task, n)) second
@@ -108,25 +103,19 @@ its_own : (task d : ℕ) → ((task == task) && (d == d)) ≡ true
 its_own task d = grind (arith, nat_tests)
 
 here_own : (since : List Entry) (line : List Member) (task d : ℕ) (part : Part) → list_any (sends (Datagram task d)) since ≡ false → part.counter ≡ expected_counter task d line → is_own since line task d (task, d) part ≡ true
-here_own since line task d part newest counter =
-    ap (λ again. is_good (cond again Stale (cond (part.counter == expected_counter task d line) Good Wrong)) && ((task == task) && (d == d))) newest
-    ∙ ap (λ same. is_good (cond same Good Wrong) && ((task == task) && (d == d))) (eq-eqb part.counter (expected_counter task d line) counter)
-    ∙ its_own task d
+here_own since line task d part newest counter = search (rules, eq-eqb, its_own)
 
 some_same : (a b : Named × Part) → Some a ≡ Some b → a ≡ b
 some_same a b e = cc
 
 same_pair : (pair other : Named × Part) → Some pair ≡ Some other → (pair.0 ≡ other.0) × (pair.1 ≡ other.1)
-same_pair pair other e =
-    let same = some_same pair other e in
-    (ap (λ (one : Named × Part). one.0) same, ap (λ (one : Named × Part). one.1) same)
+same_pair pair other e = search (rules, some_same)
 
 not_here : (since : List Entry) (line : List Member) (task d : ℕ) (named : Named) (part other : Part) (pairs : List (Named × Part)) → is_own since line task d named part ≡ false → GoodAt since line task d ((named, part) ∷ pairs) 0 other → ⊥
 not_here since line task d named part other pairs none good =
     let same = same_pair (named, part) ((task, d), other) good.at in
     let own = here_own since line task d other good.newest good.counter in
-    let is : is_own since line task d named part ≡ is_own since line task d (task, d) other =
-    ap (λ (one : Named). is_own since line task d one part) same.0 ∙ ap (λ (one : Part). is_own since line task d (task, d) one) same.1 in
+    let is : is_own since line task d named part ≡ is_own since line task d (task, d) other = search rules in
     let never : false ≡ true = sym none ∙ is ∙ own in
     cc
 
@@ -138,15 +127,11 @@ behind_it since line task d pair pairs n part good = record { at = good.at; newe
 
 later_none : (since : List Entry) (line : List Member) (task d : ℕ) (pair : Named × Part) (pairs : List (Named × Part)) (n : ℕ) → ((m : ℕ) (other : Part) → n < m → ¬ (GoodAt since line task d pairs m other))
     → (m : ℕ) (other : Part) → suc n < m → GoodAt since line task d (pair ∷ pairs) m other → ⊥
-later_none since line task d pair pairs n none zero other less good = absurd (omega (arith, less))
-later_none since line task d pair pairs n none (suc m) other less good =
-    let lower : n < m = omega (arith, less) in
-    none m other lower (behind_it since line task d pair pairs m other good)
+later_none since line task d pair pairs n none m other less good = search (rules, behind_it)
 
 all_none : (since : List Entry) (line : List Member) (task d : ℕ) (pair : Named × Part) (pairs : List (Named × Part)) → ((m : ℕ) (other : Part) → ¬ (GoodAt since line task d pairs m other))
     → (m : ℕ) (other : Part) → 0 < m → GoodAt since line task d (pair ∷ pairs) m other → ⊥
-all_none since line task d pair pairs none zero other less good = absurd (omega (arith, less))
-all_none since line task d pair pairs none (suc m) other less good = none m other (behind_it since line task d pair pairs m other good)
+all_none since line task d pair pairs none m other less good = search (rules, behind_it)
 
 none_more : (since : List Entry) (line : List Member) (task d : ℕ) (named : Named) (part : Part) (pairs : List (Named × Part)) → is_own since line task d named part ≡ false → ((m : ℕ) (other : Part) → ¬ (GoodAt since line task d pairs m other))
     → (m : ℕ) (other : Part) → GoodAt since line task d ((named, part) ∷ pairs) m other → ⊥
@@ -184,10 +169,7 @@ told_goods since line task d [] parts slot = inr (refl, nothing_at since line ta
 told_goods since line task d (named ∷ frame) [] slot = inr (refl, nothing_at since line task d)
 told_goods since line task d (named ∷ frame) (part ∷ parts) slot =
     let next = cond (is_own since line task d named part) (Some part.bytes) slot in
-    let rest = flat_map fresh (map (judge since) (zip (data_heads line frame) parts)) in
-    let more = told_more since line task d named part (zip frame parts) slot (slot_behind since line task d frame parts next) (is_own since line task d named part) refl (told_goods since line task d frame parts next) in
-    let same = fold_one task d slot (has_good (judge since (data_head line named, part))) named part.bytes rest in
-    subst (λ (found : Option (List ℕ)). LastAt since line task d (zip (named ∷ frame) (part ∷ parts)) found ⊎ NoneAt since line task d (zip (named ∷ frame) (part ∷ parts)) slot found) (sym same) more
+    search (rules, told_more, fold_one, told_goods since line task d frame parts next)
 
 -- what an arrival leaves of them
 
@@ -215,12 +197,7 @@ record IsThatSending (past : Record) (arrival : Arrival) (back : CameBack past a
 
 that_sending : (past : Record) (arrival : Arrival) (back : CameBack past arrival) (sending : Sending) (entry : Entry) (before : Record) → answered_by past arrival ≡ Some sending → past ≡ sending.since ++ entry ∷ before
     → IsThatSending past arrival back sending.since entry before
-that_sending past arrival back sending entry before found split =
-    let one = same_sending sending (record { heads = data_heads (line_of back.before) back.frame; since = back.since }) (sym found ∙ answered_back past arrival back) in
-    let since : sending.since ≡ back.since = ap (λ (s : Sending). s.since) one in
-    let same = same_split sending.since entry (Sent back.frame) before back.before
-    (sym split ∙ subst (λ (entries : List Entry). past ≡ entries ++ Sent back.frame ∷ back.before) (sym since) back.sent) in
-    record { since_is = since; entry_is = same.0; before_is = same.1 }
+that_sending past arrival back sending entry before found split = search (rules, same_sending, answered_back, same_split)
 
 same_frame : (a b : List Named) → Sent a ≡ Sent b → a ≡ b
 same_frame a b e = cc
@@ -230,11 +207,7 @@ good_there : (past : Record) (arrival : Arrival) (task d : ℕ) (sending : Sendi
     → (n : ℕ) (part : Part) → IsGoodIn past arrival task d n part → GoodAt sending.since (line_of before) task d (zip frame arrival.parts) n part
 good_there past arrival task d sending frame before found split n part good =
     let is = that_sending past arrival good.back sending (Sent frame) before found split in
-    record {
-      at = subst (λ (f : List Named). slice_get (zip f arrival.parts) n ≡ Some ((task, d), part)) (sym (same_frame frame good.back.frame is.entry_is)) good.at;
-      newest = subst (λ (entries : List Entry). list_any (sends (Datagram task d)) entries ≡ false) (sym is.since_is) good.newest;
-      counter = subst (λ (behind : Record). part.counter ≡ expected_counter task d (line_of behind)) (sym is.before_is) good.counter;
-    }
+    search (rules, same_frame)
 
 good_here : (past : Record) (arrival : Arrival) (task d n : ℕ) (part : Part) (back : CameBack past arrival) → GoodAt back.since (line_of back.before) task d (zip back.frame arrival.parts) n part → IsGoodIn past arrival task d n part
 good_here past arrival task d n part back good = record { back = back; at = good.at; newest = good.newest; counter = good.counter }
@@ -256,36 +229,23 @@ abbrev no_goods : List Fresh
 no_goods = []
 
 nothing_of : (good : Bool) → cond good no_goods no_goods ++ no_goods ≡ no_goods
-nothing_of true = refl
-nothing_of false = refl
+nothing_of good = search rules
 
 write_goods : (since : List Entry) (block : LineBlock) (parts : List Part) → flat_map fresh (map (judge since) (zip (write_head block ∷ []) parts)) ≡ no_goods
-write_goods since block [] = refl
-write_goods since block (part ∷ parts) = nothing_of (has_good (judge since (write_head block, part)))
+write_goods since block parts = search (rules, nothing_of)
 
 by_entry : (past : Record) (arrival : Arrival) (task d : ℕ) (slot : Option (List ℕ)) (sending : Sending) (entry : Entry) (before : Record) → answered_by past arrival ≡ Some sending → past ≡ sending.since ++ entry ∷ before → is_sending entry ≡ true
     → next_serial before ≡ arrival.serial → sending.heads ≡ heads_of before entry → has_heads sending.heads arrival.parts ≡ true → All (LeavesOpen arrival.serial sending.heads) sending.since
     → Tells past arrival task d slot (fold (renewed task d) slot (flat_map fresh (map (judge sending.since) (zip (heads_of before entry) arrival.parts))))
-by_entry past arrival task d slot sending (Opened groups) before found split sends serial heads fit left = cc
-by_entry past arrival task d slot sending (Edited edit) before found split sends serial heads fit left = cc
-by_entry past arrival task d slot sending (Posted t bytes) before found split sends serial heads fit left = cc
-by_entry past arrival task d slot sending (Came other) before found split sends serial heads fit left = cc
 by_entry past arrival task d slot sending (Wrote block) before found split sends serial heads fit left = inr (
   ap (fold (renewed task d) slot) (write_goods sending.since block arrival.parts),
   λ m other good. let is = that_sending past arrival good.back sending (Wrote block) before found split in let never = is.entry_is in cc,
 )
 by_entry past arrival task d slot sending (Sent frame) before found split sends serial heads fit left =
-    let back : CameBack past arrival = record {
-      since = sending.since;
-      frame = frame;
-      before = before;
-      sent = split;
-      serial = sym serial;
-      fits = subst (λ (all : List Head). has_heads all arrival.parts ≡ true) heads fit;
-      first = subst (λ (all : List Head). All (LeavesOpen arrival.serial all) sending.since) heads left;
-    } in
+    let back : CameBack past arrival = search rules in
     converted past arrival task d slot (slot_behind sending.since (line_of before) task d frame arrival.parts slot) back
     (good_there past arrival task d sending frame before found split) (told_goods sending.since (line_of before) task d frame arrival.parts slot)
+by_entry past arrival task d slot sending other before found split sends serial heads fit left = cc
 
 by_answer : (past : Record) (arrival : Arrival) (task d : ℕ) (slot : Option (List ℕ)) (found : Option Sending) → answered_by past arrival ≡ found → Tells past arrival task d slot (slot_by arrival task d slot found)
 by_answer past arrival task d slot None e = inr (refl, λ m other good. let never = sym e ∙ answered_back past arrival good.back in cc)
@@ -293,8 +253,7 @@ by_answer past arrival task d slot (Some sending) e =
     let either = answers-first past arrival sending in
     let first = either.0 e in
     let at = first.stands in
-    subst (λ (heads : List Head). Tells past arrival task d slot (fold (renewed task d) slot (flat_map fresh (map (judge sending.since) (zip heads arrival.parts))))) (sym at.heads)
-    (by_entry past arrival task d slot sending at.entry at.before e at.split at.sends at.serial_is at.heads first.fits first.left_open)
+    search (rules, by_entry)
 
 arrival_tells : (past : Record) (arrival : Arrival) (task d : ℕ) (slot : Option (List ℕ)) → Tells past arrival task d slot (fold (renewed task d) slot (fresh_by past arrival))
 arrival_tells past arrival task d slot = by_answer past arrival task d slot (answered_by past arrival) refl
@@ -318,9 +277,7 @@ record Newest (entry : Entry) (past : Record) (behind : List Entry) (arrival : A
 
 popped : (entry : Entry) (past : Record) (task d : ℕ) (behind : List Entry) (arrival : Arrival) (before : Record) (place : ℕ) (part : Part) → entry ∷ past ≡ behind ++ Came arrival ∷ before → list_any begins_epoch behind ≡ false
     → IsGoodIn before arrival task d place part → Newest entry past behind arrival before ⊎ Older past task d behind place
-popped entry past task d [] arrival before place part e present good =
-    let same : entry ∷ past ≡ Came arrival ∷ before = e in
-    inl (record { none = refl; entry_is = cc; before_is = cc })
+popped entry past task d [] arrival before place part e present good = search rules
 popped entry past task d (first ∷ behind) arrival before place part e present good =
     let same : entry ∷ past ≡ first ∷ (behind ++ Came arrival ∷ before) = e in
     let tail : past ≡ behind ++ Came arrival ∷ before = cc in
@@ -344,30 +301,16 @@ pop entry past task d answer = popped entry past task d answer.behind answer.arr
 
 -- none where an epoch begins
 none_begun : (entry : Entry) (past : Record) (behind : List Entry) (arrival : Arrival) (before : Record) → begins_epoch entry ≡ true → entry ∷ past ≡ behind ++ Came arrival ∷ before → list_any begins_epoch behind ≡ false → ⊥
-none_begun entry past [] arrival before begins e present =
-    let whole : entry ∷ past ≡ Came arrival ∷ before = e in
-    let same : entry ≡ Came arrival = cc in
-    let never : false ≡ true = sym (ap begins_epoch same) ∙ begins in
-    cc
-none_begun entry past (first ∷ behind) arrival before begins e present =
-    let whole : entry ∷ past ≡ first ∷ (behind ++ Came arrival ∷ before) = e in
-    let same : entry ≡ first = cc in
-    let parts = or_parts (begins_epoch first) (list_any begins_epoch behind) present in
-    let never : false ≡ true = sym parts.0 ∙ sym (ap begins_epoch same) ∙ begins in
-    cc
+none_begun entry past [] arrival before begins e present = search rules
+none_begun entry past (first ∷ behind) arrival before begins e present = search (rules, or_parts)
 
 nothing_in : (behind : List Entry) (arrival : Arrival) (before : Record) → [] ≡ behind ++ Came arrival ∷ before → ⊥
-nothing_in [] arrival before e =
-    let same : [] ≡ Came arrival ∷ before = e in
-    cc
-nothing_in (first ∷ behind) arrival before e =
-    let same : [] ≡ first ∷ (behind ++ Came arrival ∷ before) = e in
-    cc
+nothing_in [] arrival before e = search rules
+nothing_in (first ∷ behind) arrival before e = search rules
 
 -- the same one behind another entry
 later_too : (l a b p q r : ℕ) → l ≡ suc a → p ≡ q → (l < suc b) ⊎ ((l ≡ suc b) × (r < p)) → (a < b) ⊎ ((a ≡ b) × (r < q))
-later_too l a b p q r one same (inl less) = inl (omega (arith, one, less))
-later_too l a b p q r one same (inr (equal, less)) = inr (omega (arith, one, equal), omega (arith, same, less))
+later_too l a b p q r one same later = search rules
 
 carried_on : (entry : Entry) (past : Record) (task d : ℕ) (slot : Option (List ℕ)) → begins_epoch entry ≡ false → ((answer : GoodAnswer (entry ∷ past) task d) → Older past task d answer.behind answer.place) → HasLast past task d slot → HasLast (entry ∷ past) task d slot
 carried_on entry past task d None plain older has = λ answer. let one = older answer in has one.older
@@ -390,9 +333,7 @@ carried_on entry past task d (Some bytes) plain older (answer, read, last) =
     )
 
 no_newest : (entry : Entry) (past : Record) (task d : ℕ) (behind : List Entry) (arrival : Arrival) (before : Record) (place : ℕ) → is_no_arrival entry ≡ true → Newest entry past behind arrival before ⊎ Older past task d behind place → Older past task d behind place
-no_newest entry past task d behind arrival before place plain (inl newest) =
-    let never : false ≡ true = sym (ap is_no_arrival newest.entry_is) ∙ plain in
-    absurd cc
+no_newest entry past task d behind arrival before place plain (inl newest) = search rules
 no_newest entry past task d behind arrival before place plain (inr older) = older
 
 plain_entry : (entry : Entry) (past : Record) (task d : ℕ) (slot : Option (List ℕ)) → begins_epoch entry ≡ false → is_no_arrival entry ≡ true → HasLast past task d slot → HasLast (entry ∷ past) task d slot
@@ -403,18 +344,11 @@ same_arrival : (a b : Arrival) → Came a ≡ Came b → a ≡ b
 same_arrival a b e = cc
 
 moved_good : (past before : Record) (arrival other : Arrival) (task d place : ℕ) (part : Part) → Came arrival ≡ Came other → past ≡ before → IsGoodIn before other task d place part → IsGoodIn past arrival task d place part
-moved_good past before arrival other task d place part one same good =
-    subst (λ (a : Arrival). IsGoodIn past a task d place part) (sym (same_arrival arrival other one))
-    (subst (λ (p : Record). IsGoodIn p other task d place part) (sym same) good)
+moved_good past before arrival other task d place part one same good = search (rules, same_arrival)
 
 none_later : (past : Record) (arrival : Arrival) (task d place : ℕ) → ((m : ℕ) (part : Part) → place < m → ¬ (IsGoodIn past arrival task d m part)) → (other : GoodAnswer (Came arrival ∷ past) task d)
     → Newest (Came arrival) past other.behind other.arrival other.before ⊎ Older past task d other.behind other.place → (length other.behind < 0) ⊎ ((length other.behind ≡ 0) × (place < other.place)) → ⊥
-none_later past arrival task d place none other found (inl less) = absurd (omega (arith, less))
-none_later past arrival task d place none other (inl newest) (inr (equal, less)) =
-    none other.place other.part less (moved_good past other.before arrival other.arrival task d other.place other.part newest.entry_is newest.before_is other.good)
-none_later past arrival task d place none other (inr older) (inr (equal, less)) =
-    let counted = older.counted in
-    absurd (omega (arith, counted, equal))
+none_later past arrival task d place none other found later = search (rules, moved_good)
 
 no_good : (past : Record) (arrival : Arrival) (task d : ℕ) → ((m : ℕ) (part : Part) → ¬ (IsGoodIn past arrival task d m part)) → (answer : GoodAnswer (Came arrival ∷ past) task d)
     → Newest (Came arrival) past answer.behind answer.arrival answer.before ⊎ Older past task d answer.behind answer.place → Older past task d answer.behind answer.place
@@ -444,11 +378,8 @@ has_last : (past : Record) (task d : ℕ) → HasLast past task d (slot_of past 
 has_last [] task d = λ answer. nothing_in answer.behind answer.arrival answer.before answer.came
 has_last (Opened groups ∷ past) task d = λ answer. none_begun (Opened groups) past answer.behind answer.arrival answer.before refl answer.came answer.present
 has_last (Edited edit ∷ past) task d = λ answer. none_begun (Edited edit) past answer.behind answer.arrival answer.before refl answer.came answer.present
-has_last (Posted t bytes ∷ past) task d = plain_entry (Posted t bytes) past task d (slot_of past task d) refl refl (has_last past task d)
-has_last (Sent frame ∷ past) task d = plain_entry (Sent frame) past task d (slot_of past task d) refl refl (has_last past task d)
-has_last (Wrote block ∷ past) task d = plain_entry (Wrote block) past task d (slot_of past task d) refl refl (has_last past task d)
-has_last (Came arrival ∷ past) task d =
-    came past arrival task d (slot_of past task d) (slot_of (Came arrival ∷ past) task d) (arrival_tells past arrival task d (slot_of past task d)) (has_last past task d)
+has_last (Came arrival ∷ past) task d = search (rules, came, arrival_tells, has_last past task d)
+has_last (other ∷ past) task d = plain_entry other past task d (slot_of past task d) refl refl (has_last past task d)
 
 -- in one epoch the line stays
 
@@ -456,28 +387,19 @@ line_stays : (behind : List Entry) (past : Record) → list_any begins_epoch beh
 line_stays [] past none = refl
 line_stays (Opened groups ∷ behind) past none = cc
 line_stays (Edited edit ∷ behind) past none = cc
-line_stays (Posted task bytes ∷ behind) past none = line_stays behind past none
-line_stays (Sent frame ∷ behind) past none = line_stays behind past none
-line_stays (Wrote block ∷ behind) past none = line_stays behind past none
-line_stays (Came arrival ∷ behind) past none = line_stays behind past none
+line_stays (other ∷ behind) past none = line_stays behind past none
 
 none_begins : (serial : ℕ) (heads : List Head) (since : List Entry) → All (LeavesOpen serial heads) since → list_any begins_epoch since ≡ false
 none_begins serial heads [] all = refl
 none_begins serial heads (Opened groups ∷ since) all = absurd (All-head (LeavesOpen serial heads) (Opened groups) since all)
 none_begins serial heads (Edited edit ∷ since) all = absurd (All-head (LeavesOpen serial heads) (Edited edit) since all)
-none_begins serial heads (Posted task bytes ∷ since) all = none_begins serial heads since (All-tail (LeavesOpen serial heads) (Posted task bytes) since all)
-none_begins serial heads (Sent frame ∷ since) all = none_begins serial heads since (All-tail (LeavesOpen serial heads) (Sent frame) since all)
-none_begins serial heads (Wrote block ∷ since) all = none_begins serial heads since (All-tail (LeavesOpen serial heads) (Wrote block) since all)
-none_begins serial heads (Came other ∷ since) all = none_begins serial heads since (All-tail (LeavesOpen serial heads) (Came other) since all)
+none_begins serial heads (other ∷ since) all = none_begins serial heads since (All-tail (LeavesOpen serial heads) other since all)
 
 epoch_stays : (behind : List Entry) (past : Record) → list_any begins_epoch behind ≡ false → epoch_of (behind ++ past) ≡ epoch_of past
 epoch_stays [] past none = refl
 epoch_stays (Opened groups ∷ behind) past none = cc
 epoch_stays (Edited edit ∷ behind) past none = cc
-epoch_stays (Posted task bytes ∷ behind) past none = epoch_stays behind past none
-epoch_stays (Sent frame ∷ behind) past none = epoch_stays behind past none
-epoch_stays (Wrote block ∷ behind) past none = epoch_stays behind past none
-epoch_stays (Came arrival ∷ behind) past none = epoch_stays behind past none
+epoch_stays (other ∷ behind) past none = epoch_stays behind past none
 
 epoch_here : (past : Record) (task d : ℕ) (answer : GoodAnswer past task d) → epoch_of answer.good.back.before ≡ epoch_of past
 epoch_here past task d answer =
@@ -493,8 +415,7 @@ sent_here past task d answer =
 
 is_last : (past : Record) (task d : ℕ) (slot : Option (List ℕ)) → slot_of past task d ≡ slot → HasLast past task d slot → IsLastData past task d slot
 is_last past task d None e has = has
-is_last past task d (Some bytes) e (answer, read, last) =
-    record { which = answer; read = read; last = last; epoch = epoch_here past task d answer; line = sent_here past task d answer; fits = slots-fit past task d bytes e }
+is_last past task d (Some bytes) e (answer, read, last) = search (rules, epoch_here, sent_here, slots-fit)
 
 -- an image
 
@@ -503,13 +424,8 @@ none-some x e = cc
 
 listed : (f : ℕ → Option (List ℕ)) (first count d : ℕ) (slot : Option (List ℕ)) → slice_get (map f (range_with_len first count)) d ≡ Some slot → slot ≡ f (first + d)
 listed f first zero d slot e = absurd (none-some slot e)
-listed f first (suc count) zero slot e =
-    let here : f first ≡ slot = cc in
-    let same : first ≡ first + 0 = omega arith in
-    sym here ∙ ap f same
-listed f first (suc count) (suc d) slot e =
-    let same : (first + 1) + d ≡ first + suc d = omega arith in
-    listed f (first + 1) count d slot e ∙ ap f same
+listed f first (suc count) zero slot e = search rules
+listed f first (suc count) (suc d) slot e = search (rules, listed f (first + 1) count d slot e)
 
 counted_list : (f : ℕ → Option (List ℕ)) (first count : ℕ) → length (map f (range_with_len first count)) ≡ count
 counted_list f first zero = refl

@@ -1,14 +1,14 @@
 -- In a project's line a block is told by its slave's station address and its number.
-use Rattle.std.proofs.Common.{◌≡◌, ◌==◌, Bool, true, false, cond, List, [], ◌∷◌, filter, refl, sym, ap, ◌∙◌, subst, Some, None}
-use Rattle.std.specs.Prelude.{All, Contains, find, option_and_then, slice_get}
+use Rattle.std.proofs.Common.{◌≡◌, ◌==◌, Bool, true, false, List, [], ◌∷◌, filter, refl, subst, Some, None, rules}
+use Rattle.std.specs.Prelude.{All, Contains}
 use Rattle.std.proofs.lemmas.Bool.{and_parts, eqb-true}
 use Rattle.std.proofs.lemmas.List.Elements.{All-head, All-tail, All-contains_itself, All-weaker, filter_passes}
-use Rattle.hc_records.specs.Line.{Member, groups_of, is_at}
+use Rattle.hc_records.specs.Line.{Member, groups_of}
 use Rattle.hc_records.specs.Project.{lowest_fault}
 use Rattle.hc_records.proofs.lemmas.Stations.{project-distinct}
 use Rattle.hc_records.specs.Lists.{has_repeat}
 use Rattle.hc_records.proofs.lemmas.Stations.{stations}
-use Rattle.hc_registers.specs.Blocks.{LineBlock, RegisterBlock, line_blocks, slave_blocks}
+use Rattle.hc_registers.specs.Blocks.{LineBlock, RegisterBlock, line_blocks}
 use Rattle.hc_plan.proofs.lemmas.Configured.{configured-block}
 use Rattle.hc_events.specs.Entries.{Record, Wrote}
 use Rattle.hc_events.specs.Points.{line_of, state_of}
@@ -29,32 +29,20 @@ one-name line distinct a b in_a in_b same =
     let number : a.number ≡ b.number = eqb-true a.number b.number both.1 in
     let of_a = configured-block line line a distinct in_a in
     let of_b = configured-block line line b distinct in_b in
-    let block : a.block ≡ b.block =
-    same_block a.block b.block (sym of_a
-    ∙ ap (λ n. option_and_then (λ m. slice_get (slave_blocks line m) a.number) (find (is_at n) line)) station
-    ∙ ap (λ n. option_and_then (λ m. slice_get (slave_blocks line m) n) (find (is_at b.station) line)) number
-    ∙ of_b) in
-    ap (λ n. let one : LineBlock = record { station = n; number = a.number; block = a.block } in one) station
-    ∙ ap (λ n. let one : LineBlock = record { station = b.station; number = n; block = a.block } in one) number
-    ∙ ap (λ bytes. let one : LineBlock = record { station = b.station; number = b.number; block = bytes } in one) block
+    let block : a.block ≡ b.block = search rules in
+    search rules
 
 -- a filter by what is the same of each element
 
 pub filter-alike : {X : Type 0} (p q : X → Bool) (xs : List X) → All (λ x. p x ≡ q x) xs → filter p xs ≡ filter q xs
 filter-alike p q [] all = refl
-filter-alike {X} p q (x ∷ xs) all =
-    ap (λ b. cond b (x ∷ filter p xs) (filter p xs)) (All-head (λ y. p y ≡ q y) x xs all)
-    ∙ ap (λ ys. cond (q x) (x ∷ ys) ys) (filter-alike p q xs (All-tail (λ y. p y ≡ q y) x xs all))
+filter-alike {X} p q (x ∷ xs) all = search (rules, All-head, All-tail, filter-alike p q xs (All-tail (λ y. p y ≡ q y) x xs all))
 
 -- so a write of the first owed block leaves what is owed
 
 wrote_alike : (past : Record) (block other : LineBlock) → has_repeat (stations (line_of past)) ≡ false → Contains (line_blocks (line_of past)) block → is_owed past block ≡ true
     → Contains (line_blocks (line_of past)) other → is_owed (Wrote block ∷ past) other ≡ is_owed past other
-wrote_alike past block other distinct in_block owed in_other =
-    by_bool (same_item (block_item other) (block_item block))
-    (λ t. let one : other ≡ block = one-name (line_of past) distinct other block in_other in_block t in
-    written-is_owed past block other t ∙ sym owed ∙ ap (is_owed past) (sym one))
-    (λ t. others-as_before past block other t)
+wrote_alike past block other distinct in_block owed in_other = search (rules, by_bool, one-name, written-is_owed, others-as_before)
 
 pub owed-wrote : (past : Record) (block : LineBlock) (rest : List LineBlock) → lowest_fault (groups_of (state_of past).groups) ≡ None → owed_blocks past ≡ block ∷ rest
     → owed_blocks (Wrote block ∷ past) ≡ owed_blocks past
@@ -64,5 +52,4 @@ owed-wrote past block rest project first =
     let inside = owed-in_line past block rest first in
     let owed : is_owed past block ≡ true =
     All-head (λ (x : LineBlock). is_owed past x ≡ true) block rest (subst (All (λ (x : LineBlock). is_owed past x ≡ true)) first (filter_passes (is_owed past) blocks)) in
-    filter-alike (is_owed (Wrote block ∷ past)) (is_owed past) blocks
-    (All-weaker (Contains blocks) (λ (x : LineBlock). is_owed (Wrote block ∷ past) x ≡ is_owed past x) (λ x inside_x. wrote_alike past block x distinct inside owed inside_x) blocks (All-contains_itself blocks))
+    search (rules, filter-alike, All-weaker, wrote_alike, All-contains_itself)

@@ -1,7 +1,7 @@
 -- The changes that nobody took, behind good answers.
-use Rattle.std.proofs.Common.{◌≡◌, List, [], ◌∷◌, ◌++◌, map, refl, sym, ap, ◌∙◌, subst, append_assoc}
+use Rattle.std.proofs.Common.{◌≡◌, List, [], ◌∷◌, ◌++◌, map, refl, ap, append_assoc, rules}
 use Rattle.std.specs.Prelude.{All}
-use Rattle.std.proofs.lemmas.List.{append-nil, map-append}
+use Rattle.std.proofs.lemmas.List.{map-append}
 use Rattle.std.proofs.lemmas.List.Elements.{All-head, All-tail}
 use Rattle.hc_records.specs.Line.{State, line}
 use Rattle.hc_records.specs.Edits.{state_after}
@@ -9,10 +9,10 @@ use Rattle.hc_events.specs.declared.change.Change.{Change}
 use Rattle.hc_events.specs.declared.change.Change.TheVariants as change
 use Rattle.hc_events.specs.Arrivals.{Arrival}
 use Rattle.hc_events.specs.Entries.{Record, Came}
-use Rattle.hc_events.specs.Points.{line_of, state_of}
+use Rattle.hc_events.specs.Points.{line_of}
 use Rattle.hc_events.specs.Accepted.{StandsIn}
 use Rattle.hc_events.specs.Images.{Fresh, fresh_by}
-use Rattle.hc_events.specs.Changes.{Answered, AreLegalFrom, news_of, told_by}
+use Rattle.hc_events.specs.Changes.{Answered, AreLegalFrom, told_by}
 use Rattle.hc_events.specs.NewsLaws.{state_behind}
 use Rattle.hc_events.proofs.lemmas.Slots.{FitsFresh}
 use Rattle.hc_events.proofs.lemmas.Views.{legal-joined}
@@ -27,8 +27,7 @@ goods_told (good ∷ goods) = ap (λ rest. Answered good ∷ rest) (goods_told g
 goods_legal : (state : State) (goods : List Fresh) → All (FitsFresh StandsIn (line state)) goods → AreLegalFrom state (map change_of goods)
 goods_legal state [] all = tt
 goods_legal state (good ∷ goods) all =
-    let fit = All-head (FitsFresh StandsIn (line state)) good goods all in
-    (record { stands = fit.1; fits = fit.0 }, goods_legal state goods (All-tail (FitsFresh StandsIn (line state)) good goods all))
+    search (rules, All-head, All-tail, goods_legal state goods (All-tail (FitsFresh StandsIn (line state)) good goods all))
 
 goods_behind : (state : State) (changes : List Change) (goods : List Fresh) → state_behind state (changes ++ map change_of goods) ≡ state_behind state changes
 goods_behind state [] [] = refl
@@ -38,38 +37,13 @@ goods_behind state (change.Good good ∷ changes) goods = goods_behind state cha
 
 pub news-came : (taken past : Record) (arrival : Arrival) (changes : List Change) (goods : List Fresh) → fresh_by past arrival ≡ goods → All (FitsFresh StandsIn (line_of past)) (fresh_by past arrival) → TellNews taken past changes
     → TellNews taken (Came arrival ∷ past) (changes ++ map change_of goods)
-news-came taken past arrival changes goods same fit tells = record {
-  told = ap (λ all. news_of past ++ map Answered all) same
-      ∙ ap (λ news. news ++ map Answered goods) tells.told
-      ∙ append_assoc (news_of taken) (map told_by changes) (map Answered goods)
-      ∙ ap (λ told. news_of taken ++ (map told_by changes ++ told)) (sym (goods_told goods))
-      ∙ ap (λ told. news_of taken ++ told) (sym (map-append told_by changes (map change_of goods)));
-  legal = legal-joined (state_of taken) changes (map change_of goods) tells.legal
-      (subst (λ (state : State). AreLegalFrom state (map change_of goods)) (sym tells.behind)
-      (goods_legal (state_of past) goods (subst (All (FitsFresh StandsIn (line_of past))) same fit)));
-  behind = goods_behind (state_of taken) changes goods ∙ tells.behind;
-}
+news-came taken past arrival changes goods same fit tells =
+    search (rules, append_assoc, goods_told, map-append, legal-joined, goods_legal, goods_behind)
 
 pub news-none : (taken past : Record) (arrival : Arrival) (changes : List Change) → fresh_by past arrival ≡ [] → TellNews taken past changes → TellNews taken (Came arrival ∷ past) changes
-news-none taken past arrival changes none tells = record {
-  told = ap (λ all. news_of past ++ map Answered all) none ∙ append-nil (news_of past) ∙ tells.told;
-  legal = tells.legal;
-  behind = tells.behind;
-}
+news-none taken past arrival changes none tells = search rules
 
 -- behind their taking there are none
 
 pub agree-taken : (kept : Kept) (past taken : Record) → Agree kept past taken → Agree (record kept { changes = [] }) past past
-agree-taken kept past taken agree = record {
-  accepted = agree.accepted;
-  state = agree.state;
-  project = agree.project;
-  uncrowded = agree.uncrowded;
-  serial = agree.serial;
-  left = agree.left;
-  waits = agree.waits;
-  slots = agree.slots;
-  values = agree.values;
-  known = agree.known;
-  tells = record { told = sym (append-nil (news_of past)); legal = tt; behind = refl };
-}
+agree-taken kept past taken agree = search rules

@@ -1,5 +1,5 @@
 -- What is kept at the opening is what the record of the opening says.
-use Rattle.std.proofs.Common.{◌≡◌, ◌≤◌, List, [], refl, sym, ◌∙◌, arith, None}
+use Rattle.std.proofs.Common.{◌≡◌, ◌≤◌, List, [], arith, None, rules}
 use Rattle.std.proofs.lemmas.List.{append-nil}
 use Rattle.hc_records.specs.declared.records.Group.{Group}
 use Rattle.hc_records.specs.Edits.{crowded_task}
@@ -7,8 +7,6 @@ use Rattle.hc_records.specs.Line.{State, groups_of, line, opened}
 use Rattle.hc_records.specs.Project.{lowest_fault}
 use Rattle.hc_frames.specs.declared.limits.TheConstants.{SETUP_SERIAL}
 use Rattle.hc_events.specs.Accepted.{just_opened}
-use Rattle.hc_events.specs.Changes.{news_of}
-use Rattle.hc_events.specs.Owed.{known_bytes}
 use Rattle.hc_awaited.specs.Waiting.{nothing}
 use Rattle.hc_inputs.specs.Image.{HasNone, Image}
 use Rattle.hc_outputs.specs.Packed.{Holds, Packed}
@@ -31,19 +29,7 @@ pub agree-opened : (groups : List Group) (inputs : Image) (outputs : Packed) (ow
       owed = owed;
       changes = [];
     }) (just_opened groups) (just_opened groups)
-agree-opened groups inputs outputs owed project uncrowded none unknown zeros = record {
-  accepted = refl;
-  state = refl;
-  project = project;
-  uncrowded = uncrowded;
-  serial = refl;
-  left = none_sent;
-  waits = waits-opened groups;
-  slots = λ task d below. none task d;
-  values = zeros;
-  known = unknown ∙ kept-alike nothing_known (known_bytes (just_opened groups)) (opened groups) (λ station number. refl);
-  tells = record { told = sym (append-nil (news_of (just_opened groups))); legal = tt; behind = refl };
-}
+agree-opened groups inputs outputs owed project uncrowded none unknown zeros = search (rules, none_sent, waits-opened, kept-alike, append-nil)
 
 abbrev pub IsProject : State → Type 0
 IsProject state = lowest_fault (groups_of state.groups) ≡ None

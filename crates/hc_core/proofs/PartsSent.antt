@@ -1,13 +1,11 @@
 -- A task's part is filled with the data that the record sends.
-use Rattle.std.proofs.Common.{◌≡◌, ◌+◌, ◌-◌, ◌==◌, ℕ, not, List, [], ◌∷◌, ◌++◌, length, refl, sym, ap, ap₂, ◌∙◌, arith, None}
-use Rattle.std.specs.Prelude.{All, slice_get}
+use Rattle.std.proofs.Common.{◌≡◌, ◌+◌, ℕ, List, [], ◌∷◌, length, refl, sym, ap, ap₂, ◌∙◌, arith, None, rules}
+use Rattle.std.specs.Prelude.{All}
 use Rattle.std.proofs.lemmas.List.Elements.{All-head, All-tail, All-weaker}
 use Rattle.std.proofs.lemmas.List.Sums.{sum_by-cons}
 use Rattle.hc_records.specs.Edits.{crowded_task}
-use Rattle.hc_records.specs.Image.{logical_address}
 use Rattle.hc_records.specs.Line.{groups_of}
 use Rattle.hc_records.specs.Project.{lowest_fault}
-use Rattle.hc_frames.specs.FrameText.{datagram_text, frame_head, lrw, padding}
 use Rattle.hc_events.specs.Accepted.{StandsIn}
 use Rattle.hc_events.specs.Entries.{Record}
 use Rattle.hc_events.specs.Outputs.{sent_data}
@@ -15,7 +13,7 @@ use Rattle.hc_events.specs.Points.{line_of, next_serial, state_of}
 use Rattle.hc_events.specs.Sendings.{Frame, Named}
 use Rattle.hc_events.proofs.lemmas.SentBits.{sent-data}
 use Rattle.hc_outputs.specs.Packed.{Packed, sent_bytes}
-use Rattle.hc_sendings.specs.PartTexts.{CanBeWritten, frame_part_text, own_texts, part_text, share_text, text_if}
+use Rattle.hc_sendings.specs.PartTexts.{CanBeWritten, frame_part_text, own_texts, part_text}
 use Rattle.hc_sendings.specs.Parts.{part_size}
 use Rattle.hc_sendings.specs.Texts.{carried_bytes}
 use Rattle.hc_sendings.proofs.lemmas.Listed.{standing-task}
@@ -33,9 +31,7 @@ module _ (past : Record) (packed : Packed) (project : lowest_fault (groups_of (s
   own_sent : (serial task : ℕ) (names : List Named) → All (StandsIn (line_of past)) names → own_texts (sent_bytes packed) serial task names ≡ own_texts (sent_data past) serial task names
   own_sent serial task [] stands = refl
   own_sent serial task (named ∷ rest) stands =
-      ap₂ (λ bytes behind. text_if task named.0 (datagram_text serial (not (length rest == 0)) (lrw (logical_address named.0 named.1) bytes)) ++ behind)
-      (one_sent named (All-head (StandsIn (line_of past)) named rest stands))
-      (own_sent serial task rest (All-tail (StandsIn (line_of past)) named rest stands))
+      search (rules, one_sent, All-head, All-tail, own_sent serial task rest (All-tail (StandsIn (line_of past)) named rest stands))
 
   size_sent : (names : List Named) → All (StandsIn (line_of past)) names → carried_bytes (sent_bytes packed) names ≡ carried_bytes (sent_data past) names
   size_sent [] stands = refl
@@ -45,18 +41,12 @@ module _ (past : Record) (packed : Packed) (project : lowest_fault (groups_of (s
       ∙ sym (sum_by-cons (λ (n : Named). 12 + length (sent_data past n.0 n.1)) named rest)
 
   frame_sent : (task : ℕ) (frame : Frame) → All (StandsIn (line_of past)) frame.datagrams → frame_part_text (sent_bytes packed) task frame ≡ frame_part_text (sent_data past) task frame
-  frame_sent task frame stands =
-      let names = frame.datagrams in
-      ap (λ n. (share_text task (frame_head frame.serial n) (slice_get names 0) ++ own_texts (sent_bytes packed) frame.serial task names)
-      ++ share_text task (padding n) (slice_get names (length names - 1))) (size_sent names stands)
-      ∙ ap (λ own. (share_text task (frame_head frame.serial (carried_bytes (sent_data past) names)) (slice_get names 0) ++ own)
-      ++ share_text task (padding (carried_bytes (sent_data past) names)) (slice_get names (length names - 1))) (own_sent frame.serial task names stands)
+  frame_sent task frame stands = search (rules, size_sent, own_sent)
 
   pub part-sent : (task : ℕ) (frames : List Frame) → All (λ frame. All (StandsIn (line_of past)) frame.datagrams) frames → part_text (sent_bytes packed) task frames ≡ part_text (sent_data past) task frames
   part-sent task [] stands = refl
   part-sent task (frame ∷ frames) stands =
-      ap₂ (λ own rest. own ++ rest) (frame_sent task frame (All-head (λ (f : Frame). All (StandsIn (line_of past)) f.datagrams) frame frames stands))
-      (part-sent task frames (All-tail (λ (f : Frame). All (StandsIn (line_of past)) f.datagrams) frame frames stands))
+      search (rules, frame_sent, All-head, All-tail, part-sent task frames (All-tail (λ (f : Frame). All (StandsIn (line_of past)) f.datagrams) frame frames stands))
 
   -- the slice's size is the one that the line tells
   pub part-fits : (task : ℕ) (frames : List Frame) → All (λ frame. All (StandsIn (line_of past)) frame.datagrams) frames → length (part_text (sent_bytes packed) task frames) ≡ part_size (line_of past) task frames
@@ -68,17 +58,15 @@ module _ (past : Record) (packed : Packed) (project : lowest_fault (groups_of (s
   part-can frames can =
       All-weaker (CanBeFilled past) (CanBeWritten (sent_bytes packed))
       (λ frame filled.
-      let low = filled.serial in
       record {
-        serial = omega (arith, low);
+        serial = omega arith;
         known = known-tasks past frame.datagrams project filled.stands;
         counted = carried-counted past packed frame.datagrams project uncrowded filled.stands holds ∙ sym filled.counted;
       }) frames can
 
 -- the datagrams of frames that can be filled stand in the line
 pub parts-stand : (past : Record) (frames : List Frame) → All (CanBeFilled past) frames → All (λ frame. All (StandsIn (line_of past)) frame.datagrams) frames
-parts-stand past frames can =
-    All-weaker (CanBeFilled past) (λ (frame : Frame). All (StandsIn (line_of past)) frame.datagrams) (λ frame filled. filled.stands) frames can
+parts-stand past frames can = search rules
 
 pub parts : PartsAreTheProposal
 parts past tasks together = parts-join (sent_data past) (line_of past) (next_serial past) tasks together.distinct

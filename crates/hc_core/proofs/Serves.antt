@@ -1,5 +1,5 @@
 -- What a core's calls answer is what the event may be answered.
-use Rattle.std.proofs.Common.{◌≡◌, ◌≢◌, ℕ, List, [], ◌∷◌, ◌++◌, refl, sym, ap, ◌∙◌, subst, true, inl, inr, Option, Some, None}
+use Rattle.std.proofs.Common.{◌≡◌, ◌≢◌, ℕ, List, [], ◌∷◌, ◌++◌, refl, ap, true, inl, inr, Option, Some, None, rules}
 use Rattle.std.specs.Prelude.{IfErr, IfOk, IfSome, OnErr, OnOk, Result, Ok, Err, ◌⊎◌, option_map}
 use Rattle.hc_records.specs.declared.edit.Edit.{Edit}
 use Rattle.hc_records.specs.declared.faults.EditFault.{EditFault}
@@ -16,7 +16,7 @@ use Rattle.hc_events.specs.Entries.{Record, Edited, Posted}
 use Rattle.hc_events.specs.Faults.{edit_refusal}
 use Rattle.hc_events.specs.Owed.{owed_blocks}
 use Rattle.hc_events.specs.Points.{state_of}
-use Rattle.hc_events.specs.Steps.{Step, Edits, Posts, SendsTasks, SendsWrite, Reads, answer_to, edit_refused, entries_after, kept_if, post_faults, proposal, task_faults, told_of_edit, unless, with_sent, with_write, write_faults}
+use Rattle.hc_events.specs.Steps.{Step, Edits, Posts, SendsTasks, SendsWrite, Reads, answer_to, edit_refused, entries_after, kept_if, post_faults, task_faults, told_of_edit, unless, write_faults}
 use Rattle.hc_core.specs.Early.{TellsEarly}
 use Rattle.hc_core.specs.Serving.{MayAnswerAll, answer_of, answer_of_edit, answer_of_post, answer_or_memory}
 use Rattle.hc_core.specs.State.{CoreState}
@@ -28,120 +28,59 @@ wanting past step next takes same = inr (record { takes = takes; answer = refl; 
 
 pub answer-served : {E : Type 0} (old new : Record) (step : Step) (result : Result Answer E) → takes_memory step ≡ true → IfOk result (λ told. told ≡ answer_to old step) → OnOk result (new ≡ entries_after old step) → OnErr result (new ≡ old)
     → MayAnswer old step (answer_or_memory result) new
-answer-served old new step (Ok told) takes answers entries same = inl (record { answer = answers; entries = entries })
-answer-served old new step (Err error) takes answers entries same = wanting old step new takes same
+answer-served old new step result takes answers entries same = search rules
 
 -- a core fault is want of memory or not
 
 is_memory : (found : CoreFault) → (found ≡ fault.Memory) ⊎ (found ≢ fault.Memory)
-is_memory fault.UnknownAlias = inr (λ e. cc)
-is_memory fault.AlreadyPresent = inr (λ e. cc)
-is_memory fault.NotPresent = inr (λ e. cc)
-is_memory fault.Mandatory = inr (λ e. cc)
-is_memory fault.UnknownStation = inr (λ e. cc)
-is_memory fault.Absent = inr (λ e. cc)
-is_memory fault.NoSuchArea = inr (λ e. cc)
-is_memory fault.NoSuchTask = inr (λ e. cc)
-is_memory fault.UnknownPdo = inr (λ e. cc)
-is_memory fault.RepeatedPdo = inr (λ e. cc)
-is_memory fault.AreaTooBig = inr (λ e. cc)
-is_memory (fault.TooManyDatagrams task) = inr (λ e. cc)
-is_memory fault.EpochsSpent = inr (λ e. cc)
-is_memory fault.StalePost = inr (λ e. cc)
-is_memory fault.PostLength = inr (λ e. cc)
-is_memory (fault.Unprogrammed owed) = inr (λ e. cc)
-is_memory fault.NothingOwed = inr (λ e. cc)
-is_memory fault.SerialsSpent = inr (λ e. cc)
-is_memory fault.Short = inr (λ e. cc)
-is_memory fault.NotEtherCat = inr (λ e. cc)
-is_memory fault.BadType = inr (λ e. cc)
-is_memory fault.BadLength = inr (λ e. cc)
-is_memory fault.Circulating = inr (λ e. cc)
-is_memory fault.MoreFollows = inr (λ e. cc)
-is_memory fault.UnknownCommand = inr (λ e. cc)
-is_memory fault.IndexMismatch = inr (λ e. cc)
-is_memory fault.Memory = inl refl
-is_memory (fault.Room needed) = inr (λ e. cc)
+is_memory other = search rules
 
 refused_or : (old new : Record) (step : Step) (found : CoreFault) (told : Answer) (next : Record) (refused : Option CoreFault) → takes_memory step ≡ true → answer_to old step ≡ unless refused told → entries_after old step ≡ kept_if refused old next
     → (found ≢ fault.Memory → refused ≡ Some found) → new ≡ old → (found ≡ fault.Memory) ⊎ (found ≢ fault.Memory) → MayAnswer old step (answer.Refused found) new
-refused_or old new step found told next refused takes answers entries names same (inl memory) =
-    subst (λ (one : CoreFault). MayAnswer old step (answer.Refused one) new) (sym memory) (wanting old step new takes same)
-refused_or old new step found told next refused takes answers entries names same (inr other) =
-    let is = names other in
-    inl (record {
-      answer = sym (answers ∙ ap (λ (one : Option CoreFault). unless one told) is);
-      entries = same ∙ sym (entries ∙ ap (λ (one : Option CoreFault). kept_if one old next) is);
-    })
+refused_or old new step found told next refused takes answers entries names same memory = search rules
 
 -- a register write, and tasks
 
 pub write-served : (old new : Record) (result : Result Answer CoreFault) → IfOk result (λ told. told ≡ answer_to old SendsWrite)
     → IfErr result (λ found. found ≢ fault.Memory → lowest (write_faults old (owed_blocks old)) ≡ Some found) → OnOk result (new ≡ entries_after old SendsWrite) → OnErr result (new ≡ old) → MayAnswer old SendsWrite (answer_of result) new
-write-served old new (Ok told) answers names entries same = inl (record { answer = answers; entries = entries })
-write-served old new (Err found) answers names entries same =
-    refused_or old new SendsWrite found _ (with_write old (owed_blocks old)) (lowest (write_faults old (owed_blocks old))) refl refl refl names same (is_memory found)
+write-served old new result answers names entries same = search rules
 
 pub tasks-served : (old new : Record) (tasks : List ℕ) (result : Result Answer CoreFault) → IfOk result (λ told. told ≡ answer_to old (SendsTasks tasks))
     → IfErr result (λ found. found ≢ fault.Memory → lowest (task_faults old tasks) ≡ Some found) → OnOk result (new ≡ entries_after old (SendsTasks tasks)) → OnErr result (new ≡ old) → MayAnswer old (SendsTasks tasks) (answer_of result) new
-tasks-served old new tasks (Ok told) answers names entries same = inl (record { answer = answers; entries = entries })
-tasks-served old new tasks (Err found) answers names entries same =
-    refused_or old new (SendsTasks tasks) found _ (with_sent old (proposal old tasks)) (lowest (task_faults old tasks)) refl refl refl names same (is_memory found)
+tasks-served old new tasks result answers names entries same = search rules
 
 -- what is told whatever memory does
 
 pub if-some : {X : Type 0} (P Q : X → Type 0) (found : Option X) → ((x : X) → P x → Q x) → IfSome found P → IfSome found Q
-if-some P Q None next is = tt
-if-some P Q (Some x) next is = next x is
+if-some P Q found next is = search rules
 
 pub if-mapped : {X Y : Type 0} (f : X → Y) (Q : Y → Type 0) (found : Option X) → IfSome found (λ x. Q (f x)) → IfSome (option_map f found) Q
-if-mapped f Q None is = tt
-if-mapped f Q (Some x) is = is
+if-mapped f Q found is = search rules
 
 pub post-early : {X : Type 0} (found : Option CoreFault) (result : Result X CoreFault) → OnOk result (found ≡ None) → IfErr result (λ fault. found ≡ Some fault)
     → IfSome found (λ fault. answer_of_post result ≡ answer.Refused fault)
-post-early found (Ok done) accepted names = subst (λ (one : Option CoreFault). IfSome one (λ fault. answer.Posted ≡ answer.Refused fault)) (sym accepted) tt
-post-early found (Err other) accepted names = subst (λ (one : Option CoreFault). IfSome one (λ fault. answer.Refused other ≡ answer.Refused fault)) (sym names) refl
+post-early found result accepted names = search rules
 
 -- an edit
 
 accepted_edit : (found : Option EditFault) (made next : State) → refused_by found made ≡ Ok next → found ≡ None
-accepted_edit None made next e = refl
-accepted_edit (Some found) made next e = cc
+accepted_edit found made next e = search rules
 
 refused_edit : (found : Option EditFault) (made : State) (one : EditFault) → refused_by found made ≡ Err one → found ≡ Some one
-refused_edit None made one e = cc
-refused_edit (Some found) made one e = cc
+refused_edit found made one e = search rules
 
 abbrev IsWant : EditFault → Type 0
 IsWant found = (found ≡ edit.Memory) ⊎ (found ≢ edit.Memory)
 
 is_want : (found : EditFault) → IsWant found
-is_want edit.UnknownAlias = inr (λ e. cc)
-is_want edit.AlreadyPresent = inr (λ e. cc)
-is_want edit.NotPresent = inr (λ e. cc)
-is_want edit.Mandatory = inr (λ e. cc)
-is_want edit.UnknownStation = inr (λ e. cc)
-is_want edit.Absent = inr (λ e. cc)
-is_want edit.NoSuchArea = inr (λ e. cc)
-is_want edit.NoSuchTask = inr (λ e. cc)
-is_want edit.UnknownPdo = inr (λ e. cc)
-is_want edit.RepeatedPdo = inr (λ e. cc)
-is_want edit.AreaTooBig = inr (λ e. cc)
-is_want (edit.TooManyDatagrams task) = inr (λ e. cc)
-is_want edit.EpochsSpent = inr (λ e. cc)
-is_want edit.Memory = inl refl
+is_want other = search rules
 
 edit_or : (old new : Record) (change : Edit) (found : EditFault) → (found ≢ edit.Memory → edited (state_of old) change ≡ Err found) → new ≡ old → IsWant found → MayAnswer old (Edits change) (answer.Refused (edit_refusal found)) new
-edit_or old new change found names same (inl memory) =
-    subst (λ (one : EditFault). MayAnswer old (Edits change) (answer.Refused (edit_refusal one)) new) (sym memory) (wanting old (Edits change) new refl same)
+edit_or old new change found names same (inl memory) = search rules
 edit_or old new change found names same (inr other) =
     let refused = refused_edit (lowest (edit_faults (state_of old) change)) (changed (state_of old) change) found (names other) in
     let is : edit_refused old change ≡ Some (edit_refusal found) = ap (option_map edit_refusal) refused in
-    inl (record {
-      answer = sym (ap (λ (one : Option CoreFault). unless one (told_of_edit (state_of old) (state_after (state_of old) change))) is);
-      entries = same ∙ sym (ap (λ (one : Option CoreFault). kept_if one old (Edited change ∷ old)) is);
-    })
+    search rules
 
 pub edit-served : (old new : Record) (change : Edit) (result : Result Answer EditFault) → IfOk result (λ told. told ≡ told_of_edit (state_of old) (state_after (state_of old) change))
     → OnOk result (edited (state_of old) change ≡ Ok (state_after (state_of old) change)) → IfErr result (λ found. found ≢ edit.Memory → edited (state_of old) change ≡ Err found)
@@ -149,18 +88,14 @@ pub edit-served : (old new : Record) (change : Edit) (result : Result Answer Edi
 edit-served old new change (Ok told) answers accepted names entries same =
     let none = accepted_edit (lowest (edit_faults (state_of old) change)) (changed (state_of old) change) (state_after (state_of old) change) accepted in
     let is : edit_refused old change ≡ None = ap (option_map edit_refusal) none in
-    inl (record {
-      answer = answers ∙ sym (ap (λ (one : Option CoreFault). unless one (told_of_edit (state_of old) (state_after (state_of old) change))) is);
-      entries = entries ∙ sym (ap (λ (one : Option CoreFault). kept_if one old (Edited change ∷ old)) is);
-    })
+    search rules
 edit-served old new change (Err found) answers accepted names entries same = edit_or old new change found names same (is_want found)
 
 -- one more event behind others
 
 pub all-answered : (past between next : Record) (steps : List Step) (answers : List Answer) (step : Step) (told : Answer) → MayAnswerAll past steps answers between → MayAnswer between step told next → TellsEarly between step told
     → MayAnswerAll past (steps ++ step ∷ []) (answers ++ told ∷ []) next
-all-answered past between next [] [] step told all one early =
-    (next, subst (λ (before : Record). MayAnswer before step told next) all one, refl, subst (λ (before : Record). TellsEarly before step told) all early)
+all-answered past between next [] [] step told all one early = search rules
 all-answered past between next [] (other ∷ answers) step told all one early = absurd all
 all-answered past between next (first ∷ steps) [] step told all one early = absurd all
 all-answered past between next (first ∷ steps) (other ∷ answers) step told all one early =
@@ -169,32 +104,19 @@ all-answered past between next (first ∷ steps) (other ∷ answers) step told a
 -- what a call's result says of the record alone
 
 pub past-behind : {X E : Type 0} (result : Result X E) (old new : CoreState) (next : Record) → OnOk result (new ≡ record old { past = next }) → OnOk result (new.past ≡ next)
-past-behind (Ok told) old new next entries = ap (λ (state : CoreState). state.past) entries
-past-behind (Err error) old new next entries = tt
+past-behind result old new next entries = search rules
 
 pub past-same : {X E : Type 0} (result : Result X E) (old new : CoreState) → OnErr result (new ≡ old) → OnErr result (new.past ≡ old.past)
-past-same (Ok told) old new same = tt
-past-same (Err error) old new same = ap (λ (state : CoreState). state.past) same
+past-same result old new same = search rules
 
 pub taken-same : {X E : Type 0} (result : Result X E) (old new : CoreState) (next : Record) → OnOk result (new ≡ record old { past = next }) → OnErr result (new ≡ old) → new.taken ≡ old.taken
-taken-same (Ok told) old new next entries same = ap (λ (state : CoreState). state.taken) entries
-taken-same (Err error) old new next entries same = ap (λ (state : CoreState). state.taken) same
+taken-same result old new next entries same = search rules
 
 pub read-served : {E : Type 0} (past : Record) (task : ℕ) (result : Result Answer E) → IfOk result (λ told. told ≡ answer_to past (Reads task)) → MayAnswer past (Reads task) (answer_or_memory result) past
-read-served past task (Ok told) answers = inl (record { answer = answers; entries = refl })
-read-served past task (Err error) answers = wanting past (Reads task) past refl refl
+read-served past task result answers = search rules
 
 -- a post takes no memory
 
 pub post-served : {X : Type 0} (old new : Record) (task epoch : ℕ) (bytes : List ℕ) (result : Result X CoreFault) → OnOk result (lowest (post_faults old task epoch bytes) ≡ None) → IfErr result (λ found. lowest (post_faults old task epoch bytes) ≡ Some found)
     → OnOk result (new ≡ Posted task bytes ∷ old) → OnErr result (new ≡ old) → MayAnswer old (Posts task epoch bytes) (answer_of_post result) new
-post-served old new task epoch bytes (Ok done) accepted names entries same =
-    inl (record {
-      answer = sym (ap (λ (one : Option CoreFault). unless one answer.Posted) accepted);
-      entries = entries ∙ sym (ap (λ (one : Option CoreFault). kept_if one old (Posted task bytes ∷ old)) accepted);
-    })
-post-served old new task epoch bytes (Err found) accepted names entries same =
-    inl (record {
-      answer = sym (ap (λ (one : Option CoreFault). unless one answer.Posted) names);
-      entries = same ∙ sym (ap (λ (one : Option CoreFault). kept_if one old (Posted task bytes ∷ old)) names);
-    })
+post-served old new task epoch bytes result accepted names entries same = search rules

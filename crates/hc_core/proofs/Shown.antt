@@ -1,5 +1,5 @@
 -- What the input image shows of a task is what the task reads.
-use Rattle.std.proofs.Common.{◌≡◌, ℕ, zero, suc, ◌+◌, ◌<◌, ◌≤◌, true, false, not, nat_lt, ◌∷◌, map, refl, ap, ◌∙◌, arith}
+use Rattle.std.proofs.Common.{◌≡◌, ℕ, zero, suc, ◌+◌, ◌<◌, ◌≤◌, true, false, not, nat_lt, map, refl, ap, arith, rules}
 use Rattle.std.specs.List.{range_with_len}
 use Rattle.std.proofs.lemmas.Bool.Decides.{nat_tests}
 use Rattle.hc_records.specs.declared.limits.TheConstants.{MOST_DATAGRAMS, TASKS}
@@ -13,10 +13,8 @@ shown_from : (past : Record) (image : Image) (task first count : ℕ) → ShowsS
     → map (data_of image task) (range_with_len first count) ≡ map (slot_of past task) (range_with_len first count)
 shown_from past image task first zero shows few = refl
 shown_from past image task first (suc count) shows few =
-    let low : first < MOST_DATAGRAMS = omega (arith, few) in
     let rest : (first + 1) + count ≤ MOST_DATAGRAMS = omega (arith, few) in
-    ap (λ slot. slot ∷ map (data_of image task) (range_with_len (first + 1) count)) (shows task first low)
-    ∙ ap (λ slots. slot_of past task first ∷ slots) (shown_from past image task (first + 1) count shows rest)
+    search (rules, shown_from past image task (first + 1) count shows rest)
 
 from_zero : (count most : ℕ) → count ≤ most → 0 + count ≤ most
 from_zero count most few = omega (arith, few)

@@ -1,7 +1,6 @@
 -- What the answer to an arrival says of what it answers.
-use Rattle.std.proofs.Common.{◌≡◌, ◌⊎◌, inl, inr, ℕ, Bool, true, false, cond, not, ◌&&◌, ◌||◌, List, [], ◌∷◌, ◌++◌, map, refl, sym, ap, ◌∙◌, Option, Some, None}
+use Rattle.std.proofs.Common.{◌≡◌, ◌⊎◌, ℕ, Bool, true, false, cond, not, ◌&&◌, ◌||◌, List, [], ◌∷◌, ◌++◌, map, refl, sym, ap, ◌∙◌, Option, Some, None, rules}
 use Rattle.std.specs.Prelude.{option_and_then}
-use Rattle.std.proofs.lemmas.Bool.{or_parts}
 use Rattle.std.specs.List.{flat_map, list_any, zip}
 use Rattle.hc_records.specs.Line.{Member}
 use Rattle.hc_registers.specs.Blocks.{LineBlock}
@@ -11,11 +10,10 @@ use Rattle.hc_events.specs.declared.answer.Outcome.{Outcome}
 use Rattle.hc_events.specs.Arrivals.{Arrival, Part}
 use Rattle.hc_events.specs.Accepted.{AreAccepted}
 use Rattle.hc_events.specs.AnswerLaws.{IsAwaited}
-use Rattle.hc_events.specs.Entries.{Entry, Record, Opened, Edited, Posted, Sent, Wrote, Came}
-use Rattle.hc_events.specs.Points.{line_of}
+use Rattle.hc_events.specs.Entries.{Entry, Record}
 use Rattle.hc_events.specs.Sendings.{Named}
-use Rattle.hc_events.specs.Heads.{Head, Item, Datagram, Block, data_heads, is_block, write_head}
-use Rattle.hc_events.specs.Answering.{Judged, Sending, Verdict, Good, Wrong, Stale, has_good, has_head, has_heads, is_good, is_news, is_stale, is_stale_to, judge, judged, judged_by, sending_of, verdict}
+use Rattle.hc_events.specs.Heads.{Head, Item, data_heads, is_block, write_head}
+use Rattle.hc_events.specs.Answering.{Judged, Sending, Verdict, Stale, has_good, has_heads, is_good, is_news, is_stale, is_stale_to, judge, judged, judged_by, sending_of, verdict}
 use Rattle.hc_events.specs.Awaited.{alive, awaited, is_write}
 use Rattle.hc_events.specs.Images.{fresh, fresh_by, fresh_item}
 use Rattle.hc_events.specs.Owed.{owed_blocks}
@@ -38,12 +36,7 @@ no_blocks line [] = refl
 no_blocks line (named ∷ frame) = no_blocks line frame
 
 sort_by : (sending : Sending) (before : Record) (entry : Entry) → is_sending entry ≡ true → sending.heads ≡ heads_of before entry → IsSort sending
-sort_by sending before (Opened groups) sends heads = cc
-sort_by sending before (Edited edit) sends heads = cc
-sort_by sending before (Posted task bytes) sends heads = cc
-sort_by sending before (Came arrival) sends heads = cc
-sort_by sending before (Wrote block) sends heads = inr (block, heads)
-sort_by sending before (Sent frame) sends heads = inl (ap (list_any (λ head. is_block head.item)) heads ∙ no_blocks (line_of before) frame)
+sort_by sending before entry sends heads = search (rules, no_blocks)
 
 made_or_none : (past : Record) (serial : ℕ) (sending : Sending) (found : Option Sending) → sending_of past serial ≡ found → option_and_then (alive serial) found ≡ Some sending → IsSort sending
 made_or_none past serial sending None made e = cc
@@ -61,8 +54,7 @@ record IsOne (arrival : Arrival) (sending : Sending) (block : LineBlock) : Type 
   one : judged arrival sending ≡ judge sending.since (write_head block, part) ∷ []
 
 and_false : (b : Bool) → (b && false) ≡ false
-and_false true = refl
-and_false false = refl
+and_false b = search rules
 
 one_back : (arrival : Arrival) (sending : Sending) (block : LineBlock) (parts : List Part) → arrival.parts ≡ parts → has_heads (write_head block ∷ []) parts ≡ true → sending.heads ≡ write_head block ∷ [] → IsOne arrival sending block
 one_back arrival sending block [] is fit heads = cc
@@ -70,17 +62,13 @@ one_back arrival sending block (part ∷ []) is fit heads = record {
   part = part;
   one = ap (λ all. map (judge sending.since) (zip all arrival.parts)) heads ∙ ap (λ all. map (judge sending.since) (zip (write_head block ∷ []) all)) is;
 }
-one_back arrival sending block (part ∷ other ∷ parts) is fit heads =
-    let never : false ≡ true = sym (and_false (has_head (write_head block) part)) ∙ fit in cc
+one_back arrival sending block (part ∷ other ∷ parts) is fit heads = search rules
 
 or_false : (b : Bool) → (b || false) ≡ b
-or_false true = refl
-or_false false = refl
+or_false b = search rules
 
 no_good : (block : LineBlock) (part : Part) (verdict : Verdict) → good_of (outcome_for (record { head = write_head block; part = part; verdict = verdict })) part ++ [] ≡ []
-no_good block part Good = refl
-no_good block part Wrong = refl
-no_good block part Stale = refl
+no_good block part verdict = search rules
 
 -- frames of tasks
 
@@ -88,27 +76,18 @@ frame_told : (since : List Entry) (heads : List Head) (parts : List Part) → li
     → told_of (map (judge since) (zip heads parts)) ≡ answer.Answered (map outcome_for (map (judge since) (zip heads parts)))
 frame_told since [] parts plain news = cc
 frame_told since (head ∷ heads) [] plain news = cc
-frame_told since (head ∷ heads) (part ∷ parts) plain news =
-    let data' = map (judge since) (zip (head ∷ heads) (part ∷ parts)) in
-    let first = (or_parts (is_block head.item) (list_any (λ h. is_block h.item) heads) plain).0 in
-    ap (λ b. cond b (told_of_block (verdict since head part)) (cond (list_any is_news data') (answer.Answered (map outcome_for data')) answer.Stale)) first
-    ∙ ap (λ b. cond b (answer.Answered (map outcome_for data')) answer.Stale) news
+frame_told since (head ∷ heads) (part ∷ parts) plain news = search rules
 
 good_alike : (item : Item) (part : Part) → fresh_item item part.bytes ≡ good_of (inputs_of item) part
-good_alike (Datagram task d) part = refl
-good_alike (Block station number) part = refl
+good_alike item part = search rules
 
 fresh_alike : (head : Head) (part : Part) (verdict : Verdict) → fresh (record { head = head; part = part; verdict = verdict }) ≡ good_of (outcome_for (record { head = head; part = part; verdict = verdict })) part
-fresh_alike head part Good = good_alike head.item part
-fresh_alike head part Wrong = refl
-fresh_alike head part Stale = refl
+fresh_alike head part verdict = search rules
 
 goods_alike : (since : List Entry) (heads : List Head) (parts : List Part) → flat_map fresh (map (judge since) (zip heads parts)) ≡ goods_in (map outcome_for (map (judge since) (zip heads parts))) parts
 goods_alike since [] parts = refl
 goods_alike since (head ∷ heads) [] = refl
-goods_alike since (head ∷ heads) (part ∷ parts) =
-    ap (λ goods. goods ++ flat_map fresh (map (judge since) (zip heads parts))) (fresh_alike head part (verdict since head part))
-    ∙ ap (λ goods. good_of (outcome_for (judge since (head, part))) part ++ goods) (goods_alike since heads parts)
+goods_alike since (head ∷ heads) (part ∷ parts) = search (rules, fresh_alike, goods_alike since heads parts)
 
 -- an arrival without news is told as stale, one with news is that of an awaited sending
 
@@ -139,28 +118,11 @@ same_outcomes : (a b : List Outcome) → answer.Answered a ≡ answer.Answered b
 same_outcomes a b e = cc
 
 not_answered : (verdict : Verdict) (outcomes : List Outcome) → told_of_block verdict ≡ answer.Answered outcomes → ⊥
-not_answered Good outcomes e = cc
-not_answered Wrong outcomes e = cc
-not_answered Stale outcomes e = cc
+not_answered verdict outcomes e = search rules
 
 inputs_by : (past : Record) (arrival : Arrival) (outcomes : List Outcome) → (is : IsNews past arrival) → list_any is_news (judged_by past arrival) ≡ true → told_of (judged_by past arrival) ≡ answer.Answered outcomes
     → IsSort is.awaits.sending → TellsInputs past arrival outcomes
-inputs_by past arrival outcomes is news e (inr (block, heads)) =
-    let one = one_back arrival is.awaits.sending block arrival.parts refl (sym (ap (λ all. has_heads all arrival.parts) heads) ∙ is.awaits.fits) heads in
-    absurd (not_answered (verdict is.awaits.sending.since (write_head block) one.part) outcomes (sym (ap told_of (is.judged_as ∙ one.one)) ∙ e))
-inputs_by past arrival outcomes is news e (inl frame) =
-    let since = is.awaits.sending.since in
-    let heads = is.awaits.sending.heads in
-    let told : told_of (judged_by past arrival) ≡ answer.Answered (map outcome_for (map (judge since) (zip heads arrival.parts))) =
-    ap told_of is.judged_as ∙ frame_told since heads arrival.parts frame (sym (ap (list_any is_news) is.judged_as) ∙ news) in
-    record {
-      news = is.fresh;
-      sending = is.awaits.sending;
-      there = is.awaits.there;
-      frame = frame;
-      goods = ap (flat_map fresh) is.judged_as ∙ goods_alike since heads arrival.parts
-          ∙ ap (λ all. goods_in all arrival.parts) (same_outcomes (map outcome_for (map (judge since) (zip heads arrival.parts))) outcomes (sym told ∙ e));
-    }
+inputs_by past arrival outcomes is news e sort = search (rules, one_back, not_answered, frame_told, goods_alike, same_outcomes)
 
 pub told-inputs : (past : Record) (arrival : Arrival) (outcomes : List Outcome) → told_of (judged_by past arrival) ≡ answer.Answered outcomes → TellsInputs past arrival outcomes
 told-inputs past arrival outcomes e =
@@ -181,22 +143,7 @@ pub record TellsWrite (past : Record) (arrival : Arrival) (good : Bool) : Type 0
 
 write_by : (past : Record) (arrival : Arrival) (told : Answer) (good : Bool) → (is : IsNews past arrival) → list_any is_news (judged_by past arrival) ≡ true → told_of (judged_by past arrival) ≡ told
     → ((verdict : Verdict) → told_of_block verdict ≡ told → is_good verdict ≡ good) → ((outcomes : List Outcome) → answer.Answered outcomes ≡ told → ⊥) → IsSort is.awaits.sending → TellsWrite past arrival good
-write_by past arrival told good is news e of_block of_frame (inl frame) =
-    absurd (of_frame (map outcome_for (map (judge is.awaits.sending.since) (zip is.awaits.sending.heads arrival.parts)))
-    (sym (frame_told is.awaits.sending.since is.awaits.sending.heads arrival.parts frame (sym (ap (list_any is_news) is.judged_as) ∙ news)) ∙ sym (ap told_of is.judged_as) ∙ e))
-write_by past arrival told good is news e of_block of_frame (inr (block, heads)) =
-    let one = one_back arrival is.awaits.sending block arrival.parts refl (sym (ap (λ all. has_heads all arrival.parts) heads) ∙ is.awaits.fits) heads in
-    let head' = write_head block in
-    let verdict' = verdict is.awaits.sending.since head' one.part in
-    let all : judged_by past arrival ≡ judge is.awaits.sending.since (head', one.part) ∷ [] = is.judged_as ∙ one.one in
-    record {
-      news = is.fresh;
-      sending = is.awaits.sending;
-      there = is.awaits.there;
-      writes = ap (list_any (λ head. is_block head.item)) heads;
-      good_is = ap (list_any has_good) all ∙ or_false (is_good verdict') ∙ of_block verdict' (sym (ap told_of all) ∙ e);
-      none = ap (flat_map fresh) all ∙ ap (λ goods. goods ++ []) (fresh_alike head' one.part verdict') ∙ no_good block one.part verdict';
-    }
+write_by past arrival told good is news e of_block of_frame sort = search (rules, frame_told, one_back, or_false, fresh_alike, no_good)
 
 told_write : (past : Record) (arrival : Arrival) (told : Answer) (good : Bool) → told_of (judged_by past arrival) ≡ told
     → ((verdict : Verdict) → told_of_block verdict ≡ told → is_good verdict ≡ good) → ((outcomes : List Outcome) → answer.Answered outcomes ≡ told → ⊥) → (answer.Stale ≡ told → ⊥) → TellsWrite past arrival good
@@ -207,14 +154,10 @@ told_write past arrival told good e of_block of_frame of_none =
     (λ t. absurd (of_none (sym (stale_told past arrival t) ∙ e)))
 
 is_done : (verdict : Verdict) → told_of_block verdict ≡ answer.WriteDone → is_good verdict ≡ true
-is_done Good e = refl
-is_done Wrong e = cc
-is_done Stale e = cc
+is_done verdict e = search rules
 
 is_missed : (verdict : Verdict) → told_of_block verdict ≡ answer.WriteMissed → is_good verdict ≡ false
-is_missed Good e = cc
-is_missed Wrong e = refl
-is_missed Stale e = cc
+is_missed verdict e = search rules
 
 pub told-done : (past : Record) (arrival : Arrival) → told_of (judged_by past arrival) ≡ answer.WriteDone → TellsWrite past arrival true
 told-done past arrival e = told_write past arrival answer.WriteDone true e is_done (λ outcomes same. cc) (λ same. cc)
@@ -225,21 +168,10 @@ told-missed past arrival e = told_write past arrival answer.WriteMissed false e 
 -- nothing
 
 is_over : (verdict : Verdict) → told_of_block verdict ≡ answer.Stale → not (is_stale verdict) ≡ false
-is_over Good e = cc
-is_over Wrong e = cc
-is_over Stale e = refl
+is_over verdict e = search rules
 
 stale_by : (past : Record) (arrival : Arrival) → (is : IsNews past arrival) → list_any is_news (judged_by past arrival) ≡ true → told_of (judged_by past arrival) ≡ answer.Stale → IsSort is.awaits.sending → ⊥
-stale_by past arrival is news e (inl frame) =
-    let since = is.awaits.sending.since in
-    let heads = is.awaits.sending.heads in
-    let never : answer.Answered (map outcome_for (map (judge since) (zip heads arrival.parts))) ≡ answer.Stale =
-    sym (frame_told since heads arrival.parts frame (sym (ap (list_any is_news) is.judged_as) ∙ news)) ∙ sym (ap told_of is.judged_as) ∙ e in cc
-stale_by past arrival is news e (inr (block, heads)) =
-    let one = one_back arrival is.awaits.sending block arrival.parts refl (sym (ap (λ all. has_heads all arrival.parts) heads) ∙ is.awaits.fits) heads in
-    let verdict' = verdict is.awaits.sending.since (write_head block) one.part in
-    let all : judged_by past arrival ≡ judge is.awaits.sending.since (write_head block, one.part) ∷ [] = is.judged_as ∙ one.one in
-    let never : true ≡ false = sym news ∙ ap (list_any is_news) all ∙ or_false (not (is_stale verdict')) ∙ is_over verdict' (sym (ap told_of all) ∙ e) in cc
+stale_by past arrival is news e sort = search (rules, frame_told, one_back, or_false, is_over)
 
 pub told-stale : (past : Record) (arrival : Arrival) → told_of (judged_by past arrival) ≡ answer.Stale → is_stale_to past arrival ≡ true
 told-stale past arrival e =
@@ -250,20 +182,10 @@ told-stale past arrival e =
 -- what is neither inputs nor of a write is nothing
 
 block_else : (verdict : Verdict) (told : Answer) → told_of_block verdict ≡ told → (told ≡ answer.WriteDone → ⊥) → (told ≡ answer.WriteMissed → ⊥) → told ≡ answer.Stale
-block_else Good told e done missed = absurd (done (sym e))
-block_else Wrong told e done missed = absurd (missed (sym e))
-block_else Stale told e done missed = sym e
+block_else verdict told e done missed = search rules
 
 pub told-else : (datagrams : List Judged) (told : Answer) → told_of datagrams ≡ told → ((outcomes : List Outcome) → told ≡ answer.Answered outcomes → ⊥) → (told ≡ answer.WriteDone → ⊥) → (told ≡ answer.WriteMissed → ⊥) → told ≡ answer.Stale
-told-else [] told e inputs done missed = sym e
-told-else (datagram ∷ datagrams) told e inputs done missed =
-    let all = datagram ∷ datagrams in
-    by_bool (is_block datagram.head.item)
-    (λ t. block_else datagram.verdict told (sym (ap (λ b. cond b (told_of_block datagram.verdict) (cond (list_any is_news all) (answer.Answered (map outcome_for all)) answer.Stale)) t) ∙ e) done missed)
-    (λ t. by_bool (list_any is_news all)
-    (λ u. absurd (inputs (map outcome_for all)
-    (sym (sym (ap (λ b. cond b (answer.Answered (map outcome_for all)) answer.Stale) u) ∙ sym (ap (λ b. cond b (told_of_block datagram.verdict) (cond (list_any is_news all) (answer.Answered (map outcome_for all)) answer.Stale)) t) ∙ e))))
-    (λ u. sym (sym (ap (λ b. cond b (answer.Answered (map outcome_for all)) answer.Stale) u) ∙ sym (ap (λ b. cond b (told_of_block datagram.verdict) (cond (list_any is_news all) (answer.Answered (map outcome_for all)) answer.Stale)) t) ∙ e)))
+told-else datagrams told e inputs done missed = search rules
 
 -- where a write is answered something is owed
 

@@ -1,5 +1,5 @@
 -- The bytes that are kept of outputs are the data that the record sends.
-use Rattle.std.proofs.Common.{◌≡◌, ◌⊎◌, inl, inr, ℕ, ◌+◌, ◌-◌, ◌*◌, ◌/◌, ◌%◌, ◌<◌, ◌≤◌, List, [], ◌∷◌, length, map, get_or, sym, ap, ◌∙◌, subst, arith, refl, None}
+use Rattle.std.proofs.Common.{◌≡◌, ◌⊎◌, inl, inr, ℕ, ◌+◌, ◌-◌, ◌*◌, ◌/◌, ◌%◌, ◌<◌, ◌≤◌, List, [], ◌∷◌, length, map, get_or, sym, ap, ◌∙◌, subst, arith, refl, None, rules}
 use Rattle.std.specs.Prelude.{All}
 use Rattle.std.proofs.lemmas.List.Elements.{All-head, All-tail}
 use Rattle.std.proofs.lemmas.List.FromFn.{get_or-map-range_with_len}
@@ -14,13 +14,13 @@ use Rattle.hc_records.specs.Project.{lowest_fault}
 use Rattle.hc_records.proofs.lemmas.Addresses.{uncrowded-few}
 use Rattle.hc_places.specs.Table.{table_of}
 use Rattle.hc_places.proofs.lemmas.Ascends.{table-ascends}
-use Rattle.hc_frames.specs.FrameText.{frame_text, lrw}
+use Rattle.hc_frames.specs.FrameText.{lrw}
 use Rattle.hc_events.specs.Accepted.{StandsIn}
 use Rattle.hc_events.specs.Entries.{Record}
-use Rattle.hc_events.specs.Outputs.{byte_of, outputs_in, sent_bit, sent_data, value_bit}
+use Rattle.hc_events.specs.Outputs.{byte_of, sent_data, value_bit}
 use Rattle.hc_events.specs.DataLaws.{IsSentData}
 use Rattle.hc_events.specs.Points.{line_of, state_of}
-use Rattle.hc_events.specs.Sendings.{Frame, Named, length_of}
+use Rattle.hc_events.specs.Sendings.{Frame, Named}
 use Rattle.hc_events.specs.Steps.{sent_datagram, sent_text}
 use Rattle.hc_events.proofs.lemmas.SentBits.{sent-data}
 use Rattle.hc_events.proofs.lemmas.SentValues.{sent-values}
@@ -42,21 +42,10 @@ eight_small a b c d e f g h la lb lc ld le lf lg lh = omega arith
 
 byte_small : (bit : ℕ → ℕ) (n : ℕ) → ((j : ℕ) → j < 8 → bit (8 * n + j) < 2) → byte_of bit n < 256
 unfolding number_of
-byte_small bit n small =
-    eight_small (bit (8 * n + 0)) (bit (8 * n + 1)) (bit (8 * n + 2)) (bit (8 * n + 3)) (bit (8 * n + 4)) (bit (8 * n + 5)) (bit (8 * n + 6)) (bit (8 * n + 7))
-    (small 0 (omega arith)) (small 1 (omega arith)) (small 2 (omega arith)) (small 3 (omega arith)) (small 4 (omega arith)) (small 5 (omega arith)) (small 6 (omega arith)) (small 7 (omega arith))
+byte_small bit n small = search rules
 
 bytes-sent : (past : Record) (task d : ℕ) → AreBytes (sent_data past task d)
-bytes-sent past task d i inside =
-    let has = sent-data past task d in
-    let bit = sent_bit past (outputs_in (line_of past) task d) in
-    let size : ℕ = length_of (line_of past) (task, d) in
-    let long : length (sent_data past task d) ≡ size = has.size in
-    let low : i < size = omega arith in
-    let is : get_or (sent_data past task d) i 0 ≡ byte_of bit i = get_or-map-range_with_len (byte_of bit) 0 size i i 0 low (omega arith) in
-    subst (λ n. n < 256) (sym is)
-    (byte_small bit i
-    (λ j few. subst (λ n. n < 2) (has.bits (8 * i + j) (omega arith)) (bit_small (sent_data past task d) (8 * i + j))))
+bytes-sent past task d i inside = search (rules, sent-data, get_or-map-range_with_len, byte_small, bit_small)
 
 -- bit for bit the same
 
@@ -65,8 +54,6 @@ bit_same : (past : Record) (bytes : Bytes) (task d k : ℕ) → task < TASKS →
     → bit_of (bytes_of bytes task d) k ≡ bit_of (sent_data past task d) k
 bit_same past bytes task d k low few carries sent below (inl has) =
     let place = has.place in
-    let from = has.lies.from in
-    let ends = has.lies.below in
     let inside : k - place.bit < place.bits = omega arith in
     let whole : place.bit + (k - place.bit) ≡ k = omega arith in
     carried-bit (table_of (line_of past)) (value_bit past) bytes task d k carries has
@@ -119,5 +106,4 @@ carried_same past packed (named ∷ names) project uncrowded low stands holds =
 pub text-sent : (past : Record) (packed : Packed) (frame : Frame) → lowest_fault (groups_of (state_of past).groups) ≡ None → crowded_task (line_of past) ≡ None
     → All (λ named. named.0 < TASKS) frame.datagrams → All (StandsIn (line_of past)) frame.datagrams → HoldsValues past packed
     → text_of (sent_bytes packed) frame ≡ sent_text past frame
-text-sent past packed frame project uncrowded low stands holds =
-    ap (frame_text frame.serial) (carried_same past packed frame.datagrams project uncrowded low stands holds)
+text-sent past packed frame project uncrowded low stands holds = search (rules, carried_same)

@@ -1,6 +1,6 @@
 -- When the first owed block is sent, and what is answered then.
-use Rattle.std.proofs.Common.{◌≡◌, ℕ, suc, ◌+◌, ◌<◌, ◌==◌, nat_lt, false, not, List, [], ◌∷◌, ◌++◌, drop, length, take, refl, sym, ap, ◌∙◌, arith, None}
-use Rattle.std.specs.Prelude.{Result, Ok, Err}
+use Rattle.std.proofs.Common.{◌≡◌, ℕ, suc, ◌+◌, ◌<◌, ◌==◌, nat_lt, false, List, ◌∷◌, ◌++◌, drop, length, take, sym, ap, ◌∙◌, arith, None, rules}
+use Rattle.std.specs.Prelude.{Result}
 use Rattle.std.proofs.lemmas.Bool.Decides.{nat_tests}
 use Rattle.std.proofs.lemmas.List.{append-nil, drop_all, take-append-le}
 use Rattle.std.proofs.Math.Seq.{take-length}
@@ -10,11 +10,10 @@ use Rattle.hc_frames.specs.declared.building.Room.{Room as NeededRoom}
 use Rattle.hc_frames.specs.declared.limits.TheConstants.{SETUP_SERIAL}
 use Rattle.hc_frames.specs.Builds.{Builds}
 use Rattle.hc_events.specs.declared.answer.Answer.TheVariants as answer
-use Rattle.hc_events.specs.declared.faults.CoreFault.TheVariants.{NothingOwed, SerialsSpent}
 use Rattle.hc_events.specs.Entries.{Record, Wrote}
 use Rattle.hc_events.specs.Owed.{owed_blocks}
 use Rattle.hc_events.specs.Points.{next_serial}
-use Rattle.hc_events.specs.Steps.{SendsWrite, answer_to, entries_after, has_serials, kept_if, told_of_write, unless, with_write, write_faults, write_text}
+use Rattle.hc_events.specs.Steps.{SendsWrite, answer_to, entries_after, write_faults, write_text}
 
 -- what refuses it
 
@@ -25,24 +24,17 @@ few_left : (most n : ℕ) → n < most → nat_lt most (n + 1) ≡ false
 few_left most n left = grind (arith, nat_tests)
 
 pub write-accepted : (past : Record) (block : LineBlock) (rest : List LineBlock) → owed_blocks past ≡ block ∷ rest → next_serial past < SETUP_SERIAL → lowest (write_faults past (owed_blocks past)) ≡ None
-write-accepted past block rest first left =
-    ap (λ (blocks : List LineBlock). lowest (write_faults past blocks)) first
-    ∙ ap (λ b. lowest ((b, NothingOwed) ∷ (not (has_serials past 1), SerialsSpent) ∷ [])) (some_length (length rest))
-    ∙ ap (λ b. lowest ((false, NothingOwed) ∷ (not (not b), SerialsSpent) ∷ [])) (few_left SETUP_SERIAL (next_serial past) left)
+write-accepted past block rest first left = search rules
 
 -- what is answered, and recorded
 
 pub write-told : (past : Record) (block : LineBlock) (rest : List LineBlock) → owed_blocks past ≡ block ∷ rest → next_serial past < SETUP_SERIAL
     → answer_to past SendsWrite ≡ answer.WriteSent (write_text (next_serial past) block)
-write-told past block rest first left =
-    ap (λ refused. unless refused (told_of_write (next_serial past) (owed_blocks past))) (write-accepted past block rest first left)
-    ∙ ap (told_of_write (next_serial past)) first
+write-told past block rest first left = search rules
 
 pub write-entries : (past : Record) (block : LineBlock) (rest : List LineBlock) → owed_blocks past ≡ block ∷ rest → next_serial past < SETUP_SERIAL
     → entries_after past SendsWrite ≡ Wrote block ∷ past
-write-entries past block rest first left =
-    ap (λ refused. kept_if refused past (with_write past (owed_blocks past))) (write-accepted past block rest first left)
-    ∙ ap (with_write past) first
+write-entries past block rest first left = search rules
 
 -- a slice of just the frame's bytes
 
@@ -50,5 +42,4 @@ pub whole : {X : Type 0} (n : ℕ) (new old : List X) → length new ≡ n → t
 whole n new old long = take-append-le n new (drop (length new) old) (omega (arith, long)) ∙ ap (λ (k : ℕ). take k new) (sym long) ∙ take-length new
 
 pub built : (old new text : List ℕ) (size : ℕ) (result : Result ℕ NeededRoom) → Builds old new result text size → length old ≡ size → new ≡ text
-built old new text size (Ok n) builds long = builds.written ∙ ap (λ (rest : List ℕ). text ++ rest) (drop_all size old (omega (arith, long))) ∙ append-nil text
-built old new text size (Err room) builds long = let short = builds.short.0 refl in absurd (omega (arith, short, long))
+built old new text size result builds long = search (rules, drop_all, append-nil)

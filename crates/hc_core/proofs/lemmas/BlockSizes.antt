@@ -1,5 +1,5 @@
 -- A register block has 8 or 16 bytes, so that the frame that writes it has 60: zeros fill it up.
-use Rattle.std.proofs.Common.{◌≡◌, ◌≤◌, ℕ, Bool, true, false, cond, List, [], ◌∷◌, length, refl, ap, subst, arith, get_or, Option, Some, None}
+use Rattle.std.proofs.Common.{◌≡◌, ◌≤◌, ℕ, Bool, false, List, [], ◌∷◌, length, refl, arith, get_or, Option, rules}
 use Rattle.std.specs.Prelude.{All, nat_lt}
 use Rattle.std.specs.List.{enumerate_from}
 use Rattle.std.proofs.lemmas.Bool.{le-ltb}
@@ -9,7 +9,7 @@ use Rattle.hc_records.specs.Line.{Member}
 use Rattle.hc_records.specs.Lists.{lowest}
 use Rattle.hc_records.proofs.lemmas.Lists.{All-enumerate_from, All-flat_map}
 use Rattle.hc_registers.specs.declared.fmmu.Mapping.{Mapping}
-use Rattle.hc_registers.specs.Blocks.{LineBlock, RegisterBlock, area_blocks, fmmu_block, fmmu_bytes, line_blocks, mapping_of, member_blocks, slave_blocks, sync_manager_block, sync_manager_bytes}
+use Rattle.hc_registers.specs.Blocks.{LineBlock, RegisterBlock, area_blocks, fmmu_block, fmmu_bytes, line_blocks, member_blocks, slave_blocks, sync_manager_block, sync_manager_bytes}
 use Rattle.hc_events.specs.Calls.{write_into_faults, write_size}
 use Rattle.hc_events.specs.declared.faults.CoreFault.TheVariants.{NothingOwed, Room, SerialsSpent}
 use Rattle.hc_events.specs.Entries.{Record}
@@ -23,8 +23,7 @@ sync_length : (area : Area) → length (sync_manager_bytes area) ≡ 8
 sync_length area = refl
 
 fmmu_length : (area : Area) (mapping : Option Mapping) → length (fmmu_bytes area mapping) ≡ 16
-fmmu_length area None = refl
-fmmu_length area (Some mapping) = refl
+fmmu_length area mapping = search rules
 
 sync_has : (area : Area) → HasBytes (sync_manager_block area)
 sync_has area = let long = sync_length area in record { some = omega (arith, long); most = omega (arith, long) }
@@ -36,13 +35,10 @@ pair_has : (first second : RegisterBlock) → HasBytes first → HasBytes second
 pair_has first second a b = All-cons HasBytes first (second ∷ []) a (All-cons HasBytes second [] b (All-nil HasBytes))
 
 area_has : (line : List Member) (rank : ℕ) (e : ℕ × Area) → All HasBytes (area_blocks line rank e)
-area_has line rank e =
-    let mapping = mapping_of line e.1.task (record { dir = e.1.dir; rank = rank; area = e.0 }) in
-    pair_has (sync_manager_block e.1) (fmmu_block e.0 e.1 mapping) (sync_has e.1) (fmmu_has e.0 e.1 mapping)
+area_has line rank e = search rules
 
 slave_has : (line : List Member) (member : Member) → All HasBytes (slave_blocks line member)
-slave_has line member =
-    All-flat_map HasBytes (area_blocks line member.rank) (enumerate_from 0 member.slave.areas) (λ i d within. area_has line member.rank (get_or (enumerate_from 0 member.slave.areas) i d))
+slave_has line member = search (rules, All-flat_map, area_has)
 
 abbrev Has : LineBlock → Type 0
 Has found = HasBytes found.block
@@ -56,24 +52,17 @@ line_has : (line : List Member) → All Has (line_blocks line)
 line_has line = All-flat_map Has (member_blocks line) line (λ i d within. member_has line (get_or line i d))
 
 pub first-bytes : (past : Record) (n : ℕ) (block : LineBlock) → IsFirstOwed past n block → HasBytes block.block
-first-bytes past n block first =
-    All-contains Has (line_blocks (line_of past)) block (line_has (line_of past)) (owed-in_line past block first.rest first.first)
+first-bytes past n block first = search (rules, All-contains, line_has, owed-in_line)
 
 first-size : (blocks : List LineBlock) → All Has blocks → write_size blocks ≤ 60
-first-size [] all = omega arith
-first-size (block ∷ blocks) all =
-    let has : HasBytes block.block = All-head Has block blocks all in
-    let most = has.most in
-    omega (arith, most)
+first-size blocks all = search (rules, All-head)
 
 write-fits : (past : Record) → write_size (owed_blocks past) ≤ 60
 write-fits past = first-size (owed_blocks past) (All-filter (is_owed past) Has (line_blocks (line_of past)) (line_has (line_of past)))
 
 same-fault : (none spent room : Bool) (needed : ℕ) → room ≡ false
     → lowest ((none, NothingOwed) ∷ (spent, SerialsSpent) ∷ (room, Room needed) ∷ []) ≡ lowest ((none, NothingOwed) ∷ (spent, SerialsSpent) ∷ [])
-same-fault true spent room needed fits = refl
-same-fault false true room needed fits = refl
-same-fault false false room needed fits = ap (λ b. cond b (Some (Room needed)) None) fits
+same-fault none spent room needed fits = search rules
 
 -- a slice of 60 bytes is never too short: the write is refused as the event is
 pub write-has-room : (past : Record) → lowest (write_into_faults past 60) ≡ lowest (write_faults past (owed_blocks past))

@@ -1,5 +1,5 @@
 -- Which posts are refused.
-use Rattle.std.proofs.Common.{◌≡◌, ◌≢◌, ℕ, zero, suc, ◌<◌, ◌==◌, nat_lt, Bool, true, false, not, List, [], ◌∷◌, length, refl, ap, ◌∙◌, arith, Option, Some, None}
+use Rattle.std.proofs.Common.{◌≡◌, ◌≢◌, ℕ, suc, ◌<◌, ◌==◌, nat_lt, Bool, true, false, not, List, [], ◌∷◌, length, refl, ap, arith, Option, Some, None, rules}
 use Rattle.std.proofs.lemmas.Bool.Decides.{nat_tests}
 use Rattle.hc_records.specs.declared.limits.TheConstants.{TASKS}
 use Rattle.hc_records.specs.Image.{output_length, task_places}
@@ -15,15 +15,8 @@ use Rattle.hc_events.specs.Steps.{post_faults}
 -- a task's outputs, as the table of its line lists them
 
 pub outputs-listed : (line : List Member) (task : ℕ) → task < TASKS → (part_in (table_of line) task).0 ≡ output_length (task_places task line)
-outputs-listed line zero low = refl
-outputs-listed line (suc zero) low = refl
-outputs-listed line (suc (suc zero)) low = refl
-outputs-listed line (suc (suc (suc zero))) low = refl
-outputs-listed line (suc (suc (suc (suc zero)))) low = refl
-outputs-listed line (suc (suc (suc (suc (suc zero))))) low = refl
-outputs-listed line (suc (suc (suc (suc (suc (suc zero)))))) low = refl
-outputs-listed line (suc (suc (suc (suc (suc (suc (suc zero))))))) low = refl
 outputs-listed line (suc (suc (suc (suc (suc (suc (suc (suc task)))))))) low = absurd (omega arith)
+outputs-listed line other low = refl
 
 -- the three tests
 
@@ -40,20 +33,12 @@ abbrev judged : Bool → Bool → Bool → Option CoreFault
 judged task epoch size = lowest ((task, NoSuchTask) ∷ (epoch, StalePost) ∷ (size, PostLength) ∷ [])
 
 pub post-stale : (past : Record) (task epoch : ℕ) (bytes : List ℕ) → task < TASKS → epoch ≢ epoch_of past → lowest (post_faults past task epoch bytes) ≡ Some StalePost
-post-stale past task epoch bytes low other =
-    ap (λ b. judged b (not (epoch == epoch_of past)) (not (length bytes == output_length (task_places task (line_of past))))) (is_task task low)
-    ∙ ap (λ b. judged false b (not (length bytes == output_length (task_places task (line_of past))))) (unequal epoch (epoch_of past) other)
+post-stale past task epoch bytes low other = search rules
 
 pub post-length : (past : Record) (task epoch : ℕ) (bytes : List ℕ) → task < TASKS → epoch ≡ epoch_of past → length bytes ≢ output_length (task_places task (line_of past))
     → lowest (post_faults past task epoch bytes) ≡ Some PostLength
-post-length past task epoch bytes low same other =
-    ap (λ b. judged b (not (epoch == epoch_of past)) (not (length bytes == output_length (task_places task (line_of past))))) (is_task task low)
-    ∙ ap (λ b. judged false b (not (length bytes == output_length (task_places task (line_of past))))) (equal epoch (epoch_of past) same)
-    ∙ ap (judged false false) (unequal (length bytes) (output_length (task_places task (line_of past))) other)
+post-length past task epoch bytes low same other = search rules
 
 pub post-accepted : (past : Record) (task epoch : ℕ) (bytes : List ℕ) → task < TASKS → epoch ≡ epoch_of past → length bytes ≡ output_length (task_places task (line_of past))
     → lowest (post_faults past task epoch bytes) ≡ None
-post-accepted past task epoch bytes low same fits =
-    ap (λ b. judged b (not (epoch == epoch_of past)) (not (length bytes == output_length (task_places task (line_of past))))) (is_task task low)
-    ∙ ap (λ b. judged false b (not (length bytes == output_length (task_places task (line_of past))))) (equal epoch (epoch_of past) same)
-    ∙ ap (judged false false) (equal (length bytes) (output_length (task_places task (line_of past))) fits)
+post-accepted past task epoch bytes low same fits = search rules
