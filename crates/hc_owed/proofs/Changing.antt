@@ -1,5 +1,5 @@
 -- Behind an accepted edit what is kept is right for the new line.
-use Rattle.std.proofs.Common.{◌≡◌, ℕ, ◌*◌, ◌==◌, ◌<◌, Bool, true, false, cond, List, [], ◌∷◌, length, map, ◌⊎◌, inl, inr, refl, sym, ap, ◌∙◌, arith}
+use Rattle.std.proofs.Common.{◌≡◌, ℕ, ◌*◌, ◌==◌, ◌<◌, Bool, true, false, List, [], ◌∷◌, length, map, ◌⊎◌, inl, inr, refl, sym, ap, ◌∙◌, arith, rules}
 use Rattle.std.specs.Prelude.{◌≢◌, All, None, Some, Option, option_map, slice_get, slice_index_or, unwrap_or}
 use Rattle.std.proofs.lemmas.Bool.{eqb-false, eqb-true}
 use Rattle.std.proofs.lemmas.List.{length-map}
@@ -15,7 +15,6 @@ use Rattle.hc_owed.specs.Board.{Board, Knowledge, differs, kept_of, known_in, ow
 use Rattle.hc_owed.specs.Laws.{IsEdited, known_over}
 use Rattle.hc_owed.specs.Steps.{cleared, compared, compared_all, filled}
 use Rattle.hc_owed.proofs.Lists.{get-changed, get-filled, get-other, get-unfilled, in-or-out, is-map, length-changed, length-filled}
-use Rattle.hc_owed.proofs.Opened.{board_of}
 
 -- the comparing of moved blocks
 
@@ -64,8 +63,7 @@ all-compared : (known : Knowledge) (all : List (Option LineBlock)) (moved : List
     → RightUnless known all moved board.owed → RightUnless known all [] (compared_all moved board).owed
 all-compared known all [] board is size stand right = right
 all-compared known all (m ∷ moved) board is size stand right =
-    all-compared known all moved (compared m board) is (compared-one m board ∙ size) (All-tail (StandsIn all) m moved stand)
-    (compared-right known all m moved board is size (All-head (StandsIn all) m moved stand) right)
+    search (rules, compared-one, All-tail, compared-right, All-head, all-compared known all moved (compared m board) is (compared-one m board ∙ size) (All-tail (StandsIn all) m moved stand))
 
 -- before the moved blocks are compared, what is known is right, and every other flag
 
@@ -89,15 +87,10 @@ module _ (board : Board) (gone : Gone) (moved : List RankedBlock) (is : IsEdited
   stayed-known : (n : ℕ) (before block : LineBlock) → slice_get olds n ≡ Some (Some before) → slice_get news n ≡ Some (Some block) → is.known before.station before.number ≡ over block.station block.number
   stayed-known n before block stood at =
       let name = same-name is.old is.new is.edit n before block is.accepted stood at in
-      ap (λ (b : Bool). cond b (is.known before.station before.number) None) (sym (stands-on is.old n before stood))
-      ∙ ap (λ (s : ℕ). over s before.number) name.0 ∙ ap (λ (k : ℕ). over block.station k) name.1
+      search (rules, stands-on)
 
   known-stays : (n : ℕ) (w z : Option LineBlock) → slice_get olds n ≡ Some w → slice_get news n ≡ Some z → (IsGone gone n → ⊥) → known_in is.known w ≡ known_in over z
-  known-stays n None None stood at out = refl
-  known-stays n None (Some block) stood at out =
-      ap (λ (b : Bool). cond b (is.known block.station block.number) None) (sym (came is.old is.new is.edit n block is.project is.accepted stood at))
-  known-stays n (Some before) None stood at out = absurd (out (is.differ.stays n before stood at))
-  known-stays n (Some before) (Some block) stood at out = stayed-known n before block stood at
+  known-stays n w z stood at out = search (rules, came, stayed-known)
 
   owed-stays : (n : ℕ) (w z : Option LineBlock) → slice_get olds n ≡ Some w → slice_get news n ≡ Some z → (IsGone gone n → ⊥) → All (λ m. place_of m ≢ n) moved → owed_in is.known w ≡ owed_in over z
   owed-stays n None None stood at out others = refl
@@ -148,15 +141,11 @@ module _ (board : Board) (gone : Gone) (moved : List RankedBlock) (is : IsEdited
       let after = compared_all moved mid in
       let right = all-compared over news moved mid cleared-known owed-size is.differ.names.stand cleared-owed in
       let owed = is-map after.owed (owed_in over) news (compared-size moved mid ∙ owed-size) (λ n z at. right n z at (All-nil (λ m. place_of m ≢ n))) in
-      ap (λ (k : List (Option (List ℕ))). board_of k after.owed after.stations) (compared-known moved mid ∙ cleared-known)
-      ∙ ap (λ (o : List Bool). board_of (map (known_in over) news) o after.stations) owed
-      ∙ ap (λ (s : List ℕ). board_of (map (known_in over) news) (map (owed_in over) news) s) (compared-stations moved mid ∙ same-stations is.old is.new is.edit is.accepted)
+      search (rules, compared-known, cleared-known, compared-stations, same-stations)
 
   -- the places of the moved blocks, and of the slaves that left, are places
   pub known-size : length board.known ≡ length news
   known-size = ap (λ (b : Board). length b.known) is.right ∙ length-map olds (known_in is.known) ∙ is.differ.size
 
   pub moved-inside : All (λ m. place_of m < length board.known) moved
-  moved-inside =
-      All-weaker (StandsIn news) (λ m. place_of m < length board.known)
-      (λ m stands. let low = slice_get_within news (place_of m) (Some m.found) stands in let size = known-size in omega (arith, low, size)) moved is.differ.names.stand
+  moved-inside = search (rules, All-weaker, slice_get_within, known-size)

@@ -1,12 +1,12 @@
 -- Flags in words.
-use Rattle.std.proofs.Common.{◌≡◌, ℕ, zero, suc, ◌+◌, ◌*◌, ◌<◌, ◌≤◌, ◌==◌, Bool, true, false, cond, List, [], ◌∷◌, ◌++◌, length, take, drop, ◌⊎◌, inl, inr, refl, sym, ap, subst, ◌∙◌, arith}
+use Rattle.std.proofs.Common.{◌≡◌, ℕ, zero, suc, ◌+◌, ◌*◌, ◌<◌, ◌≤◌, ◌==◌, Bool, true, false, cond, List, [], ◌∷◌, ◌++◌, length, take, drop, ◌⊎◌, inl, inr, refl, sym, ap, ◌∙◌, arith, rules}
 use Rattle.std.proofs.lemmas.Bool.{cases_lt}
 use Rattle.std.proofs.lemmas.List.{take-append-le}
 use Rattle.std.proofs.lemmas.Iterator.Adapters.{position_from-zero}
 use Rattle.std.proofs.lemmas.Nat.Bits.{bit_at-zero}
 use Rattle.std.proofs.Math.Seq.{take-length}
 use Rattle.std.specs.Int.{bit_at}
-use Rattle.std.specs.Prelude.{slice_get, slice_index, unwrap_or, ◌/◌, ◌%◌, position, Some, None, Option}
+use Rattle.std.specs.Prelude.{slice_get, slice_index, ◌/◌, ◌%◌, position, Some, None, Option}
 use Rattle.std.specs.List.{position_from}
 use Rattle.hc_records.specs.Lists.{changed_at}
 use Rattle.hc_owed.specs.Flags.{Flags, IsLowestIn, SetsFlag, flag, flags_from, one, set_count}
@@ -21,14 +21,11 @@ length-flags words first (suc count) = ap suc (length-flags words (first + 1) co
 -- a bit in front of these, or behind them, changes none of them
 pub flags-same : (old new : List ℕ) (first count : ℕ) → ((i : ℕ) → first ≤ i → i < first + count → flag new i ≡ flag old i) → flags_from new count first ≡ flags_from old count first
 flags-same old new first zero same = refl
-flags-same old new first (suc count) same =
-    ap (λ (b : Bool). b ∷ flags_from new count (first + 1)) (same first (omega arith) (omega arith))
-    ∙ ap (λ (bs : List Bool). flag old first ∷ bs) (flags-same old new (first + 1) count (λ i low high. same i (omega arith) (omega arith)))
+flags-same old new first (suc count) same = search (rules, flags-same old new (first + 1) count (λ i low high. same i (omega arith) (omega arith)))
 
 flags-last : (words : List ℕ) (first count : ℕ) → flags_from words (suc count) first ≡ flags_from words count first ++ flag words (first + count) ∷ []
 flags-last words first zero = ap (λ (n : ℕ). flag words n ∷ []) (omega arith)
-flags-last words first (suc count) =
-    ap (λ (bs : List Bool). flag words first ∷ bs) (flags-last words (first + 1) count ∙ ap (λ (n : ℕ). flags_from words count (first + 1) ++ flag words n ∷ []) (omega arith))
+flags-last words first (suc count) = search (rules, flags-last words (first + 1) count)
 
 -- words that were written over all of them
 pub whole : (n : ℕ) (new old : List ℕ) → length new ≡ n → take n (new ++ drop (length new) old) ≡ new
@@ -51,14 +48,11 @@ flags-set-from old new first (suc count) zero set sets low =
     ap (λ (b : Bool). b ∷ flags_from new count (first + 1)) here
     ∙ ap (λ (bs : List Bool). set ∷ bs) (flags-same old new (first + 1) count (λ i low high. sets.others i (omega arith)))
 flags-set-from old new first (suc count) (suc n) set sets low =
-    let one : flag new first ≡ flag old first = sets.others first (omega arith) in
     let moved : SetsFlag old new (first + 1 + n) set = record { words = sets.words; here = ap (flag new) (omega arith) ∙ sets.here; others = λ i other. sets.others i (omega arith) } in
-    ap (λ (b : Bool). b ∷ flags_from new count (first + 1)) one ∙ ap (λ (bs : List Bool). flag old first ∷ bs) (flags-set-from old new (first + 1) count n set moved (omega arith))
+    search (rules, flags-set-from old new (first + 1) count n set moved (omega arith))
 
 pub flags-set : (old new : List ℕ) (count n : ℕ) (set : Bool) → SetsFlag old new n set → n < count → flags_from new count 0 ≡ changed_at n (λ b. set) (flags_from old count 0)
-flags-set old new count n set sets low =
-    let at : n ≡ 0 + n = omega arith in
-    flags-set-from old new 0 count n set (subst (λ (k : ℕ). SetsFlag old new k set) at sets) low
+flags-set old new count n set sets low = search (rules, flags-set-from)
 
 flags-get-from : (words : List ℕ) (first count n : ℕ) → n < count → slice_get (flags_from words count first) n ≡ Some (flag words (first + n))
 flags-get-from words first zero n low = absurd (omega arith)
@@ -73,28 +67,22 @@ abbrev from_list : ℕ → List Bool → Option ℕ
 from_list at flags = position_from (λ (b : Bool). b) at flags
 
 none-here : (b : Bool) (at : ℕ) (rest : Option ℕ) → b ≡ false → cond b (Some at) rest ≡ rest
-none-here true at rest e = cc
-none-here false at rest e = refl
+none-here b at rest e = search rules
 
 some-here : (b : Bool) (at : ℕ) (rest : Option ℕ) → b ≡ true → cond b (Some at) rest ≡ Some at
-some-here true at rest e = refl
-some-here false at rest e = cc
+some-here b at rest e = search rules
 
 position-none : (words : List ℕ) (first count at : ℕ) → ((i : ℕ) → first ≤ i → i < first + count → flag words i ≡ false) → from_list at (flags_from words count first) ≡ None
 position-none words first zero at none = refl
 position-none words first (suc count) at none =
-    none-here (flag words first) at (from_list (at + 1) (flags_from words count (first + 1))) (none first (omega arith) (omega arith))
-    ∙ position-none words (first + 1) count (at + 1) (λ i low high. none i (omega arith) (omega arith))
+    search (rules, none-here, position-none words (first + 1) count (at + 1) (λ i low high. none i (omega arith) (omega arith)))
 
 position-first : (words : List ℕ) (first count n at : ℕ) → n < count → flag words (first + n) ≡ true → ((i : ℕ) → first ≤ i → i < first + n → flag words i ≡ false)
     → from_list at (flags_from words count first) ≡ Some (at + n)
 position-first words first zero n at low here none = absurd (omega arith)
-position-first words first (suc count) zero at low here none =
-    some-here (flag words first) at (from_list (at + 1) (flags_from words count (first + 1))) (ap (flag words) (omega arith) ∙ here) ∙ ap Some (omega arith)
+position-first words first (suc count) zero at low here none = search (rules, some-here)
 position-first words first (suc count) (suc n) at low here none =
-    none-here (flag words first) at (from_list (at + 1) (flags_from words count (first + 1))) (none first (omega arith) (omega arith))
-    ∙ position-first words (first + 1) count n (at + 1) (omega arith) (ap (flag words) (omega arith) ∙ here) (λ i low high. none i (omega arith) (omega arith))
-    ∙ ap Some (omega arith)
+    search (rules, none-here, position-first words (first + 1) count n (at + 1) (omega arith) (ap (flag words) (omega arith) ∙ here) (λ i low high. none i (omega arith) (omega arith)))
 
 -- the lowest bit that is set in the first word that isn't 0
 pub record IsLowest (words : List ℕ) (at place : ℕ) : Type 0 where
@@ -104,18 +92,10 @@ pub record IsLowest (words : List ℕ) (at place : ℕ) : Type 0 where
   pub below : (i : ℕ) → i < place → bit_at (slice_index words at) i ≡ 0
 
 pub lowest-in : (words : List ℕ) (at place word : ℕ) → ((k : ℕ) → k < at → slice_index words k ≡ 0) → word ≡ slice_index words at → IsLowestIn word place → IsLowest words at place
-lowest-in words at place word before is lowest = record {
-  before = before;
-  inside = lowest.inside;
-  set = ap (λ (w : ℕ). bit_at w place) (sym is) ∙ lowest.set;
-  below = λ i lower. ap (λ (w : ℕ). bit_at w i) (sym is) ∙ lowest.below i lower;
-}
+lowest-in words at place word before is lowest = search rules
 
 pub one-more : (words : List ℕ) (at : ℕ) → ((k : ℕ) → k < at → slice_index words k ≡ 0) → slice_index words at ≡ 0 → (k : ℕ) → k < at + 1 → slice_index words k ≡ 0
-one-more words at before here k low = elim (cases_lt k at) [
-  | inl lower ↦ before k lower
-  | inr same ↦ ap (slice_index words) (omega arith) ∙ here
-]
+one-more words at before here k low = search (rules, cases_lt)
 
 clear-word : (words : List ℕ) (i : ℕ) → slice_index words (i / 64) ≡ 0 → flag words i ≡ false
 clear-word words i none = ap (λ (w : ℕ). bit_at w (i % 64) == 1) none ∙ ap (λ (b : ℕ). b == 1) (bit_at-zero (i % 64))
@@ -130,17 +110,10 @@ where-stands i at place low inside = elim (cases_lt (i / 64) at) [
 ]
 
 below-lowest : (words : List ℕ) (at place i : ℕ) → IsLowest words at place → i < 64 * at + place → flag words i ≡ false
-below-lowest words at place i lowest low = elim (where-stands i at place low lowest.inside) [
-  | inl less ↦ clear-word words i (lowest.before (i / 64) less)
-  | inr here ↦ clear-place words i at here.0 (lowest.below (i % 64) here.1)
-]
+below-lowest words at place i lowest low = search (rules, clear-word, clear-place)
 
 lowest-set : (words : List ℕ) (at place : ℕ) → IsLowest words at place → flag words (64 * at + place) ≡ true
-lowest-set words at place lowest =
-    let inside = lowest.inside in
-    ap (λ (k : ℕ). bit_at (slice_index words k) ((64 * at + place) % 64) == 1) (omega arith)
-    ∙ ap (λ (k : ℕ). bit_at (slice_index words at) k == 1) (omega arith)
-    ∙ ap (λ (b : ℕ). b == 1) lowest.set
+lowest-set words at place lowest = search rules
 
 pub first-inside : (words : List ℕ) (at place count : ℕ) → IsLowest words at place → 64 * at + place < count → position (λ (b : Bool). b) (flags_from words count 0) ≡ Some (64 * at + place)
 first-inside words at place count lowest low =
@@ -165,11 +138,7 @@ pub record AreFlags (words : List ℕ) (len capacity : ℕ) (flags : Flags) : Ty
   pub room : flags.room ≡ 64 * capacity
 
 pub are-flags : (words : List ℕ) (len capacity : ℕ) (flags : Flags) → flags_of (flags_from words len 0) (64 * capacity) ≡ flags → AreFlags words len capacity flags
-are-flags words len capacity flags same = record {
-  list = ap (λ (f : Flags). f.list) (sym same);
-  length = ap (λ (f : Flags). length f.list) (sym same) ∙ length-flags words 0 len;
-  room = ap (λ (f : Flags). f.room) (sym same);
-}
+are-flags words len capacity flags same = search (rules, length-flags)
 
 -- how many are set
 
@@ -180,18 +149,12 @@ count-pushed (f ∷ flags) flag = let rest = count-pushed flags flag in omega (a
 -- one of them is set, and what it was is taken off
 pub count-set : (flags : List Bool) (n : ℕ) (was flag : Bool) → slice_get flags n ≡ Some was → set_count (changed_at n (λ b. flag) flags) + one was ≡ set_count flags + one flag
 count-set [] n was flag is = cc
-count-set (f ∷ flags) zero was flag is =
-    let same : one f ≡ one was = ap (λ (x : Option Bool). one (unwrap_or x false)) is in
-    omega (arith, same)
+count-set (f ∷ flags) zero was flag is = search rules
 count-set (f ∷ flags) (suc n) was flag is = let rest = count-set flags n was flag is in omega (arith, rest)
 
 pub one-le : (flag : Bool) → one flag ≤ 1
-one-le true = omega arith
-one-le false = omega arith
+one-le flag = search rules
 
 pub count-le : (flags : List Bool) → set_count flags ≤ length flags
 count-le [] = omega arith
-count-le (f ∷ flags) =
-    let rest = count-le flags in
-    let here = one-le f in
-    omega (arith, rest, here)
+count-le (f ∷ flags) = search (rules, one-le, count-le flags)

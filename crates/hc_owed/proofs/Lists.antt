@@ -1,5 +1,5 @@
 -- Lists of a fixed length, read and changed at an index.
-use Rattle.std.proofs.Common.{◌≡◌, ℕ, zero, suc, ◌+◌, ◌<◌, ◌≤◌, List, [], ◌∷◌, length, map, ◌⊎◌, inl, inr, refl, ap, ◌∙◌, arith}
+use Rattle.std.proofs.Common.{◌≡◌, ℕ, zero, suc, ◌+◌, ◌<◌, ◌≤◌, List, [], ◌∷◌, length, map, ◌⊎◌, inl, inr, refl, ap, ◌∙◌, arith, rules}
 use Rattle.std.specs.Prelude.{◌≢◌, Some, slice_get, slice_set}
 use Rattle.std.proofs.lemmas.Bool.{cases_lt, cases_order}
 use Rattle.std.proofs.lemmas.Option.{same_Some}
@@ -61,14 +61,7 @@ get-filled from (suc count) x xs n low high within = elim (cases_order n (from +
 pub get-unfilled : {X : Type 0} (from count : ℕ) (x : X) (xs : List X) (n : ℕ) → ((from ≤ n) × (n < from + count) → ⊥) → slice_get (filled from count x xs) n ≡ slice_get xs n
 get-unfilled from zero x xs n out = refl
 get-unfilled from (suc count) x xs n out =
-    get-other (from + count) n x (filled from count x xs) (λ same. out (omega (arith, same), omega (arith, same)))
-    ∙ get-unfilled from count x xs n (λ inside. out (inside.0, let high = inside.1 in omega (arith, high)))
+    search (rules, get-other, get-unfilled from count x xs n (λ inside. out (inside.0, let high = inside.1 in omega (arith, high))))
 
 pub in-or-out : (from count n : ℕ) → ((from ≤ n) × (n < from + count)) ⊎ ((from ≤ n) × (n < from + count) → ⊥)
-in-or-out from count n = elim (cases_lt n from) [
-  | inl before ↦ inr (λ inside. let low = inside.0 in absurd (omega (arith, before, low)))
-  | inr low ↦ elim (cases_lt n (from + count)) [
-    | inl high ↦ inl (low, high)
-    | inr behind ↦ inr (λ inside. let high = inside.1 in absurd (omega (arith, behind, high)))
-  ]
-]
+in-or-out from count n = search (rules, cases_lt)

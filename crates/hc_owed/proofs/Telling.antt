@@ -1,5 +1,5 @@
 -- The set flags tell the owed blocks of the line: their number, and the first one.
-use Rattle.std.proofs.Common.{◌≡◌, ℕ, suc, ◌+◌, Bool, true, false, cond, List, [], ◌∷◌, length, map, refl, sym, ap, ◌∙◌, arith}
+use Rattle.std.proofs.Common.{◌≡◌, ℕ, suc, ◌+◌, Bool, cond, List, [], ◌∷◌, length, map, refl, sym, ap, ◌∙◌, arith, rules}
 use Rattle.std.specs.Prelude.{MatchOption, None, Some, Option, filter, position, slice_get}
 use Rattle.std.specs.List.{position_from}
 use Rattle.std.proofs.lemmas.Iterator.Adapters.{position_from-zero}
@@ -17,8 +17,7 @@ abbrev lacking : Knowledge → List (Option LineBlock) → List LineBlock
 lacking known all = filter (lacks known) (standing all)
 
 then-count : (t : Bool) (block : LineBlock) (n : ℕ) (xs : List LineBlock) → n ≡ length xs → one t + n ≡ length (cond t (block ∷ xs) xs)
-then-count true block n xs same = omega (arith, same)
-then-count false block n xs same = omega (arith, same)
+then-count t block n xs same = search rules
 
 counts : (known : Knowledge) (all : List (Option LineBlock)) → set_count (map (owed_in known) all) ≡ length (lacking known all)
 counts known [] = refl
@@ -48,15 +47,12 @@ later known slot all at (Some n) same found =
 
 by-test : (known : Knowledge) (block : LineBlock) (all : List (Option LineBlock)) (at : ℕ) (found : Option ℕ) (t : Bool) → lacks known block ≡ t → Firsts known all (at + 1) found
     → Firsts known (Some block ∷ all) at (cond t (Some at) found)
-by-test known block all at found true is behind =
-    record { index = 0; is = omega arith; block = block; rest = lacking known all; stands = refl; first = ap (λ (t : Bool). cond t (block ∷ lacking known all) (lacking known all)) is }
-by-test known block all at found false is behind = later known (Some block) all at found (ap (λ (t : Bool). cond t (block ∷ lacking known all) (lacking known all)) is) behind
+by-test known block all at found t is behind = search (rules, later)
 
 firsts : (known : Knowledge) (all : List (Option LineBlock)) (at : ℕ) → Firsts known all at (position_from (λ (flag : Bool). flag) at (map (owed_in known) all))
 firsts known [] at = refl
 firsts known (None ∷ all) at = later known None all at (position_from (λ (flag : Bool). flag) (at + 1) (map (owed_in known) all)) refl (firsts known all (at + 1))
-firsts known (Some block ∷ all) at =
-    by-test known block all at (position_from (λ (flag : Bool). flag) (at + 1) (map (owed_in known) all)) (lacks known block) refl (firsts known all (at + 1))
+firsts known (Some block ∷ all) at = search (rules, by-test, firsts known all (at + 1))
 
 -- the block at the first set place is the first owed one
 pub record IsFirstAt (known : Knowledge) (state : State) (n : ℕ) : Type 0 where
