@@ -1,6 +1,4 @@
-use Rattle.std.proofs.Common.{ℕ, ◌/◌, ◌%◌, ◌==◌, List, Bool, sym, ap, ◌∙◌, arith}
-use Rattle.std.specs.Prelude.{slice_get, Some}
-use Rattle.std.specs.Int.{bit_at}
+use Rattle.std.proofs.Common.{◌/◌, arith, rules}
 use Rattle.std.proofs.lemmas.List.{get_or_read}
 use Rattle.std.proofs.lemmas.Nat.Bits.{shr_and_one}
 use Rattle.hc_owed.proofs.FlagLists.{are-flags, flags-get}
@@ -18,6 +16,4 @@ returns c =
     let len = c.self.inside.len in
     let are = are-flags words.items len words.len c.args.self.now c.self.view_is in
     let read = get_or_read words.items (c.args.n / 64) c.index-word.result.now (omega (arith, c.requires, are.length, c.self.invariant.0, words.ok.0)) c.index-word.ensures 0 in
-    ap (λ (list : List Bool). slice_get list c.args.n) are.list
-    ∙ flags-get words.items len c.args.n (omega (arith, c.requires, are.length))
-    ∙ ap (λ (b : ℕ). Some (b == 1)) (ap (λ (w : ℕ). bit_at w (c.args.n % 64)) (sym read) ∙ sym (shr_and_one c.index-word.result.now (c.args.n % 64)))
+    search (rules, flags-get, shr_and_one)

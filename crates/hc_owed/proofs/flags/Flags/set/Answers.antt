@@ -1,4 +1,4 @@
-use Rattle.std.proofs.Common.{◌≡◌, ℕ, ◌*◌, List, Bool, false, Some, ap, subst, sym, ◌∙◌, arith}
+use Rattle.std.proofs.Common.{◌≡◌, ℕ, ◌*◌, List, Bool, false, Some, ap, subst, sym, ◌∙◌, arith, rules}
 use Rattle.std.specs.Prelude.{slice_get}
 use Rattle.hc_owed.specs.Flags.{Flags, SetsFlag, flags_from, set_count}
 use Rattle.hc_owed.proofs.FlagLists.{are-flags, count-le, count-set, flags-set, flags_of, length-flags, one-le, whole}
@@ -21,9 +21,7 @@ overflow_sub-self c =
     omega (arith, changes, c.one.ensures, c.self.invariant.2)
 
 pub overflow_add-self : goal.overflow_add-self
-overflow_add-self c =
-    let flags = flags_from c.self.inside.words.items c.self.inside.len 0 in
-    omega (arith, count-le flags, length-flags c.self.inside.words.items 0 c.self.inside.len, c.self.invariant.0, c.self.invariant.1, c.self.invariant.2, one-le c.args.flag, c.one-2.ensures)
+overflow_add-self c = search (rules, count-le, length-flags, one-le)
 
 pub invariant_of-self : goal.invariant_of-self
 invariant_of-self c =

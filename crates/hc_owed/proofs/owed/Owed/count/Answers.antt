@@ -1,6 +1,4 @@
-use Rattle.std.proofs.Common.{ap, ◌∙◌, arith}
-use Rattle.hc_owed.specs.Board.{Board}
-use Rattle.hc_owed.specs.Flags.{set_count}
+use Rattle.std.proofs.Common.{arith, rules}
 use Rattle.hc_owed.proofs.FlagLists.{count-le}
 use Rattle.hc_owed.proofs.Telling.{counts-owed}
 use Rattle.hc_owed.proofs.owed.Owed.count.Goals as goal
@@ -9,5 +7,4 @@ pub overflow_cast-result : goal.overflow_cast-result
 overflow_cast-result c = let inv = c.self.invariant in omega (arith, count-le c.self.inside.owed.list, c.count.ensures, inv.1, inv.2)
 
 pub returns : goal.returns
-returns c = λ known state project right.
-    c.count.ensures ∙ ap (λ (b : Board). set_count b.owed) (c.self.view_is ∙ right) ∙ counts-owed known state project
+returns c = search (rules, counts-owed)

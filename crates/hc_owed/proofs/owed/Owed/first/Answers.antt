@@ -1,5 +1,5 @@
-use Rattle.std.proofs.Common.{◌/◌, ◌<◌, Some, None, length, refl, sym, ap, ◌∙◌, arith}
-use Rattle.std.specs.Prelude.{position, slice_get}
+use Rattle.std.proofs.Common.{◌/◌, ◌<◌, Some, None, length, refl, ap, ◌∙◌, arith, rules}
+use Rattle.std.specs.Prelude.{position}
 use Rattle.std.proofs.lemmas.Option.{same_Some, slice_get_read}
 use Rattle.hc_plan.proofs.lemmas.PlaceNames.{name-at}
 use Rattle.hc_owed.specs.Board.{Board}
@@ -18,11 +18,4 @@ returns c = λ known state project right.
     let name = name-at state place found.block found.stands in
     let low : place / 16 < length c.self.inside.stations.items = omega (arith, c.in_ok-place.ensures.low, c.self.invariant.1) in
     let read = slice_get_read c.self.inside.stations.items (length c.self.inside.stations.items) (place / 16) c.index.result.now refl low c.index.ensures in
-    record {
-      block = found.block;
-      rest = found.rest;
-      stands = found.stands;
-      station = same_Some c.index.result.now found.block.station (sym read ∙ ap (λ (b : Board). slice_get b.stations (place / 16)) same ∙ name.station);
-      number = sym name.number;
-      first = found.first;
-    }
+    search (rules, same_Some)

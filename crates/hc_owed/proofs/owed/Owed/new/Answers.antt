@@ -1,4 +1,4 @@
-use Rattle.std.proofs.Common.{◌≡◌, ℕ, ◌*◌, List, Bool, length, map, ap, ◌∙◌, arith}
+use Rattle.std.proofs.Common.{◌≡◌, ℕ, ◌*◌, List, Bool, length, map, ap, ◌∙◌, arith, rules}
 use Rattle.std.specs.Prelude.{None, Option, option_map, replicate}
 use Rattle.std.proofs.lemmas.List.{length-map}
 use Rattle.hc_records.specs.declared.records.Declared.{Declared}
@@ -22,13 +22,7 @@ flagged : (c : goal.In_ok-owed) → c.in_ok-owed.owed.list ≡ declared_flags c.
 flagged c = c.in_ok-owed.ensures ∙ ap declared_flags c.groups-2.ensures.value
 
 pub invariant_of-result : goal.invariant_of-result
-invariant_of-result c =
-    let groups = c.args.plan.now.groups in
-    let count = counted c in
-    let known = ap (λ (list : List (Option RegisterBlock)). length list) c.in_ok-known.ensures ∙ length-copies (16 * c.len-places.result) None in
-    let flags = ap (λ (list : List Bool). length list) (flagged c) ∙ length-declared groups in
-    let few = project-few (groups_of groups) c.groups.ensures.kept in
-    (omega (arith, known, c.len-places.ensures), omega (arith, flags, count), omega (arith, count, few))
+invariant_of-result c = search (rules, counted, length-copies, flagged, length-declared, project-few)
 
 pub returns : goal.returns
 returns c =

@@ -1,9 +1,6 @@
-use Rattle.std.proofs.Common.{ap, ◌∙◌}
-use Rattle.std.specs.Prelude.{None}
-use Rattle.hc_owed.specs.Steps.{learnt}
+use Rattle.std.proofs.Common.{rules}
 use Rattle.hc_owed.proofs.Writing.{sent-right}
 use Rattle.hc_owed.proofs.owed.Owed.sent.Goals as goal
 
 pub returns : goal.returns
-returns c = λ known state block is lacking.
-    c.learn.ensures ∙ ap (learnt c.args.place None) is.right ∙ sent-right known state c.args.place block is.project is.stands lacking
+returns c = search (rules, sent-right)
