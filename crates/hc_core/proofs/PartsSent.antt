@@ -24,6 +24,10 @@ use Rattle.hc_core.specs.Filled.{CanBeFilled}
 use Rattle.hc_core.specs.Laws.{PartsAreTheProposal}
 use Rattle.hc_core.specs.Values.{HoldsValues}
 
+-- a task's part has as many bytes as are told
+pub part-long : (past : Record) (task : ℕ) (frames : List Frame) → length (part_text (sent_data past) task frames) ≡ part_size (line_of past) task frames
+part-long past task frames = parts-sized (sent_data past) (line_of past) task frames (λ t d. (sent-data past t d).size)
+
 module _ (past : Record) (packed : Packed) (project : lowest_fault (groups_of (state_of past).groups) ≡ None) (uncrowded : crowded_task (line_of past) ≡ None) (holds : HoldsValues past packed) where
   one_sent : (named : Named) → StandsIn (line_of past) named → sent_bytes packed named.0 named.1 ≡ sent_data past named.0 named.1
   one_sent named stands = data-sent past packed named.0 named.1 project uncrowded (standing-task (state_of past) named.0 named.1 project stands) stands holds
@@ -51,7 +55,7 @@ module _ (past : Record) (packed : Packed) (project : lowest_fault (groups_of (s
   -- the slice's size is the one that the line tells
   pub part-fits : (task : ℕ) (frames : List Frame) → All (λ frame. All (StandsIn (line_of past)) frame.datagrams) frames → length (part_text (sent_bytes packed) task frames) ≡ part_size (line_of past) task frames
   part-fits task frames stands =
-      ap length (part-sent task frames stands) ∙ parts-sized (sent_data past) (line_of past) task frames (λ t d. (sent-data past t d).size)
+      ap length (part-sent task frames stands) ∙ part-long past task frames
 
   -- a frame that can be filled can be written with these data
   pub part-can : (frames : List Frame) → All (CanBeFilled past) frames → All (CanBeWritten (sent_bytes packed)) frames

@@ -1,3 +1,4 @@
 -- What the crates above cite, a file a subject.
 pub mod BlockSizes
+pub mod Parts
 pub mod PostFaults
