@@ -1,3 +1,4 @@
+pub mod AtOnce
 pub mod Ends
 pub mod Images
 pub mod Kept

@@ -5,3 +5,4 @@ pub mod Views
 pub mod Outputs
 pub mod Taking
 pub mod Openings
+pub mod AtOnce

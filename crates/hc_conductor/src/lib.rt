@@ -2,6 +2,7 @@
 //! views what was published, posts what is to be sent, and waits for nobody.
 #![tactic(auto)]
 
+mod at_once;
 pub mod conductor;
 mod events;
 mod opening;

@@ -71,7 +71,7 @@ fn fill_front(core: &Core, frames: &[Sending], size: usize, arena: &mut [u8])
 
 impl Conductor {
     // The present proposal with its bytes, where the arena has room for it.
-    fn propose_into(
+    pub(crate) fn propose_into(
         &self,
         alloc: Global,
         tasks: &[u8],
@@ -84,6 +84,7 @@ impl Conductor {
         ensures few { IfOk result (λ found. length found.0.items ≤ SETUP_SERIAL) }
         ensures size { IfOk result (λ found. found.1 ≡ sum_by size_of found.0.items) }
         ensures room { IfOk result (λ found. found.1 ≤ room) }
+        ensures most { IfOk result (λ found. found.1 ≤ LARGEST_FRAME * length found.0.items) }
         ensures accepted { OnOk result (lowest (task_faults (past_of self.now) tasks.now) ≡ None) }
         ensures refused { IfErr result (λ fault. fault ≢ Memory → lowest (send_into_faults (past_of self.now) tasks.now room) ≡ Some fault) }
         ensures early { IfSome (lowest (early_faults (length (owed_blocks (past_of self.now))) tasks.now)) (λ fault. result ≡ Err fault) }
@@ -97,7 +98,7 @@ impl Conductor {
     }
 
     // The present proposal is sent.
-    fn commit(&mut self, frames: &[Sending])
+    pub(crate) fn commit(&mut self, frames: &[Sending])
         requires { IsProposal (past_of self.old) frames.now }
         ensures entries { past_of self.new ≡ with_sent (past_of self.old) frames.now }
         ensures lists { SameLists self.old self.new }
