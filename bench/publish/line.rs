@@ -1,0 +1,145 @@
+//! The line of the benchmark, with 64 or 2,048 slaves of eight areas each, and what is asked of it. Task 0 has one datagram
+//! of 12 bytes, task 1 one of 1,486; task 2 has an area that can be made a byte wider, and 1,000 variables behind it;
+//! task 3 has a variable that can change places with a gap. A group of one slave, which isn't present at the opening, has
+//! 1,000 variables of one bit.
+
+use crate::plan::asked::{Asked as EditAsked, CONNECT, DISCONNECT, REMAP};
+use crate::plan::plain::Group;
+use crate::plan::plain::layout::{Area, Pdo, Slave};
+
+const FIRST: u16 = 0x1600;
+const SECOND: u16 = 0x1601;
+/// The group that comes and goes.
+const GUEST: u16 = 7;
+
+/// What is asked: an edit, or a good answer of a task's first datagram, with one byte again and again.
+#[derive(Clone, Copy)]
+pub enum Asked {
+    Edit(EditAsked),
+    Answer { task: u8, byte: u8 },
+}
+
+impl Asked {
+    /// The row of numbers that the proved program reads.
+    pub fn row(&self) -> String {
+        match self {
+            Asked::Edit(EditAsked { kind, area, name, first, second, task, count }) => {
+                let [first, second] = match (*kind == REMAP, count) {
+                    (false, _) => [u16::from(*task), 0],
+                    (true, 0) => [0, 0],
+                    (true, 1) => [*first, 0],
+                    (true, _) => [*first, *second],
+                };
+                format!("{kind} {name} {area} {first} {second}\n")
+            }
+            Asked::Answer { task, byte } => format!("4 {task} 0 {byte} 0\n"),
+        }
+    }
+}
+
+/// How many of so many things the one with a number has, where they are shared evenly.
+fn share(things: usize, count: usize, number: usize) -> usize {
+    things / count + usize::from(number < things % count)
+}
+
+struct Maker {
+    slaves: usize,
+    variables: u32,
+}
+
+impl Maker {
+    fn pdo(&mut self, index: u16, widths: &[u8]) -> Pdo {
+        let entries = widths.iter().map(|bits| {
+            self.variables += 1;
+            (self.variables, *bits)
+        });
+        Pdo { index, entries: entries.collect() }
+    }
+
+    /// One PDO for so many bits, in entries of 64 bits and the rest.
+    fn bits(&mut self, bits: usize) -> Vec<Pdo> {
+        let mut widths = vec![64; bits / 64];
+        if bits % 64 > 0 {
+            widths.push((bits % 64) as u8);
+        }
+        vec![self.pdo(FIRST, &widths)]
+    }
+
+    /// The PDOs of an area: its task, what it offers, and how many of them are assigned.
+    fn own(&mut self, place: usize, number: usize) -> (u8, Vec<Pdo>, usize) {
+        let slaves = self.slaves;
+        match number {
+            0 if place == 0 => (0, self.bits(96), 1),
+            1 if slaves <= 1486 => (1, self.bits(8 * share(1486, slaves, place)), 1),
+            1 => (1, self.bits(share(8 * 1486, slaves, place)), 1),
+            2 if place == 0 => (2, vec![self.pdo(FIRST, &[8]), Pdo { index: SECOND, entries: vec![(0, 8)] }], 1),
+            2 => (2, vec![self.pdo(FIRST, &vec![8; share(1000, slaves - 1, place - 1)])], 1),
+            3 if place == 1 => (3, vec![Pdo { index: FIRST, entries: vec![(0, 8)] }, self.pdo(SECOND, &[8])], 2),
+            _ => (4 + (number % 4) as u8, self.bits(8), 1),
+        }
+    }
+
+    fn area(&self, number: usize, task: u8, offered: Vec<Pdo>, assigned: usize) -> Area {
+        let assigned = offered[..assigned].iter().map(|pdo| pdo.index).collect();
+        let (is_out, sm, phys) = (number == 4, number as u8, 0x1000 + 256 * number as u16);
+        let mut area = Area { is_out, sm, phys, task, offered, assigned, width: 0, datagram: 0, bit: 0 };
+        area.measure();
+        area
+    }
+
+    fn slave(&mut self, place: usize) -> Slave {
+        let areas = (0..8).map(|number| {
+            let (task, offered, assigned) = self.own(place, number);
+            self.area(number, task, offered, assigned)
+        });
+        Slave { station: 1001 + place as u16, areas: areas.collect() }
+    }
+
+    fn guest(&mut self) -> Slave {
+        let areas = (0..8).map(|number| {
+            let offered = vec![self.pdo(FIRST, &[1; 63]), self.pdo(SECOND, &[1; 62])];
+            self.area(number + 8, 3, offered, 2)
+        });
+        let mut areas: Vec<Area> = areas.collect();
+        for (number, area) in areas.iter_mut().enumerate() {
+            (area.sm, area.phys) = (number as u8, 0x1000 + 256 * number as u16);
+        }
+        Slave { station: 1001 + self.slaves as u16, areas }
+    }
+}
+
+/// The line of so many slaves, the last of which is the guest; all others are mandatory.
+pub fn line(slaves: usize) -> Vec<Group> {
+    let mut maker = Maker { slaves: slaves - 1, variables: 0 };
+    let own = (0..slaves - 1).map(|place| maker.slave(place)).collect();
+    vec![Group { alias: 0, slaves: own }, Group { alias: GUEST, slaves: vec![maker.guest()] }]
+}
+
+/// The variables of a task in the line.
+pub fn variables(groups: &[Group], task: u8) -> Vec<u32> {
+    let areas = groups[0].slaves.iter().flat_map(|slave| &slave.areas).filter(|area| area.task == task);
+    let mut variables = Vec::new();
+    areas.for_each(|area| area.each_variable(|variable, _| variables.push(variable)));
+    variables
+}
+
+fn remap(place: u16, area: u8, pdos: &[u16]) -> Asked {
+    let second = pdos.get(1).copied().unwrap_or(0);
+    let (kind, name, count, first) = (REMAP, 1001 + place, pdos.len() as u8, pdos[0]);
+    Asked::Edit(EditAsked { kind, name, area, count, first, second, ..EditAsked::default() })
+}
+
+/// A variable changes places with a gap, and back.
+pub fn one_row() -> [Asked; 2] {
+    [remap(1, 3, &[SECOND, FIRST]), remap(1, 3, &[FIRST, SECOND])]
+}
+
+/// 1,000 variables move by a byte, and back.
+pub fn thousand_rows() -> [Asked; 2] {
+    [remap(0, 2, &[FIRST, SECOND]), remap(0, 2, &[FIRST])]
+}
+
+/// 1,000 variables come, and go.
+pub fn guest() -> [Asked; 2] {
+    [CONNECT, DISCONNECT].map(|kind| Asked::Edit(EditAsked { kind, name: GUEST, ..EditAsked::default() }))
+}

@@ -1,0 +1,3 @@
+pub mod Answered
+pub mod Following
+pub mod Leading

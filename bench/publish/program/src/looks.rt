@@ -1,0 +1,230 @@
+//! Rounds of views and of notes.
+ghost use Rattle.std.specs.Prelude.{◌≡◌, IfSome};
+ghost use Rattle.hc_publish.specs.Board.{origin_of};
+ghost use Rattle.hc_publish.specs.Seats.{seat_origin};
+
+use crate::asked::Given;
+use crate::lines::opened_line;
+use crate::rounds::{nanoseconds_since, play};
+use crate::telling::told_of;
+use hc_publish::publisher::Publisher;
+use hc_publish::seat::Seat;
+use hc_publish::view::View;
+use hc_records::records::VarId;
+use std::alloc::Global;
+use std::rt::Clock;
+use std::sync::Wait;
+use std::time::Instant;
+
+/// How many rounds are timed.
+const ROUNDS: u32 = 32;
+
+/// A view is taken and left, and its epoch told.
+fn looked(seat: Seat, told: u64) -> (Seat, u64) {
+    match seat.view() {
+        Ok(view) => {
+            let told = told.wrapping_add(u64::from(view.epoch()));
+            (view.leave(), told)
+        }
+        Err(seat) => (seat, told),
+    }
+}
+
+/// So many views one after another.
+fn looked_often(mut seat: Seat, times: u32) -> (Seat, u64) {
+    let mut told = 0;
+    for _ in 0..times {
+        (seat, told) = looked(seat, told);
+    }
+    (seat, told)
+}
+
+/// Rounds of views, with the nanoseconds of each.
+fn time_seat<R: Clock + Print>(rt: &R, seat: Seat, times: u32) -> Option<u64> {
+    let mut seat = seat;
+    let mut sum = 0_u64;
+    for _ in 0..ROUNDS {
+        let begun = Instant::now(rt).ok()?;
+        let (back, told) = looked_often(seat, times);
+        let time = nanoseconds_since(rt, begun)?;
+        seat = back;
+        sum = sum.wrapping_add(told);
+        println!(rt; "{time}").ok()?;
+    }
+    Some(sum)
+}
+
+/// The values of all these variables, so many times.
+fn read_often(view: &View, variables: &[VarId], times: u32) -> u64 {
+    let mut told = 0;
+    for _ in 0..times {
+        for variable in variables {
+            if let Ok(value) = view.value(*variable) {
+                told = told_of(told, value);
+            }
+        }
+    }
+    told
+}
+
+/// Rounds of values, with the nanoseconds of each.
+fn time_reads<R: Clock + Print>(
+    rt: &R,
+    view: &View,
+    variables: &[VarId],
+    times: u32,
+) -> Option<u64> {
+    let mut sum = 0_u64;
+    for _ in 0..ROUNDS {
+        let begun = Instant::now(rt).ok()?;
+        sum = sum.wrapping_add(read_often(view, variables, times));
+        let time = nanoseconds_since(rt, begun)?;
+        println!(rt; "{time}").ok()?;
+    }
+    Some(sum)
+}
+
+/// Rounds of values in one view of a seat.
+fn time_view<R: Clock + Print>(rt: &R, seat: Seat, variables: &[VarId], times: u32) -> Option<u64> {
+    match seat.view() {
+        Ok(view) => {
+            let sum = time_reads(rt, &view, variables, times);
+            drop(view.leave());
+            sum
+        }
+        Err(_) => None,
+    }
+}
+
+/// So many notes, each learnt at once.
+fn learn_often(publisher: &Publisher, seat: &mut Seat, times: u32)
+    requires { seat_origin seat.old ≡ origin_of publisher.now }
+    ensures { seat_origin seat.new ≡ seat_origin seat.old }
+{
+    for _ in 0..times {
+        seat.learn(publisher.note());
+    }
+}
+
+/// Rounds of notes, with the nanoseconds of each.
+fn time_learning<R: Clock + Print>(
+    rt: &R,
+    publisher: &Publisher,
+    seat: Seat,
+    times: u32,
+) -> Option<u64>
+    requires { seat_origin seat ≡ origin_of publisher.now }
+{
+    let mut seat = seat;
+    for _ in 0..ROUNDS {
+        let begun = Instant::now(rt).ok()?;
+        learn_often(publisher, &mut seat, times);
+        let time = nanoseconds_since(rt, begun)?;
+        println!(rt; "{time}").ok()?;
+    }
+    Some(0)
+}
+
+/// The seat of a task.
+fn seat_of(mut seats: Vec<Seat>, task: u32) -> Option<Seat> {
+    for _ in task..7 {
+        drop(seats.pop());
+    }
+    seats.pop()
+}
+
+/// The variables with these numbers.
+fn variables_of(alloc: Global, numbers: &[u32]) -> Option<Vec<VarId>> {
+    let mut variables = Vec::new(alloc);
+    for number in numbers {
+        variables.push(VarId::new(*number)?).ok()?;
+    }
+    Some(variables)
+}
+
+/// What is timed of a task's seat.
+#[derive(Clone, Copy, PartialEq, Eq)]
+enum Timed {
+    Views,
+    Values,
+}
+
+/// All that is asked is published, and then the views or the values of a task's seat are timed.
+fn time<R: Wait + Clock + Print>(
+    rt: &R,
+    alloc: Global,
+    given: &Given,
+    timed: Timed,
+    task: u32,
+    times: u32,
+) -> Option<u64> {
+    let variables = variables_of(alloc, &given.variables)?;
+    let (mut plan, mut publisher, seats) = opened_line(rt, alloc, &given.line)?;
+    let done = play(rt, alloc, &mut plan, &mut publisher, &given.asked, 1);
+    let sum = match seat_of(seats, task) {
+        Some(seat) if timed == Timed::Views => time_seat(rt, seat, times),
+        Some(seat) => time_view(rt, seat, &variables, times),
+        None => None,
+    };
+    publisher.finish(rt);
+    done?;
+    sum
+}
+
+/// The number that tells that nothing was left out goes last.
+fn is_told<R: Print>(rt: &R, sum: Option<u64>) -> bool {
+    match sum {
+        Some(sum) => println!(rt; "sum {sum}").is_ok(),
+        None => false,
+    }
+}
+
+/// Views of a task's seat, so many a round.
+pub fn time_views<R: Wait + Clock + Print>(
+    rt: &R,
+    alloc: Global,
+    given: &Given,
+    task: u32,
+    times: u32,
+) -> bool {
+    is_told(rt, time(rt, alloc, given, Timed::Views, task, times))
+}
+
+/// The values of the given variables in a view of a task's seat, so many times a round.
+pub fn time_values<R: Wait + Clock + Print>(
+    rt: &R,
+    alloc: Global,
+    given: &Given,
+    task: u32,
+    times: u32,
+) -> bool {
+    is_told(rt, time(rt, alloc, given, Timed::Values, task, times))
+}
+
+/// Notes that the last seat learns, so many a round.
+fn time_last<R: Wait + Clock + Print>(
+    rt: &R,
+    alloc: Global,
+    given: &Given,
+    times: u32,
+) -> Option<u64> {
+    let (mut plan, mut publisher, mut seats) = opened_line(rt, alloc, &given.line)?;
+    let done = play(rt, alloc, &mut plan, &mut publisher, &given.asked, 1);
+    let sum = match seats.pop() {
+        Some(seat) => time_learning(rt, &publisher, seat, times),
+        None => None,
+    };
+    publisher.finish(rt);
+    done?;
+    sum
+}
+
+/// Notes, each learnt at once, so many a round.
+pub fn time_notes<R: Wait + Clock + Print>(
+    rt: &R,
+    alloc: Global,
+    given: &Given,
+    times: u32,
+) -> bool {
+    is_told(rt, time_last(rt, alloc, given, times))
+}

@@ -1,0 +1,39 @@
+#!/bin/sh
+# Proves `hc_publish` and a program that publishes and views by it, in a scratch folder: a program, since a static library
+# may not wait. Builds the plain Rust beside it and runs both. KIT is the toolchain's folder, if it is not /opt/rattle; with
+# KEPT=1 the work that earlier checks kept in out/ is taken over.
+set -eu
+here=$(cd "$(dirname "$0")" && pwd)
+top="$here/../.."
+scratch=$(mktemp -d)
+trap 'rm -rf "$scratch"' EXIT
+program="$scratch/crates/publish_bench"
+# Takes a crate over, and the crates below it.
+take() {
+    [ -d "$top/crates/$1" ] && [ ! -e "$scratch/crates/$1" ] || return 0
+    mkdir -p "$scratch/crates/$1"
+    for part in src specs proofs ${KEPT:+out}; do
+        [ ! -e "$top/crates/$1/$part" ] || cp -rp "$top/crates/$1/$part" "$scratch/crates/$1/"
+    done
+    grep -E "^$1[: ]" "$top/crates.txt" >> "$scratch/crates.txt"
+    for below in $(sed -n "s/^$1[^:]*://p" "$top/crates.txt"); do
+        take "$below"
+    done
+}
+take hc_project
+take hc_publish
+echo 'publish_bench: hc_records hc_project hc_places hc_plan hc_events hc_copies hc_publish anyhow' >> "$scratch/crates.txt"
+cp "$top/HANDLES" "$scratch/"
+cp -r "$here/program" "$program"
+# The line that is published in turn beside seats in threads, and what stands of it in the tests.
+tests="$top/crates/worked_views"
+for part in src/answers.rt src/eight.rt src/lines.rt src/turns.rt src/watched.rt specs/Lines.antt proofs/Answered.antt proofs/Leading.antt \
+    proofs/answers proofs/lines proofs/turns; do
+    cp -r "$tests/$part" "$program/$part"
+done
+find "$program" -type f -exec sed -i 's/Rattle\.worked_views/Rattle.publish_bench/g' {} +
+(cd "$program" && rt run < /dev/null) > "$scratch/program.txt" 2>&1 || { cat "$scratch/program.txt"; exit 1; }
+rustc --edition 2024 -O --crate-type cdylib "$here/growths.rs" -o "$scratch/growths.so"
+# The program is made for x86-64-v2, so the plain Rust beside it is too.
+rustc --edition 2024 -O -C target-cpu=x86-64-v2 "$here/main.rs" -o "$scratch/bench"
+"$scratch/bench" "$program/out/publish_bench" "$scratch/growths.so" "$scratch" "$@"
