@@ -1,0 +1,81 @@
+//! What is timed, and how plain Rust plays it; and what both are compared on.
+
+use crate::line::{line, variables};
+use crate::master::{master, told_of};
+use crate::plan::line::text;
+use crate::runs::Programs;
+use std::time::Instant;
+
+/// The rounds of a run, and in each of them so many times two cycles.
+const ROUNDS: u32 = 32;
+const TIMES: u32 = 20;
+
+pub struct Case {
+    pub number: usize,
+    pub name: String,
+    pub slaves: usize,
+    tasks: u8,
+}
+
+impl Case {
+    pub fn calls(&self) -> f64 {
+        f64::from(2 * TIMES)
+    }
+
+    /// The words of the proved program.
+    pub fn words(&self) -> Vec<String> {
+        let [tasks, rounds, times] = [self.tasks.into(), ROUNDS, TIMES].map(|number: u32| number.to_string());
+        vec!["cycle".into(), tasks, rounds, times]
+    }
+
+    pub fn given(&self) -> String {
+        let groups = line(self.slaves);
+        let rows = (0..8).map(|task| {
+            let words: Vec<String> = variables(&groups, task).iter().map(u32::to_string).collect();
+            words.join(" ") + "\n"
+        });
+        format!("{}# variables\n{}", text(&groups), rows.collect::<String>())
+    }
+
+    /// Plays it in plain Rust, and prints what the rounds took.
+    pub fn play(&self) {
+        let mut master = master(self.slaves, self.tasks);
+        let sum = (0..ROUNDS).fold(0, |sum, _| {
+            let begun = Instant::now();
+            let told = (0..TIMES).fold(0, |told, _| told_of(told, master.play_two(0x5a)));
+            println!("{}", begun.elapsed().as_nanos());
+            told_of(sum, told)
+        });
+        println!("sum {sum}");
+    }
+}
+
+/// All that is timed.
+pub fn cases() -> Vec<Case> {
+    let mut cases = Vec::new();
+    for tasks in [1, 4, 8] {
+        for slaves in [64, 2048] {
+            let (number, name) = (cases.len(), format!("a cycle of {tasks} tasks"));
+            cases.push(Case { number, name, slaves, tasks });
+        }
+    }
+    cases
+}
+
+/// Stops the benchmark where the proved program tells otherwise than the plain one of any two cycles.
+pub fn compare_all(programs: &Programs, few: bool) {
+    let rounds = if few { 20 } else { 300 };
+    for case in cases() {
+        let mut master = master(case.slaves, case.tasks);
+        let told = (0..rounds).map(|round: u32| {
+            let byte = round as u8;
+            master.fill(byte ^ 0x55);
+            let told = master.play_two(byte);
+            master.arena().iter().fold(told, |told, own| told_of(told, u64::from(*own)))
+        });
+        let told: Vec<u64> = told.collect();
+        let found = programs.told(&case.given(), &[case.tasks.into(), rounds]);
+        assert!(told == found, "{}, {} slaves: another cycle", case.name, case.slaves);
+    }
+    eprintln!("{} times two cycles of each are the same", rounds);
+}

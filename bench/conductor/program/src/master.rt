@@ -1,0 +1,200 @@
+//! The conductor's part of a cycle, through frames that were prepared beforehand.
+
+use hc_conductor::conductor::Conductor;
+use hc_conductor::open;
+use hc_conductor::seat::TaskSeat;
+use hc_events::answer::Answer;
+use hc_events::faults::CoreFault;
+use hc_events::sending::Sending;
+use hc_project::read_project;
+use std::alloc::Global;
+use std::sync::Wait;
+
+/// Where a frame's first datagram has its data.
+const DATA: usize = 26;
+
+/// Room for the frames of eight tasks.
+const ARENA: usize = 8 * 1514;
+
+/// What a master has beside its conductor: the frames that come back, of as many tasks, and room for those that go.
+#[derive(Drop)]
+pub struct Frames {
+    count: u32,
+    arena: Vec<u8>,
+    returned: Vec<Vec<u8>>,
+}
+
+/// Puts a byte at a place, where there is one.
+fn put(frame: &mut [u8], at: usize, byte: u8) {
+    if let Some(own) = frame.get_mut(at) {
+        *own = byte;
+    }
+}
+
+/// The conductor of a project's text, with its seats.
+pub fn opened<R: Wait>(rt: &R, alloc: Global, text: &str) -> Option<(Conductor, Vec<TaskSeat>)> {
+    let project = read_project(alloc, text.as_bytes()).ok()?;
+    match open(rt, alloc, project) {
+        Ok(opened) => Some(opened),
+        Err(_) => None,
+    }
+}
+
+/// The first owed block is written, and answered by the slave that has it.
+fn write_next(alloc: Global, conductor: &mut Conductor) {
+    let mut frame = [0; 60];
+    if conductor.next_write(&mut frame).is_ok() {
+        let size = usize::from(frame[22]);
+        put(&mut frame, DATA + size, 1);
+        let _ = conductor.arrive(alloc, &frame);
+    }
+}
+
+/// All owed blocks are written.
+pub fn write_all(alloc: Global, conductor: &mut Conductor) {
+    for _ in 0..conductor.core().owed() {
+        write_next(alloc, conductor);
+    }
+}
+
+/// The first tasks are sent, 1, 4 or 8.
+fn send(
+    alloc: Global,
+    conductor: &mut Conductor,
+    count: u32,
+    arena: &mut [u8],
+) -> Result<Vec<Sending>, CoreFault> {
+    match count {
+        1 => conductor.send(alloc, &[0], arena),
+        4 => conductor.send(alloc, &[0, 1, 2, 3], arena),
+        _ => conductor.send(alloc, &[0, 1, 2, 3, 4, 5, 6, 7], arena),
+    }
+}
+
+/// Puts a serial into a frame of one datagram.
+fn put_serial(frame: &mut [u8], serial: u64) {
+    let [_, _, _, s4, s3, s2, s1, s0] = serial.to_be_bytes();
+    put(frame, 7, s4);
+    put(frame, 8, s3);
+    put(frame, 9, s2);
+    put(frame, 10, s1);
+    put(frame, 11, s0);
+    put(frame, 17, s0);
+}
+
+/// Fills the data of a frame of one datagram, and puts the counter behind them.
+fn put_data(frame: &mut [u8], length: u16, counter: u16, byte: u8) {
+    let end = DATA + usize::from(length);
+    if let Some(data) = frame.get_mut(DATA..end) {
+        data.fill(byte);
+    }
+    let [low, high] = counter.to_le_bytes();
+    put(frame, end, low);
+    put(frame, end + 1, high);
+}
+
+/// A task's frame as it comes back: the front of what was sent, with good data. None where the task has no datagram.
+fn returned_of(
+    alloc: Global,
+    conductor: &Conductor,
+    task: u8,
+    sent: &[u8],
+    size: usize,
+) -> Option<Vec<u8>> {
+    let datagram = conductor.core().plan().places().datagram(task, 0)?;
+    let mut frame = Vec::from_slice(alloc, sent.get(..size)?).ok()?;
+    put_data(
+        &mut frame,
+        datagram.length,
+        datagram.expected,
+        0x3c + task % 8,
+    );
+    Some(frame)
+}
+
+/// The frames of tasks as they come back, from those that stand in the arena.
+fn all_returned(
+    alloc: Global,
+    conductor: &Conductor,
+    frames: &[Sending],
+    arena: &[u8],
+) -> Option<Vec<Vec<u8>>> {
+    let mut returned = Vec::new(alloc);
+    let mut at = 0_usize;
+    let mut task = 0_u8;
+    for frame in frames {
+        let size = frame.size();
+        let sent = arena.get(at..)?;
+        returned
+            .push(returned_of(alloc, conductor, task, sent, size)?)
+            .ok()?;
+        at = at.wrapping_add(size);
+        task = task.wrapping_add(1);
+    }
+    Some(returned)
+}
+
+impl Frames {
+    /// Prepares the frames of so many tasks, which are sent once.
+    pub fn of(alloc: Global, conductor: &mut Conductor, count: u32) -> Option<Frames> {
+        let Ok(mut arena) = vec![in alloc; 0_u8; ARENA] else {
+            return None;
+        };
+        let Ok(frames) = send(alloc, conductor, count, &mut arena) else {
+            return None;
+        };
+        let returned = all_returned(alloc, conductor, &frames, &arena)?;
+        Some(Frames {
+            count,
+            arena,
+            returned,
+        })
+    }
+
+    /// The bytes that were sent last.
+    pub fn arena(&self) -> &[u8] {
+        &self.arena
+    }
+
+    /// All data that come back are this byte from now on.
+    pub fn fill(&mut self, byte: u8) {
+        for frame in self.returned.iter_mut() {
+            let end = frame.len().saturating_sub(2);
+            if let Some(data) = frame.as_mut_slice().get_mut(DATA..end) {
+                data.fill(byte);
+            }
+        }
+    }
+
+    /// The tasks are sent. None where that was refused.
+    pub fn send_only(&mut self, alloc: Global, conductor: &mut Conductor) -> Option<()> {
+        let Ok(frames) = send(alloc, conductor, self.count, &mut self.arena) else {
+            return None;
+        };
+        let mut back = self.returned.iter_mut();
+        for sent in frames.as_slice() {
+            if let Some(frame) = back.next() {
+                put_serial(frame, sent.serial());
+            }
+        }
+        Some(())
+    }
+
+    /// All that was sent last comes back. How many frames are answers.
+    pub fn answer(&self, alloc: Global, conductor: &mut Conductor) -> u32 {
+        let mut count = 0_u32;
+        for frame in self.returned.as_slice() {
+            let answered = matches!(conductor.arrive(alloc, frame), Answer::Answered(_));
+            count = count.wrapping_add(u32::from(answered));
+        }
+        count
+    }
+
+    /// The tasks are sent, and all comes back. How many frames are answers.
+    pub fn exchange(&mut self, alloc: Global, conductor: &mut Conductor) -> u32 {
+        match self.send_only(alloc, conductor) {
+            Some(()) => self.answer(alloc, conductor),
+            None => 0,
+        }
+    }
+}

@@ -1,0 +1,165 @@
+//! Rounds of cycles.
+
+use crate::cycle::{Task, play, tasks_of};
+use crate::given::Given;
+use crate::master::{Frames, opened, write_all};
+use crate::task::told_of;
+use hc_conductor::conductor::Conductor;
+use hc_conductor::seat::TaskSeat;
+use std::alloc::Global;
+use std::rt::Clock;
+use std::sync::Wait;
+use std::time::Instant;
+
+/// A master with as many tasks as are played, in one thread.
+#[derive(Drop)]
+struct Played {
+    frames: Frames,
+    tasks: Vec<Task>,
+    others: Vec<Task>,
+}
+
+/// All blocks are written, and the frames of so many tasks prepared.
+fn prepared(
+    alloc: Global,
+    conductor: &mut Conductor,
+    seats: Vec<TaskSeat>,
+    count: u32,
+) -> Option<Played> {
+    write_all(alloc, conductor);
+    let frames = Frames::of(alloc, conductor, count)?;
+    let tasks = tasks_of(alloc, seats, count)?;
+    let others = Vec::with_capacity(alloc, 8).ok()?;
+    Some(Played {
+        frames,
+        tasks,
+        others,
+    })
+}
+
+/// Two cycles, behind which the tasks stand in the order of before.
+fn play_two<R: Wait>(
+    rt: &R,
+    alloc: Global,
+    given: &Given,
+    conductor: &mut Conductor,
+    played: &mut Played,
+    byte: u8,
+) -> Option<u64> {
+    let Played {
+        frames,
+        tasks,
+        others,
+    } = played;
+    let first = play(rt, alloc, given, conductor, frames, tasks, others, byte)?;
+    let second = play(rt, alloc, given, conductor, frames, others, tasks, byte)?;
+    Some(told_of(first, second))
+}
+
+/// So many times two cycles.
+fn play_often<R: Wait>(
+    rt: &R,
+    alloc: Global,
+    given: &Given,
+    conductor: &mut Conductor,
+    played: &mut Played,
+    times: u32,
+) -> Option<u64> {
+    let mut told = 0;
+    for _ in 0..times {
+        told = told_of(told, play_two(rt, alloc, given, conductor, played, 0x5a)?);
+    }
+    Some(told)
+}
+
+/// Rounds, with the nanoseconds of each.
+fn time_rounds<R: Wait + Clock + Print>(
+    rt: &R,
+    alloc: Global,
+    given: &Given,
+    conductor: &mut Conductor,
+    played: &mut Played,
+    rounds: u32,
+    times: u32,
+) -> Option<u64> {
+    let mut sum = 0;
+    for _ in 0..rounds {
+        let begun = Instant::now(rt).ok()?;
+        let told = play_often(rt, alloc, given, conductor, played, times)?;
+        let time = begun.elapsed(rt).ok()?.as_nanos();
+        sum = told_of(sum, told);
+        println!(rt; "{time}").ok()?;
+    }
+    Some(sum)
+}
+
+/// Cycles of so many tasks, in so many rounds of twice so many: the nanoseconds of each round.
+pub fn time_cycles<R: Wait + Clock + Print>(
+    rt: &R,
+    alloc: Global,
+    given: &Given,
+    count: u32,
+    rounds: u32,
+    times: u32,
+) -> bool {
+    let Some((mut conductor, seats)) = opened(rt, alloc, &given.line) else {
+        return false;
+    };
+    let sum = match prepared(alloc, &mut conductor, seats, count) {
+        Some(mut played) => time_rounds(
+            rt,
+            alloc,
+            given,
+            &mut conductor,
+            &mut played,
+            rounds,
+            times,
+        ),
+        None => None,
+    };
+    conductor.finish(rt);
+    match sum {
+        Some(sum) => println!(rt; "sum {sum}").is_ok(),
+        None => false,
+    }
+}
+
+/// What was seen in each two cycles, and the bytes that were sent last.
+fn tell_rounds<R: Wait + Print>(
+    rt: &R,
+    alloc: Global,
+    given: &Given,
+    conductor: &mut Conductor,
+    played: &mut Played,
+    rounds: u32,
+) -> Option<()> {
+    for round in 0..rounds {
+        let [byte, _, _, _] = round.to_le_bytes();
+        played.frames.fill(byte ^ 0x55);
+        let mut told = play_two(rt, alloc, given, conductor, played, byte)?;
+        for own in played.frames.arena() {
+            told = told_of(told, u64::from(*own));
+        }
+        println!(rt; "{told}").ok()?;
+    }
+    Some(())
+}
+
+/// What was seen in so many times two cycles of so many tasks.
+pub fn tell<R: Wait + Print>(
+    rt: &R,
+    alloc: Global,
+    given: &Given,
+    count: u32,
+    rounds: u32,
+) -> bool {
+    let Some((mut conductor, seats)) = opened(rt, alloc, &given.line) else {
+        return false;
+    };
+    let done = match prepared(alloc, &mut conductor, seats, count) {
+        Some(mut played) => tell_rounds(rt, alloc, given, &mut conductor, &mut played, rounds),
+        None => None,
+    };
+    conductor.finish(rt);
+    done.is_some()
+}
