@@ -4,7 +4,13 @@
 #![tactic(auto)]
 
 #[cfg(test)]
+mod at_once;
+#[cfg(test)]
 mod dropped;
+#[cfg(test)]
+mod gates;
+#[cfg(test)]
+mod growths;
 #[cfg(test)]
 mod lines;
 #[cfg(test)]

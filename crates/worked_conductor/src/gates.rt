@@ -1,0 +1,46 @@
+//! A gate that two workers pass.
+use hc_lend::Gate;
+use std::sync::atomic::{AtomicBool, Ordering};
+use std::thread;
+
+/// Worker 0 waits for worker 1, for at most 1,000,000 turns, each of which yields.
+#[derive(Drop)]
+pub struct WaitsForNext {
+    begun: AtomicBool,
+    seen: AtomicBool,
+}
+
+impl WaitsForNext {
+    /// Neither has begun.
+    pub fn shut() -> WaitsForNext {
+        WaitsForNext {
+            begun: AtomicBool::new(false),
+            seen: AtomicBool::new(false),
+        }
+    }
+
+    /// Whether worker 0 saw that worker 1 has begun.
+    pub fn has_seen(&self) -> bool {
+        self.seen.load(Ordering::SeqCst)
+    }
+
+    fn waits(&self) {
+        for _ in 0..1_000_000 {
+            if self.begun.load(Ordering::SeqCst) {
+                self.seen.store(true, Ordering::SeqCst);
+                return;
+            }
+            thread::yield_now();
+        }
+    }
+}
+
+impl Gate for WaitsForNext {
+    fn begun(&self, worker: usize) {
+        match worker {
+            0 => self.waits(),
+            1 => self.begun.store(true, Ordering::SeqCst),
+            _ => {}
+        }
+    }
+}
