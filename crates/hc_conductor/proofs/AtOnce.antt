@@ -1,6 +1,6 @@
 -- Frames that are filled by their tasks' parts.
-use Rattle.std.proofs.Common.{◌≡◌, ℕ, zero, suc, ◌+◌, ◌<◌, ◌≤◌, ◌*◌, List, [], ◌∷◌, ◌++◌, All, drop, length, map, slice_index_or, get_or, sum, sum_by, refl, sym, ap, ap₂, subst, ◌∙◌, arith}
-use Rattle.std.specs.List.{concat, enumerate_from, flat_map}
+use Rattle.std.proofs.Common.{◌≡◌, ℕ, zero, suc, ◌+◌, ◌<◌, List, [], ◌∷◌, ◌++◌, All, drop, length, map, slice_index_or, sum, sum_by, refl, sym, ap, ap₂, ◌∙◌, arith}
+use Rattle.std.specs.List.{concat, flat_map}
 use Rattle.std.proofs.lemmas.List.{length-map}
 use Rattle.std.proofs.lemmas.List.Concat.{length-flat_map}
 use Rattle.std.proofs.lemmas.List.Sums.{sum_by-cons}

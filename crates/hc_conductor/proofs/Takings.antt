@@ -1,5 +1,5 @@
 -- Posts that are taken, one after another.
-use Rattle.std.proofs.Common.{◌≡◌, ℕ, ◌+◌, ◌*◌, ◌≤◌, Bool, true, false, List, [], ◌∷◌, ◌++◌, filter, length, map, refl, sym, take, ap, subst, ◌∙◌, arith, append_assoc}
+use Rattle.std.proofs.Common.{◌≡◌, ℕ, ◌+◌, ◌*◌, ◌≤◌, Bool, true, false, List, [], ◌∷◌, ◌++◌, filter, length, refl, sym, take, ap, subst, ◌∙◌, arith, append_assoc}
 use Rattle.std.proofs.Math.Seq.{take-append_seam}
 use Rattle.std.proofs.lemmas.List.{append-nil, length-append, length-map}
 use Rattle.std.proofs.lemmas.List.Elements.{filter-append}
@@ -12,7 +12,7 @@ use Rattle.hc_rings.specs.Ring.{SameReceiver, taken}
 use Rattle.hc_rings.proofs.lemmas.Same.{receiver-still}
 use Rattle.hc_core.specs.State.{CoreState}
 use Rattle.hc_conductor.specs.declared.taking.Taken.{Taken}
-use Rattle.hc_conductor.specs.Taking.{AreTaken, AreTakenFrom, Counts, TakesFrom, TakesFromAll, event_of, events_of, events_of_all, is_posted, one_if, posted_in}
+use Rattle.hc_conductor.specs.Taking.{AreTaken, TakesFrom, TakesFromAll, event_of, events_of, events_of_all, is_posted, one_if, posted_in}
 
 -- ---- one more post, in front of the others
 
