@@ -27,8 +27,8 @@ cp "$top/HANDLES" "$scratch/"
 cp -r "$here/program" "$program"
 # The line that is published in turn beside seats in threads, and what stands of it in the tests.
 tests="$top/crates/worked_views"
-for part in src/answers.rt src/eight.rt src/lines.rt src/turns.rt src/watched.rt specs/Lines.antt proofs/Answered.antt proofs/Leading.antt \
-    proofs/answers proofs/lines proofs/turns; do
+for part in src/eight.rt src/lines.rt src/turns.rt src/watched.rt specs/Lines.antt proofs/Answered.antt proofs/Leading.antt \
+    proofs/lines proofs/turns; do
     cp -r "$tests/$part" "$program/$part"
 done
 find "$program" -type f -exec sed -i 's/Rattle\.worked_views/Rattle.publish_bench/g' {} +

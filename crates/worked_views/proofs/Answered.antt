@@ -33,7 +33,3 @@ pub first_answer_is_legal : (state : State) (task : ℕ) (table : Table) (datagr
 first_answer_is_legal state task table datagram bytes good low is found told long =
     let there = ap (λ (t : Table). datagram_in t task 0) (sym is) ∙ sym found in
     (subst (λ (g : Fresh). IsAnswerIn state g.task g.datagram g.bytes) (sym told) (answer_stands state task datagram bytes low there long), tt)
-
-pub answer_is_legal : (state : State) (table : Table) (datagram : Datagram) (bytes : List ℕ) (good : Fresh) → table ≡ table_of (line state) → Some datagram ≡ datagram_in table 0 0
-    → good ≡ record { task = 0; datagram = 0; bytes = bytes } → length bytes ≡ datagram.length → AreLegalFrom state (change.Good good ∷ [])
-answer_is_legal state table datagram bytes good is found told long = first_answer_is_legal state 0 table datagram bytes good (omega arith) is found told long

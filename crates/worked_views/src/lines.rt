@@ -15,6 +15,7 @@ use hc_publish::publisher::{Kept, Note, Publisher};
 use hc_publish::seat::Seat;
 use hc_records::edit::Edit;
 use hc_records::items::Items;
+use hc_records::limits::TASKS;
 use std::alloc::{AllocError, Global};
 use std::sync::Wait;
 
@@ -134,18 +135,23 @@ pub fn append_edit(
     }
 }
 
-/// Appends a good answer of the only datagram of task 0, in this memory; it has to have the datagram's length.
+/// Appends a good answer of a task's first datagram, in this memory; there has to be such a task, and the answer has the
+/// datagram's length.
 pub fn append_answer(
     room: Vec<u8>,
     plan: &Plan,
     publisher: &mut Publisher,
+    task: u8,
     bytes: &[u8],
 ) -> Result<(), AllocError>
     requires { LeadsTo publisher.old plan.now }
     ensures leads { OnOk result (LeadsTo publisher.new plan.now) }
     ensures same { origin_of publisher.new ≡ origin_of publisher.old }
 {
-    let Some(datagram) = plan.places().datagram(0, 0) else {
+    if task >= TASKS {
+        return Err(AllocError);
+    }
+    let Some(datagram) = plan.places().datagram(task, 0) else {
         return Err(AllocError);
     };
     if bytes.len() != usize::from(datagram.length) {
@@ -154,7 +160,7 @@ pub fn append_answer(
     let mut data = room;
     data.clear();
     data.extend_from_slice(bytes)?;
-    let good = GoodAnswer::of(0, 0, Items::of(data));
+    let good = GoodAnswer::of(task, 0, Items::of(data));
     append(publisher, Change::Good(good))
 }
 

@@ -190,7 +190,7 @@ fn append(
     ensures { OnOk result (LeadsTo publisher.new plan.new) }
 {
     match given {
-        Given::Answer(bytes) => append_answer(Vec::new(alloc), plan, publisher, bytes),
+        Given::Answer(bytes) => append_answer(Vec::new(alloc), plan, publisher, 0, bytes),
         Given::Docking => append_edit(alloc, plan, publisher, &DOCK),
         Given::Undocking => append_edit(alloc, plan, publisher, &UNDOCK),
         Given::LosingOutputs => append_edit(alloc, plan, publisher, &without_outputs(alloc)),

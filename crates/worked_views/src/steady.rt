@@ -33,8 +33,8 @@ fn cycle<R: Wait>(
     ensures leads { OnOk result (LeadsTo publisher.new plan.now) }
     ensures same { origin_of publisher.new ≡ origin_of publisher.old }
 {
-    append_answer(room(alloc, publisher), plan, publisher, b"\x02\x11\x01")?;
-    append_answer(room(alloc, publisher), plan, publisher, b"\x02\x34\x0a")?;
+    append_answer(room(alloc, publisher), plan, publisher, 0, b"\x02\x11\x01")?;
+    append_answer(room(alloc, publisher), plan, publisher, 0, b"\x02\x34\x0a")?;
     publish(rt, plan, publisher)
 }
 

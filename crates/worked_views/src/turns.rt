@@ -2,8 +2,7 @@
 ghost use Rattle.std.specs.Prelude.{IfSome};
 ghost use Rattle.worked_views.specs.Lines.{LeadsTo};
 
-use crate::answers::{append_answer, publish};
-use crate::lines::{DOCK, UNDOCK, publish_edit};
+use crate::lines::{DOCK, UNDOCK, append_answer, publish, publish_edit};
 use hc_plan::plan::Plan;
 use hc_publish::publisher::Publisher;
 use hc_records::edit::Edit;
@@ -49,7 +48,7 @@ fn append_answers(alloc: Global, plan: &Plan, publisher: &mut Publisher) -> Opti
         let Ok(bytes) = vec![in alloc; byte; length] else {
             return None;
         };
-        append_answer(alloc, plan, publisher, task, &bytes)?;
+        append_answer(Vec::new(alloc), plan, publisher, task, &bytes).ok()?;
     }
     Some(())
 }
@@ -67,7 +66,7 @@ fn publish_turn<R: Wait>(
 {
     publish_edit(rt, alloc, plan, publisher, edit)?;
     append_answers(alloc, plan, publisher)?;
-    publish(rt, plan, publisher)
+    publish(rt, plan, publisher).ok()
 }
 
 /// So many times the feeder is docked and undocked: four publishings each.

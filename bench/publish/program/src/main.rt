@@ -2,7 +2,6 @@
 //! or how long it took. LINE is a project's text, and behind it a row `# asked` and a row of numbers for each thing asked.
 #![tactic(auto)]
 
-mod answers;
 mod asked;
 mod changes;
 mod eight;
