@@ -1,7 +1,7 @@
 -- The parts are numbered from 0, there are no more of them than words, and each is as long as its length says.
 use Rattle.std.proofs.Common.{◌≡◌, ℕ, ◌<◌, ◌≤◌, List, length, slice_index, sum, subst, sym, ◌∙◌, ap, arith}
 use Rattle.hc_lend.specs.Work.{CanWorkOnEach}
-use Rattle.worked_threads.proofs.Numbered.{length-numbered_parts, number-numbered_parts, length-numbered_part}
+use Rattle.hc_lend.proofs.lemmas.Numbered.{length-numbered_parts, number-numbered_parts, length-numbered_part}
 use Rattle.worked_threads.proofs.parts.copy_each.Goals as goal
 
 words_fit : (lengths bytes : List ℕ) (words : ℕ) → sum lengths ≡ length bytes → ((k : ℕ) → k < length lengths → slice_index lengths k ≡ 2) → length lengths ≤ words
