@@ -25,7 +25,9 @@ take hc_conductor
 echo 'conductor_bench: hc_records hc_project hc_places hc_plan hc_events hc_sendings hc_core hc_publish hc_rings hc_conductor anyhow' \
     >> "$scratch/crates.txt"
 cp "$top/HANDLES" "$scratch/"
-cp -r "$here/program" "$program"
+for part in "$here"/program/*.sh; do
+    sh "$part" "$program"
+done
 (cd "$program" && rt run < /dev/null) > "$scratch/program.txt" 2>&1 || { cat "$scratch/program.txt"; exit 1; }
 rustc --edition 2024 -O --crate-type cdylib "$here/../publish/growths.rs" -o "$scratch/growths.so"
 # The program is made for x86-64-v2, so the plain Rust beside it is too.

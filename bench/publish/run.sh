@@ -24,7 +24,9 @@ take hc_project
 take hc_publish
 echo 'publish_bench: hc_records hc_project hc_places hc_plan hc_events hc_copies hc_publish anyhow' >> "$scratch/crates.txt"
 cp "$top/HANDLES" "$scratch/"
-cp -r "$here/program" "$program"
+for part in "$here"/program/*.sh; do
+    sh "$part" "$program"
+done
 # The line that is published in turn beside seats in threads, and what stands of it in the tests.
 tests="$top/crates/worked_views"
 for part in src/eight.rt src/lines.rt src/turns.rt src/watched.rt specs/Lines.antt proofs/Answered.antt proofs/Leading.antt \

@@ -1,3 +1,8 @@
+#!/bin/sh
+# Writes the part of the program that plays cycles in rounds, into the folder that it is given.
+set -eu
+mkdir -p "$1/src"
+cat > "$1/src/rounds.rt" <<'END_OF_CODE'
 //! Rounds of cycles.
 
 use crate::cycle::{Task, play, tasks_of};
@@ -163,3 +168,4 @@ pub fn tell<R: Wait + Print>(
     conductor.finish(rt);
     done.is_some()
 }
+END_OF_CODE

@@ -1,3 +1,8 @@
+#!/bin/sh
+# Writes the part of the program that views, learns and publishes beside seats in threads, into the folder that it is given.
+set -eu
+mkdir -p "$1/proofs/looks/learn_often" "$1/proofs/looks/time_last" "$1/proofs/looks/time_learning" "$1/src"
+cat > "$1/src/looks.rt" <<'END_OF_CODE'
 //! Rounds of views and of notes.
 ghost use Rattle.std.specs.Prelude.{◌≡◌, IfSome};
 ghost use Rattle.hc_publish.specs.Board.{origin_of};
@@ -228,3 +233,129 @@ pub fn time_notes<R: Wait + Clock + Print>(
 ) -> bool {
     is_told(rt, time_last(rt, alloc, given, times))
 }
+END_OF_CODE
+cat > "$1/src/stress.rt" <<'END_OF_CODE'
+//! Publishings in turn beside eight seats that view in threads of their own, and the memory that is resident.
+ghost use Rattle.publish_bench.specs.Lines.{LeadsTo};
+
+use crate::eight::{eight_of, watch_eight};
+use crate::lines::opened_line;
+use crate::turns::{EIGHT, publish_turns};
+use hc_plan::plan::Plan;
+use hc_publish::publisher::Publisher;
+use hc_publish::seat::Seat;
+use std::alloc::Global;
+use std::fs;
+use std::rt::Files;
+use std::sync::Wait;
+use std::sync::atomic::{AtomicBool, Ordering};
+use std::thread::Threads;
+
+/// The resident kibibytes of this process, as the system tells.
+fn resident<R: Files + AllocGlobal>(rt: &R) -> Option<u64> {
+    let text = fs::read_to_string(rt, "/proc/self/smaps_rollup").ok()?;
+    for row in text.lines() {
+        let mut words = row.split_whitespace();
+        if words.next() == Some("Rss:") {
+            return words.next()?.parse().ok();
+        }
+    }
+    None
+}
+
+/// So many turns, and so many more: what is resident behind the first ones, and behind all.
+fn resident_twice<R: Wait + Files + AllocGlobal>(
+    rt: &R,
+    alloc: Global,
+    plan: &mut Plan,
+    publisher: &mut Publisher,
+    first: u32,
+    rest: u32,
+) -> Option<(u64, u64)>
+    requires { LeadsTo publisher.old plan.old }
+{
+    publish_turns(rt, alloc, plan, publisher, first)?;
+    let early = resident(rt)?;
+    publish_turns(rt, alloc, plan, publisher, rest)?;
+    let late = resident(rt)?;
+    Some((early, late))
+}
+
+/// The same beside eight seats. None where a view was not of one epoch, or behind an earlier one, or the last one not of
+/// all.
+fn resident_beside<R: Threads + Wait + Files + AllocGlobal>(
+    rt: &R,
+    alloc: Global,
+    plan: &mut Plan,
+    publisher: &mut Publisher,
+    seats: Vec<Seat>,
+    first: u32,
+    rest: u32,
+) -> Option<(u64, u64)>
+    requires { LeadsTo publisher.old plan.old }
+{
+    let seats = eight_of(seats)?;
+    let is_done = AtomicBool::new(false);
+    let (moment, told) = watch_eight(
+        rt,
+        seats,
+        &is_done,
+        || -> Option<(u64, u64)>
+            requires { LeadsTo publisher.now plan.now }
+        {
+            let told = resident_twice(rt, alloc, plan, publisher, first, rest);
+            is_done.store(true, Ordering::SeqCst);
+            told
+        },
+    );
+    let last = 4 * (u64::from(first) + u64::from(rest)) + 1;
+    if moment == Some(last) { told } else { None }
+}
+
+/// Opens the line, and prints what is resident behind the first turns and behind all.
+pub fn publish_often<R: Threads + Wait + Files + AllocGlobal + Print>(
+    rt: &R,
+    alloc: Global,
+    first: u32,
+    rest: u32,
+) -> bool {
+    let Some((mut plan, mut publisher, seats)) = opened_line(rt, alloc, EIGHT) else {
+        return false;
+    };
+    let told = resident_beside(rt, alloc, &mut plan, &mut publisher, seats, first, rest);
+    publisher.finish(rt);
+    match told {
+        Some((early, late)) => println!(rt; "{early} {late}").is_ok(),
+        None => false,
+    }
+}
+END_OF_CODE
+cat > "$1/proofs/looks/time_learning/Invariants.antt" <<'END_OF_PROOF'
+use Rattle.std.proofs.Common.{◌≡◌}
+use Rattle.hc_publish.specs.Seats.{seat_origin}
+use Rattle.publish_bench.proofs.looks.time_learning.Given as goal
+
+abbrev pub invariant-loop : goal.invariant-loop
+invariant-loop g l = seat_origin l.seat ≡ seat_origin l.initial.seat
+END_OF_PROOF
+cat > "$1/proofs/looks/learn_often/Invariants.antt" <<'END_OF_PROOF'
+use Rattle.std.proofs.Common.{◌≡◌}
+use Rattle.hc_publish.specs.Seats.{seat_origin}
+use Rattle.publish_bench.proofs.looks.learn_often.Given as goal
+
+abbrev pub invariant-loop : goal.invariant-loop
+invariant-loop l = seat_origin l.seat ≡ seat_origin l.initial.seat
+END_OF_PROOF
+cat > "$1/proofs/looks/time_last/Answers.antt" <<'END_OF_PROOF'
+use Rattle.std.proofs.Common.{IfSome, subst, sym, ◌∙◌}
+use Rattle.std.proofs.lemmas.List.Elements.{All-pop}
+use Rattle.hc_publish.specs.Board.{origin_of}
+use Rattle.hc_publish.specs.Seats.{IsFresh}
+use Rattle.publish_bench.proofs.looks.time_last.Goals as goal
+
+pub time_learning-sum-requires : goal.time_learning-sum-requires
+time_learning-sum-requires g c =
+    let P = IsFresh (origin_of c.in_ok-plan.publisher) in
+    let popped = All-pop P _ _ c.pop.result c.pop.ensures.items c.in_ok-plan.ensures.seats in
+    (subst (λ r. IfSome r P) c.in-Some.is popped.1).1 ∙ sym c.play-done.ensures.origin
+END_OF_PROOF
