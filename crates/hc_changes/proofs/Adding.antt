@@ -7,7 +7,7 @@ use Rattle.std.proofs.lemmas.List.Elements.{filter_map-append}
 use Rattle.hc_records.specs.Area.{Entry}
 use Rattle.hc_records.specs.Packing.{Placed}
 use Rattle.hc_records.specs.Project.{entry_names}
-use Rattle.hc_changes.specs.Movers.{Mover}
+use Rattle.hc_changes.specs.MovedAreas.{MovedArea}
 use Rattle.hc_changes.specs.Rows.{HoldsArea, StandsInside}
 
 -- where each that passes a test adds one element
@@ -33,7 +33,7 @@ pub names-added : {X : Type 0} (f : X → List Entry) (xs : List X) (i : ℕ) (d
     → has ≡ had ++ entry_names entries → had ++ entry_names (flat_map f (drop i xs)) ≡ all → has ++ entry_names (flat_map f (drop (i + 1) xs)) ≡ all
 names-added f xs i d entries had has all within own adds so_far = search (rules, append_assoc, filter_map-append, drop_more)
 
--- a mover that is met, and its place
-pub stands-at : (movers : List Mover) (i : ℕ) (mover : Mover) (placed : Placed) → All (λ m. StandsInside m.found) movers → i < length movers
-    → mover ≡ get_or movers i mover → mover.found.place ≡ Some placed → HoldsArea mover.found.area placed
-stands-at movers i mover placed all within is place = search rules
+-- a moved area that is met, and its place
+pub stands-at : (moved_areas : List MovedArea) (i : ℕ) (moved_area : MovedArea) (placed : Placed) → All (λ m. StandsInside m.found) moved_areas → i < length moved_areas
+    → moved_area ≡ get_or moved_areas i moved_area → moved_area.found.place ≡ Some placed → HoldsArea moved_area.found.area placed
+stands-at moved_areas i moved_area placed all within is place = search rules

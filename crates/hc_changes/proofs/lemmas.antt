@@ -4,6 +4,7 @@ pub mod Blocks
 pub mod ByRank
 pub mod Compared
 pub mod Counted
+pub mod EditedLines
 pub mod Finding
 pub mod FoundAll
 pub mod FoundRanks
@@ -14,12 +15,11 @@ pub mod Keeping
 pub mod KeptSpans
 pub mod Lists
 pub mod Moved
+pub mod MovedAreas
 pub mod MovedBlocks
-pub mod Movers
 pub mod Names
 pub mod OneProject
 pub mod Others
-pub mod Outlooks
 pub mod PlacedWidths
 pub mod Places
 pub mod Ranks

@@ -1,10 +1,10 @@
 pub mod Candidates
 pub mod Compared
 pub mod Edited
+pub mod EditedLine
 pub mod Laws
 pub mod Moved
-pub mod Movers
-pub mod Outlook
+pub mod MovedAreas
 pub mod Rows
 pub mod Tables
 pub mod inner

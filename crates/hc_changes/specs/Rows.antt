@@ -1,4 +1,4 @@
--- Which variables of a line an edit changes, told by the movers and by the slaves that change.
+-- Which variables of a line an edit changes, told by the moved areas and by the slaves that change.
 use Rattle.std.specs.Prelude.{◌≡◌, ℕ, ◌+◌, ◌==◌, ◌<◌, ◌≤◌, not, Bool, List, [], ◌++◌, filter, find, map, None, Some, option_map}
 use Rattle.std.specs.List.{flat_map, list_any, zip}
 use Rattle.std.specs.Option.{option_map_or}
@@ -13,7 +13,7 @@ use Rattle.hc_places.specs.Ranges.{OffersBits}
 use Rattle.hc_places.specs.Swap.{AreOnce, ChangedRow, new_place, same_found}
 use Rattle.hc_places.specs.Table.{Row, Table, place_in}
 use Rattle.hc_changes.specs.Candidates.{Candidate}
-use Rattle.hc_changes.specs.Movers.{Mover}
+use Rattle.hc_changes.specs.MovedAreas.{MovedArea}
 
 -- the variables of a candidate with their places; none where it stands nowhere
 abbrev pub rows_of : Candidate → List Row
@@ -47,13 +47,13 @@ gone_variables slave = filter (λ variable. not (is_assigned variable slave.1)) 
 abbrev pub gone_rows : List (List Area) → List (List Area) → List ChangedRow
 gone_rows before after = map (λ variable. (variable, None)) (flat_map gone_variables (zip before after))
 
--- those of the variables of movers
-abbrev pub rows_of_movers : List Mover → List Row
-rows_of_movers movers = flat_map (λ mover. rows_of mover.found) movers
+-- those of the variables of moved areas
+abbrev pub rows_of_moved_areas : List MovedArea → List Row
+rows_of_moved_areas moved_areas = flat_map (λ moved_area. rows_of moved_area.found) moved_areas
 
--- what an edit changes of an old table: the movers' variables that stand elsewhere, then the variables that go with the changed slaves' areas
-abbrev pub changed_rows : Table → List Mover → List (List Area) → List (List Area) → List ChangedRow
-changed_rows old movers before after = moved_rows old (rows_of_movers movers) ++ gone_rows before after
+-- what an edit changes of an old table: the moved areas' variables that stand elsewhere, then the variables that go with the changed slaves' areas
+abbrev pub changed_rows : Table → List MovedArea → List (List Area) → List (List Area) → List ChangedRow
+changed_rows old moved_areas before after = moved_rows old (rows_of_moved_areas moved_areas) ++ gone_rows before after
 
 -- a place lies in one of 16 datagrams of one of the eight tasks, and holds the area, whose entries have 1 to 64 bits
 pub record HoldsArea (area : Area) (placed : Placed) : Type 0 where

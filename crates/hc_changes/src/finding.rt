@@ -9,10 +9,10 @@ ghost use Rattle.hc_tasks.specs.Areas.{areas_by_rank};
 ghost use Rattle.hc_tasks.specs.Keeping.{StandsBefore};
 ghost use Rattle.hc_tasks.specs.Kept.{line_kept};
 ghost use Rattle.hc_changes.specs.Candidates.{candidate_of, candidates};
-ghost use Rattle.hc_changes.specs.Outlook.{changes};
+ghost use Rattle.hc_changes.specs.EditedLine.{changes};
 
 use crate::candidates::Candidate;
-use crate::outlook::Outlook;
+use crate::edited_line::EditedLine;
 use crate::ranks::Ranks;
 use hc_cuts::packing::Placed;
 use hc_records::keys::Key;
@@ -55,24 +55,24 @@ fn higher(one: Key, other: Key) -> Key
 /// What tells of an area of a line whether it is a candidate, and where it stands: what an edit makes of the
 /// line, what is known of the tasks before they were turned, and the turned tasks. Contracts see the first.
 #[derive(Drop)]
-struct Sight<'b, 'a> {
-    outlook: &'b Outlook<'a>,
+struct CandidateTest<'b, 'a> {
+    edited_line: &'b EditedLine<'a>,
     before: &'b Before,
     cuts: &'b LineCuts,
 }
 
-impl<'b, 'a> Model for Sight<'b, 'a> {
-    ghost use Rattle.hc_changes.specs.inner.Found.{IsSight};
-    ghost use Rattle.hc_changes.specs.Outlook.{Outlook};
+impl<'b, 'a> Model for CandidateTest<'b, 'a> {
+    ghost use Rattle.hc_changes.specs.inner.Found.{IsCandidateTest};
+    ghost use Rattle.hc_changes.specs.EditedLine.{EditedLine};
 
-    ghost Value = { Outlook };
+    ghost Value = { EditedLine };
 
-    ghost view = { λ sight. sight.outlook.now };
+    ghost view = { λ test. test.edited_line.now };
 
-    ghost invariant = { λ sight. IsSight sight.outlook.now sight.before.now sight.cuts.now };
+    ghost invariant = { λ test. IsCandidateTest test.edited_line.now test.before.now test.cuts.now };
 }
 
-impl<'b, 'a> Sight<'b, 'a> {
+impl<'b, 'a> CandidateTest<'b, 'a> {
     ghost use Rattle.std.specs.Prelude.{◌≡◌, ◌+◌, ◌<◌, ◌≤◌, ◌++◌, [], IfSome, OnOk, false, if◌then◌else◌, length, not, option_to_list, true};
     ghost use Rattle.std.specs.Option.{option_map_or};
     ghost use Rattle.hc_records.specs.Line.{line_from};
@@ -84,7 +84,7 @@ impl<'b, 'a> Sight<'b, 'a> {
     ghost use Rattle.hc_tasks.specs.Areas.{areas_at, areas_by_rank};
     ghost use Rattle.hc_tasks.specs.Kept.{line_kept};
     ghost use Rattle.hc_changes.specs.inner.Found.{HoldChanged, HoldRanks, HoldRecut, IsGroupAt, LieWithin, area_found, found_below, rank_found, station_at};
-    ghost use Rattle.hc_changes.specs.Outlook.{IsOutlook};
+    ghost use Rattle.hc_changes.specs.EditedLine.{IsEditedLine};
 
     /// Whether an area of a task with a place, if it has one, stands in a datagram that isn't kept up to it.
     fn is_recut(&self, task: u8, place: &Option<Placed>) -> bool
@@ -116,7 +116,7 @@ impl<'b, 'a> Sight<'b, 'a> {
         ensures places { places.new ≡ places.old }
         ensures found { option_to_list result ≡ area_found self.now station rank index area.now }
     {
-        let changed = self.outlook.is_changed(rank);
+        let changed = self.edited_line.is_changed(rank);
         if !changed && !self.before.is_touched(area.task) {
             return None;
         }
@@ -149,7 +149,7 @@ impl<'b, 'a> Sight<'b, 'a> {
         ensures places { places.new ≡ places.old }
         ensures found { OnOk result (found.new.items ≡ found.old.items ++ rank_found self.now rank) }
     {
-        let areas = self.outlook.areas_after(rank, present, slave);
+        let areas = self.edited_line.areas_after(rank, present, slave);
         for i in 0..areas.len() {
             if let Some(candidate) = self.judge(places, slave.station, rank, i as u8, &areas[i]) {
                 found.push(candidate)?;
@@ -192,11 +192,11 @@ impl<'b, 'a> Sight<'b, 'a> {
 
     /// The ranks of the slaves that the edit concerns.
     fn changed_ranks(&self) -> Ranks
-        requires { IsOutlook self.now }
+        requires { IsEditedLine self.now }
         ensures { HoldChanged self.now result.low result.high }
     {
-        let first = self.outlook.first();
-        let slaves = self.outlook.before().len();
+        let first = self.edited_line.first();
+        let slaves = self.edited_line.before().len();
         Ranks::of(first, first + slaves as u16 - 1)
     }
 
@@ -222,7 +222,7 @@ impl<'b, 'a> Sight<'b, 'a> {
 
     /// Ranks between which all candidates stand.
     fn ranks(&self) -> Ranks
-        requires { IsOutlook self.now }
+        requires { IsEditedLine self.now }
         ensures { LieWithin self.now result.low result.high }
     {
         let mut ranks = self.changed_ranks();
@@ -243,7 +243,7 @@ impl<'b, 'a> Sight<'b, 'a> {
         ranks: Ranks,
     ) -> Result<Vec<Candidate<'a>>, AllocError>
         requires groups { groups.now ≡ self.now.old }
-        requires known { IsOutlook self.now }
+        requires known { IsEditedLine self.now }
         requires ranks { LieWithin self.now ranks.low ranks.high }
         ensures { IfOk result (λ found. found.items ≡ map (candidate_of (line_from 1 self.now.new)) (candidates (changes self.now) (line_from 1 self.now.old) (line_from 1 self.now.new))) }
     {
@@ -264,19 +264,19 @@ impl<'b, 'a> Sight<'b, 'a> {
 /// line and record order, each with its place. `AllocError` where a growth was refused.
 pub fn candidates<'a>(
     alloc: Global,
-    outlook: &Outlook<'a>,
+    edited_line: &EditedLine<'a>,
     before: &Before,
     cuts: &LineCuts,
 ) -> Result<Vec<Candidate<'a>>, AllocError>
-    requires before { StandsBefore (areas_by_rank outlook.now.old) (areas_by_rank outlook.now.new) before.now }
-    requires cuts { cuts.now ≡ line_kept (areas_by_rank outlook.now.new) }
-    ensures { IfOk result (λ found. found.items ≡ map (candidate_of (line_from 1 outlook.now.new)) (candidates (changes outlook.now) (line_from 1 outlook.now.old) (line_from 1 outlook.now.new))) }
+    requires before { StandsBefore (areas_by_rank edited_line.now.old) (areas_by_rank edited_line.now.new) before.now }
+    requires cuts { cuts.now ≡ line_kept (areas_by_rank edited_line.now.new) }
+    ensures { IfOk result (λ found. found.items ≡ map (candidate_of (line_from 1 edited_line.now.new)) (candidates (changes edited_line.now) (line_from 1 edited_line.now.old) (line_from 1 edited_line.now.new))) }
 {
-    let groups = outlook.groups();
-    let sight = Sight {
-        outlook,
+    let groups = edited_line.groups();
+    let test = CandidateTest {
+        edited_line,
         before,
         cuts,
     };
-    sight.all(alloc, groups, sight.ranks())
+    test.all(alloc, groups, test.ranks())
 }

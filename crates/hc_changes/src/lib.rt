@@ -4,11 +4,11 @@
 #![tactic(auto)]
 
 pub mod candidates;
+pub mod edited_line;
 pub mod finding;
 pub mod laws;
 pub mod moved;
-pub mod movers;
-pub mod outlook;
+pub mod moved_areas;
 mod ranks;
 pub mod rows;
 pub mod tables;

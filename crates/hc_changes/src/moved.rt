@@ -6,11 +6,11 @@ ghost use Rattle.hc_records.specs.Line.{line_from};
 ghost use Rattle.hc_ranks.specs.Blocks.{moved_ranked};
 ghost use Rattle.hc_registers.specs.Blocks.{mapping_at, same_bytes};
 ghost use Rattle.hc_changes.specs.inner.Moved.{IsComparable, IsWritable, block_with, blocks_if, blocks_moved, differ_from, moved_by, two_blocks};
-ghost use Rattle.hc_changes.specs.Movers.{movers_of};
+ghost use Rattle.hc_changes.specs.MovedAreas.{moved_areas_of};
 
 use crate::candidates::Candidate;
-use crate::movers::{Mover, Stood};
-use crate::outlook::Outlook;
+use crate::edited_line::EditedLine;
+use crate::moved_areas::{FormerArea, MovedArea};
 use hc_cuts::packing::Placed;
 use hc_ranks::blocks::RankedBlock;
 use hc_records::records::Area;
@@ -61,23 +61,23 @@ fn is_same(a: &Block, b: &Block) -> bool
 
 /// Of two blocks of an area at an index of its slave's record, whether each differs from the one that the slave
 /// had with its number.
-fn differing(blocks: &(Block, Block), index: u8, stood: &Stood) -> (bool, bool)
-    requires { IsWritable index stood.now.area stood.now.place }
-    ensures { result ≡ differ_from blocks.now (two_blocks index stood.now.area stood.now.place) }
+fn differing(blocks: &(Block, Block), index: u8, former: &FormerArea) -> (bool, bool)
+    requires { IsWritable index former.now.area former.now.place }
+    ensures { result ≡ differ_from blocks.now (two_blocks index former.now.area former.now.place) }
 {
-    let (manager, fmmu) = two_blocks(index, stood.area, stood.place);
+    let (manager, fmmu) = two_blocks(index, former.area, former.place);
     (!is_same(&blocks.0, &manager), !is_same(&blocks.1, &fmmu))
 }
 
-/// Of the two blocks of a mover, whether each differs from the one that its slave had with its number: both do
+/// Of the two blocks of a moved area, whether each differs from the one that its slave had with its number: both do
 /// where it had no such area.
-fn moved_by(blocks: &(Block, Block), mover: &Mover) -> (bool, bool)
-    requires { IsComparable mover.now }
-    ensures { result ≡ moved_by blocks.now mover.now }
+fn moved_by(blocks: &(Block, Block), moved_area: &MovedArea) -> (bool, bool)
+    requires { IsComparable moved_area.now }
+    ensures { result ≡ moved_by blocks.now moved_area.now }
 {
-    let found = mover.found;
-    match &mover.stood {
-        Some(stood) => differing(blocks, found.index, stood),
+    let found = moved_area.found;
+    match &moved_area.former {
+        Some(former) => differing(blocks, found.index, former),
         None => (true, true),
     }
 }
@@ -115,14 +115,14 @@ fn add_blocks(
     Ok(())
 }
 
-/// Adds the blocks of a mover that moved.
-fn add_moved(blocks: &mut Vec<RankedBlock>, mover: &Mover) -> Result<(), AllocError>
-    requires { IsComparable mover.now }
-    ensures { OnOk result (blocks.new.items ≡ blocks.old.items ++ blocks_moved mover.now) }
+/// Adds the blocks of a moved area that moved.
+fn add_moved(blocks: &mut Vec<RankedBlock>, moved_area: &MovedArea) -> Result<(), AllocError>
+    requires { IsComparable moved_area.now }
+    ensures { OnOk result (blocks.new.items ≡ blocks.old.items ++ blocks_moved moved_area.now) }
 {
-    let found = mover.found;
+    let found = moved_area.found;
     let two = two_blocks(found.index, found.area, found.place);
-    let moved = moved_by(&two, mover);
+    let moved = moved_by(&two, moved_area);
     add_blocks(blocks, found, two, moved)
 }
 
@@ -132,17 +132,17 @@ fn add_moved(blocks: &mut Vec<RankedBlock>, mover: &Mover) -> Result<(), AllocEr
 /// `AllocError` where a growth was refused.
 pub fn moved_blocks(
     alloc: Global,
-    outlook: &Outlook,
-    movers: &[Mover],
+    edited_line: &EditedLine,
+    moved_areas: &[MovedArea],
 ) -> Result<Vec<RankedBlock>, AllocError>
-    requires { movers.now ≡ movers_of outlook.now }
-    ensures { IfOk result (λ blocks. blocks.items ≡ moved_ranked (line_from 1 outlook.now.old) (line_from 1 outlook.now.new)) }
+    requires { moved_areas.now ≡ moved_areas_of edited_line.now }
+    ensures { IfOk result (λ blocks. blocks.items ≡ moved_ranked (line_from 1 edited_line.now.old) (line_from 1 edited_line.now.new)) }
 {
     // says that an edit leads from a project's groups to a project's
-    let _ = outlook.groups();
+    let _ = edited_line.groups();
     let mut blocks = Vec::new(alloc);
-    for mover in movers {
-        add_moved(&mut blocks, mover)?;
+    for moved_area in moved_areas {
+        add_moved(&mut blocks, moved_area)?;
     }
     Ok(blocks)
 }

@@ -2,9 +2,9 @@
 ghost use Rattle.std.specs.Prelude.{◌≡◌, ◌++◌, ◌==◌, not, All, IfOk, OnOk, filter, length, map, None};
 ghost use Rattle.std.specs.List.{list_any};
 ghost use Rattle.hc_records.specs.Project.{entry_names};
-ghost use Rattle.hc_changes.specs.Rows.{StandsInside, area_variables_of, assigned_variables, changed_rows, gone_rows, gone_variables, is_new_row, moved_rows, rows_of_movers};
+ghost use Rattle.hc_changes.specs.Rows.{StandsInside, area_variables_of, assigned_variables, changed_rows, gone_rows, gone_variables, is_new_row, moved_rows, rows_of_moved_areas};
 
-use crate::movers::Mover;
+use crate::moved_areas::MovedArea;
 use hc_places::swap::ChangedRow;
 use hc_places::table::{Place, Places};
 use hc_places::variables::add_area;
@@ -13,14 +13,17 @@ use hc_records::records::{Area, Entry, VarId};
 use hc_tasks::areas::SlaveAreas;
 use std::alloc::{AllocError, Global};
 
-/// The variables of movers with their places.
-fn mover_rows(alloc: Global, movers: &[Mover]) -> Result<Vec<(VarId, Place)>, AllocError>
-    requires { All (λ mover. StandsInside mover.found) movers.now }
-    ensures { IfOk result (λ rows. rows.items ≡ rows_of_movers movers.now) }
+/// The variables of moved areas with their places.
+fn moved_area_rows(
+    alloc: Global,
+    moved_areas: &[MovedArea],
+) -> Result<Vec<(VarId, Place)>, AllocError>
+    requires { All (λ moved_area. StandsInside moved_area.found) moved_areas.now }
+    ensures { IfOk result (λ rows. rows.items ≡ rows_of_moved_areas moved_areas.now) }
 {
     let mut rows = Vec::new(alloc);
-    for mover in movers {
-        let found = mover.found;
+    for moved_area in moved_areas {
+        let found = moved_area.found;
         if let Some(placed) = found.place {
             add_area(&mut rows, found.area.task, found.area, placed)?;
         }
@@ -138,23 +141,23 @@ fn add_slaves(
 }
 
 /// What an edit changes of the places of a line's variables, by the candidates that move, the areas of the
-/// slaves that change before and after it, and the table of the line before it: the movers' variables that
+/// slaves that change before and after it, and the table of the line before it: the moved areas' variables that
 /// stood elsewhere or nowhere, each with its new place, and then the variables that those slaves carried
-/// and don't carry any more, without one. For an edit's own movers they are the variables that stand
-/// elsewhere, appear or go with the edit, each once. As many slaves are given before as after. Each mover's
+/// and don't carry any more, without one. For an edit's own moved areas they are the variables that stand
+/// elsewhere, appear or go with the edit, each once. As many slaves are given before as after. Each moved area's
 /// place lies in one of 16 datagrams. `AllocError` where a growth was refused.
 pub fn changed_rows(
     alloc: Global,
     old: &Places,
-    movers: &[Mover],
+    moved_areas: &[MovedArea],
     before: &[SlaveAreas],
     after: &[SlaveAreas],
 ) -> Result<Vec<ChangedRow>, AllocError>
-    requires inside { All (λ mover. StandsInside mover.found) movers.now }
+    requires inside { All (λ moved_area. StandsInside moved_area.found) moved_areas.now }
     requires many { length before.now ≡ length after.now }
-    ensures { IfOk result (λ rows. rows.items ≡ changed_rows old.now movers.now before.now after.now) }
+    ensures { IfOk result (λ rows. rows.items ≡ changed_rows old.now moved_areas.now before.now after.now) }
 {
-    let found = mover_rows(alloc, movers)?;
+    let found = moved_area_rows(alloc, moved_areas)?;
     let mut rows = Vec::new(alloc);
     add_moved(&mut rows, old, &found)?;
     add_slaves(alloc, &mut rows, before, after)?;

@@ -89,6 +89,6 @@ with_slave slave areas declared =
     record declared { group = record declared.group { slaves = changed_at slave (with_areas areas) declared.group.slaves } }
 
 -- the declared groups that a change leaves
-abbrev pub carried : Prepared → List Declared → List Declared
-carried (Presence change) groups = changed_at change.group (with_present change.present) groups
-carried (Areas change) groups = changed_at change.place.group (with_slave change.place.slave change.areas) groups
+abbrev pub changed_groups : Prepared → List Declared → List Declared
+changed_groups (Presence change) groups = changed_at change.group (with_present change.present) groups
+changed_groups (Areas change) groups = changed_at change.place.group (with_slave change.place.slave change.areas) groups

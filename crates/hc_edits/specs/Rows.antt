@@ -8,7 +8,7 @@ use Rattle.hc_records.specs.declared.records.Declared.{Declared}
 use Rattle.hc_edits.specs.declared.changes.AreasChange.{AreasChange}
 use Rattle.hc_edits.specs.declared.prepared.Prepared.{Prepared}
 use Rattle.hc_edits.specs.declared.prepared.Prepared.TheVariants.{Presence, Areas}
-use Rattle.hc_edits.specs.Changes.{carried, with_areas}
+use Rattle.hc_edits.specs.Changes.{changed_groups, with_areas}
 
 -- a declared slave, and whether its group is present
 pub record Ranked : Type 0 where
@@ -68,9 +68,9 @@ pub record ChangesRow (change : Prepared) (groups : List Declared) : Type 0 wher
   pub behind : List Ranked
   pub first : first_of change ≡ length front + 1
   pub many_before : length (row change groups) ≡ count_of change
-  pub many_after : length (row change (carried change groups)) ≡ count_of change
+  pub many_after : length (row change (changed_groups change groups)) ≡ count_of change
   pub before : by_rank groups ≡ front ++ (row change groups ++ behind)
-  pub after : by_rank (carried change groups) ≡ front ++ (row change (carried change groups) ++ behind)
+  pub after : by_rank (changed_groups change groups) ≡ front ++ (row change (changed_groups change groups) ++ behind)
 
 -- two changes concern the same slaves
 pub record SameRow (one other : Prepared) : Type 0 where

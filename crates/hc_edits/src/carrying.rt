@@ -1,7 +1,7 @@
 //! A change carried out in the declared groups, where they stand. Nothing here takes memory.
 ghost use Rattle.std.specs.Prelude.{◌≡◌};
 ghost use Rattle.hc_records.specs.Lists.{changed_at};
-ghost use Rattle.hc_edits.specs.Changes.{carried, with_areas, with_slave};
+ghost use Rattle.hc_edits.specs.Changes.{changed_groups, with_areas, with_slave};
 ghost use Rattle.hc_edits.specs.Rows.{SameRow};
 ghost use Rattle.hc_edits.specs.declared.prepared.Prepared.TheVariants.{Areas, Presence};
 
@@ -12,8 +12,8 @@ use std::mem;
 
 /// Sets the presence of a group, and gives what sets it back.
 pub(crate) fn turn(change: PresenceChange, groups: &mut Items<Declared>) -> PresenceChange
-    ensures groups { groups.new ≡ carried (Presence change) groups.old }
-    ensures back { carried (Presence result) groups.new ≡ groups.old }
+    ensures groups { groups.new ≡ changed_groups (Presence change) groups.old }
+    ensures back { changed_groups (Presence result) groups.new ≡ groups.old }
     ensures row { SameRow (Presence result) (Presence change) }
 {
     if groups.len() <= change.group {
@@ -51,8 +51,8 @@ fn give_areas_in(declared: &mut Declared, slave: usize, areas: Items<Area>) -> I
 
 /// Gives a slave its areas, and gives what it had, to give it back.
 pub(crate) fn reassign(change: AreasChange, groups: &mut Items<Declared>) -> AreasChange
-    ensures groups { groups.new ≡ carried (Areas change) groups.old }
-    ensures back { carried (Areas result) groups.new ≡ groups.old }
+    ensures groups { groups.new ≡ changed_groups (Areas change) groups.old }
+    ensures back { changed_groups (Areas result) groups.new ≡ groups.old }
     ensures row { SameRow (Areas result) (Areas change) }
 {
     if groups.len() <= change.place.group {

@@ -80,7 +80,7 @@ impl Prepared {
     ghost use Rattle.hc_records.specs.Line.{groups_of};
     ghost use Rattle.hc_records.specs.Project.{lowest_fault};
     ghost use Rattle.hc_edits.specs.Edits.{own_fault};
-    ghost use Rattle.hc_edits.specs.Changes.{carried, change_by};
+    ghost use Rattle.hc_edits.specs.Changes.{change_by, changed_groups};
     ghost use Rattle.hc_edits.specs.Rows.{ChangesRow, SameRow};
 
     /// What an edit changes of the groups of a project: carried out, it leaves the groups that the edit
@@ -91,8 +91,8 @@ impl Prepared {
     pub fn of(alloc: Global, groups: &[Declared], edit: &Edit) -> Result<Prepared, EditFault>
         requires { lowest_fault (groups_of groups.now) ≡ None }
         ensures change { IfOk result (λ change. change_by groups.now edit.now ≡ Some change) }
-        ensures groups { IfOk result (λ change. carried change groups.now ≡ groups_after groups.now edit.now) }
-        ensures kept { IfOk result (λ change. lowest_fault (groups_of (carried change groups.now)) ≡ None) }
+        ensures groups { IfOk result (λ change. changed_groups change groups.now ≡ groups_after groups.now edit.now) }
+        ensures kept { IfOk result (λ change. lowest_fault (groups_of (changed_groups change groups.now)) ≡ None) }
         ensures row { IfOk result (λ change. ChangesRow change groups.now) }
         ensures accepted { OnOk result (own_fault groups.now edit.now ≡ None) }
         ensures own { IfSome (own_fault groups.now edit.now) (λ fault. result ≡ Err fault) }
@@ -109,8 +109,8 @@ impl Prepared {
     /// that leads back, which concerns the same slaves. It takes no memory, and nothing can refuse it. In
     /// other groups it changes the one at its place, if there is one.
     pub fn carry_out(self, groups: &mut Items<Declared>) -> Prepared
-        ensures groups { groups.new ≡ carried self groups.old }
-        ensures back { carried result groups.new ≡ groups.old }
+        ensures groups { groups.new ≡ changed_groups self groups.old }
+        ensures back { changed_groups result groups.new ≡ groups.old }
         ensures row { SameRow result self }
     {
         match self {

@@ -52,7 +52,7 @@ fn given_after<'a>(change: &'a AreasChange, groups: &[Declared], index: usize) -
 
 impl Prepared {
     ghost use Rattle.std.specs.Prelude.{◌≡◌};
-    ghost use Rattle.hc_edits.specs.Changes.{carried};
+    ghost use Rattle.hc_edits.specs.Changes.{changed_groups};
     ghost use Rattle.hc_edits.specs.Rows.{count_of, first_of, group_of, named_by, nth_areas, ranked, row};
 
     /// The rank of the first of the slaves that this change concerns, counted from 1 over all declared
@@ -117,7 +117,7 @@ impl Prepared {
     /// The areas that the slave with the index has in the line once this change is carried out in these
     /// groups, which stay as they are here.
     pub fn areas_after<'a>(&'a self, groups: &'a [Declared], index: usize) -> &'a [Area]
-        ensures { result.now ≡ nth_areas (row self.now (carried self.now groups.now)) index }
+        ensures { result.now ≡ nth_areas (row self.now (changed_groups self.now groups.now)) index }
     {
         match self {
             Prepared::Presence(change) => present_after(change, groups, index),

@@ -8,7 +8,7 @@ use Rattle.std.proofs.lemmas.Option.{same_Some, slice_get-get_or, slice_get-map,
 use Rattle.hc_registers.specs.Blocks.{LineBlock}
 use Rattle.hc_ranks.specs.declared.blocks.Gone.{Gone}
 use Rattle.hc_ranks.specs.Blocks.{RankedBlock}
-use Rattle.hc_ranks.specs.Differences.{IsGone, StandsIn, first_gone, place_of}
+use Rattle.hc_ranks.specs.Differences.{IsGone, StandsIn, block_place, first_gone}
 use Rattle.hc_ranks.specs.Places.{places}
 use Rattle.hc_plan.proofs.lemmas.PlaceNames.{came, same-name, same-stations, stands-on}
 use Rattle.hc_owed.specs.Board.{Board, Knowledge, differs, kept_of, known_in, owed_in}
@@ -19,30 +19,30 @@ use Rattle.hc_owed.proofs.Lists.{get-changed, get-filled, get-other, get-unfille
 -- the comparing of moved blocks
 
 abbrev RightUnless : Knowledge → List (Option LineBlock) → List RankedBlock → List Bool → Type 0
-RightUnless known all moved owed = (n : ℕ) (z : Option LineBlock) → slice_get all n ≡ Some z → All (λ m. place_of m ≢ n) moved → slice_get owed n ≡ Some (owed_in known z)
+RightUnless known all moved owed = (n : ℕ) (z : Option LineBlock) → slice_get all n ≡ Some z → All (λ m. block_place m ≢ n) moved → slice_get owed n ≡ Some (owed_in known z)
 
 compared-right : (known : Knowledge) (all : List (Option LineBlock)) (m : RankedBlock) (rest : List RankedBlock) (board : Board) → board.known ≡ map (known_in known) all → length board.owed ≡ length all → StandsIn all m
     → RightUnless known all (m ∷ rest) board.owed → RightUnless known all rest (compared m board).owed
-compared-right known all m rest board is size stands right n z at others = by (place_of m == n) refl
+compared-right known all m rest board is size stands right n z at others = by (block_place m == n) refl
   where
     flag : Bool
-    flag = differs m.found.block.bytes (unwrap_or (slice_get board.known (place_of m)) None)
+    flag = differs m.found.block.bytes (unwrap_or (slice_get board.known (block_place m)) None)
 
-    told : slice_get board.known (place_of m) ≡ Some (known_in known (Some m.found))
-    told = ap (λ (list : List (Option (List ℕ))). slice_get list (place_of m)) is ∙ slice_get-map (known_in known) all (place_of m) ∙ ap (option_map (known_in known)) stands
+    told : slice_get board.known (block_place m) ≡ Some (known_in known (Some m.found))
+    told = ap (λ (list : List (Option (List ℕ))). slice_get list (block_place m)) is ∙ slice_get-map (known_in known) all (block_place m) ∙ ap (option_map (known_in known)) stands
 
-    by : (t : Bool) → (place_of m == n) ≡ t → slice_get (compared m board).owed n ≡ Some (owed_in known z)
+    by : (t : Bool) → (block_place m == n) ≡ t → slice_get (compared m board).owed n ≡ Some (owed_in known z)
     by true same =
-        let place = eqb-true (place_of m) n same in
+        let place = eqb-true (block_place m) n same in
         let low = slice_get_within all n z at in
         let found : Some (Some m.found) ≡ Some z = sym stands ∙ ap (slice_get all) place ∙ at in
         ap (slice_get (compared m board).owed) (sym place)
-        ∙ get-changed (place_of m) flag board.owed (omega (arith, low, place, size))
+        ∙ get-changed (block_place m) flag board.owed (omega (arith, low, place, size))
         ∙ ap (λ (o : Option (Option (List ℕ))). Some (differs m.found.block.bytes (unwrap_or o None))) told
         ∙ ap (λ (o : Option LineBlock). Some (owed_in known o)) (same_Some (Some m.found) z found)
     by false other =
-        let apart = eqb-false (place_of m) n other in
-        get-other (place_of m) n flag board.owed apart ∙ right n z at (All-cons (λ m. place_of m ≢ n) m rest apart others)
+        let apart = eqb-false (block_place m) n other in
+        get-other (block_place m) n flag board.owed apart ∙ right n z at (All-cons (λ m. block_place m ≢ n) m rest apart others)
 
 compared-known : (moved : List RankedBlock) (board : Board) → (compared_all moved board).known ≡ board.known
 compared-known [] board = refl
@@ -53,7 +53,7 @@ compared-stations [] board = refl
 compared-stations (m ∷ moved) board = compared-stations moved (compared m board)
 
 compared-one : (m : RankedBlock) (board : Board) → length (compared m board).owed ≡ length board.owed
-compared-one m board = length-changed (place_of m) (λ _. differs m.found.block.bytes (unwrap_or (slice_get board.known (place_of m)) None)) board.owed
+compared-one m board = length-changed (block_place m) (λ _. differs m.found.block.bytes (unwrap_or (slice_get board.known (block_place m)) None)) board.owed
 
 compared-size : (moved : List RankedBlock) (board : Board) → length (compared_all moved board).owed ≡ length board.owed
 compared-size [] board = refl
@@ -92,7 +92,7 @@ module _ (board : Board) (gone : Gone) (moved : List RankedBlock) (is : IsEdited
   known-stays : (n : ℕ) (w z : Option LineBlock) → slice_get olds n ≡ Some w → slice_get news n ≡ Some z → (IsGone gone n → ⊥) → known_in is.known w ≡ known_in over z
   known-stays n w z stood at out = search (rules, came, stayed-known)
 
-  owed-stays : (n : ℕ) (w z : Option LineBlock) → slice_get olds n ≡ Some w → slice_get news n ≡ Some z → (IsGone gone n → ⊥) → All (λ m. place_of m ≢ n) moved → owed_in is.known w ≡ owed_in over z
+  owed-stays : (n : ℕ) (w z : Option LineBlock) → slice_get olds n ≡ Some w → slice_get news n ≡ Some z → (IsGone gone n → ⊥) → All (λ m. block_place m ≢ n) moved → owed_in is.known w ≡ owed_in over z
   owed-stays n None None stood at out others = refl
   owed-stays n None (Some block) stood at out others =
       let was = is.differ.names.others n block at others in
@@ -140,12 +140,12 @@ module _ (board : Board) (gone : Gone) (moved : List RankedBlock) (is : IsEdited
       let mid = cleared gone (kept_of is.known is.old) in
       let after = compared_all moved mid in
       let right = all-compared over news moved mid cleared-known owed-size is.differ.names.stand cleared-owed in
-      let owed = is-map after.owed (owed_in over) news (compared-size moved mid ∙ owed-size) (λ n z at. right n z at (All-nil (λ m. place_of m ≢ n))) in
+      let owed = is-map after.owed (owed_in over) news (compared-size moved mid ∙ owed-size) (λ n z at. right n z at (All-nil (λ m. block_place m ≢ n))) in
       search (rules, compared-known, cleared-known, compared-stations, same-stations)
 
   -- the places of the moved blocks, and of the slaves that left, are places
   pub known-size : length board.known ≡ length news
   known-size = ap (λ (b : Board). length b.known) is.right ∙ length-map olds (known_in is.known) ∙ is.differ.size
 
-  pub moved-inside : All (λ m. place_of m < length board.known) moved
+  pub moved-inside : All (λ m. block_place m < length board.known) moved
   moved-inside = search (rules, All-weaker, slice_get_within, known-size)

@@ -3,7 +3,7 @@ use Rattle.std.specs.Prelude.{ℕ, zero, suc, ◌+◌, ◌*◌, Bool, false, Lis
 use Rattle.hc_records.specs.Lists.{changed_at}
 use Rattle.hc_ranks.specs.declared.blocks.Gone.{Gone}
 use Rattle.hc_ranks.specs.Blocks.{RankedBlock}
-use Rattle.hc_ranks.specs.Differences.{first_gone, place_of}
+use Rattle.hc_ranks.specs.Differences.{block_place, first_gone}
 use Rattle.hc_owed.specs.Board.{Board, differs}
 
 -- what is known at a place, and whether it's owed there
@@ -29,7 +29,7 @@ cleared gone board = emptied (first_gone gone) (16 * gone.slaves) board
 
 -- a moved block is compared with what is known at its place
 abbrev pub compared : RankedBlock → Board → Board
-compared moved board = judged (place_of moved) (differs moved.found.block.bytes (unwrap_or (slice_get board.known (place_of moved)) None)) board
+compared moved board = judged (block_place moved) (differs moved.found.block.bytes (unwrap_or (slice_get board.known (block_place moved)) None)) board
 
 -- moved blocks, one after another
 abbrev pub compared_all : List RankedBlock → Board → Board

@@ -57,7 +57,7 @@ impl Owed {
     ghost use Rattle.hc_records.specs.Line.{State, groups_of};
     ghost use Rattle.hc_records.specs.Project.{lowest_fault};
     ghost use Rattle.hc_registers.specs.Blocks.{LineBlock};
-    ghost use Rattle.hc_ranks.specs.Differences.{first_gone, place_of};
+    ghost use Rattle.hc_ranks.specs.Differences.{block_place, first_gone};
     ghost use Rattle.hc_plan.specs.Reports.{name_of};
     ghost use Rattle.hc_owed.specs.Board.{Knowledge, kept_of, lacks, nothing_known};
     ghost use Rattle.hc_owed.specs.Laws.{IsEdited, IsFirstOwed, IsKeptAt, known_over, known_with, owed_blocks};
@@ -149,7 +149,7 @@ impl Owed {
     /// Compares a moved block with what is known of it.
     fn compare(&mut self, moved: &RankedBlock)
         requires rank { 1 ≤ moved.now.rank }
-        requires inside { place_of moved.now < length self.old.known }
+        requires inside { block_place moved.now < length self.old.known }
         ensures { self.new ≡ compared moved.now self.old }
     {
         let place = moved.place();
@@ -160,7 +160,7 @@ impl Owed {
     /// Compares moved blocks with what is known of them.
     fn compare_all(&mut self, moved: &[RankedBlock])
         requires ranks { All (λ block. 1 ≤ block.rank) moved.now }
-        requires inside { All (λ block. place_of block < length self.old.known) moved.now }
+        requires inside { All (λ block. block_place block < length self.old.known) moved.now }
         ensures { self.new ≡ compared_all moved.now self.old }
     {
         for block in moved {

@@ -10,7 +10,7 @@ use Rattle.hc_records.specs.declared.faults.EditFault.TheVariants.{Memory}
 use Rattle.hc_records.specs.Edits.{edited, state_after, state_after_all}
 use Rattle.hc_records.specs.Line.{State}
 use Rattle.hc_edits.specs.Edits.{own_fault}
-use Rattle.hc_plan.specs.Reports.{Answer, AreAnswers, IsAnswer, Tells, carried, wants_memory}
+use Rattle.hc_plan.specs.Reports.{Answer, AreAnswers, IsAnswer, Tells, carried_out, wants_memory}
 
 -- what is left of the edits, answered from the present state on, makes all of them answered
 abbrev pub Goes : State → List Edit → ℕ → List Answer → State → Type 0
@@ -41,14 +41,14 @@ left-by old next edit answer is = search rules
 
 -- whether an edit is among those that were carried
 taken : (pair : Edit × Answer) (pairs : List (Edit × Answer)) (wants : Bool) → wants_memory pair.1 ≡ wants
-    → carried (pair ∷ pairs) ≡ (if wants then carried pairs else pair.0 ∷ carried pairs)
+    → carried_out (pair ∷ pairs) ≡ (if wants then carried_out pairs else pair.0 ∷ carried_out pairs)
 taken pair pairs wants is = search rules
 
 behind : (pair : Edit × Answer) (pairs : List (Edit × Answer)) (old next new : State) (wants : Bool) → wants_memory pair.1 ≡ wants
-    → next ≡ after_one old pair.0 wants → new ≡ state_after_all next (carried pairs) → new ≡ state_after_all old (carried (pair ∷ pairs))
+    → next ≡ after_one old pair.0 wants → new ≡ state_after_all next (carried_out pairs) → new ≡ state_after_all old (carried_out (pair ∷ pairs))
 behind pair pairs old next new wants is one rest = search rules
 
-pub follows : (pairs : List (Edit × Answer)) (old new : State) → AreAnswers old pairs new → new ≡ state_after_all old (carried pairs)
+pub follows : (pairs : List (Edit × Answer)) (old new : State) → AreAnswers old pairs new → new ≡ state_after_all old (carried_out pairs)
 follows [] old new is = is
 follows (pair ∷ pairs) old new is = search (rules, left-by, follows pairs is.0 new is.2)
 

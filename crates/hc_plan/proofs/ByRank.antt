@@ -20,7 +20,7 @@ use Rattle.hc_edits.specs.declared.changes.AreasChange.{AreasChange}
 use Rattle.hc_edits.specs.declared.changes.PresenceChange.{PresenceChange}
 use Rattle.hc_edits.specs.declared.prepared.Prepared.{Prepared}
 use Rattle.hc_edits.specs.declared.prepared.Prepared.TheVariants.{Presence, Areas}
-use Rattle.hc_edits.specs.Changes.{carried, with_areas, with_slave}
+use Rattle.hc_edits.specs.Changes.{changed_groups, with_areas, with_slave}
 use Rattle.hc_edits.specs.Rows.{ChangesRow, Ranked, by_rank, count_of, first_of, ranked, row}
 use Rattle.hc_edits.proofs.lemmas.Concerned.{presence-row}
 
@@ -108,7 +108,7 @@ around-within front own behind i from low = get-back front (own ++ behind) i fro
 around-behind : {X : Type 0} (front own behind : List X) (i : ℕ) → length front + length own ≤ i → slice_get (front ++ (own ++ behind)) i ≡ slice_get behind (i - length front - length own)
 around-behind front own behind i from = search (rules, get-back)
 
-pub beside-same : (change : Prepared) (groups : List Declared) (i : ℕ) → ChangesRow change groups → BesideRow change i → slice_get (by_rank (carried change groups)) i ≡ slice_get (by_rank groups) i
+pub beside-same : (change : Prepared) (groups : List Declared) (i : ℕ) → ChangesRow change groups → BesideRow change i → slice_get (by_rank (changed_groups change groups)) i ≡ slice_get (by_rank groups) i
 beside-same change groups i changes beside = search (rules, around-before, around-behind)
 
 -- a group that comes or goes is present or not
@@ -121,10 +121,10 @@ row-present : (present : Bool) (found : Option Declared) → All (λ one. one.pr
 row-present present found = search (rules, All-nil, all-present)
 
 pub presence-in-row : (change : PresenceChange) (groups : List Declared) (i : ℕ) (slave : Ranked) → ChangesRow (Presence change) groups → InRow (Presence change) i
-    → slice_get (by_rank (carried (Presence change) groups)) i ≡ Some slave → slave.present ≡ change.present
+    → slice_get (by_rank (changed_groups (Presence change) groups)) i ≡ Some slave → slave.present ≡ change.present
 presence-in-row change groups i slave changes inside at =
     let front = changes.front in
-    let own = row (Presence change) (carried (Presence change) groups) in
+    let own = row (Presence change) (changed_groups (Presence change) groups) in
     let all = subst (λ (list : List Ranked). All (λ one. one.present ≡ change.present) list) (sym (presence-row change groups)) (row-present change.present (slice_get groups change.group)) in
     let here : slice_get own (i - length front) ≡ Some slave = search (rules, around-within) in
     search (rules, get_or_from_slice_get, slice_get_within)
@@ -144,12 +144,12 @@ groups-presents group n areas [] = refl
 groups-presents zero n areas (d ∷ groups) = search (rules, map-append, given-presents)
 groups-presents (suc group) n areas (d ∷ groups) = search (rules, map-append, groups-presents group n areas groups)
 
-pub areas-presence : (change : AreasChange) (groups : List Declared) (i : ℕ) (was is : Ranked) → slice_get (by_rank groups) i ≡ Some was → slice_get (by_rank (carried (Areas change) groups)) i ≡ Some is → is.present ≡ was.present
+pub areas-presence : (change : AreasChange) (groups : List Declared) (i : ℕ) (was is : Ranked) → slice_get (by_rank groups) i ≡ Some was → slice_get (by_rank (changed_groups (Areas change) groups)) i ≡ Some is → is.present ≡ was.present
 areas-presence change groups i was is before after =
     let present : Ranked → Bool = λ one. one.present in
     let same : Some is.present ≡ Some was.present =
     ap (option_map present) (sym after)
-    ∙ sym (slice_get-map present (by_rank (carried (Areas change) groups)) i)
+    ∙ sym (slice_get-map present (by_rank (changed_groups (Areas change) groups)) i)
     ∙ ap (λ (all : List Bool). slice_get all i) (groups-presents change.place.group change.place.slave change.areas groups)
     ∙ slice_get-map present (by_rank groups) i
     ∙ ap (option_map present) before in

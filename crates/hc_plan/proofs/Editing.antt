@@ -12,7 +12,7 @@ use Rattle.hc_records.specs.Lists.{lowest}
 use Rattle.hc_edits.specs.declared.prepared.Prepared.{Prepared}
 use Rattle.hc_edits.specs.Edits.{own_fault}
 use Rattle.hc_edits.proofs.lemmas.Refusals.{line-decides, line_faults}
-use Rattle.hc_changes.specs.Outlook.{Outlook, outlook_of}
+use Rattle.hc_changes.specs.EditedLine.{EditedLine, edited_line_of}
 
 -- an edit's own fault, judged over a slice of the groups
 pub judged : (slice groups : List Declared) (edit : Edit) (found : Option EditFault) → slice ≡ groups → found ≡ own_fault slice edit
@@ -66,5 +66,5 @@ made-spent groups new epoch edit none leads uncrowded last = search rules
 
 -- the groups before an edit, as they are read
 
-pub old-groups : (it : Outlook) (change : Prepared) (slice groups : List Declared) → it ≡ outlook_of change slice → slice ≡ groups → it.old ≡ groups
-old-groups it change slice groups is same = ap (λ (o : Outlook). o.old) is ∙ same
+pub old-groups : (it : EditedLine) (change : Prepared) (slice groups : List Declared) → it ≡ edited_line_of change slice → slice ≡ groups → it.old ≡ groups
+old-groups it change slice groups is same = ap (λ (o : EditedLine). o.old) is ∙ same

@@ -18,7 +18,7 @@ use Rattle.hc_ranks.proofs.lemmas.Gapless.{length-member}
 use Rattle.hc_registers.specs.declared.fmmu.Mapping.{Mapping}
 use Rattle.hc_registers.specs.Blocks.{LineBlock, RegisterBlock, area_blocks, line_blocks, member_blocks, moved_blocks, slave_blocks, sync_manager_block, fmmu_block, mapping_of}
 use Rattle.hc_places.proofs.lemmas.Found.{find-holds}
-use Rattle.hc_plan.specs.inner.Blocks.{IsLaidOut, IsMappedSlave, area_blocks_in, mapping_in, slave_blocks_in}
+use Rattle.hc_plan.specs.inner.Blocks.{IsLayoutOf, IsMappedSlave, area_blocks_in, mapping_in, slave_blocks_in}
 use Rattle.hc_plan.specs.Configuration.{at_station, block_at, line_block_at}
 use Rattle.hc_changes.proofs.lemmas.Compared.{flat_map-among}
 use Rattle.hc_records.proofs.lemmas.Lists.{filter-few}
@@ -26,20 +26,20 @@ use Rattle.hc_plan.proofs.Mapped.{slave-mapped}
 use Rattle.hc_plan.proofs.Numbered.{get-numbered-from-0, numbered-get}
 
 -- every slave of the line that a layout is of has its areas mapped
-pub laid-out-all : (groups : List Declared) (layout : List (List Placed)) → IsLaidOut groups layout → All (IsMappedSlave layout) (line_from 1 groups)
-laid-out-all groups layout laid j d inside =
+pub layout-slaves : (groups : List Declared) (layout : List (List Placed)) → IsLayoutOf groups layout → All (IsMappedSlave layout) (line_from 1 groups)
+layout-slaves groups layout known j d inside =
     let member = slice_index_or (line_from 1 groups) j d in
-    subst (λ (l : List (List Placed)). IsMappedSlave l member) (sym laid.stands)
-    (slave-mapped groups j member laid.project laid.uncrowded (slice_get-get_or (line_from 1 groups) j d inside))
+    subst (λ (l : List (List Placed)). IsMappedSlave l member) (sym known.stands)
+    (slave-mapped groups j member known.project known.uncrowded (slice_get-get_or (line_from 1 groups) j d inside))
 
-pub found-mapped : (groups : List Declared) (layout : List (List Placed)) (station : ℕ) (member : Member) → IsLaidOut groups layout
+pub found-mapped : (groups : List Declared) (layout : List (List Placed)) (station : ℕ) (member : Member) → IsLayoutOf groups layout
     → find (is_at station) (line_from 1 groups) ≡ Some member → IsMappedSlave layout member
-found-mapped groups layout station member laid found = (find-holds (IsMappedSlave layout) (is_at station) (line_from 1 groups) member found (laid-out-all groups layout laid)).0
+found-mapped groups layout station member known found = (find-holds (IsMappedSlave layout) (is_at station) (line_from 1 groups) member found (layout-slaves groups layout known)).0
 
 -- the blocks by a layout of the line are the blocks of the line
-pub slave_blocks-line : (groups : List Declared) (layout : List (List Placed)) (member : Member) → IsLaidOut groups layout → IsMappedSlave layout member
+pub slave_blocks-line : (groups : List Declared) (layout : List (List Placed)) (member : Member) → IsLayoutOf groups layout → IsMappedSlave layout member
     → slave_blocks_in layout member ≡ slave_blocks (line_from 1 groups) member
-slave_blocks-line groups layout member laid mapped =
+slave_blocks-line groups layout member known mapped =
     let members = line_from 1 groups in
     flat_map-among (area_blocks_in layout member.rank) (area_blocks members member.rank) (enumerate_from 0 member.slave.areas)
     (λ k d inside.
@@ -102,21 +102,21 @@ owner-has P (member ∷ members) n owner all is =
     owner-all P member n (owned_by members (n - own_blocks member)) owner (nat_lt n (own_blocks member)) (All-head P member members all)
     (λ rest. owner-has P members (n - own_blocks member) owner (All-tail P member members all) rest) is
 
-pub owner-mapped : (groups : List Declared) (layout : List (List Placed)) (n number : ℕ) (member : Member) → IsLaidOut groups layout → owned_by (line_from 1 groups) n ≡ Some (member, number)
+pub owner-mapped : (groups : List Declared) (layout : List (List Placed)) (n number : ℕ) (member : Member) → IsLayoutOf groups layout → owned_by (line_from 1 groups) n ≡ Some (member, number)
     → IsMappedSlave layout member
-owner-mapped groups layout n number member laid is = owner-has (IsMappedSlave layout) (line_from 1 groups) n (member, number) (laid-out-all groups layout laid) is
+owner-mapped groups layout n number member known is = owner-has (IsMappedSlave layout) (line_from 1 groups) n (member, number) (layout-slaves groups layout known) is
 
-pub owner-tells : (groups : List Declared) (layout : List (List Placed)) (n number : ℕ) (member : Member) → IsLaidOut groups layout → owned_by (line_from 1 groups) n ≡ Some (member, number)
+pub owner-tells : (groups : List Declared) (layout : List (List Placed)) (n number : ℕ) (member : Member) → IsLayoutOf groups layout → owned_by (line_from 1 groups) n ≡ Some (member, number)
     → line_block_at (line_from 1 groups) n ≡ option_map (at_station member.slave.station) (slice_get (slave_blocks_in layout member) number)
-owner-tells groups layout n number member laid is = search (rules, owned-block, slave_blocks-line, owner-mapped)
+owner-tells groups layout n number member known is = search (rules, owned-block, slave_blocks-line, owner-mapped)
 
 -- a slave of the line by its rank and its record
 pub same-member : (rank : ℕ) (slave : Slave) (member : Member) → rank ≡ member.rank → slave ≡ member.slave → member ≡ record { rank = rank; slave = slave }
 same-member rank slave member ranked own = search rules
 
-pub found-block : (groups : List Declared) (layout : List (List Placed)) (station number : ℕ) (member : Member) → IsLaidOut groups layout
+pub found-block : (groups : List Declared) (layout : List (List Placed)) (station number : ℕ) (member : Member) → IsLayoutOf groups layout
     → find (is_at station) (line_from 1 groups) ≡ Some member → block_at (line_from 1 groups) station number ≡ slice_get (slave_blocks_in layout member) number
-found-block groups layout station number member laid found = search (rules, slave_blocks-line, found-mapped)
+found-block groups layout station number member known found = search (rules, slave_blocks-line, found-mapped)
 
 -- a slave has at most 16 blocks
 pub length-blocks : (layout : List (List Placed)) (all members : List Member) → All (IsMappedSlave layout) members
@@ -126,14 +126,14 @@ length-blocks layout all (member ∷ members) mapped =
     search (rules, All-head, length-member, length-append, All-tail, length-blocks layout all members (All-tail (IsMappedSlave layout) member members mapped))
 
 -- so no line has more blocks than a number of 32 bits
-pub few-blocks : (groups : List Declared) (layout : List (List Placed)) → IsLaidOut groups layout → length (line_blocks (line_from 1 groups)) < 4294967296
-few-blocks groups layout laid =
+pub few-blocks : (groups : List Declared) (layout : List (List Placed)) → IsLayoutOf groups layout → length (line_blocks (line_from 1 groups)) < 4294967296
+few-blocks groups layout known =
     let line = line_from 1 groups in
-    let counted : sum_by (λ (d : Declared). length d.group.slaves) groups < 65535 = project-counted groups laid.project in
+    let counted : sum_by (λ (d : Declared). length d.group.slaves) groups < 65535 = project-counted groups known.project in
     let members = length-line 1 groups in
-    let blocks = length-blocks layout line line (laid-out-all groups layout laid) in
+    let blocks = length-blocks layout line line (layout-slaves groups layout known) in
     omega (arith, counted, members, blocks)
 
-pub few-moved : (groups : List Declared) (layout : List (List Placed)) (old : List Member) → IsLaidOut groups layout
+pub few-moved : (groups : List Declared) (layout : List (List Placed)) (old : List Member) → IsLayoutOf groups layout
     → length (moved_blocks old (line_from 1 groups)) < 4294967296
-few-moved groups layout old laid = search (rules, few-blocks, filter-few)
+few-moved groups layout old known = search (rules, few-blocks, filter-few)

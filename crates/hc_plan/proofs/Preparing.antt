@@ -13,13 +13,13 @@ use Rattle.hc_ranks.specs.Places.{places}
 use Rattle.hc_tasks.specs.Areas.{areas_by_rank}
 use Rattle.hc_tasks.specs.Turn.{AreStartsOf}
 use Rattle.hc_edits.specs.declared.prepared.Prepared.{Prepared}
-use Rattle.hc_edits.specs.Changes.{carried, change_by}
+use Rattle.hc_edits.specs.Changes.{change_by, changed_groups}
 use Rattle.hc_edits.specs.Edits.{own_fault}
 use Rattle.hc_edits.specs.Rows.{ChangesRow}
 use Rattle.hc_places.specs.Room.{IsRoomFor}
 use Rattle.hc_places.specs.Table.{Table, table_of}
-use Rattle.hc_changes.specs.Outlook.{IsOutlook, Outlook, Room, outlook_of, IsRoomFor as HasRoomFor}
-use Rattle.hc_changes.proofs.lemmas.Outlooks.{change-outlook}
+use Rattle.hc_changes.specs.EditedLine.{EditedLine, IsEditedLine, IsRoomFor as HasRoomFor, Room, edited_line_of}
+use Rattle.hc_changes.proofs.lemmas.EditedLines.{change-edited_line}
 use Rattle.hc_plan.specs.declared.report.Report.{Report}
 use Rattle.hc_plan.specs.Gone.{gone_of}
 use Rattle.hc_plan.specs.inner.Applied.{Makes}
@@ -29,22 +29,22 @@ use Rattle.hc_plan.specs.Reports.{Tells}
 use Rattle.hc_plan.proofs.lemmas.Differing.{edits-differ}
 
 -- a change makes this of a plan's line
-pub makes : (it : Outlook) (change : Prepared) (edit : Edit) (table : Table) (groups : List Declared) → IsOutlook it → it ≡ outlook_of change groups
-    → own_fault groups edit ≡ None → carried change groups ≡ groups_after groups edit → crowded_task (line_from 1 groups) ≡ None → table ≡ table_of (line_from 1 groups)
+pub makes : (it : EditedLine) (change : Prepared) (edit : Edit) (table : Table) (groups : List Declared) → IsEditedLine it → it ≡ edited_line_of change groups
+    → own_fault groups edit ≡ None → changed_groups change groups ≡ groups_after groups edit → crowded_task (line_from 1 groups) ≡ None → table ≡ table_of (line_from 1 groups)
     → Makes edit table it
 makes it change edit table groups is same own leads fits stands = search rules
 
 -- what is told of it, by the states
-pub is-prepared : (old : State) (change : Prepared) (it : Outlook) (edit : Edit) (report : Report) (blocks : List RankedBlock)
-    → lowest_fault (groups_of old.groups) ≡ None → crowded_task (line old) ≡ None → change_by old.groups edit ≡ Some change → it ≡ outlook_of change old.groups
+pub is-prepared : (old : State) (change : Prepared) (it : EditedLine) (edit : Edit) (report : Report) (blocks : List RankedBlock)
+    → lowest_fault (groups_of old.groups) ≡ None → crowded_task (line old) ≡ None → change_by old.groups edit ≡ Some change → it ≡ edited_line_of change old.groups
     → Tells (record { groups = it.old; epoch = old.epoch }) edit (record { groups = it.new; epoch = old.epoch + 1 }) report
     → edited (record { groups = it.old; epoch = old.epoch }) edit ≡ Ok (record { groups = it.new; epoch = old.epoch + 1 })
     → crowded_task (line_from 1 it.new) ≡ None → blocks ≡ moved_ranked (line_from 1 it.old) (line_from 1 it.new)
     → IsPrepared (prepared_of old change report blocks)
 is-prepared old change it edit report blocks project fits changes same =
-    let new : State = record { groups = carried change old.groups; epoch = old.epoch + 1 } in
+    let new : State = record { groups = changed_groups change old.groups; epoch = old.epoch + 1 } in
     subst
-    (λ (o : Outlook).
+    (λ (o : EditedLine).
     Tells (record { groups = o.old; epoch = old.epoch }) edit (record { groups = o.new; epoch = old.epoch + 1 }) report
     → edited (record { groups = o.old; epoch = old.epoch }) edit ≡ Ok (record { groups = o.new; epoch = old.epoch + 1 })
     → crowded_task (line_from 1 o.new) ≡ None → blocks ≡ moved_ranked (line_from 1 o.old) (line_from 1 o.new)
@@ -59,9 +59,9 @@ is-prepared old change it edit report blocks project fits changes same =
     })
 
 -- and what is kept for carrying it out
-pub is-ready : (old : State) (change : Prepared) (it : Outlook) (edit : Edit) (report : Report) (blocks : List RankedBlock) (starts : List (List Key)) (areas : Room) (table : Table) (rows : Option ℕ)
-    → report.swap.edit ≡ edit → carried change old.groups ≡ groups_after old.groups edit → lowest_fault (groups_of (carried change old.groups)) ≡ None → ChangesRow change old.groups
-    → it ≡ outlook_of change old.groups → AreStartsOf (areas_by_rank it.new) starts → HasRoomFor change areas
+pub is-ready : (old : State) (change : Prepared) (it : EditedLine) (edit : Edit) (report : Report) (blocks : List RankedBlock) (starts : List (List Key)) (areas : Room) (table : Table) (rows : Option ℕ)
+    → report.swap.edit ≡ edit → changed_groups change old.groups ≡ groups_after old.groups edit → lowest_fault (groups_of (changed_groups change old.groups)) ≡ None → ChangesRow change old.groups
+    → it ≡ edited_line_of change old.groups → AreStartsOf (areas_by_rank it.new) starts → HasRoomFor change areas
     → table ≡ table_of (line old) → IsRoomFor report.swap.change table rows
     → IsReady (prepared_of old change report blocks) change starts areas rows
 is-ready old change it edit report blocks starts areas table rows named leads project row same known room stands space = search rules
@@ -71,7 +71,7 @@ is-ready old change it edit report blocks starts areas table rows named leads pr
 pub same-groups : (one other : PreparedEdit) (plan now : State) → one ≡ other → other.old ≡ now → plan ≡ now → one.old.groups ≡ plan.groups
 same-groups one other plan now first second third = ap (λ (s : State). s.groups) (ap (λ (p : PreparedEdit). p.old) first ∙ second ∙ sym third)
 
-pub ready-outlook : (old : State) (change : Prepared) (report : Report) (blocks : List RankedBlock) (starts : List (List Key)) (areas : Room) (rows : Option ℕ)
+pub ready-edited_line : (old : State) (change : Prepared) (report : Report) (blocks : List RankedBlock) (starts : List (List Key)) (areas : Room) (rows : Option ℕ)
     → IsPrepared (prepared_of old change report blocks) → IsReady (prepared_of old change report blocks) change starts areas rows
-    → IsOutlook (outlook_of change old.groups)
-ready-outlook old change report blocks starts areas rows is ready = search (rules, change-outlook)
+    → IsEditedLine (edited_line_of change old.groups)
+ready-edited_line old change report blocks starts areas rows is ready = search (rules, change-edited_line)

@@ -16,10 +16,10 @@ use Rattle.hc_places.specs.Swap.{AreOnce, ChangedRow, ChangedTask, Leads, LeadsA
 use Rattle.hc_places.specs.Table.{IsTable, Table, table_of}
 use Rattle.hc_places.proofs.lemmas.Ascends.{table-ascends}
 use Rattle.hc_changes.specs.Candidates.{Candidate}
-use Rattle.hc_changes.specs.Movers.{Mover, movers_of}
-use Rattle.hc_changes.specs.Outlook.{IsOutlook, Outlook}
+use Rattle.hc_changes.specs.MovedAreas.{MovedArea, moved_areas_of}
+use Rattle.hc_changes.specs.EditedLine.{EditedLine, IsEditedLine}
 use Rattle.hc_changes.specs.Rows.{StandsInside, changed_rows}
-use Rattle.hc_changes.proofs.lemmas.Movers.{movers-stand}
+use Rattle.hc_changes.proofs.lemmas.MovedAreas.{moved_areas-stand}
 use Rattle.hc_changes.proofs.lemmas.SwapSays.{swap-says}
 use Rattle.hc_plan.specs.inner.Applied.{AreSeen}
 use Rattle.hc_plan.specs.Reports.{name_of}
@@ -29,43 +29,43 @@ use Rattle.hc_plan.proofs.LineBlocks.{few-moved}
 is-table : (groups : List Declared) → lowest_fault (groups_of groups) ≡ None → IsTable (table_of (line_from 1 groups))
 is-table groups none = record { eight = refl; ascends = table-ascends groups none }
 
--- the movers stand in datagrams that there are
-pub all-stand : (it : Outlook) (movers read : List Mover) → IsOutlook it → crowded_task (line_from 1 it.new) ≡ None → movers ≡ movers_of it → read ≡ movers
-    → All (λ mover. StandsInside mover.found) read
-all-stand it movers read is fits all same = subst (λ (ms : List Mover). All (λ mover. StandsInside mover.found) ms) (sym (same ∙ all)) (movers-stand it is fits)
+-- the moved areas stand in datagrams that there are
+pub all-stand : (it : EditedLine) (moved_areas read : List MovedArea) → IsEditedLine it → crowded_task (line_from 1 it.new) ≡ None → moved_areas ≡ moved_areas_of it → read ≡ moved_areas
+    → All (λ moved_area. StandsInside moved_area.found) read
+all-stand it moved_areas read is fits all same = subst (λ (ms : List MovedArea). All (λ moved_area. StandsInside moved_area.found) ms) (sym (same ∙ all)) (moved_areas-stand it is fits)
 
 -- the rows that were told, by what was read
-pub told-rows : (it : Outlook) (table : Table) (movers read : List Mover) (before after : List (List Area)) (rows : List ChangedRow) → table ≡ table_of (line_from 1 it.old)
-    → movers ≡ movers_of it → read ≡ movers → before ≡ it.before → after ≡ it.after → rows ≡ changed_rows table read before after
-    → rows ≡ changed_rows (table_of (line_from 1 it.old)) (movers_of it) it.before it.after
-told-rows it table movers read before after rows stands all same was is told = search rules
+pub told-rows : (it : EditedLine) (table : Table) (moved_areas read : List MovedArea) (before after : List (List Area)) (rows : List ChangedRow) → table ≡ table_of (line_from 1 it.old)
+    → moved_areas ≡ moved_areas_of it → read ≡ moved_areas → before ≡ it.before → after ≡ it.after → rows ≡ changed_rows table read before after
+    → rows ≡ changed_rows (table_of (line_from 1 it.old)) (moved_areas_of it) it.before it.after
+told-rows it table moved_areas read before after rows stands all same was is told = search rules
 
-pub told-once : (it : Outlook) (found : List Candidate) (tasks : List ChangedTask) (rows : List ChangedRow) → IsOutlook it → AreSeen it found tasks
-    → rows ≡ changed_rows (table_of (line_from 1 it.old)) (movers_of it) it.before it.after → AreOnce rows
-told-once it found tasks rows is seen told = (swap-says it is (table_of (line_from 1 it.old)) refl tasks rows (movers_of it) refl told seen.differ).1
+pub told-once : (it : EditedLine) (found : List Candidate) (tasks : List ChangedTask) (rows : List ChangedRow) → IsEditedLine it → AreSeen it found tasks
+    → rows ≡ changed_rows (table_of (line_from 1 it.old)) (moved_areas_of it) it.before it.after → AreOnce rows
+told-once it found tasks rows is seen told = (swap-says it is (table_of (line_from 1 it.old)) refl tasks rows (moved_areas_of it) refl told seen.differ).1
 
-pub told-leads : (it : Outlook) (found : List Candidate) (tasks : List ChangedTask) (rows : List ChangedRow) (swap : Swap) → IsOutlook it → AreSeen it found tasks
-    → rows ≡ changed_rows (table_of (line_from 1 it.old)) (movers_of it) it.before it.after → LeadsAsSaid (record { tasks = tasks; rows = rows }) swap
+pub told-leads : (it : EditedLine) (found : List Candidate) (tasks : List ChangedTask) (rows : List ChangedRow) (swap : Swap) → IsEditedLine it → AreSeen it found tasks
+    → rows ≡ changed_rows (table_of (line_from 1 it.old)) (moved_areas_of it) it.before it.after → LeadsAsSaid (record { tasks = tasks; rows = rows }) swap
     → Leads (table_of (line_from 1 it.old)) (table_of (line_from 1 it.new)) swap
 told-leads it found tasks rows swap is seen told leads =
     leads (table_of (line_from 1 it.old)) (table_of (line_from 1 it.new)) (is-table it.old is.was_project) (is-table it.new is.is_project)
-    (swap-says it is (table_of (line_from 1 it.old)) refl tasks rows (movers_of it) refl told seen.differ).0
+    (swap-says it is (table_of (line_from 1 it.old)) refl tasks rows (moved_areas_of it) refl told seen.differ).0
 
 -- the moved blocks, with the ranks of their slaves, have the names of the moved blocks, are as many, and few
 
-founds : (it : Outlook) (blocks : List RankedBlock) → blocks ≡ moved_ranked (line_from 1 it.old) (line_from 1 it.new)
+founds : (it : EditedLine) (blocks : List RankedBlock) → blocks ≡ moved_ranked (line_from 1 it.old) (line_from 1 it.new)
     → map (λ block. block.found) blocks ≡ moved_blocks (line_from 1 it.old) (line_from 1 it.new)
 founds it blocks is = ap (map (λ (block : RankedBlock). block.found)) is ∙ ranked-are-moved (line_from 1 it.old) (line_from 1 it.new)
 
-pub moved-named : (it : Outlook) (blocks : List RankedBlock) (names : List (ℕ × ℕ)) → blocks ≡ moved_ranked (line_from 1 it.old) (line_from 1 it.new)
+pub moved-named : (it : EditedLine) (blocks : List RankedBlock) (names : List (ℕ × ℕ)) → blocks ≡ moved_ranked (line_from 1 it.old) (line_from 1 it.new)
     → names ≡ map (λ block. name_of block.found) blocks → names ≡ map name_of (moved_blocks (line_from 1 it.old) (line_from 1 it.new))
 moved-named it blocks names is named = named ∙ sym (map-map name_of (λ (block : RankedBlock). block.found) blocks) ∙ ap (map name_of) (founds it blocks is)
 
-pub moved-count : (it : Outlook) (blocks : List RankedBlock) → blocks ≡ moved_ranked (line_from 1 it.old) (line_from 1 it.new)
+pub moved-count : (it : EditedLine) (blocks : List RankedBlock) → blocks ≡ moved_ranked (line_from 1 it.old) (line_from 1 it.new)
     → length blocks ≡ length (moved_blocks (line_from 1 it.old) (line_from 1 it.new))
 moved-count it blocks is = sym (length-map blocks (λ (block : RankedBlock). block.found)) ∙ ap length (founds it blocks is)
 
-pub moved-few : (it : Outlook) (blocks : List RankedBlock) → IsOutlook it → crowded_task (line_from 1 it.new) ≡ None
+pub moved-few : (it : EditedLine) (blocks : List RankedBlock) → IsEditedLine it → crowded_task (line_from 1 it.new) ≡ None
     → blocks ≡ moved_ranked (line_from 1 it.old) (line_from 1 it.new) → length blocks < 4294967296
 moved-few it blocks is fits moved =
     let few = few-moved it.new (layout_of (line_from 1 it.new)) (line_from 1 it.old) (record { project = is.is_project; uncrowded = fits; stands = refl }) in

@@ -11,7 +11,7 @@ use Rattle.hc_tasks.specs.Areas.{areas_by_rank}
 use Rattle.hc_tasks.specs.Kept.{crowded_from, line_kept}
 use Rattle.hc_tasks.specs.Turn.{AreLines, AreStartsOf, IsPut, IsTurn}
 use Rattle.hc_tasks.proofs.lemmas.Projects.{line-crowded}
-use Rattle.hc_changes.specs.Outlook.{IsOutlook, Outlook}
+use Rattle.hc_changes.specs.EditedLine.{EditedLine, IsEditedLine}
 
 -- what is crowded, by the line and by the areas of its slaves
 pub crowded-line : (groups : List Declared) (crowded : Option ℕ) → crowded_from 8 0 (areas_by_rank groups) ≡ crowded → crowded_task (line_from 1 groups) ≡ crowded
@@ -20,30 +20,30 @@ crowded-line groups crowded is = line-crowded groups ∙ is
 pub line-areas : (groups : List Declared) (crowded : Option ℕ) → crowded_task (line_from 1 groups) ≡ crowded → crowded_from 8 0 (areas_by_rank groups) ≡ crowded
 line-areas groups crowded is = sym (line-crowded groups) ∙ is
 
--- the rank and the areas that are read from an outlook are its own
+-- the rank and the areas that are read from an edited line are its own
 read-lines : (first first' : ℕ) (before before' after after' old new : List (List Area)) → first ≡ first' → before ≡ before' → after ≡ after' → AreLines first' before' after' old new
     → AreLines first before after old new
 read-lines first first' before before' after after' old new same second third lines = search rules
 
-pub outlook-lines : (it : Outlook) (first : ℕ) (before after : List (List Area)) → IsOutlook it → first ≡ it.first → before ≡ it.before → after ≡ it.after
+pub edited_line-lines : (it : EditedLine) (first : ℕ) (before after : List (List Area)) → IsEditedLine it → first ≡ it.first → before ≡ it.before → after ≡ it.after
     → AreLines first before after (areas_by_rank it.old) (areas_by_rank it.new)
-outlook-lines it first before after is same second third = search rules
+edited_line-lines it first before after is same second third = search rules
 
 -- the trees of the line before an edit are turned to those of the line after it
 
-pub outlook-turn : (it : Outlook) (kept : List Kept) (first : ℕ) (before after : List (List Area)) → IsOutlook it → kept ≡ line_kept (areas_by_rank it.old)
+pub edited_line-turn : (it : EditedLine) (kept : List Kept) (first : ℕ) (before after : List (List Area)) → IsEditedLine it → kept ≡ line_kept (areas_by_rank it.old)
     → crowded_task (line_from 1 it.old) ≡ None → first ≡ it.first → before ≡ it.before → after ≡ it.after
     → IsTurn 8 0 kept first before after (areas_by_rank it.old) (areas_by_rank it.new)
-outlook-turn it kept first before after is trees fits same second third = search (rules, outlook-lines, line-areas)
+edited_line-turn it kept first before after is trees fits same second third = search (rules, edited_line-lines, line-areas)
 
 -- and by boundaries that are known
 
-pub outlook-put : (it : Outlook) (kept : List Kept) (first : ℕ) (before after : List (List Area)) (starts : List (List Key)) → IsOutlook it → kept ≡ line_kept (areas_by_rank it.old)
+pub edited_line-put : (it : EditedLine) (kept : List Kept) (first : ℕ) (before after : List (List Area)) (starts : List (List Key)) → IsEditedLine it → kept ≡ line_kept (areas_by_rank it.old)
     → AreStartsOf (areas_by_rank it.new) starts → first ≡ it.first → before ≡ it.before → after ≡ it.after
     → IsPut 8 0 kept first before after starts (areas_by_rank it.old) (areas_by_rank it.new)
-outlook-put it kept first before after starts is trees known same second third = search rules
+edited_line-put it kept first before after starts is trees known same second third = search rules
 
-pub outlook-back : (it : Outlook) (kept : List Kept) (first : ℕ) (before after : List (List Area)) (starts : List (List Key)) → IsOutlook it → kept ≡ line_kept (areas_by_rank it.new)
+pub edited_line-back : (it : EditedLine) (kept : List Kept) (first : ℕ) (before after : List (List Area)) (starts : List (List Key)) → IsEditedLine it → kept ≡ line_kept (areas_by_rank it.new)
     → AreStartsOf (areas_by_rank it.old) starts → first ≡ it.first → before ≡ it.before → after ≡ it.after
     → IsPut 8 0 kept first after before starts (areas_by_rank it.new) (areas_by_rank it.old)
-outlook-back it kept first before after starts is trees known same second third = search rules
+edited_line-back it kept first before after starts is trees known same second third = search rules

@@ -48,5 +48,5 @@ wants_memory (Err Memory) = true
 wants_memory _ = false
 
 -- the edits that weren't refused for want of memory
-abbrev pub carried : List (Edit × Answer) → List Edit
-carried pairs = map (λ pair. pair.0) (filter (λ pair. not (wants_memory pair.1)) pairs)
+abbrev pub carried_out : List (Edit × Answer) → List Edit
+carried_out pairs = map (λ pair. pair.0) (filter (λ pair. not (wants_memory pair.1)) pairs)

@@ -12,7 +12,7 @@ ghost use Rattle.hc_tasks.specs.Areas.{areas_by_rank};
 ghost use Rattle.hc_tasks.specs.Keeping.{StandsBefore};
 ghost use Rattle.hc_tasks.specs.Kept.{line_kept};
 ghost use Rattle.hc_tasks.specs.Turn.{AreStartsOf};
-ghost use Rattle.hc_changes.specs.Outlook.{IsOutlook};
+ghost use Rattle.hc_changes.specs.EditedLine.{IsEditedLine};
 ghost use Rattle.hc_plan.specs.inner.Applied.{AreSeen, Makes};
 ghost use Rattle.hc_plan.specs.Reports.{Tells, name_of};
 
@@ -20,10 +20,10 @@ use crate::report::Report;
 use crate::turning::{turn_back, turn_line};
 use hc_bitsum::steps::Steps;
 use hc_changes::candidates::Candidate;
+use hc_changes::edited_line::EditedLine;
 use hc_changes::finding::candidates;
 use hc_changes::moved::moved_blocks;
-use hc_changes::movers::movers;
-use hc_changes::outlook::Outlook;
+use hc_changes::moved_areas::moved_areas;
 use hc_changes::rows::changed_rows;
 use hc_changes::tables::changed_tasks;
 use hc_places::room::Room;
@@ -70,19 +70,19 @@ struct Told {
 /// refused.
 fn see_new_line<'a>(
     alloc: Global,
-    outlook: &Outlook<'a>,
+    edited_line: &EditedLine<'a>,
     known: &Before,
     cuts: &LineCuts,
     places: &Places,
 ) -> Result<Seen<'a>, AllocError>
-    requires outlook { IsOutlook outlook.now }
-    requires known { StandsBefore (areas_by_rank outlook.now.old) (areas_by_rank outlook.now.new) known.now }
-    requires trees { cuts.now ≡ line_kept (areas_by_rank outlook.now.new) }
-    requires table { places.now ≡ table_of (line_from 1 outlook.now.old) }
-    ensures { IfOk result (λ seen. AreSeen outlook.now seen.candidates.items seen.tasks.items) }
+    requires edited_line { IsEditedLine edited_line.now }
+    requires known { StandsBefore (areas_by_rank edited_line.now.old) (areas_by_rank edited_line.now.new) known.now }
+    requires trees { cuts.now ≡ line_kept (areas_by_rank edited_line.now.new) }
+    requires table { places.now ≡ table_of (line_from 1 edited_line.now.old) }
+    ensures { IfOk result (λ seen. AreSeen edited_line.now seen.candidates.items seen.tasks.items) }
 {
     Ok(Seen {
-        candidates: candidates(alloc, outlook, known, cuts)?,
+        candidates: candidates(alloc, edited_line, known, cuts)?,
         tasks: changed_tasks(alloc, cuts, places, known)?,
     })
 }
@@ -103,27 +103,33 @@ fn names_of(alloc: Global, blocks: &[RankedBlock]) -> Result<Vec<(u16, u8)>, All
 fn tell(
     alloc: Global,
     edit: &Edit,
-    outlook: &Outlook<'_>,
+    edited_line: &EditedLine<'_>,
     cuts: &LineCuts,
     places: &Places,
     seen: Seen<'_>,
 ) -> Result<Told, AllocError>
-    requires edit { Makes edit.now places.now outlook.now }
-    requires accepted { crowded_task (line_from 1 outlook.now.new) ≡ None }
-    requires trees { cuts.now ≡ line_kept (areas_by_rank outlook.now.old) }
-    requires seen { AreSeen outlook.now seen.candidates.items seen.tasks.items }
-    ensures blocks { IfOk result (λ told. told.blocks.items ≡ moved_ranked (line_from 1 outlook.now.old) (line_from 1 outlook.now.new)) }
+    requires edit { Makes edit.now places.now edited_line.now }
+    requires accepted { crowded_task (line_from 1 edited_line.now.new) ≡ None }
+    requires trees { cuts.now ≡ line_kept (areas_by_rank edited_line.now.old) }
+    requires seen { AreSeen edited_line.now seen.candidates.items seen.tasks.items }
+    ensures blocks { IfOk result (λ told. told.blocks.items ≡ moved_ranked (line_from 1 edited_line.now.old) (line_from 1 edited_line.now.new)) }
     ensures names { IfOk result (λ told. told.names.items ≡ map (λ block. name_of block.found) told.blocks.items) }
     ensures edit { IfOk result (λ told. told.swap.edit ≡ edit.now) }
-    ensures leads { IfOk result (λ told. Leads (table_of (line_from 1 outlook.now.old)) (table_of (line_from 1 outlook.now.new)) told.swap) }
+    ensures leads { IfOk result (λ told. Leads (table_of (line_from 1 edited_line.now.old)) (table_of (line_from 1 edited_line.now.new)) told.swap) }
     ensures room { IfOk result (λ told. IsRoomFor told.swap.change places.now told.room) }
 {
     let Seen { candidates, tasks } = seen;
-    let movers = movers(alloc, outlook, cuts, candidates.as_slice())?;
-    let moving = movers.as_slice();
-    let blocks = moved_blocks(alloc, outlook, moving)?;
+    let moved_areas = moved_areas(alloc, edited_line, cuts, candidates.as_slice())?;
+    let moving = moved_areas.as_slice();
+    let blocks = moved_blocks(alloc, edited_line, moving)?;
     let names = names_of(alloc, blocks.as_slice())?;
-    let rows = changed_rows(alloc, places, moving, outlook.before(), outlook.after())?;
+    let rows = changed_rows(
+        alloc,
+        places,
+        moving,
+        edited_line.before(),
+        edited_line.after(),
+    )?;
     let swap = Swap::of(alloc, edit, tasks, rows)?;
     let room = places.room_for(alloc, &swap)?;
     Ok(Told {
@@ -139,7 +145,7 @@ fn tell(
 pub(crate) fn work_out<L: Ledger>(
     alloc: Global,
     edit: &Edit,
-    outlook: &Outlook<'_>,
+    edited_line: &EditedLine<'_>,
     epoch: u32,
     cuts: &mut LineCuts,
     places: &Places,
@@ -148,26 +154,31 @@ pub(crate) fn work_out<L: Ledger>(
     requires name { blank.name ≡ L.name }
     requires parts { blank.parts ≡ L.parts }
     requires one { L.parts ≡ 1 }
-    requires edit { Makes edit.now places.now outlook.now }
-    requires trees { cuts.old ≡ line_kept (areas_by_rank outlook.now.old) }
-    ensures fits { OnOk result (crowded_task (line_from 1 outlook.now.new) ≡ None) }
-    ensures starts { IfOk result (λ worked. AreStartsOf (areas_by_rank outlook.now.new) worked.starts) }
-    ensures report { IfOk result (λ worked. Tells (record { groups = outlook.now.old; epoch = epoch }) edit.now (record { groups = outlook.now.new; epoch = epoch + 1 }) worked.report) }
-    ensures blocks { IfOk result (λ worked. worked.blocks.items ≡ moved_ranked (line_from 1 outlook.now.old) (line_from 1 outlook.now.new)) }
+    requires edit { Makes edit.now places.now edited_line.now }
+    requires trees { cuts.old ≡ line_kept (areas_by_rank edited_line.now.old) }
+    ensures fits { OnOk result (crowded_task (line_from 1 edited_line.now.new) ≡ None) }
+    ensures starts { IfOk result (λ worked. AreStartsOf (areas_by_rank edited_line.now.new) worked.starts) }
+    ensures report { IfOk result (λ worked. Tells (record { groups = edited_line.now.old; epoch = epoch }) edit.now (record { groups = edited_line.now.new; epoch = epoch + 1 }) worked.report) }
+    ensures blocks { IfOk result (λ worked. worked.blocks.items ≡ moved_ranked (line_from 1 edited_line.now.old) (line_from 1 edited_line.now.new)) }
     ensures room { IfOk result (λ worked. IsRoomFor worked.report.swap.change places.now worked.room) }
-    ensures accepted { OnOk result (edited (record { groups = outlook.now.old; epoch = epoch }) edit.now ≡ Ok (record { groups = outlook.now.new; epoch = epoch + 1 })) }
-    ensures refused { IfErr result (λ fault. fault ≢ Memory → edited (record { groups = outlook.now.old; epoch = epoch }) edit.now ≡ Err fault) }
+    ensures accepted { OnOk result (edited (record { groups = edited_line.now.old; epoch = epoch }) edit.now ≡ Ok (record { groups = edited_line.now.new; epoch = epoch + 1 })) }
+    ensures refused { IfErr result (λ fault. fault ≢ Memory → edited (record { groups = edited_line.now.old; epoch = epoch }) edit.now ≡ Err fault) }
     ensures unchanged { cuts.new ≡ cuts.old }
 {
     let mut steps: Steps<L> = Steps::start(blank);
-    let known = Before::of(cuts, outlook.first(), outlook.before(), outlook.after());
-    let unsettled = match turn_line(cuts, outlook, &mut steps) {
+    let known = Before::of(
+        cuts,
+        edited_line.first(),
+        edited_line.before(),
+        edited_line.after(),
+    );
+    let unsettled = match turn_line(cuts, edited_line, &mut steps) {
         Ok(unsettled) => unsettled,
         Err(task) => return Err(EditFault::TooManyDatagrams(task)),
     };
-    let seen = see_new_line(alloc, outlook, &known, cuts, places);
+    let seen = see_new_line(alloc, edited_line, &known, cuts, places);
     let starts = cuts.copied_starts();
-    turn_back(cuts, outlook, &known);
+    turn_back(cuts, edited_line, &known);
     if epoch == LAST_EPOCH {
         return Err(EditFault::EpochsSpent);
     }
@@ -176,7 +187,7 @@ pub(crate) fn work_out<L: Ledger>(
         names,
         swap,
         room,
-    } = tell(alloc, edit, outlook, cuts, places, seen?)?;
+    } = tell(alloc, edit, edited_line, cuts, places, seen?)?;
     let report = Report {
         epoch: epoch + 1,
         recut: unsettled,

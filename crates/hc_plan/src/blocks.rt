@@ -3,9 +3,9 @@ ghost use Rattle.std.specs.Prelude.{◌≡◌, ◌<◌, option_map, slice_get};
 ghost use Rattle.hc_records.specs.declared.limits.TheConstants.{MOST_AREAS};
 ghost use Rattle.hc_records.specs.Line.{line_from};
 ghost use Rattle.hc_plan.specs.Configuration.{at_station, block_at, line_block_at};
-ghost use Rattle.hc_plan.specs.inner.Blocks.{IsLaidOut, IsMappedArea, IsMappedSlave, area_block_in, slave_blocks_in};
+ghost use Rattle.hc_plan.specs.inner.Blocks.{IsLayoutOf, IsMappedArea, IsMappedSlave, area_block_in, slave_blocks_in};
 
-use crate::laid::Laid;
+use crate::placed_line::PlacedLine;
 use hc_changes::moved::mapping;
 use hc_index::index::Indexed;
 use hc_records::keys::Key;
@@ -34,7 +34,7 @@ impl Model for LineBlock {
 
 /// One of the two blocks of the area at an index of a slave with a rank: the sync manager block for an
 /// even number, the FMMU block for an odd one. The layout tells the area's width, so no PDO is read.
-fn area_block(layout: &Laid, rank: u16, index: u8, area: &Area, number: u8) -> Block
+fn area_block(layout: &PlacedLine, rank: u16, index: u8, area: &Area, number: u8) -> Block
     requires index { index < MOST_AREAS }
     requires area { IsMappedArea layout.now rank index area.now }
     ensures { result ≡ area_block_in layout.now rank number (index, area.now) }
@@ -58,7 +58,7 @@ fn area_block(layout: &Laid, rank: u16, index: u8, area: &Area, number: u8) -> B
 }
 
 /// The block with a number, from 0, in the order of a slave with a rank; none where it has fewer.
-fn slave_block(layout: &Laid, rank: u16, slave: &Slave, number: u8) -> Option<Block>
+fn slave_block(layout: &PlacedLine, rank: u16, slave: &Slave, number: u8) -> Option<Block>
     requires { IsMappedSlave layout.now (record { rank = rank; slave = slave.now }) }
     ensures { result ≡ slice_get (slave_blocks_in layout.now (record { rank = rank; slave = slave.now })) number }
 {
@@ -74,11 +74,11 @@ fn slave_block(layout: &Laid, rank: u16, slave: &Slave, number: u8) -> Option<Bl
 /// The block with a number, from 0, in the order of the slave with a station address.
 pub(crate) fn block_at(
     groups: &Indexed<'_>,
-    layout: &Laid,
+    layout: &PlacedLine,
     station: u16,
     number: u8,
 ) -> Option<Block>
-    requires { IsLaidOut groups.now layout.now }
+    requires { IsLayoutOf groups.now layout.now }
     ensures { result ≡ block_at (line_from 1 groups.now) station number }
 {
     match groups.slave_at(station) {
@@ -98,8 +98,8 @@ fn with_station(station: u16, block: Option<Block>) -> Option<(u16, Block)>
 }
 
 /// The block with a number, from 0, in line and block order, with its slave's station address.
-pub(crate) fn nth_block(groups: &Indexed<'_>, layout: &Laid, n: u32) -> Option<(u16, Block)>
-    requires { IsLaidOut groups.now layout.now }
+pub(crate) fn nth_block(groups: &Indexed<'_>, layout: &PlacedLine, n: u32) -> Option<(u16, Block)>
+    requires { IsLayoutOf groups.now layout.now }
     ensures { result ≡ line_block_at (line_from 1 groups.now) n }
 {
     let (owner, number) = groups.block_owner(n)?;

@@ -4,8 +4,8 @@
 
 mod applying;
 pub mod blocks;
-mod laid;
 pub mod laws;
+mod placed_line;
 pub mod plan;
 pub mod prepared;
 pub mod report;

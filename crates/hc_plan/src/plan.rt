@@ -6,11 +6,11 @@ ghost use Rattle.hc_plan.specs.inner.Applied.{Follows};
 
 use crate::applying::work_out;
 use crate::blocks::{block_at, nth_block};
-use crate::laid::Laid;
+use crate::placed_line::PlacedLine;
 use crate::prepared::PreparedEdit;
 use crate::report::Report;
 use crate::turning::turn_on;
-use hc_changes::outlook::{Outlook, OutlookRoom};
+use hc_changes::edited_line::{EditedLine, EditedLineRoom};
 use hc_edits::prepared::Prepared;
 use hc_index::index::{Index, Indexed};
 use hc_places::configure::{OpenedLine, open_line};
@@ -108,10 +108,10 @@ impl Plan {
     ghost use Rattle.hc_records.specs.Project.{lowest_fault};
     ghost use Rattle.hc_edits.specs.Edits.{own_fault};
     ghost use Rattle.hc_places.specs.Layout.{NamesCrowded};
-    ghost use Rattle.hc_plan.specs.inner.Blocks.{IsLaidOut};
+    ghost use Rattle.hc_plan.specs.inner.Blocks.{IsLayoutOf};
     ghost use Rattle.hc_plan.specs.Prepared.{IsPrepared};
     ghost use Rattle.hc_plan.specs.Configuration.{block_at, config, line_block_at, position_of, station_at};
-    ghost use Rattle.hc_plan.specs.Reports.{AreAnswers, Tells, carried};
+    ghost use Rattle.hc_plan.specs.Reports.{AreAnswers, Tells, carried_out};
 
     /// The plan of a project at its opening: the mandatory group alone is present and the epoch is 0.
     /// Otherwise `TooManyDatagrams` with the lowest task that needs more than 16, or `Memory` where a
@@ -167,7 +167,7 @@ impl Plan {
     pub fn block(&self, station: u16, number: u8) -> Option<Block>
         ensures { result ≡ block_at (line self.now) station number }
     {
-        block_at(&self.indexed(), &self.laid(), station, number)
+        block_at(&self.indexed(), &self.placed_line(), station, number)
     }
 
     /// The number of blocks of the present line. It takes no memory.
@@ -182,7 +182,7 @@ impl Plan {
     pub fn nth_block(&self, n: u32) -> Option<(u16, Block)>
         ensures { result ≡ line_block_at (line self.now) n }
     {
-        nth_block(&self.indexed(), &self.laid(), n)
+        nth_block(&self.indexed(), &self.placed_line(), n)
     }
 
     /// The keys at which the datagrams of a task, 0 to 7, begin in the present line: `Key::START`, with which the
@@ -226,10 +226,10 @@ impl Plan {
     }
 
     /// Where the areas of the line stand.
-    fn laid(&self) -> Laid<'_>
-        ensures { IsLaidOut self.now.groups result }
+    fn placed_line(&self) -> PlacedLine<'_>
+        ensures { IsLayoutOf self.now.groups result }
     {
-        Laid::of(self.groups.as_slice(), &self.cuts)
+        PlacedLine::of(self.groups.as_slice(), &self.cuts)
     }
 
     /// Works out what an edit makes of the plan, and takes the memory for carrying it out; the plan is as it was.
@@ -245,19 +245,19 @@ impl Plan {
         ensures unchanged { self.new ≡ self.old }
     {
         let change = Prepared::of(alloc, self.groups.as_slice(), edit)?;
-        let slaves = OutlookRoom::of(alloc, &change)?;
-        let room = OutlookRoom::of(alloc, &change)?;
-        let outlook = Outlook::of(room, self.groups.as_slice(), &change);
+        let slaves = EditedLineRoom::of(alloc, &change)?;
+        let room = EditedLineRoom::of(alloc, &change)?;
+        let edited_line = EditedLine::of(room, self.groups.as_slice(), &change);
         let worked = work_out::<Brand>(
             alloc,
             edit,
-            &outlook,
+            &edited_line,
             self.epoch,
             &mut self.cuts,
             &self.places,
             Blank::new(1),
         )?;
-        drop(outlook);
+        drop(edited_line);
         Ok(PreparedEdit {
             was: Snapshot::of(&*self),
             change,
@@ -285,9 +285,9 @@ impl Plan {
             slaves,
             rows,
         } = prepared;
-        let outlook = Outlook::of(slaves, self.groups.as_slice(), &change);
-        turn_on(&mut self.cuts, &outlook, &starts);
-        drop(outlook);
+        let edited_line = EditedLine::of(slaves, self.groups.as_slice(), &change);
+        turn_on(&mut self.cuts, &edited_line, &starts);
+        drop(edited_line);
         change.carry_out(&mut self.groups);
         follow(&mut self.index, self.groups.as_slice(), report.swap.edit());
         self.places.carry_out(&report.swap, rows);
@@ -319,7 +319,7 @@ impl Plan {
     ) -> Result<Vec<Result<Report, EditFault>>, AllocError>
         ensures count { IfOk result (λ answers. length answers.items ≡ length edits.now) }
         ensures answers { IfOk result (λ answers. AreAnswers self.old (zip edits.now answers.items) self.new) }
-        ensures state { IfOk result (λ answers. self.new ≡ state_after_all self.old (carried (zip edits.now answers.items))) }
+        ensures state { IfOk result (λ answers. self.new ≡ state_after_all self.old (carried_out (zip edits.now answers.items))) }
         ensures unchanged { OnErr result (self.new ≡ self.old) }
     {
         let mut answers = Vec::with_capacity(alloc, edits.len())?;

@@ -2,7 +2,7 @@
 //! for the moved blocks, takes all memory that it needs, and then lets the plan carry the edit out.
 use crate::plan::Plan;
 use crate::report::Report;
-use hc_changes::outlook::OutlookRoom;
+use hc_changes::edited_line::EditedLineRoom;
 use hc_edits::prepared::Prepared;
 use hc_places::room::Room;
 use hc_ranks::blocks::{Gone, RankedBlock};
@@ -23,7 +23,7 @@ pub struct PreparedEdit {
     // the boundaries of the new line's tasks
     pub(crate) starts: LineStarts,
     // for the areas of the slaves that the edit concerns
-    pub(crate) slaves: OutlookRoom,
+    pub(crate) slaves: EditedLineRoom,
     // for the new table's rows
     pub(crate) rows: Room,
 }

@@ -7,10 +7,10 @@ ghost use Rattle.hc_tasks.specs.Areas.{areas_by_rank};
 ghost use Rattle.hc_tasks.specs.Keeping.{StandsBefore};
 ghost use Rattle.hc_tasks.specs.Kept.{line_kept};
 ghost use Rattle.hc_tasks.specs.Turn.{AreStartsOf};
-ghost use Rattle.hc_changes.specs.Outlook.{IsOutlook};
+ghost use Rattle.hc_changes.specs.EditedLine.{IsEditedLine};
 
 use hc_bitsum::steps::Steps;
-use hc_changes::outlook::Outlook;
+use hc_changes::edited_line::EditedLine;
 use hc_tasks::keeping::Before;
 use hc_tasks::starts::LineStarts;
 use hc_tasks::tasks::LineCuts;
@@ -21,44 +21,44 @@ use std::sync::ledger::Ledger;
 /// the trees are as they were. It takes no memory.
 pub(crate) fn turn_line<L: Ledger>(
     cuts: &mut LineCuts,
-    outlook: &Outlook<'_>,
+    edited: &EditedLine<'_>,
     steps: &mut Steps<L>,
 ) -> Result<u32, u8>
-    requires outlook { IsOutlook outlook.now }
-    requires trees { cuts.old ≡ line_kept (areas_by_rank outlook.now.old) }
-    requires fits { crowded_task (line_from 1 outlook.now.old) ≡ None }
-    ensures turned { OnOk result (cuts.new ≡ line_kept (areas_by_rank outlook.now.new)) }
-    ensures accepted { OnOk result (crowded_task (line_from 1 outlook.now.new) ≡ None) }
-    ensures recut { IfOk result (λ unsettled. unsettled ≡ recut (line_from 1 outlook.now.old) (line_from 1 outlook.now.new)) }
-    ensures refused { IfErr result (λ task. crowded_task (line_from 1 outlook.now.new) ≡ Some task) }
+    requires edited { IsEditedLine edited.now }
+    requires trees { cuts.old ≡ line_kept (areas_by_rank edited.now.old) }
+    requires fits { crowded_task (line_from 1 edited.now.old) ≡ None }
+    ensures turned { OnOk result (cuts.new ≡ line_kept (areas_by_rank edited.now.new)) }
+    ensures accepted { OnOk result (crowded_task (line_from 1 edited.now.new) ≡ None) }
+    ensures recut { IfOk result (λ unsettled. unsettled ≡ recut (line_from 1 edited.now.old) (line_from 1 edited.now.new)) }
+    ensures refused { IfErr result (λ task. crowded_task (line_from 1 edited.now.new) ≡ Some task) }
     ensures unchanged { OnErr result (cuts.new ≡ cuts.old) }
 {
-    cuts.turn(outlook.first(), outlook.before(), outlook.after(), steps)
+    cuts.turn(edited.first(), edited.before(), edited.after(), steps)
 }
 
 /// Turns the trees of what an edit makes of a line back to those of the line before it, by what was known
 /// of them there. It takes no memory.
-pub(crate) fn turn_back(cuts: &mut LineCuts, outlook: &Outlook<'_>, known: &Before)
-    requires outlook { IsOutlook outlook.now }
-    requires trees { cuts.old ≡ line_kept (areas_by_rank outlook.now.new) }
-    requires known { StandsBefore (areas_by_rank outlook.now.old) (areas_by_rank outlook.now.new) known.now }
-    ensures { cuts.new ≡ line_kept (areas_by_rank outlook.now.old) }
+pub(crate) fn turn_back(cuts: &mut LineCuts, edited: &EditedLine<'_>, known: &Before)
+    requires edited { IsEditedLine edited.now }
+    requires trees { cuts.old ≡ line_kept (areas_by_rank edited.now.new) }
+    requires known { StandsBefore (areas_by_rank edited.now.old) (areas_by_rank edited.now.new) known.now }
+    ensures { cuts.new ≡ line_kept (areas_by_rank edited.now.old) }
 {
     cuts.put(
-        outlook.first(),
-        outlook.after(),
-        outlook.before(),
+        edited.first(),
+        edited.after(),
+        edited.before(),
         known.starts(),
     );
 }
 
 /// Turns the trees of a line's tasks to what an edit makes of it again, by the boundaries that they have there.
 /// It takes no memory.
-pub(crate) fn turn_on(cuts: &mut LineCuts, outlook: &Outlook<'_>, starts: &LineStarts)
-    requires outlook { IsOutlook outlook.now }
-    requires trees { cuts.old ≡ line_kept (areas_by_rank outlook.now.old) }
-    requires starts { AreStartsOf (areas_by_rank outlook.now.new) starts.now }
-    ensures { cuts.new ≡ line_kept (areas_by_rank outlook.now.new) }
+pub(crate) fn turn_on(cuts: &mut LineCuts, edited: &EditedLine<'_>, starts: &LineStarts)
+    requires edited { IsEditedLine edited.now }
+    requires trees { cuts.old ≡ line_kept (areas_by_rank edited.now.old) }
+    requires starts { AreStartsOf (areas_by_rank edited.now.new) starts.now }
+    ensures { cuts.new ≡ line_kept (areas_by_rank edited.now.new) }
 {
-    cuts.put(outlook.first(), outlook.before(), outlook.after(), starts);
+    cuts.put(edited.first(), edited.before(), edited.after(), starts);
 }

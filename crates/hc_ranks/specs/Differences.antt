@@ -14,12 +14,12 @@ abbrev pub IsGone : Gone → ℕ → Type 0
 IsGone gone n = (first_gone gone ≤ n) × (n < first_gone gone + 16 * gone.slaves)
 
 -- the place of a block
-abbrev pub place_of : RankedBlock → ℕ
-place_of block = place block.rank block.found.number
+abbrev pub block_place : RankedBlock → ℕ
+block_place block = place block.rank block.found.number
 
 -- a block stands at its place
 abbrev pub StandsIn : List (Option LineBlock) → RankedBlock → Type 0
-StandsIn places block = slice_get places (place_of block) ≡ Some (Some block.found)
+StandsIn places block = slice_get places (block_place block) ≡ Some (Some block.found)
 
 -- a block with the same bytes stands at a place
 pub record StoodAt (old : List (Option LineBlock)) (n : ℕ) (block : LineBlock) : Type 0 where
@@ -31,7 +31,7 @@ pub record StoodAt (old : List (Option LineBlock)) (n : ℕ) (block : LineBlock)
 pub record Names (old new : List (Option LineBlock)) (moved : List RankedBlock) : Type 0 where
   pub ranks : All (λ block. 1 ≤ block.rank) moved
   pub stand : All (StandsIn new) moved
-  pub others : (n : ℕ) (block : LineBlock) → slice_get new n ≡ Some (Some block) → All (λ other. place_of other ≢ n) moved → StoodAt old n block
+  pub others : (n : ℕ) (block : LineBlock) → slice_get new n ≡ Some (Some block) → All (λ other. block_place other ≢ n) moved → StoodAt old n block
 
 -- two lines differ by slaves that left, others that came, and the moved blocks
 pub record Differ (old new : List (Option LineBlock)) (gone : Gone) (moved : List RankedBlock) : Type 0 where

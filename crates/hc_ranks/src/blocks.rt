@@ -45,12 +45,12 @@ pub struct Gone {
 
 impl RankedBlock {
     ghost use Rattle.std.specs.Prelude.{◌≡◌, ◌≤◌};
-    ghost use Rattle.hc_ranks.specs.Differences.{place_of};
+    ghost use Rattle.hc_ranks.specs.Differences.{block_place};
 
     /// The block's place, from 0.
     pub fn place(&self) -> usize
         requires { 1 ≤ self.now.rank }
-        ensures { result ≡ place_of self.now }
+        ensures { result ≡ block_place self.now }
     {
         place(self.rank, self.number)
     }

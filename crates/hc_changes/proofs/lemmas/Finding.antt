@@ -23,8 +23,8 @@ use Rattle.hc_tasks.specs.Kept.{IsLine, line_kept}
 use Rattle.hc_tasks.specs.Recut.{is_touched_by}
 use Rattle.hc_tasks.proofs.lemmas.Told.{place-told, task-listed}
 use Rattle.hc_changes.specs.Candidates.{LineArea, candidate_of, is_candidate, is_recut, key_of, place_of}
-use Rattle.hc_changes.specs.inner.Found.{IsSight, area_by, area_found, found_among}
-use Rattle.hc_changes.specs.Outlook.{Outlook, changes}
+use Rattle.hc_changes.specs.inner.Found.{IsCandidateTest, area_by, area_found, found_among}
+use Rattle.hc_changes.specs.EditedLine.{EditedLine, changes}
 use Rattle.hc_changes.proofs.lemmas.Lists.{found-among}
 use Rattle.hc_changes.proofs.lemmas.Recut.{untouched-areas}
 use Rattle.hc_changes.proofs.lemmas.Standing.{placed-below}
@@ -32,14 +32,14 @@ use Rattle.hc_changes.proofs.lemmas.Tables.{touched-told}
 
 -- one area that is a candidate, and one that is none
 
-abbrev judged : Outlook → LineArea → Bool
+abbrev judged : EditedLine → LineArea → Bool
 judged it found = is_candidate (changes it) (line_from 1 it.old) (line_from 1 it.new) found
 
-found-yes : (it : Outlook) (found : LineArea) → judged it found ≡ true → found_among it (found ∷ []) ≡ candidate_of (line_from 1 it.new) found ∷ []
+found-yes : (it : EditedLine) (found : LineArea) → judged it found ≡ true → found_among it (found ∷ []) ≡ candidate_of (line_from 1 it.new) found ∷ []
 unfolding found_among
 found-yes it found is = ap (λ (b : Bool). map (candidate_of (line_from 1 it.new)) (cond b (found ∷ []) [])) is
 
-found-no : (it : Outlook) (found : LineArea) → judged it found ≡ false → found_among it (found ∷ []) ≡ []
+found-no : (it : EditedLine) (found : LineArea) → judged it found ≡ false → found_among it (found ∷ []) ≡ []
 unfolding found_among
 found-no it found is = ap (λ (b : Bool). map (candidate_of (line_from 1 it.new)) (cond b (found ∷ []) [])) is
 
@@ -54,7 +54,7 @@ of_groups groups = record { groups = groups; epoch = 0 }
 
 -- its place, and whether it stands in a datagram that isn't kept up to it
 
-pub place-is : (it : Outlook) (cuts : List Kept) → cuts ≡ line_kept (areas_by_rank it.new) → (station rank index : ℕ) (area : Area) (key : Key) (place : Option Placed)
+pub place-is : (it : EditedLine) (cuts : List Kept) → cuts ≡ line_kept (areas_by_rank it.new) → (station rank index : ℕ) (area : Area) (key : Key) (place : Option Placed)
     → key ≡ key_of (area_by station rank index area) → ((slaves : List (List Area)) → cuts ≡ line_kept slaves → place ≡ place_in key (list_by area.task slaves))
     → place ≡ place_of (line_from 1 it.new) (area_by station rank index area)
 place-is it cuts turned station rank index area key place named tells =
@@ -62,55 +62,55 @@ place-is it cuts turned station rank index area key place named tells =
     ∙ place-told it.new area.task (key_of (area_by station rank index area))
 
 -- a place that is found is of a key before END
-pub place-below : (it : Outlook) (station rank index : ℕ) (area : Area) (place : Option Placed) → lowest_fault (groups_of it.new) ≡ None
+pub place-below : (it : EditedLine) (station rank index : ℕ) (area : Area) (place : Option Placed) → lowest_fault (groups_of it.new) ≡ None
     → place ≡ place_of (line_from 1 it.new) (area_by station rank index area) → IfSome place (λ placed. is_before placed.key END ≡ true)
 place-below it station rank index area None project is = tt
 place-below it station rank index area (Some placed) project is =
     let here = found-among (λ (p : Placed). same_key p.key (key_of (area_by station rank index area))) (task_places area.task (line_from 1 it.new)) placed (sym is) in
     placed-below (task_list area.task (line_from 1 it.new)) placed (project-list (of_groups it.new) area.task project) here.among
 
-pub kept-is : (it : Outlook) (before : Before) (cuts : List Kept) → IsSight it before cuts → (task number : ℕ) (until : Key)
+pub kept-is : (it : EditedLine) (before : Before) (cuts : List Kept) → IsCandidateTest it before cuts → (task number : ℕ) (until : Key)
     → ((old new : List (List Area)) → IsLine new → StandsBefore old new before → cuts ≡ line_kept new
     → (key : Key) → is_before key END ≡ true → is_before key until ≡ is_kept_up_to (list_by task old) (list_by task new) number key)
     → (key : Key) → is_before key END ≡ true → is_before key until ≡ is_kept_up_to (task_list task (line_from 1 it.old)) (task_list task (line_from 1 it.new)) number key
-kept-is it before cuts sight task number until tells key low = search (rules, task-listed)
+kept-is it before cuts test task number until tells key low = search (rules, task-listed)
 
 -- whether its task is touched
 
-pub touched-is : (it : Outlook) (before : Before) (cuts : List Kept) → IsSight it before cuts → (task : ℕ) (some : Bool)
+pub touched-is : (it : EditedLine) (before : Before) (cuts : List Kept) → IsCandidateTest it before cuts → (task : ℕ) (some : Bool)
     → ((old new : List (List Area)) → StandsBefore old new before → some ≡ is_touched_by task old new)
     → some ≡ is_touched_task (line_from 1 it.old) (line_from 1 it.new) task
-touched-is it before cuts sight task some tells = touched-told it.old it.new before sight.stands task some tells
+touched-is it before cuts test task some tells = touched-told it.old it.new before test.stands task some tells
 
 -- no area of a task that isn't touched stands in a datagram that isn't kept up to it
-pub untouched-kept : (it : Outlook) (before : Before) (cuts : List Kept) → IsSight it before cuts → (found : LineArea) (some : Bool) → some ≡ false
+pub untouched-kept : (it : EditedLine) (before : Before) (cuts : List Kept) → IsCandidateTest it before cuts → (found : LineArea) (some : Bool) → some ≡ false
     → ((old new : List (List Area)) → StandsBefore old new before → some ≡ is_touched_by found.area.task old new) → is_recut (line_from 1 it.old) (line_from 1 it.new) found ≡ false
-untouched-kept it before cuts sight found some none tells =
-    untouched-areas (of_groups it.old) (of_groups it.new) found sight.is.was_project sight.is.is_project (sym (touched-is it before cuts sight found.area.task some tells) ∙ none)
+untouched-kept it before cuts test found some none tells =
+    untouched-areas (of_groups it.old) (of_groups it.new) found test.is.was_project test.is.is_project (sym (touched-is it before cuts test found.area.task some tells) ∙ none)
 
-pub unrecut-none : (it : Outlook) (station rank index : ℕ) (area : Area) → changes it rank ≡ false → is_recut (line_from 1 it.old) (line_from 1 it.new) (area_by station rank index area) ≡ false
+pub unrecut-none : (it : EditedLine) (station rank index : ℕ) (area : Area) → changes it rank ≡ false → is_recut (line_from 1 it.old) (line_from 1 it.new) (area_by station rank index area) ≡ false
     → area_found it station rank index area ≡ []
 unrecut-none it station rank index area unchanged kept = search (rules, found-no, other-one)
 
-pub untouched-area : (it : Outlook) (before : Before) (cuts : List Kept) → IsSight it before cuts → (station rank index : ℕ) (area : Area) → changes it rank ≡ false
+pub untouched-area : (it : EditedLine) (before : Before) (cuts : List Kept) → IsCandidateTest it before cuts → (station rank index : ℕ) (area : Area) → changes it rank ≡ false
     → (some : Bool) → some ≡ false → ((old new : List (List Area)) → StandsBefore old new before → some ≡ is_touched_by area.task old new)
     → area_found it station rank index area ≡ []
-untouched-area it before cuts sight station rank index area unchanged some none tells = search (rules, unrecut-none, untouched-kept)
+untouched-area it before cuts test station rank index area unchanged some none tells = search (rules, unrecut-none, untouched-kept)
 
-abbrev recut_by : Outlook → ℕ → Option Placed → Bool
+abbrev recut_by : EditedLine → ℕ → Option Placed → Bool
 recut_by it task place =
     option_map_or (λ (placed : Placed). not (is_kept_up_to (task_list task (line_from 1 it.old)) (task_list task (line_from 1 it.new)) placed.datagram placed.key)) place false
 
-pub kept-area : (it : Outlook) (station rank index : ℕ) (area : Area) (place : Option Placed) → place ≡ place_of (line_from 1 it.new) (area_by station rank index area)
+pub kept-area : (it : EditedLine) (station rank index : ℕ) (area : Area) (place : Option Placed) → place ≡ place_of (line_from 1 it.new) (area_by station rank index area)
     → changes it rank ≡ false → recut_by it area.task place ≡ false → area_found it station rank index area ≡ []
 kept-area it station rank index area place is unchanged kept = search (rules, found-no, other-one)
 
-pub recut-area : (it : Outlook) (station rank index : ℕ) (area : Area) (place : Option Placed) → place ≡ place_of (line_from 1 it.new) (area_by station rank index area)
+pub recut-area : (it : EditedLine) (station rank index : ℕ) (area : Area) (place : Option Placed) → place ≡ place_of (line_from 1 it.new) (area_by station rank index area)
     → changes it rank ≡ false → recut_by it area.task place ≡ true
     → area_found it station rank index area ≡ record { station = station; rank = rank; index = index; area = area; place = place } ∷ []
 recut-area it station rank index area place is unchanged recut = search (rules, found-yes, other-one)
 
-pub changed-area : (it : Outlook) (station rank index : ℕ) (area : Area) (place : Option Placed) → place ≡ place_of (line_from 1 it.new) (area_by station rank index area)
+pub changed-area : (it : EditedLine) (station rank index : ℕ) (area : Area) (place : Option Placed) → place ≡ place_of (line_from 1 it.new) (area_by station rank index area)
     → changes it rank ≡ true
     → area_found it station rank index area ≡ record { station = station; rank = rank; index = index; area = area; place = place } ∷ []
 changed-area it station rank index area place is changed = search (rules, found-yes, either-true)

@@ -15,7 +15,7 @@ use Rattle.hc_tasks.proofs.lemmas.Told.{length-present}
 use Rattle.hc_changes.specs.Candidates.{Candidate, LineArea, areas_of, candidate_of, candidates, line_areas}
 use Rattle.hc_changes.specs.Edited.{HasEdit}
 use Rattle.hc_changes.specs.inner.Found.{area_found, areas_found, found_among, found_below, rank_found, stations}
-use Rattle.hc_changes.specs.Outlook.{IsOutlook, Outlook, changes}
+use Rattle.hc_changes.specs.EditedLine.{EditedLine, IsEditedLine, changes}
 use Rattle.hc_changes.proofs.lemmas.Bare.{bare_slave, edit-keeps}
 use Rattle.hc_changes.proofs.lemmas.FoundRanks.{many-stations}
 
@@ -29,19 +29,19 @@ gather-front : {X : Type 0} (f : ℕ → List X) (n : ℕ) → gather f (suc n) 
 gather-front f zero = sym (append-nil (f 0))
 gather-front f (suc n) = ap (λ (first : List _). first ++ f (suc n)) (gather-front f n) ∙ append_assoc (f 0) (gather (λ i. f (suc i)) n) (f (suc n))
 
-below-gather : (it : Outlook) (n : ℕ) → found_below it n ≡ gather (rank_found it) n
+below-gather : (it : EditedLine) (n : ℕ) → found_below it n ≡ gather (rank_found it) n
 unfolding found_below
 below-gather it zero = refl
 below-gather it (suc n) = ap (λ (first : List Candidate). first ++ rank_found it n) (below-gather it n)
 
 -- the candidates among the areas of slaves in a row, by their station addresses
 
-abbrev row_found : Outlook → ℕ → List ℕ → List (List Area) → List Candidate
+abbrev row_found : EditedLine → ℕ → List ℕ → List (List Area) → List Candidate
 row_found it first [] slaves = []
 row_found it first (station ∷ named) [] = []
 row_found it first (station ∷ named) (areas ∷ slaves) = areas_found it station first 0 areas ++ row_found it (first + 1) named slaves
 
-gather-row : (it : Outlook) (first : ℕ) (named : List ℕ) (slaves : List (List Area)) (f : ℕ → List Candidate) → length named ≡ length slaves
+gather-row : (it : EditedLine) (first : ℕ) (named : List ℕ) (slaves : List (List Area)) (f : ℕ → List Candidate) → length named ≡ length slaves
     → ((i : ℕ) → f i ≡ areas_found it (slice_index_or named i 0) (first + i) 0 (slice_index_or slaves i [])) → gather f (length slaves) ≡ row_found it first named slaves
 gather-row it first [] [] f many each = refl
 gather-row it first [] (areas ∷ slaves) f many each = absurd (omega (arith, many))
@@ -49,37 +49,37 @@ gather-row it first (station ∷ named) [] f many each = refl
 gather-row it first (station ∷ named) (areas ∷ slaves) f many each =
     search (rules, gather-front, gather-row it (first + 1) named slaves (λ i. f (suc i)) (omega (arith, many)))
 
-no-rank : (it : Outlook) → rank_found it 0 ≡ []
+no-rank : (it : EditedLine) → rank_found it 0 ≡ []
 unfolding rank_found areas_found
 no-rank it = refl
 
-rank-each : (it : Outlook) (i : ℕ) → rank_found it (suc i) ≡ areas_found it (slice_index_or (stations it.old) i 0) (1 + i) 0 (slice_index_or (areas_by_rank it.new) i [])
+rank-each : (it : EditedLine) (i : ℕ) → rank_found it (suc i) ≡ areas_found it (slice_index_or (stations it.old) i 0) (1 + i) 0 (slice_index_or (areas_by_rank it.new) i [])
 unfolding rank_found
 rank-each it i = search rules
 
-below-row : (it : Outlook) → length (stations it.old) ≡ length (areas_by_rank it.new)
+below-row : (it : EditedLine) → length (stations it.old) ≡ length (areas_by_rank it.new)
     → found_below it (suc (length (areas_by_rank it.new))) ≡ row_found it 1 (stations it.old) (areas_by_rank it.new)
 below-row it many = search (rules, below-gather, gather-front, no-rank, gather-row, rank-each)
 
 -- these are the candidates among the line's areas
 
-among-append : (it : Outlook) (xs ys : List LineArea) → found_among it (xs ++ ys) ≡ found_among it xs ++ found_among it ys
+among-append : (it : EditedLine) (xs ys : List LineArea) → found_among it (xs ++ ys) ≡ found_among it xs ++ found_among it ys
 unfolding found_among
 among-append it xs ys = search (rules, filter-append, map-append)
 
-among-none : (it : Outlook) → found_among it [] ≡ []
+among-none : (it : EditedLine) → found_among it [] ≡ []
 unfolding found_among
 among-none it = refl
 
 made-alike : {X Y : Type 0} (make : X → Y) (here : Bool) (x y : X) → make x ≡ make y → map make (cond here (x ∷ []) []) ≡ map make (cond here (y ∷ []) [])
 made-alike make here x y same = search rules
 
-area-alike : (it : Outlook) (member : Member) (index : ℕ) (area : Area)
+area-alike : (it : EditedLine) (member : Member) (index : ℕ) (area : Area)
     → area_found it member.slave.station member.rank index area ≡ found_among it (record { member = member; index = index; area = area } ∷ [])
 unfolding found_among
 area-alike it member index area = search (rules, made-alike)
 
-slave-among : (it : Outlook) (member : Member) (index : ℕ) (areas : List Area)
+slave-among : (it : EditedLine) (member : Member) (index : ℕ) (areas : List Area)
     → areas_found it member.slave.station member.rank index areas ≡ found_among it (map (λ e. record { member = member; index = e.0; area = e.1 }) (enumerate_from index areas))
 unfolding areas_found
 slave-among it member index [] = sym (among-none it)
@@ -95,7 +95,7 @@ slave-among it member index (area ∷ areas) =
 abbrev named_by : List Slave → List ℕ
 named_by slaves = map (λ slave. slave.station) slaves
 
-present-among : (it : Outlook) (first : ℕ) (slaves : List Slave)
+present-among : (it : EditedLine) (first : ℕ) (slaves : List Slave)
     → row_found it first (named_by slaves) (map (λ slave. slave.areas) slaves) ≡ found_among it (flat_map areas_of (members_from first slaves))
 present-among it first [] = sym (among-none it)
 present-among it first (slave ∷ slaves) =
@@ -104,17 +104,17 @@ present-among it first (slave ∷ slaves) =
     ∙ ap (λ (rest : List Candidate). found_among it (areas_of member) ++ rest) (present-among it (first + 1) slaves)
     ∙ sym (among-append it (areas_of member) (flat_map areas_of (members_from (first + 1) slaves)))
 
-absent-among : (it : Outlook) (first : ℕ) (slaves : List Slave) → row_found it first (named_by slaves) (map (λ slave. []) slaves) ≡ []
+absent-among : (it : EditedLine) (first : ℕ) (slaves : List Slave) → row_found it first (named_by slaves) (map (λ slave. []) slaves) ≡ []
 unfolding areas_found
 absent-among it first [] = refl
 absent-among it first (slave ∷ slaves) = absent-among it (first + 1) slaves
 
-group-among : (it : Outlook) (present : Bool) (first : ℕ) (slaves : List Slave)
+group-among : (it : EditedLine) (present : Bool) (first : ℕ) (slaves : List Slave)
     → row_found it first (named_by slaves) (map (λ slave. if present then slave.areas else []) slaves) ≡ found_among it (flat_map areas_of (members_from first (if present then slaves else [])))
 group-among it true first slaves = present-among it first slaves
 group-among it false first slaves = absent-among it first slaves ∙ sym (among-none it)
 
-row-append : (it : Outlook) (first : ℕ) (named more : List ℕ) (slaves rest : List (List Area)) → length named ≡ length slaves
+row-append : (it : EditedLine) (first : ℕ) (named more : List ℕ) (slaves rest : List (List Area)) → length named ≡ length slaves
     → row_found it first (named ++ more) (slaves ++ rest) ≡ row_found it first named slaves ++ row_found it (first + length slaves) more rest
 row-append it first [] more [] rest many = search rules
 row-append it first [] more (areas ∷ slaves) rest many = absurd (omega (arith, many))
@@ -122,7 +122,7 @@ row-append it first (station ∷ named) more [] rest many = absurd (omega (arith
 row-append it first (station ∷ named) more (areas ∷ slaves) rest many =
     search (rules, append_assoc, row-append it (first + 1) named more slaves rest (omega (arith, many)))
 
-line-among : (it : Outlook) (first : ℕ) (groups : List Declared) → row_found it first (stations groups) (areas_by_rank groups) ≡ found_among it (line_areas (line_from first groups))
+line-among : (it : EditedLine) (first : ℕ) (groups : List Declared) → row_found it first (stations groups) (areas_by_rank groups) ≡ found_among it (line_areas (line_from first groups))
 line-among it first [] = sym (among-none it)
 line-among it first (declared ∷ groups) =
     let slaves = declared.group.slaves in
@@ -150,7 +150,7 @@ same-stations old new edited = search (rules, stations-bare, edit-keeps)
 
 -- so all candidates are found
 
-pub found-all : (it : Outlook) (end : ℕ) → IsOutlook it → end ≡ length (areas_by_rank it.old) + 1
+pub found-all : (it : EditedLine) (end : ℕ) → IsEditedLine it → end ≡ length (areas_by_rank it.old) + 1
     → found_below it end ≡ map (candidate_of (line_from 1 it.new)) (candidates (changes it) (line_from 1 it.old) (line_from 1 it.new))
 unfolding found_among
 found-all it end is all =

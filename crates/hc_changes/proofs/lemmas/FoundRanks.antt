@@ -13,19 +13,19 @@ use Rattle.hc_tasks.specs.Areas.{areas_at, areas_by_rank, present_areas}
 use Rattle.hc_tasks.proofs.lemmas.Told.{length-present}
 use Rattle.hc_changes.specs.Candidates.{Candidate}
 use Rattle.hc_changes.specs.inner.Found.{IsGroupAt, LieWithin, area_found, areas_found, found_below, rank_found, station_at, stations}
-use Rattle.hc_changes.specs.Outlook.{IsOutlook, Outlook}
+use Rattle.hc_changes.specs.EditedLine.{EditedLine, IsEditedLine}
 use Rattle.hc_changes.proofs.lemmas.ByRank.{area-of-rank}
 use Rattle.hc_changes.proofs.lemmas.InARow.{areas-in-row, index-front}
 use Rattle.hc_changes.proofs.lemmas.Places.{area-inside}
 
 -- the areas of a slave, one by one
 
-pub areas-next : (it : Outlook) (station rank i : ℕ) (areas : List Area) (area : Area) → i < length areas → area ≡ slice_index_or areas i area
+pub areas-next : (it : EditedLine) (station rank i : ℕ) (areas : List Area) (area : Area) → i < length areas → area ≡ slice_index_or areas i area
     → areas_found it station rank i (drop i areas) ≡ area_found it station rank i area ++ areas_found it station rank (i + 1) (drop (i + 1) areas)
 unfolding areas_found
 areas-next it station rank i areas area within is = search (rules, drop-cons)
 
-pub areas-added : (it : Outlook) (station rank i : ℕ) (areas : List Area) (area : Area) (own found all : List Candidate) → i < length areas → area ≡ slice_index_or areas i area
+pub areas-added : (it : EditedLine) (station rank i : ℕ) (areas : List Area) (area : Area) (own found all : List Candidate) → i < length areas → area ≡ slice_index_or areas i area
     → own ≡ area_found it station rank i area → found ++ areas_found it station rank i (drop i areas) ≡ all
     → (found ++ own) ++ areas_found it station rank (i + 1) (drop (i + 1) areas) ≡ all
 areas-added it station rank i areas area own found all within is made so_far = search (rules, append_assoc, areas-next)
@@ -36,12 +36,12 @@ past-all [] (suc n) past = refl
 past-all (x ∷ xs) zero past = absurd (omega arith)
 past-all (x ∷ xs) (suc n) past = past-all xs n (omega arith)
 
-pub areas-end : (it : Outlook) (station rank i : ℕ) (areas : List Area) (found all : List Candidate) → length areas ≤ i
+pub areas-end : (it : EditedLine) (station rank i : ℕ) (areas : List Area) (found all : List Candidate) → length areas ≤ i
     → found ++ areas_found it station rank i (drop i areas) ≡ all → found ≡ all
 unfolding areas_found
 areas-end it station rank i areas found all past so_far = search (rules, append-nil, past-all)
 
-pub rank-is : (it : Outlook) (rank station : ℕ) (areas : List Area) → station_at it.old rank ≡ station → areas ≡ areas_at (areas_by_rank it.new) rank
+pub rank-is : (it : EditedLine) (rank station : ℕ) (areas : List Area) → station_at it.old rank ≡ station → areas ≡ areas_at (areas_by_rank it.new) rank
     → areas_found it station rank 0 areas ≡ rank_found it rank
 unfolding rank_found
 rank-is it rank station areas named stand = search rules
@@ -59,14 +59,14 @@ task-below groups rank i areas area project stand within is =
 
 -- slaves without candidates are passed over
 
-pub passed-over : (it : Outlook) (first count : ℕ) → ((rank : ℕ) → first ≤ rank → rank < first + count → rank_found it rank ≡ []) → found_below it (first + count) ≡ found_below it first
+pub passed-over : (it : EditedLine) (first count : ℕ) → ((rank : ℕ) → first ≤ rank → rank < first + count → rank_found it rank ≡ []) → found_below it (first + count) ≡ found_below it first
 unfolding found_below
 passed-over it first zero none = search rules
 passed-over it first (suc count) none =
     let next : first + suc count ≡ suc (first + count) = omega arith in
     search (rules, append-nil, passed-over it first count (λ rank low high. none rank low (omega arith)))
 
-pub rank-added : (it : Outlook) (rank next : ℕ) → next ≡ suc rank → found_below it rank ++ rank_found it rank ≡ found_below it next
+pub rank-added : (it : EditedLine) (rank next : ℕ) → next ≡ suc rank → found_below it rank ++ rank_found it rank ≡ found_below it next
 unfolding found_below
 rank-added it rank next is = sym (ap (found_below it) is)
 
@@ -112,15 +112,15 @@ group-few groups first declared at =
     let own = length-append (present_areas declared) (areas_by_rank at.behind) in
     omega (arith, many, all, parts, own)
 
-pub group-low : (it : Outlook) (first : ℕ) (declared : Declared) → IsOutlook it → IsGroupAt it.old first declared → first + length declared.group.slaves ≤ MOST_SLAVES + 1
+pub group-low : (it : EditedLine) (first : ℕ) (declared : Declared) → IsEditedLine it → IsGroupAt it.old first declared → first + length declared.group.slaves ≤ MOST_SLAVES + 1
 group-low it first declared is at = search (rules, group-few)
 
 -- those in front of a group and behind it, where all stand within some ranks
 
-pub front-passed : (it : Outlook) (low high first from : ℕ) → LieWithin it low high → ((i : ℕ) → i < from → low ≤ first + i → ⊥) → found_below it first ≡ found_below it (first + from)
+pub front-passed : (it : EditedLine) (low high first from : ℕ) → LieWithin it low high → ((i : ℕ) → i < from → low ≤ first + i → ⊥) → found_below it first ≡ found_below it (first + from)
 front-passed it low high first from within out = search (rules, passed-over)
 
-pub behind-passed : (it : Outlook) (low high first to end : ℕ) → LieWithin it low high → to ≤ end → ((i : ℕ) → to ≤ i → i < end → first + i ≤ high → ⊥)
+pub behind-passed : (it : EditedLine) (low high first to end : ℕ) → LieWithin it low high → to ≤ end → ((i : ℕ) → to ≤ i → i < end → first + i ≤ high → ⊥)
     → found_below it (first + to) ≡ found_below it (first + end)
 behind-passed it low high first to end within order out =
     let all : first + to + (end - to) ≡ first + end = omega (arith, order) in
@@ -151,10 +151,10 @@ past-none [] n past = refl
 past-none (x ∷ xs) zero past = absurd (omega arith)
 past-none (x ∷ xs) (suc n) past = past-none xs n (omega arith)
 
-pub above-none : (it : Outlook) (rank : ℕ) → length (areas_by_rank it.new) < rank → rank_found it rank ≡ []
+pub above-none : (it : EditedLine) (rank : ℕ) → length (areas_by_rank it.new) < rank → rank_found it rank ≡ []
 unfolding rank_found areas_found
 above-none it rank above = search (rules, past-none)
 
-pub none-yet : (it : Outlook) → found_below it 1 ≡ []
+pub none-yet : (it : EditedLine) → found_below it 1 ≡ []
 unfolding found_below rank_found areas_found
 none-yet it = refl

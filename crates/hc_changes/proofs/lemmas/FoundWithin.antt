@@ -30,8 +30,8 @@ use Rattle.hc_tasks.specs.Kept.{starts_by}
 use Rattle.hc_tasks.specs.Recut.{is_touched_by}
 use Rattle.hc_tasks.proofs.lemmas.Told.{task-listed}
 use Rattle.hc_changes.specs.Candidates.{is_recut}
-use Rattle.hc_changes.specs.inner.Found.{HoldChanged, HoldRanks, HoldRecut, IsSight, LieWithin, area_by, areas_found, rank_found, station_at}
-use Rattle.hc_changes.specs.Outlook.{IsOutlook, Outlook, changes}
+use Rattle.hc_changes.specs.inner.Found.{HoldChanged, HoldRanks, HoldRecut, IsCandidateTest, LieWithin, area_by, areas_found, rank_found, station_at}
+use Rattle.hc_changes.specs.EditedLine.{EditedLine, IsEditedLine, changes}
 use Rattle.hc_changes.proofs.lemmas.Finding.{unrecut-none, untouched-kept}
 use Rattle.hc_changes.proofs.lemmas.FoundRanks.{above-none, task-below}
 use Rattle.hc_changes.proofs.lemmas.Recut.{recut-unkept}
@@ -61,10 +61,10 @@ placed-out list placed none among =
 abbrev of_groups : List Declared → State
 of_groups groups = record { groups = groups; epoch = 0 }
 
-abbrev kept_in : Outlook → ℕ → ℕ → Key → Bool
+abbrev kept_in : EditedLine → ℕ → ℕ → Key → Bool
 kept_in it task datagram key = is_kept_up_to (task_list task (line_from 1 it.old)) (task_list task (line_from 1 it.new)) datagram key
 
-abbrev pub HoldFirst : Outlook → ℕ → ℕ → ℕ → ℕ → Type 0
+abbrev pub HoldFirst : EditedLine → ℕ → ℕ → ℕ → ℕ → Type 0
 HoldFirst it task count low high =
     (placed : Placed) → Contains (task_places task (line_from 1 it.new)) placed → placed.datagram < count → placed.key.rank < 65536 → kept_in it task placed.datagram placed.key ≡ false
     → (low ≤ placed.key.rank) × (placed.key.rank ≤ high)
@@ -76,7 +76,7 @@ same-read (x ∷ xs) zero none other within = refl
 same-read (x ∷ xs) (suc i) none other within = same-read xs i none other (omega arith)
 
 -- what is known of an area of the datagram with a number that isn't kept up to it
-pub record IsUnkeptIn (it : Outlook) (task number : ℕ) (starts : List Key) (inputs : Bool) (key : Key) : Type 0 where
+pub record IsUnkeptIn (it : EditedLine) (task number : ℕ) (starts : List Key) (inputs : Bool) (key : Key) : Type 0 where
   pub from : is_within (slice_index_or starts number END) key ≡ true
   pub next : is_before key (slice_index_or starts (number + 1) END) ≡ true
   pub below : is_before key END ≡ true
@@ -84,7 +84,7 @@ pub record IsUnkeptIn (it : Outlook) (task number : ℕ) (starts : List Key) (in
   pub unkept : kept_in it task number key ≡ false
 
 -- so the next datagram's areas are held by ranks among which those of the ones before stand, and those of its own
-pub held-next : (it : Outlook) (task count low high wide_low wide_high : ℕ) (starts : List Key) (inputs : Bool) → IsOutlook it → starts ≡ starts_by task (areas_by_rank it.new)
+pub held-next : (it : EditedLine) (task count low high wide_low wide_high : ℕ) (starts : List Key) (inputs : Bool) → IsEditedLine it → starts ≡ starts_by task (areas_by_rank it.new)
     → inputs ≡ has_inputs (list_by task (areas_by_rank it.new))
     → HoldRanks wide_low wide_high low high
     → ((key : Key) → key.rank < 65536 → IsUnkeptIn it task count starts inputs key → (wide_low ≤ key.rank) × (key.rank ≤ wide_high))
@@ -106,7 +106,7 @@ held-next it task count low high wide_low wide_high starts inputs is stand told 
     (eq-or-lt_of_le {n = placed.datagram} {m = count} (omega arith))
 
 -- an area that isn't before the key until which its datagram is kept, nor before the datagram's first key, isn't before the higher of the two
-pub from-higher : (it : Outlook) (task number : ℕ) (starts : List Key) (inputs : Bool) (until from key : Key) → IsUnkeptIn it task number starts inputs key
+pub from-higher : (it : EditedLine) (task number : ℕ) (starts : List Key) (inputs : Bool) (until from key : Key) → IsUnkeptIn it task number starts inputs key
     → ((k : Key) → is_before k END ≡ true → is_before k until ≡ kept_in it task number k)
     → ((k : Key) → is_within (slice_index_or starts number END) k ≡ true → is_within until k ≡ true → is_within from k ≡ true)
     → is_within from key ≡ true
@@ -120,11 +120,11 @@ within-before a b c low high = before-else a c (by (is_within c a) refl)
     by false within = within
 
 -- where that isn't before the next boundary, there is no such area
-pub none-unkept : (it : Outlook) (task number : ℕ) (starts : List Key) (inputs : Bool) (from key : Key) → IsUnkeptIn it task number starts inputs key
+pub none-unkept : (it : EditedLine) (task number : ℕ) (starts : List Key) (inputs : Bool) (from key : Key) → IsUnkeptIn it task number starts inputs key
     → is_within from key ≡ true → is_before from (slice_index_or starts (number + 1) END) ≡ false → ⊥
 none-unkept it task number starts inputs from key is low none = search (rules, within-before)
 
-pub recut-held : (it : Outlook) (task count low high : ℕ) (starts : List Key) → IsOutlook it → starts ≡ starts_by task (areas_by_rank it.new) → length starts ≤ count
+pub recut-held : (it : EditedLine) (task count low high : ℕ) (starts : List Key) → IsEditedLine it → starts ≡ starts_by task (areas_by_rank it.new) → length starts ≤ count
     → HoldFirst it task count low high → HoldRecut it task low high
 recut-held it task count low high starts is stand all hold found of narrow recut =
     let list = task_list task (line_from 1 it.new) in
@@ -139,19 +139,19 @@ recut-held it task count low high starts is stand all hold found of narrow recut
     let rank : placed.key.rank ≡ found.member.rank = ap (λ (key : Key). key.rank) own.key in
     subst (λ (r : ℕ). (low ≤ r) × (r ≤ high)) rank (hold placed among below (omega (arith, rank, narrow)) unkept)
 
-pub untouched-held : (it : Outlook) (before : Before) (cuts : List Kept) → IsSight it before cuts → (task low high : ℕ) (some : Bool) → some ≡ false
+pub untouched-held : (it : EditedLine) (before : Before) (cuts : List Kept) → IsCandidateTest it before cuts → (task low high : ℕ) (some : Bool) → some ≡ false
     → ((old new : List (List Area)) → StandsBefore old new before → some ≡ is_touched_by task old new) → HoldRecut it task low high
-untouched-held it before cuts sight task low high some none tells found of narrow recut =
+untouched-held it before cuts test task low high some none tells found of narrow recut =
     let kept : is_recut (line_from 1 it.old) (line_from 1 it.new) found ≡ false =
-    untouched-kept it before cuts sight found some none (λ old new stands. tells old new stands ∙ ap (λ (t : ℕ). is_touched_by t old new) (sym of)) in
+    untouched-kept it before cuts test found some none (λ old new stands. tells old new stands ∙ ap (λ (t : ℕ). is_touched_by t old new) (sym of)) in
     cc
 
 -- wider ranks hold them too
 
-pub recut-wider : (it : Outlook) (task low high wide_low wide_high : ℕ) → HoldRanks wide_low wide_high low high → HoldRecut it task low high → HoldRecut it task wide_low wide_high
+pub recut-wider : (it : EditedLine) (task low high wide_low wide_high : ℕ) → HoldRanks wide_low wide_high low high → HoldRecut it task low high → HoldRecut it task wide_low wide_high
 recut-wider it task low high wide_low wide_high wider hold found of narrow recut = search rules
 
-pub changed-wider : (it : Outlook) (low high wide_low wide_high : ℕ) → HoldRanks wide_low wide_high low high → HoldChanged it low high → HoldChanged it wide_low wide_high
+pub changed-wider : (it : EditedLine) (low high wide_low wide_high : ℕ) → HoldRanks wide_low wide_high low high → HoldChanged it low high → HoldChanged it wide_low wide_high
 changed-wider it low high wide_low wide_high wider hold rank changed = search rules
 
 -- so all candidates stand between the ranks that hold those of all tasks
@@ -159,14 +159,14 @@ changed-wider it low high wide_low wide_high wider hold rank changed = search ru
 never-true : (b : Bool) → (b ≡ true → ⊥) → b ≡ false
 never-true b never = search rules
 
-none-found : (it : Outlook) (station rank index : ℕ) (areas : List Area) → changes it rank ≡ false
+none-found : (it : EditedLine) (station rank index : ℕ) (areas : List Area) → changes it rank ≡ false
     → ((i : ℕ) (area : Area) → Contains areas area → is_recut (line_from 1 it.old) (line_from 1 it.new) (area_by station rank i area) ≡ false) → areas_found it station rank index areas ≡ []
 unfolding areas_found
 none-found it station rank index [] unchanged kept = refl
 none-found it station rank index (area ∷ areas) unchanged kept =
     search (rules, unrecut-none, contains-first, contains-behind, none-found it station rank (index + 1) areas unchanged (λ i other at. kept i other (contains-behind other area areas at)))
 
-rank-none : (it : Outlook) (rank low high : ℕ) → IsOutlook it → HoldChanged it low high → ((task : ℕ) → task < TASKS → HoldRecut it task low high) → (low ≤ rank → rank ≤ high → ⊥) → rank < 65536
+rank-none : (it : EditedLine) (rank low high : ℕ) → IsEditedLine it → HoldChanged it low high → ((task : ℕ) → task < TASKS → HoldRecut it task low high) → (low ≤ rank → rank ≤ high → ⊥) → rank < 65536
     → rank_found it rank ≡ []
 unfolding rank_found
 rank-none it rank low high is changed recut out narrow =
@@ -178,7 +178,7 @@ rank-none it rank low high is changed recut out narrow =
     never-true (is_recut (line_from 1 it.old) (line_from 1 it.new) (area_by station rank i area))
     (λ among. let own = recut area.task task (area_by station rank i area) refl narrow among in out own.0 own.1))
 
-pub all-within : (it : Outlook) (low high : ℕ) → IsOutlook it → HoldChanged it low high → ((task : ℕ) → task < TASKS → HoldRecut it task low high) → LieWithin it low high
+pub all-within : (it : EditedLine) (low high : ℕ) → IsEditedLine it → HoldChanged it low high → ((task : ℕ) → task < TASKS → HoldRecut it task low high) → LieWithin it low high
 all-within it low high is changed recut rank out =
     ⊎_elim (λ above. above-none it rank above) (λ under. rank-none it rank low high is changed recut out (omega (arith, under)))
     (cases_lt (length (areas_by_rank it.new)) rank)

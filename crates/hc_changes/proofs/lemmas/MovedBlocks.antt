@@ -32,8 +32,8 @@ use Rattle.hc_tasks.proofs.lemmas.Told.{place-told}
 use Rattle.hc_changes.specs.Candidates.{Candidate, LineArea, blocks_of, candidate_of, candidates, is_candidate, key_of, line_areas, place_of}
 use Rattle.hc_changes.specs.Compared.{counterpart, differing_of, unlike}
 use Rattle.hc_changes.specs.inner.Moved.{IsOfLine, IsWritable, blocks_if, blocks_moved, differ_from, mapping_by, two_blocks}
-use Rattle.hc_changes.specs.Movers.{Stood, area_before, mover_of, place_before}
-use Rattle.hc_changes.specs.Outlook.{IsOutlook, Outlook, changes}
+use Rattle.hc_changes.specs.MovedAreas.{FormerArea, area_before, moved_area_of, place_before}
+use Rattle.hc_changes.specs.EditedLine.{EditedLine, IsEditedLine, changes}
 use Rattle.hc_changes.proofs.lemmas.Blocks.{ranked_by}
 use Rattle.hc_changes.proofs.lemmas.ByRank.{area-named, areas-of-rank}
 use Rattle.hc_changes.proofs.lemmas.Compared.{StoodAt, all-compared, area-stood, flat_map-among}
@@ -114,10 +114,10 @@ second-before groups found was rank index = search (rules, place-by)
 
 -- so a candidate tells those of its blocks that differ from the blocks with their numbers
 
-abbrev pub blocks_by : Outlook → Candidate → List RankedBlock
-blocks_by it candidate = blocks_moved (mover_of it candidate)
+abbrev pub blocks_by : EditedLine → Candidate → List RankedBlock
+blocks_by it candidate = blocks_moved (moved_area_of it candidate)
 
-module _ (it : Outlook) (one : AreOfOneProject (line_from 1 it.old) (line_from 1 it.new)) where
+module _ (it : EditedLine) (one : AreOfOneProject (line_from 1 it.old) (line_from 1 it.new)) where
   abbrev old : List Member
   old = line_from 1 it.old
 
@@ -142,7 +142,7 @@ module _ (it : Outlook) (one : AreOfOneProject (line_from 1 it.old) (line_from 1
       unlike-blocks found.member.rank has second_has had second_had station station
       ∙ ap moved (second-before it.old found was stood.rank stood.index)
       ∙ sym (ap (λ (area : Option Area). blocks_if candidate two
-      (option_map_or (λ (s : Stood). differ_from two (two_blocks found.index s.area s.place))
+      (option_map_or (λ (f : FormerArea). differ_from two (two_blocks found.index f.area f.place))
       (option_map (λ (a : Area). record { area = a; place = place_before it candidate a }) area) (true, true))) some)
 
   blocks-told : (found : LineArea) → IsAreaOf new found → ranked_by (differing_of old new) found ≡ blocks_by it (candidate_of new found)
@@ -162,21 +162,21 @@ module _ (it : Outlook) (one : AreOfOneProject (line_from 1 it.old) (line_from 1
 
 -- an edit leads from the one line to the other
 
-pub edited-one-project : (it : Outlook) → IsOutlook it → AreOfOneProject (line_from 1 it.old) (line_from 1 it.new)
+pub edited-one-project : (it : EditedLine) → IsEditedLine it → AreOfOneProject (line_from 1 it.old) (line_from 1 it.new)
 edited-one-project it is = search (rules, edit-one-project)
 
-edited-compared : (it : Outlook) → IsOutlook it → moved_ranked (line_from 1 it.old) (line_from 1 it.new)
+edited-compared : (it : EditedLine) → IsEditedLine it → moved_ranked (line_from 1 it.old) (line_from 1 it.new)
     ≡ flat_map (ranked_by (differing_of (line_from 1 it.old) (line_from 1 it.new))) (candidates (changes it) (line_from 1 it.old) (line_from 1 it.new))
 edited-compared it is = search (rules, all-compared)
 
-pub moved-told : (it : Outlook) → IsOutlook it
+pub moved-told : (it : EditedLine) → IsEditedLine it
     → flat_map (blocks_by it) (map (candidate_of (line_from 1 it.new)) (candidates (changes it) (line_from 1 it.old) (line_from 1 it.new)))
     ≡ moved_ranked (line_from 1 it.old) (line_from 1 it.new)
 moved-told it is = all-blocks it (edited-one-project it is) (changes it) (edited-compared it is)
 
 -- each candidate is an area of the new line
 
-pub candidate-stands : (it : Outlook) (found : List Candidate) (i : ℕ) (candidate : Candidate)
+pub candidate-stands : (it : EditedLine) (found : List Candidate) (i : ℕ) (candidate : Candidate)
     → found ≡ map (candidate_of (line_from 1 it.new)) (candidates (changes it) (line_from 1 it.old) (line_from 1 it.new)) → i < length found → candidate ≡ get_or found i candidate
     → IsOfLine (line_from 1 it.new) candidate
 candidate-stands it found i candidate is within met =
@@ -198,7 +198,7 @@ candidate-named groups candidate of =
     subst (λ (c : Candidate). slice_get (areas_at (areas_by_rank groups) c.rank) c.index ≡ Some c.area) (sym of.is)
     (area-named groups of.found (line-area (line_from 1 groups) of.found of.stands))
 
-pub before-writable : (it : Outlook) → IsOutlook it → (candidate : Candidate) → IsOfLine (line_from 1 it.new) candidate
+pub before-writable : (it : EditedLine) → IsEditedLine it → (candidate : Candidate) → IsOfLine (line_from 1 it.new) candidate
     → (area : Area) → area_before it candidate ≡ Some area → IsWritable candidate.index area (place_before it candidate area)
 before-writable it is candidate of =
     subst (λ (c : Candidate). (area : Area) → area_before it c ≡ Some area → IsWritable c.index area (place_before it c area)) (sym of.is)

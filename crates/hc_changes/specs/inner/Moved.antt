@@ -1,4 +1,4 @@
--- The register blocks that an edit moves as they are told: mover by mover, each block beside the one that had its number.
+-- The register blocks that an edit moves as they are told: area by area, each block beside the one that had its number.
 use Rattle.std.specs.Prelude.{◌≡◌, ℕ, ◌+◌, ◌*◌, ◌<◌, ◌≤◌, not, Bool, true, if◌then◌else◌, Contains, List, [], ◌∷◌, ◌++◌, Option, option_map}
 use Rattle.std.specs.Option.{ForSome, option_map_or}
 use Rattle.hc_records.specs.declared.limits.TheConstants.{LAST_SYNC_MANAGER, MOST_AREA_BITS, MOST_AREAS, TASKS}
@@ -10,7 +10,7 @@ use Rattle.hc_registers.specs.declared.fmmu.Mapping.{Mapping}
 use Rattle.hc_registers.specs.Blocks.{RegisterBlock, fmmu_block, mapping_at, same_bytes, sync_manager_block}
 use Rattle.hc_ranks.specs.Blocks.{RankedBlock, ranked}
 use Rattle.hc_changes.specs.Candidates.{Candidate, LineArea, candidate_of, line_areas}
-use Rattle.hc_changes.specs.Movers.{Mover}
+use Rattle.hc_changes.specs.MovedAreas.{MovedArea}
 use Rattle.hc_changes.specs.Moved.{bits_of}
 
 -- a candidate is an area of a line
@@ -40,15 +40,15 @@ two_blocks index area place = (sync_manager_block area, fmmu_block index area (m
 abbrev pub differ_from : RegisterBlock × RegisterBlock → RegisterBlock × RegisterBlock → Bool × Bool
 differ_from blocks others = (not (same_bytes blocks.0 others.0), not (same_bytes blocks.1 others.1))
 
--- of two blocks of a mover, whether each differs from the one that its slave had with its number: both do where it had no such area
-abbrev pub moved_by : RegisterBlock × RegisterBlock → Mover → Bool × Bool
-moved_by blocks mover =
-    option_map_or (λ stood. differ_from blocks (two_blocks mover.found.index stood.area stood.place)) mover.stood (true, true)
+-- of two blocks of a moved area, whether each differs from the one that its slave had with its number: both do where it had no such area
+abbrev pub moved_by : RegisterBlock × RegisterBlock → MovedArea → Bool × Bool
+moved_by blocks moved_area =
+    option_map_or (λ former. differ_from blocks (two_blocks moved_area.found.index former.area former.place)) moved_area.former (true, true)
 
--- a mover whose blocks can be written, as those can that its slave had
-pub record IsComparable (mover : Mover) : Type 0 where
-  pub new : IsWritable mover.found.index mover.found.area mover.found.place
-  pub old : ForSome mover.stood (λ stood. IsWritable mover.found.index stood.area stood.place)
+-- a moved area whose blocks can be written, as those can that its slave had
+pub record IsComparable (moved_area : MovedArea) : Type 0 where
+  pub new : IsWritable moved_area.found.index moved_area.found.area moved_area.found.place
+  pub old : ForSome moved_area.former (λ former. IsWritable moved_area.found.index former.area former.place)
 
 -- a block of a candidate, by its number in the slave's order, with the slave's rank
 abbrev pub block_with : Candidate → ℕ → RegisterBlock → RankedBlock
@@ -59,6 +59,6 @@ abbrev pub blocks_if : Candidate → RegisterBlock × RegisterBlock → Bool × 
 blocks_if found blocks moved =
     (if moved.0 then block_with found (2 * found.index) blocks.0 ∷ [] else []) ++ (if moved.1 then block_with found (2 * found.index + 1) blocks.1 ∷ [] else [])
 
--- those blocks of a mover that the edit moved
-abbrev pub blocks_moved : Mover → List RankedBlock
-blocks_moved mover = let blocks = two_blocks mover.found.index mover.found.area mover.found.place in blocks_if mover.found blocks (moved_by blocks mover)
+-- those blocks of a moved area that the edit moved
+abbrev pub blocks_moved : MovedArea → List RankedBlock
+blocks_moved moved_area = let blocks = two_blocks moved_area.found.index moved_area.found.area moved_area.found.place in blocks_if moved_area.found blocks (moved_by blocks moved_area)

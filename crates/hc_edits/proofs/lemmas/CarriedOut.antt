@@ -21,17 +21,17 @@ use Rattle.hc_edits.specs.declared.changes.AreasChange.{AreasChange}
 use Rattle.hc_edits.specs.declared.changes.PresenceChange.{PresenceChange}
 use Rattle.hc_edits.specs.declared.prepared.Prepared.{Prepared}
 use Rattle.hc_edits.specs.declared.prepared.Prepared.TheVariants.{Presence, Areas}
-use Rattle.hc_edits.specs.Changes.{areas_change, areas_changed, carried, change_by, has_alias, has_slave, place_at, place_in, presence_at, presence_change, slave_place, slaves_at, with_areas, with_present, with_slave}
+use Rattle.hc_edits.specs.Changes.{areas_change, areas_changed, change_by, changed_groups, has_alias, has_slave, place_at, place_in, presence_at, presence_change, slave_place, slaves_at, with_areas, with_present, with_slave}
 use Rattle.hc_edits.proofs.Found.{IsFirstAt, changed-alike, first-at, none-changed, once-changed, there}
 
 -- the presence of a group
 
 presence-carried : (groups : List Declared) (alias : ℕ) (present : Bool) (change : PresenceChange) → lowest_fault (groups_of groups) ≡ None → presence_change groups alias present ≡ Some change →
-    carried (Presence change) groups ≡ map (with_presence alias present) groups
+    changed_groups (Presence change) groups ≡ map (with_presence alias present) groups
 presence-carried groups alias present change none is =
     let at = mapped-some (presence_at groups present) (position (has_alias alias) groups) change is in
     let aliases = AllPairs-unmap (λ (a b : Group). a.alias ≢ b.alias) (λ (d : Declared). d.group) groups (project-inside (groups_of groups) none).aliases in
-    ap (λ (c : PresenceChange). carried (Presence c) groups) (sym at.2)
+    ap (λ (c : PresenceChange). changed_groups (Presence c) groups) (sym at.2)
     ∙ sym (once-changed (λ (d : Declared). d.group.alias) alias at.0 (with_present present) groups aliases (first-at (has_alias alias) at.0 groups at.1))
 
 -- the areas of a slave
@@ -92,17 +92,17 @@ pub joined-some : {X Y : Type 0} (f : X → Option Y) (found : Option X) (y : Y)
 joined-some f found y is = search rules
 
 areas-carried : (groups : List Declared) (station area : ℕ) (change : Area → Area) (found : AreasChange) → lowest_fault (groups_of groups) ≡ None → areas_change groups station area change ≡ Some found →
-    carried (Areas found) groups ≡ map (with_slaves (with_area station area change)) groups
+    changed_groups (Areas found) groups ≡ map (with_slaves (with_area station area change)) groups
 areas-carried groups station area change found none is =
     let at = mapped-some (areas_changed groups area change) (slave_place groups station) found is in
     let among = joined-some (place_in groups station) (position (has_slave station) groups) at.0 at.1 in
     let own = mapped-some (place_at groups among.0) (position (has_address station) (slaves_at groups among.0)) at.0 among.2 in
-    ap (λ (c : AreasChange). carried (Areas c) groups) (sym at.2)
-    ∙ ap (λ place. carried (Areas (areas_changed groups area change place)) groups) (sym own.2)
+    ap (λ (c : AreasChange). changed_groups (Areas c) groups) (sym at.2)
+    ∙ ap (λ place. changed_groups (Areas (areas_changed groups area change place)) groups) (sym own.2)
     ∙ groups-with station area change groups among.0 own.0 (project-inside (groups_of groups) none).stations
     (first-at (has_slave station) among.0 groups among.1)
     (first-at (has_address station) own.0 (slaves_at groups among.0) own.1)
 
 pub carried-after : (groups : List Declared) (edit : Edit) (change : Prepared) → lowest_fault (groups_of groups) ≡ None → change_by groups edit ≡ Some change →
-    carried change groups ≡ groups_after groups edit
+    changed_groups change groups ≡ groups_after groups edit
 carried-after groups edit change none is = search (rules, mapped-some, presence-carried, areas-carried)

@@ -17,7 +17,7 @@ use Rattle.hc_edits.specs.declared.changes.AreasChange.{AreasChange}
 use Rattle.hc_edits.specs.declared.changes.PresenceChange.{PresenceChange}
 use Rattle.hc_edits.specs.declared.prepared.Prepared.{Prepared}
 use Rattle.hc_edits.specs.declared.prepared.Prepared.TheVariants.{Presence, Areas}
-use Rattle.hc_edits.specs.Changes.{areas_change, areas_changed, carried, change_by, has_alias, has_slave, place_at, place_in, presence_at, presence_change, slave_place, slaves_at, with_areas, with_present, with_slave}
+use Rattle.hc_edits.specs.Changes.{areas_change, areas_changed, change_by, changed_groups, has_alias, has_slave, place_at, place_in, presence_at, presence_change, slave_place, slaves_at, with_areas, with_present, with_slave}
 use Rattle.hc_edits.specs.Rows.{ChangesRow, Ranked, by_rank, given_row, ranked, row}
 use Rattle.hc_edits.proofs.lemmas.CarriedOut.{joined-some}
 use Rattle.hc_edits.proofs.Found.{first-at, there}
@@ -45,7 +45,7 @@ or-mapped : {X Y Z : Type 0} (f : X → Y) (g : Y → Z) (found : Option X) (z :
 or-mapped f g found z = search rules
 
 pub presence-row : (change : PresenceChange) (groups : List Declared) →
-    row (Presence change) (carried (Presence change) groups) ≡ option_map_or (λ (d : Declared). ranked change.present d.group.slaves) (slice_get groups change.group) []
+    row (Presence change) (changed_groups (Presence change) groups) ≡ option_map_or (λ (d : Declared). ranked change.present d.group.slaves) (slice_get groups change.group) []
 presence-row change groups = search (rules, get-changed, or-mapped)
 
 given-alike : (change : AreasChange) (found : Option Declared) →
@@ -54,7 +54,7 @@ given-alike : (change : AreasChange) (found : Option Declared) →
 given-alike change found = search (rules, get-changed)
 
 pub areas-row : (change : AreasChange) (groups : List Declared) →
-    row (Areas change) (carried (Areas change) groups) ≡ option_map_or (given_row change) (slice_get groups change.place.group) []
+    row (Areas change) (changed_groups (Areas change) groups) ≡ option_map_or (given_row change) (slice_get groups change.place.group) []
 areas-row change groups = search (rules, get-changed, given-alike)
 
 -- where they stand
@@ -78,7 +78,7 @@ presence-concerned groups group present found at =
     let slaves = found.group.slaves in
     let as_declared = ap (λ (found : Option Declared). option_map_or (λ (d : Declared). d.group.slaves) found []) at in
     let was : row (Presence change) groups ≡ ranked found.present slaves = ap (λ (found : Option Declared). option_map_or rank_all found []) at in
-    let is : row (Presence change) (carried (Presence change) groups) ≡ ranked present slaves =
+    let is : row (Presence change) (changed_groups (Presence change) groups) ≡ ranked present slaves =
     presence-row change groups ∙ ap (λ (found : Option Declared). option_map_or (λ (d : Declared). ranked present d.group.slaves) found []) at in
     let counted = rank-count front in
     record {
@@ -112,7 +112,7 @@ areas-concerned groups group slave areas found one at stands =
     let before = take slave slaves in
     let after = drop (suc slave) slaves in
     let was : row (Areas change) groups ≡ record { present = present; slave = one } ∷ [] = search rules in
-    let is : row (Areas change) (carried (Areas change) groups) ≡ record { present = present; slave = with_areas areas one } ∷ [] =
+    let is : row (Areas change) (changed_groups (Areas change) groups) ≡ record { present = present; slave = with_areas areas one } ∷ [] =
     areas-row change groups
     ∙ ap (λ (found : Option Declared). option_map_or (given_row change) found []) at
     ∙ ap (λ (found : Option Slave). ranked present (option_to_list (option_map (with_areas areas) found))) stands in

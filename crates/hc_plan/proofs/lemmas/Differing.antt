@@ -20,7 +20,7 @@ use Rattle.hc_records.proofs.lemmas.Lists.{All-flat_map, All-passing}
 use Rattle.hc_registers.specs.declared.registers.TheConstants.{FMMU_BLOCKS, FMMU_BLOCK_BYTES, SYNC_MANAGER_BLOCKS, SYNC_MANAGER_BLOCK_BYTES}
 use Rattle.hc_registers.specs.Blocks.{LineBlock, RegisterBlock, area_blocks, line_blocks, member_blocks, numbered, same_block, slave_blocks}
 use Rattle.hc_ranks.specs.Blocks.{RankedBlock, member_ranked, moved_ranked, ranked, ranked_blocks}
-use Rattle.hc_ranks.specs.Differences.{Differ, IsGone, StandsIn, StoodAt, first_gone, place_of}
+use Rattle.hc_ranks.specs.Differences.{Differ, IsGone, StandsIn, StoodAt, block_place, first_gone}
 use Rattle.hc_ranks.specs.Laws.{HasPlaces}
 use Rattle.hc_ranks.specs.Places.{place, places}
 use Rattle.hc_ranks.proofs.lemmas.Gapless.{Few, few-areas, length-member}
@@ -28,7 +28,7 @@ use Rattle.hc_ranks.proofs.lemmas.Standing.{StandsOf, length-places, members-sta
 use Rattle.hc_edits.specs.declared.changes.PresenceChange.{PresenceChange}
 use Rattle.hc_edits.specs.declared.prepared.Prepared.{Prepared}
 use Rattle.hc_edits.specs.declared.prepared.Prepared.TheVariants.{Presence, Areas}
-use Rattle.hc_edits.specs.Changes.{carried, change_by}
+use Rattle.hc_edits.specs.Changes.{change_by, changed_groups}
 use Rattle.hc_edits.specs.Rows.{ChangesRow, Ranked, by_rank, row}
 use Rattle.hc_edits.proofs.lemmas.Accepted.{accepted-groups, accepted-project}
 use Rattle.hc_edits.proofs.lemmas.CarriedOut.{carried-after}
@@ -68,7 +68,7 @@ bare-count a b same = search (rules, length-map)
 -- what holds of the states before and after an accepted edit, and of what it changes
 record Leads (old new : State) (change : Prepared) : Type 0 where
   row : ChangesRow change old.groups
-  after : new.groups ≡ carried change old.groups
+  after : new.groups ≡ changed_groups change old.groups
   same : SameSlaves old.groups new.groups
   before : lowest_fault (groups_of old.groups) ≡ None
   behind : lowest_fault (groups_of new.groups) ≡ None
@@ -113,11 +113,11 @@ gone-absent (Presence change) old new n made gone = by change.present refl
     by false is =
         let some = subst (λ (present : Bool). IsGone (cond present none_gone (record { rank = change.first; slaves = change.slaves })) n) is gone in
         let rows = made.row in
-        let own = row (Presence change) (carried (Presence change) old.groups) in
+        let own = row (Presence change) (changed_groups (Presence change) old.groups) in
         let all = ap (λ (l : List Ranked). length l) rows.after in
         let parts = length-append rows.front (own ++ rows.behind) in
         let rest = length-append own rows.behind in
-        let here = there (by_rank (carried (Presence change) old.groups)) i (omega (arith, all, parts, rest)) in
+        let here = there (by_rank (changed_groups (Presence change) old.groups)) i (omega (arith, all, parts, rest)) in
         let inside : InRow (Presence change) i = (omega arith, omega arith) in
         let absent = presence-in-row change old.groups i here.0 rows inside here.1 ∙ is in
         ap (slice_get (places new)) (omega arith)
@@ -244,14 +244,14 @@ same-registers : (whole others : List Member) (a b : Member) → bare_slave a.sl
 same-registers whole others a b alike = slave-registers whole a ∙ ap (λ (s : ℕ × List Area). registers_from 0 s.1) alike ∙ sym (slave-registers others b)
 
 -- a block that is none of the moved ones stood in the old line, with its bytes at its register
-unmoved : (old new : List Member) (rank : ℕ) (block : LineBlock) → Contains (ranked_blocks new) (ranked rank block) → All (λ other. place_of other ≢ place rank block.number) (moved_ranked old new)
+unmoved : (old new : List Member) (rank : ℕ) (block : LineBlock) → Contains (ranked_blocks new) (ranked rank block) → All (λ other. block_place other ≢ place rank block.number) (moved_ranked old new)
     → list_any (same_block block) (line_blocks old) ≡ true
 unmoved old new rank block among others = by (list_any (same_block block) (line_blocks old)) refl
   where
     by : (had : Bool) → list_any (same_block block) (line_blocks old) ≡ had → had ≡ true
     by true is = refl
     by false is =
-        absurd (All-contains (λ other. place_of other ≢ place rank block.number) (moved_ranked old new) (ranked rank block) others
+        absurd (All-contains (λ other. block_place other ≢ place rank block.number) (moved_ranked old new) (ranked rank block) others
         (contains-filtered (λ (one : RankedBlock). not (list_any (same_block one.found) (line_blocks old))) (ranked_blocks new) (ranked rank block) among (ap not is)) refl)
 
 record SameBlock (a b : LineBlock) : Type 0 where
@@ -263,7 +263,7 @@ same-parts : (a b : LineBlock) → same_block a b ≡ true → SameBlock a b
 same-parts a b same = search rules
 
 -- so one with its bytes stood at its place
-stood-there : (change : Prepared) (old new : State) (n : ℕ) (block : LineBlock) → Leads old new change → StandsOf (line new) (line new) 1 n block → All (λ other. place_of other ≢ n) (moved_ranked (line old) (line new)) → StoodAt (places old) n block
+stood-there : (change : Prepared) (old new : State) (n : ℕ) (block : LineBlock) → Leads old new change → StandsOf (line new) (line new) 1 n block → All (λ other. block_place other ≢ n) (moved_ranked (line old) (line new)) → StoodAt (places old) n block
 stood-there change old new n block lead here others =
     let a = here.member in
     let blocks = slave_blocks (line new) a in
@@ -273,7 +273,7 @@ stood-there change old new n block lead here others =
     let at : n ≡ place a.rank block.number = omega (arith, number) in
     let among = contains-flat_map (member_ranked (line new)) (line new) a (ranked a.rank block) here.on
     (at-contained (member_ranked (line new) a) here.number (ranked a.rank block) (slice_get-map (ranked a.rank) (member_blocks (line new) a) here.number ∙ ap (option_map (ranked a.rank)) here.stands)) in
-    let had = unmoved (line old) (line new) a.rank block among (subst (λ (k : ℕ). All (λ other. place_of other ≢ k) (moved_ranked (line old) (line new))) at others) in
+    let had = unmoved (line old) (line new) a.rank block among (subst (λ (k : ℕ). All (λ other. block_place other ≢ k) (moved_ranked (line old) (line new))) at others) in
     let some = Any-from_list_any (same_block block) (line_blocks (line old)) had in
     let before : LineBlock = some.1 in
     let stood : Contains (line_blocks (line old)) before = (some.0, some.2, some.3) in

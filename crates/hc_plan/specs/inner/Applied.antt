@@ -11,22 +11,22 @@ use Rattle.hc_edits.specs.Edits.{own_fault}
 use Rattle.hc_places.specs.Swap.{ChangedTask, ChangesAscend, IsNewTask}
 use Rattle.hc_places.specs.Table.{Table, table_of}
 use Rattle.hc_changes.specs.Candidates.{Candidate}
-use Rattle.hc_changes.specs.Outlook.{IsOutlook, Outlook, candidates_of}
+use Rattle.hc_changes.specs.EditedLine.{EditedLine, IsEditedLine, candidates_of}
 
 -- an edit without a fault of its own makes this of a line that has a table, and none of whose tasks is crowded
-pub record Makes (edit : Edit) (table : Table) (outlook : Outlook) : Type 0 where
-  pub is : IsOutlook outlook
-  pub own : own_fault outlook.old edit ≡ None
-  pub leads : outlook.new ≡ groups_after outlook.old edit
-  pub fits : crowded_task (line_from 1 outlook.old) ≡ None
-  pub stands : table ≡ table_of (line_from 1 outlook.old)
+pub record Makes (edit : Edit) (table : Table) (edited_line : EditedLine) : Type 0 where
+  pub is : IsEditedLine edited_line
+  pub own : own_fault edited_line.old edit ≡ None
+  pub leads : edited_line.new ≡ groups_after edited_line.old edit
+  pub fits : crowded_task (line_from 1 edited_line.old) ≡ None
+  pub stands : table ≡ table_of (line_from 1 edited_line.old)
 
 -- the candidates of the new line with their places, and the tasks whose tables differ with their new ones
-pub record AreSeen (outlook : Outlook) (found : List Candidate) (tasks : List ChangedTask) : Type 0 where
-  pub candidates : found ≡ candidates_of outlook
+pub record AreSeen (edited_line : EditedLine) (found : List Candidate) (tasks : List ChangedTask) : Type 0 where
+  pub candidates : found ≡ candidates_of edited_line
   pub differ :
       (task : ℕ)
-      → IsNewTask (slice_get (table_of (line_from 1 outlook.old)).tasks task) (slice_get (table_of (line_from 1 outlook.new)).tasks task)
+      → IsNewTask (slice_get (table_of (line_from 1 edited_line.old)).tasks task) (slice_get (table_of (line_from 1 edited_line.new)).tasks task)
       (option_map (λ changed. changed.1) (find (λ changed. changed.0 == task) tasks))
   pub ascends : ChangesAscend tasks
   pub eight : All (λ changed. changed.0 < TASKS) tasks

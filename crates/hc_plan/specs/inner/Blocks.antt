@@ -41,7 +41,7 @@ abbrev pub slave_blocks_in : List (List Placed) → Member → List RegisterBloc
 slave_blocks_in layout member = flat_map (area_blocks_in layout member.rank) (enumerate_from 0 member.slave.areas)
 
 -- a layout is that of the line of a project's groups, in which no task is crowded
-pub record IsLaidOut (groups : List Declared) (layout : List (List Placed)) : Type 0 where
+pub record IsLayoutOf (groups : List Declared) (layout : List (List Placed)) : Type 0 where
   pub project : lowest_fault (groups_of groups) ≡ None
   pub uncrowded : crowded_task (line_from 1 groups) ≡ None
   pub stands : layout ≡ layout_of (line_from 1 groups)

@@ -8,11 +8,11 @@ use Rattle.hc_ranks.specs.Blocks.{RankedBlock}
 use Rattle.hc_tasks.specs.Areas.{areas_by_rank}
 use Rattle.hc_tasks.specs.Turn.{AreStartsOf}
 use Rattle.hc_edits.specs.declared.prepared.Prepared.{Prepared}
-use Rattle.hc_edits.specs.Changes.{carried}
+use Rattle.hc_edits.specs.Changes.{changed_groups}
 use Rattle.hc_edits.specs.Rows.{ChangesRow}
 use Rattle.hc_places.specs.Room.{IsRoomFor}
 use Rattle.hc_places.specs.Table.{table_of}
-use Rattle.hc_changes.specs.Outlook.{Room, IsRoomFor as HasRoomFor}
+use Rattle.hc_changes.specs.EditedLine.{IsRoomFor as HasRoomFor, Room}
 use Rattle.hc_plan.specs.declared.report.Report.{Report}
 use Rattle.hc_plan.specs.Gone.{gone_of}
 use Rattle.hc_plan.specs.Prepared.{PreparedEdit}
@@ -21,7 +21,7 @@ use Rattle.hc_plan.specs.Prepared.{PreparedEdit}
 abbrev pub prepared_of : State → Prepared → Report → List RankedBlock → PreparedEdit
 prepared_of old change report blocks = record {
   old = old;
-  new = record { groups = carried change old.groups; epoch = old.epoch + 1 };
+  new = record { groups = changed_groups change old.groups; epoch = old.epoch + 1 };
   report = report;
   gone = gone_of change;
   blocks = blocks;

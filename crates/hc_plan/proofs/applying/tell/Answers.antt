@@ -3,21 +3,21 @@ use Rattle.hc_plan.proofs.applying.tell.Goals as goal
 
 pub changed_rows-requires-clause-inside : goal.changed_rows-requires-clause-inside
 changed_rows-requires-clause-inside c =
-    all-stand c.args.outlook.now c.in_ok-movers.movers.items c.as_slice-moving.result.now c.requires.edit.is c.requires.accepted c.in_ok-movers.ensures c.as_slice-moving.ensures.value
+    all-stand c.args.edited_line.now c.in_ok-moved_areas.moved_areas.items c.as_slice-moving.result.now c.requires.edit.is c.requires.accepted c.in_ok-moved_areas.ensures c.as_slice-moving.ensures.value
 
 pub of-requires-clause-once : goal.of-requires-clause-once
 of-requires-clause-once c =
-    let it = c.args.outlook.now in
+    let it = c.args.edited_line.now in
     let rows = c.in_ok-rows.rows.items in
     told-once it c.args.seen.candidates.items c.args.seen.tasks.items rows c.requires.edit.is c.requires.seen
-    (told-rows it c.args.places.now c.in_ok-movers.movers.items c.as_slice-moving.result.now c.before-2.result.now c.after.result.now rows c.requires.edit.stands
-    c.in_ok-movers.ensures c.as_slice-moving.ensures.value c.before-2.ensures c.after.ensures c.in_ok-rows.ensures)
+    (told-rows it c.args.places.now c.in_ok-moved_areas.moved_areas.items c.as_slice-moving.result.now c.before-2.result.now c.after.result.now rows c.requires.edit.stands
+    c.in_ok-moved_areas.ensures c.as_slice-moving.ensures.value c.before-2.ensures c.after.ensures c.in_ok-rows.ensures)
 
 pub returns-clause-leads : goal.returns-clause-leads
 returns-clause-leads c =
-    let it = c.args.outlook.now in
+    let it = c.args.edited_line.now in
     let rows = c.in_ok-rows.rows.items in
     told-leads it c.args.seen.candidates.items c.args.seen.tasks.items rows c.in_ok-swap.swap c.requires.edit.is c.requires.seen
-    (told-rows it c.args.places.now c.in_ok-movers.movers.items c.as_slice-moving.result.now c.before-2.result.now c.after.result.now rows c.requires.edit.stands
-    c.in_ok-movers.ensures c.as_slice-moving.ensures.value c.before-2.ensures c.after.ensures c.in_ok-rows.ensures)
+    (told-rows it c.args.places.now c.in_ok-moved_areas.moved_areas.items c.as_slice-moving.result.now c.before-2.result.now c.after.result.now rows c.requires.edit.stands
+    c.in_ok-moved_areas.ensures c.as_slice-moving.ensures.value c.before-2.ensures c.after.ensures c.in_ok-rows.ensures)
     c.in_ok-swap.ensures.leads

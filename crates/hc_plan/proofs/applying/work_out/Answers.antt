@@ -2,44 +2,44 @@ use Rattle.std.proofs.Common.{◌≡◌, ◌∙◌, length, refl, arith}
 use Rattle.std.proofs.lemmas.Bool.{eq-eqb, ne_eqb}
 use Rattle.hc_records.specs.declared.limits.TheConstants.{LAST_EPOCH}
 use Rattle.hc_tasks.specs.Areas.{areas_by_rank}
-use Rattle.hc_plan.proofs.Turned.{outlook-lines}
+use Rattle.hc_plan.proofs.Turned.{edited_line-lines}
 use Rattle.hc_plan.proofs.Editing.{made-accepted, made-crowded, made-spent}
 use Rattle.hc_plan.proofs.Telling.{moved-count, moved-few, moved-named}
 use Rattle.hc_plan.proofs.applying.work_out.Goals as goal
 
 pub see_new_line-seen-requires-clause-known : goal.see_new_line-seen-requires-clause-known
 see_new_line-seen-requires-clause-known g c =
-    let it = c.args.outlook.now in
-    c.of-known.ensures (areas_by_rank it.old) (areas_by_rank it.new) (outlook-lines it c.first.result c.before-2.result.now c.after.result.now c.requires.edit.is c.first.ensures c.before-2.ensures c.after.ensures)
+    let it = c.args.edited_line.now in
+    c.of-known.ensures (areas_by_rank it.old) (areas_by_rank it.new) (edited_line-lines it c.first.result c.before-2.result.now c.after.result.now c.requires.edit.is c.first.ensures c.before-2.ensures c.after.ensures)
     c.requires.trees
 
 pub turn_back-requires-clause-known : goal.turn_back-requires-clause-known
 turn_back-requires-clause-known g c =
-    let it = c.args.outlook.now in
-    c.of-known.ensures (areas_by_rank it.old) (areas_by_rank it.new) (outlook-lines it c.first.result c.before-2.result.now c.after.result.now c.requires.edit.is c.first.ensures c.before-2.ensures c.after.ensures)
+    let it = c.args.edited_line.now in
+    c.of-known.ensures (areas_by_rank it.old) (areas_by_rank it.new) (edited_line-lines it c.first.result c.before-2.result.now c.after.result.now c.requires.edit.is c.first.ensures c.before-2.ensures c.after.ensures)
     c.requires.trees
 
 pub returns-in-Err-clause-refused : goal.returns-in-Err-clause-refused
 returns-in-Err-clause-refused g c =
-    let it = c.args.outlook.now in
+    let it = c.args.edited_line.now in
     λ other. made-crowded it.old it.new c.args.epoch c.args.edit.now c.in-Err.task c.requires.edit.own c.requires.edit.leads c.in-Err.ensures.refused
 
 pub returns-then-epoch-eq-LAST_EPOCH-clause-refused : goal.returns-then-epoch-eq-LAST_EPOCH-clause-refused
 returns-then-epoch-eq-LAST_EPOCH-clause-refused g c =
-    let it = c.args.outlook.now in
+    let it = c.args.edited_line.now in
     λ other. made-spent it.old it.new c.args.epoch c.args.edit.now c.requires.edit.own c.requires.edit.leads c.in-Ok.ensures.accepted (eq-eqb c.args.epoch LAST_EPOCH c.if-epoch-eq-LAST_EPOCH.true)
 
 pub overflow_cast-report : goal.overflow_cast-report
 overflow_cast-report g c =
-    let few = moved-few c.args.outlook.now c.in_ok-blocks.field-0.blocks.items c.requires.edit.is c.in-Ok.ensures.accepted c.in_ok-blocks.ensures.blocks in
+    let few = moved-few c.args.edited_line.now c.in_ok-blocks.field-0.blocks.items c.requires.edit.is c.in-Ok.ensures.accepted c.in_ok-blocks.ensures.blocks in
     omega (arith, few, c.len.ensures)
 
 pub returns-clause-starts : goal.returns-clause-starts
-returns-clause-starts g c = c.copied_starts-starts.ensures.starts (areas_by_rank c.args.outlook.now.new) c.in-Ok.ensures.turned
+returns-clause-starts g c = c.copied_starts-starts.ensures.starts (areas_by_rank c.args.edited_line.now.new) c.in-Ok.ensures.turned
 
 pub returns-clause-report : goal.returns-clause-report
 returns-clause-report g c =
-    let it = c.args.outlook.now in
+    let it = c.args.edited_line.now in
     let told = c.in_ok-blocks.ensures in
     let blocks = c.in_ok-blocks.field-0.blocks.items in
     let many : c.len.result ≡ length blocks = let len = c.len.ensures in omega (arith, c.in_ok-blocks.field-0.blocks.ok.0) in
@@ -56,5 +56,5 @@ returns-clause-report g c =
 
 pub returns-clause-accepted : goal.returns-clause-accepted
 returns-clause-accepted g c =
-    let it = c.args.outlook.now in
+    let it = c.args.edited_line.now in
     made-accepted it.old it.new c.args.epoch c.args.edit.now c.requires.edit.own c.requires.edit.leads c.in-Ok.ensures.accepted (ne_eqb c.args.epoch LAST_EPOCH c.if-epoch-eq-LAST_EPOCH.false)

@@ -2,12 +2,12 @@ use Rattle.std.proofs.Common.{List, sym, subst}
 use Rattle.hc_records.specs.declared.keys.Key.{Key}
 use Rattle.hc_tasks.specs.Areas.{areas_by_rank}
 use Rattle.hc_tasks.specs.Turn.{AreStartsOf}
-use Rattle.hc_plan.proofs.Turned.{outlook-back}
+use Rattle.hc_plan.proofs.Turned.{edited_line-back}
 use Rattle.hc_plan.proofs.turning.turn_back.Goals as goal
 
 pub returns : goal.returns
 returns c =
-    let it = c.args.outlook.now in
+    let it = c.args.edited.now in
     let known = subst (λ (starts : List (List Key)). AreStartsOf (areas_by_rank it.old) starts) (sym c.starts.ensures) c.requires.known.starts in
     c.put.ensures (areas_by_rank it.new) (areas_by_rank it.old)
-    (outlook-back it c.args.cuts.now c.first.result c.before-2.result.now c.after.result.now c.starts.result.now c.requires.outlook c.requires.trees known c.first.ensures c.before-2.ensures c.after.ensures)
+    (edited_line-back it c.args.cuts.now c.first.result c.before-2.result.now c.after.result.now c.starts.result.now c.requires.edited c.requires.trees known c.first.ensures c.before-2.ensures c.after.ensures)

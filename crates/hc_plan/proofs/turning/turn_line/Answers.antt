@@ -2,38 +2,38 @@ use Rattle.std.proofs.Common.{◌∙◌, None, Some, sym}
 use Rattle.std.proofs.lemmas.Result.{IfErr-weaker, IfOk-weaker, on_ok_weaker}
 use Rattle.hc_tasks.specs.Areas.{areas_by_rank}
 use Rattle.hc_tasks.proofs.lemmas.Projects.{line-recut}
-use Rattle.hc_plan.proofs.Turned.{crowded-line, outlook-turn}
+use Rattle.hc_plan.proofs.Turned.{crowded-line, edited_line-turn}
 use Rattle.hc_plan.proofs.turning.turn_line.Goals as goal
 
 pub turn-requires : goal.turn-requires
 turn-requires g c =
-    let it = c.args.outlook.now in
+    let it = c.args.edited.now in
     record {
       old = areas_by_rank it.old;
       new = areas_by_rank it.new;
-      turn = outlook-turn it c.args.cuts.now c.first.result c.before-2.result.now c.after.result.now c.requires.outlook c.requires.trees c.requires.fits c.first.ensures c.before-2.ensures c.after.ensures;
+      turn = edited_line-turn it c.args.cuts.now c.first.result c.before-2.result.now c.after.result.now c.requires.edited c.requires.trees c.requires.fits c.first.ensures c.before-2.ensures c.after.ensures;
     }
 
 pub returns-clause-turned : goal.returns-clause-turned
 returns-clause-turned g c =
-    let it = c.args.outlook.now in
-    let turn = outlook-turn it c.args.cuts.now c.first.result c.before-2.result.now c.after.result.now c.requires.outlook c.requires.trees c.requires.fits c.first.ensures c.before-2.ensures c.after.ensures in
+    let it = c.args.edited.now in
+    let turn = edited_line-turn it c.args.cuts.now c.first.result c.before-2.result.now c.after.result.now c.requires.edited c.requires.trees c.requires.fits c.first.ensures c.before-2.ensures c.after.ensures in
     c.turn.ensures.turned (areas_by_rank it.old) (areas_by_rank it.new) turn
 
 pub returns-clause-accepted : goal.returns-clause-accepted
 returns-clause-accepted g c =
-    let it = c.args.outlook.now in
-    let turn = outlook-turn it c.args.cuts.now c.first.result c.before-2.result.now c.after.result.now c.requires.outlook c.requires.trees c.requires.fits c.first.ensures c.before-2.ensures c.after.ensures in
+    let it = c.args.edited.now in
+    let turn = edited_line-turn it c.args.cuts.now c.first.result c.before-2.result.now c.after.result.now c.requires.edited c.requires.trees c.requires.fits c.first.ensures c.before-2.ensures c.after.ensures in
     on_ok_weaker c.turn.result (crowded-line it.new None) (c.turn.ensures.accepted (areas_by_rank it.old) (areas_by_rank it.new) turn)
 
 pub returns-clause-recut : goal.returns-clause-recut
 returns-clause-recut g c =
-    let it = c.args.outlook.now in
-    let turn = outlook-turn it c.args.cuts.now c.first.result c.before-2.result.now c.after.result.now c.requires.outlook c.requires.trees c.requires.fits c.first.ensures c.before-2.ensures c.after.ensures in
+    let it = c.args.edited.now in
+    let turn = edited_line-turn it c.args.cuts.now c.first.result c.before-2.result.now c.after.result.now c.requires.edited c.requires.trees c.requires.fits c.first.ensures c.before-2.ensures c.after.ensures in
     IfOk-weaker c.turn.result _ _ (λ unsettled is. is ∙ sym (line-recut it.old it.new)) (c.turn.ensures.recut (areas_by_rank it.old) (areas_by_rank it.new) turn)
 
 pub returns-clause-refused : goal.returns-clause-refused
 returns-clause-refused g c =
-    let it = c.args.outlook.now in
-    let turn = outlook-turn it c.args.cuts.now c.first.result c.before-2.result.now c.after.result.now c.requires.outlook c.requires.trees c.requires.fits c.first.ensures c.before-2.ensures c.after.ensures in
+    let it = c.args.edited.now in
+    let turn = edited_line-turn it c.args.cuts.now c.first.result c.before-2.result.now c.after.result.now c.requires.edited c.requires.trees c.requires.fits c.first.ensures c.before-2.ensures c.after.ensures in
     IfErr-weaker c.turn.result _ _ (λ task is. crowded-line it.new (Some task) is) (c.turn.ensures.refused (areas_by_rank it.old) (areas_by_rank it.new) turn)

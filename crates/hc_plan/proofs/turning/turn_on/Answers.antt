@@ -1,9 +1,9 @@
 use Rattle.hc_tasks.specs.Areas.{areas_by_rank}
-use Rattle.hc_plan.proofs.Turned.{outlook-put}
+use Rattle.hc_plan.proofs.Turned.{edited_line-put}
 use Rattle.hc_plan.proofs.turning.turn_on.Goals as goal
 
 pub returns : goal.returns
 returns c =
-    let it = c.args.outlook.now in
+    let it = c.args.edited.now in
     c.put.ensures (areas_by_rank it.old) (areas_by_rank it.new)
-    (outlook-put it c.args.cuts.now c.first.result c.before-2.result.now c.after.result.now c.args.starts.now c.requires.outlook c.requires.trees c.requires.starts c.first.ensures c.before-2.ensures c.after.ensures)
+    (edited_line-put it c.args.cuts.now c.first.result c.before-2.result.now c.after.result.now c.args.starts.now c.requires.edited c.requires.trees c.requires.starts c.first.ensures c.before-2.ensures c.after.ensures)

@@ -5,25 +5,25 @@ use Rattle.hc_records.specs.Line.{groups_of}
 use Rattle.hc_records.specs.Project.{lowest_fault}
 use Rattle.hc_tasks.specs.Areas.{areas_by_rank}
 use Rattle.hc_tasks.specs.Turn.{AreStartsOf}
-use Rattle.hc_edits.specs.Changes.{carried}
-use Rattle.hc_changes.specs.Outlook.{IsOutlook, Outlook, outlook_of}
+use Rattle.hc_edits.specs.Changes.{changed_groups}
+use Rattle.hc_changes.specs.EditedLine.{EditedLine, IsEditedLine, edited_line_of}
 use Rattle.hc_plan.specs.Prepared.{PreparedEdit}
-use Rattle.hc_plan.proofs.Preparing.{ready-outlook, same-groups}
+use Rattle.hc_plan.proofs.Preparing.{ready-edited_line, same-groups}
 use Rattle.hc_plan.proofs.plan.Plan.carry_out.Goals as goal
 
-pub turn_on-requires-clause-outlook : goal.turn_on-requires-clause-outlook
-turn_on-requires-clause-outlook c =
+pub turn_on-requires-clause-edited : goal.turn_on-requires-clause-edited
+turn_on-requires-clause-edited c =
     let kept = c.prepared.inside in
     let was = same-groups _ c.args.prepared _ c.args.self.now c.prepared.view_is c.requires c.self.view_is in
-    let now = c.of-outlook.ensures ∙ ap (outlook_of kept.change) (c.as_slice.ensures ∙ sym was) in
-    subst IsOutlook (sym now)
-    (ready-outlook kept.was.value kept.change kept.report _ kept.starts kept.slaves kept.rows c.prepared.invariant.0 c.prepared.invariant.1)
+    let now = c.of-edited_line.ensures ∙ ap (edited_line_of kept.change) (c.as_slice.ensures ∙ sym was) in
+    subst IsEditedLine (sym now)
+    (ready-edited_line kept.was.value kept.change kept.report _ kept.starts kept.slaves kept.rows c.prepared.invariant.0 c.prepared.invariant.1)
 
 pub turn_on-requires-clause-starts : goal.turn_on-requires-clause-starts
 turn_on-requires-clause-starts c =
     let kept = c.prepared.inside in
     let was = same-groups _ c.args.prepared _ c.args.self.now c.prepared.view_is c.requires c.self.view_is in
-    let new = ap (λ (o : Outlook). o.new) (c.of-outlook.ensures ∙ ap (outlook_of kept.change) (c.as_slice.ensures ∙ sym was)) in
+    let new = ap (λ (o : EditedLine). o.new) (c.of-edited_line.ensures ∙ ap (edited_line_of kept.change) (c.as_slice.ensures ∙ sym was)) in
     subst (λ (g : List Declared). AreStartsOf (areas_by_rank g) kept.starts) (sym new) c.prepared.invariant.1.starts
 
 pub follow-requires : goal.follow-requires
@@ -36,14 +36,14 @@ follow-requires c =
     record {
       before = groups;
       was = c.self.invariant.4;
-      leads = new ∙ subst (λ (g : List Declared). carried kept.change g ≡ groups_after g kept.report.swap.edit) was ready.leads ∙ ap (groups_after groups) (sym c.edit.ensures);
-      project = subst (λ (g : List Declared). lowest_fault (groups_of g) ≡ None) (sym (new ∙ ap (carried kept.change) (sym was))) ready.project;
+      leads = new ∙ subst (λ (g : List Declared). changed_groups kept.change g ≡ groups_after g kept.report.swap.edit) was ready.leads ∙ ap (groups_after groups) (sym c.edit.ensures);
+      project = subst (λ (g : List Declared). lowest_fault (groups_of g) ≡ None) (sym (new ∙ ap (changed_groups kept.change) (sym was))) ready.project;
     }
 
 pub returns-clause-plan : goal.returns-clause-plan
 returns-clause-plan c =
     let kept = c.prepared.inside in
     let was = same-groups _ c.args.prepared _ c.args.self.now c.prepared.view_is c.requires c.self.view_is in
-    ap (λ (g : List Declared). record { groups = g; epoch = kept.report.epoch }) (c.carry_out.ensures.groups ∙ ap (carried kept.change) (sym was))
-    ∙ ap (λ (n : ℕ). record { groups = carried kept.change kept.was.value.groups; epoch = n }) c.prepared.invariant.0.told.epoch
+    ap (λ (g : List Declared). record { groups = g; epoch = kept.report.epoch }) (c.carry_out.ensures.groups ∙ ap (changed_groups kept.change) (sym was))
+    ∙ ap (λ (n : ℕ). record { groups = changed_groups kept.change kept.was.value.groups; epoch = n }) c.prepared.invariant.0.told.epoch
     ∙ ap (λ (p : PreparedEdit). p.new) c.prepared.view_is

@@ -6,11 +6,11 @@ use Rattle.hc_records.specs.declared.records.Declared.{Declared}
 use Rattle.hc_records.specs.Edits.{edited, groups_after}
 use Rattle.hc_records.specs.Line.{State, groups_of}
 use Rattle.hc_records.specs.Project.{lowest_fault}
-use Rattle.hc_edits.specs.Changes.{carried, change_by}
+use Rattle.hc_edits.specs.Changes.{change_by, changed_groups}
 use Rattle.hc_edits.specs.Edits.{own_fault}
 use Rattle.hc_edits.specs.Rows.{ChangesRow}
 use Rattle.hc_edits.proofs.lemmas.Refusals.{own-refuses}
-use Rattle.hc_changes.specs.Outlook.{IsOutlook, outlook_of}
+use Rattle.hc_changes.specs.EditedLine.{IsEditedLine, edited_line_of}
 use Rattle.hc_plan.specs.inner.Prepared.{IsReady, prepared_of}
 use Rattle.hc_plan.specs.Prepared.{IsPrepared}
 use Rattle.hc_plan.proofs.Editing.{judged, old-groups}
@@ -33,7 +33,7 @@ returns-in_err-worked-clause-refused c =
     let edit = c.args.edit.now in
     let epoch = c.self.inside.epoch in
     let fault = c.in_err-worked.field-0.0 in
-    let was = old-groups c.of-outlook.result c.in_ok-change.change c.as_slice-2.result.now c.self.inside.groups c.of-outlook.ensures c.as_slice-2.ensures in
+    let was = old-groups c.of-edited_line.result c.in_ok-change.change c.as_slice-2.result.now c.self.inside.groups c.of-edited_line.ensures c.as_slice-2.ensures in
     let old = ap (λ (g : List Declared). record { groups = g; epoch = epoch }) was ∙ c.self.view_is in
     let p = err_from_is_err_and c.from_residual-in_err-worked.result c.from_residual-in_err-worked.ensures.1 in
     rw (p.1, p.2) (λ other. subst (λ (s : State). edited s edit ≡ Err fault) old (c.in_err-worked.ensures.refused other))
@@ -54,11 +54,11 @@ pub work_out-requires-clause-edit : goal.work_out-requires-clause-edit
 work_out-requires-clause-edit c =
     let edit = c.args.edit.now in
     let change = c.in_ok-change.change in
-    makes c.of-outlook.result change edit c.self.inside.places c.self.inside.groups
-    (subst IsOutlook c.outlook.view_is c.outlook.invariant)
-    (c.of-outlook.ensures ∙ ap (outlook_of change) c.as_slice-2.ensures)
+    makes c.of-edited_line.result change edit c.self.inside.places c.self.inside.groups
+    (subst IsEditedLine c.edited_line.view_is c.edited_line.invariant)
+    (c.of-edited_line.ensures ∙ ap (edited_line_of change) c.as_slice-2.ensures)
     (subst (λ (g : List Declared). own_fault g edit ≡ None) c.as_slice.ensures c.in_ok-change.ensures.accepted)
-    (subst (λ (g : List Declared). carried change g ≡ groups_after g edit) c.as_slice.ensures c.in_ok-change.ensures.groups)
+    (subst (λ (g : List Declared). changed_groups change g ≡ groups_after g edit) c.as_slice.ensures c.in_ok-change.ensures.groups)
     c.self.invariant.1 c.self.invariant.2
 
 pub invariant_of-result : goal.invariant_of-result
@@ -68,19 +68,19 @@ invariant_of-result c =
     let change = c.in_ok-change.change in
     let worked = c.in_ok-worked.worked in
     let told = c.in_ok-worked.ensures in
-    let outlook = c.of-outlook.ensures ∙ ap (outlook_of change) c.as_slice-2.ensures in
+    let edited_line = c.of-edited_line.ensures ∙ ap (edited_line_of change) c.as_slice-2.ensures in
     let slice = c.as_slice.ensures in
     subst
     (λ (s : State). IsPrepared (prepared_of s change worked.report worked.blocks.items)
     × IsReady (prepared_of s change worked.report worked.blocks.items) change worked.starts c.in_ok-slaves.slaves worked.room)
     (sym c.of-4.ensures) (
-      is-prepared old change c.of-outlook.result edit worked.report worked.blocks.items c.self.invariant.0 c.self.invariant.1
-          (subst (λ (g : List Declared). change_by g edit ≡ Some change) slice c.in_ok-change.ensures.change) outlook told.report told.accepted told.fits told.blocks,
-      is-ready old change c.of-outlook.result edit worked.report worked.blocks.items worked.starts c.in_ok-slaves.slaves c.self.inside.places worked.room told.report.named
-          (subst (λ (g : List Declared). carried change g ≡ groups_after g edit) slice c.in_ok-change.ensures.groups)
-          (subst (λ (g : List Declared). lowest_fault (groups_of (carried change g)) ≡ None) slice c.in_ok-change.ensures.kept)
+      is-prepared old change c.of-edited_line.result edit worked.report worked.blocks.items c.self.invariant.0 c.self.invariant.1
+          (subst (λ (g : List Declared). change_by g edit ≡ Some change) slice c.in_ok-change.ensures.change) edited_line told.report told.accepted told.fits told.blocks,
+      is-ready old change c.of-edited_line.result edit worked.report worked.blocks.items worked.starts c.in_ok-slaves.slaves c.self.inside.places worked.room told.report.named
+          (subst (λ (g : List Declared). changed_groups change g ≡ groups_after g edit) slice c.in_ok-change.ensures.groups)
+          (subst (λ (g : List Declared). lowest_fault (groups_of (changed_groups change g)) ≡ None) slice c.in_ok-change.ensures.kept)
           (subst (ChangesRow change) slice c.in_ok-change.ensures.row)
-          outlook told.starts c.in_ok-slaves.ensures c.self.invariant.2 told.room,
+          edited_line told.starts c.in_ok-slaves.ensures c.self.invariant.2 told.room,
     )
 
 pub returns-clause-prepared : goal.returns-clause-prepared

@@ -1,0 +1,12 @@
+use Rattle.std.proofs.Common.{List, subst, sym}
+use Rattle.hc_records.specs.declared.records.Area.{Area}
+use Rattle.hc_changes.specs.EditedLine.{IsEditedLine, edited_line_of}
+use Rattle.hc_changes.proofs.lemmas.EditedLines.{change-edited_line}
+use Rattle.hc_changes.proofs.edited_line.EditedLine.of.Goals as goal
+
+pub invariant_of-result : goal.invariant_of-result
+invariant_of-result c =
+    let it = edited_line_of c.args.change.now c.args.groups.now in
+    subst (λ (after : List (List Area)). IsEditedLine (record it { before = c.areas_before.result.items; after = after })) (sym c.areas_after.ensures)
+    (subst (λ (before : List (List Area)). IsEditedLine (record it { before = before })) (sym c.areas_before.ensures)
+    (change-edited_line c.args.groups.now c.args.change.now c.requires.edited c.requires.was c.requires.is c.requires.row))

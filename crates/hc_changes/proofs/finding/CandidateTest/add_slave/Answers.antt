@@ -1,0 +1,46 @@
+use Rattle.std.proofs.Common.{◌≡◌, ◌∙◌, ◌+◌, ◌++◌, List, [], Vec, Global, append-nil, ap, drop, sym, rules}
+use Rattle.hc_changes.specs.Candidates.{Candidate}
+use Rattle.hc_changes.specs.inner.Found.{area_found, areas_found}
+use Rattle.hc_changes.proofs.lemmas.FoundRanks.{areas-added, areas-end, rank-is, task-below}
+use Rattle.hc_changes.proofs.finding.CandidateTest.add_slave.Goals as goal
+use Rattle.hc_changes.proofs.finding.CandidateTest.add_slave.Goals.{in-Some+in_ok-push, in_default}
+
+pub judge-requires-clause-task : goal.judge-requires-clause-task
+judge-requires-clause-task c = search (rules, task-below)
+
+pub loop-i-preserved : goal.loop-i-preserved
+loop-i-preserved c =
+    let it = c.args.self.now in
+    let station = c.args.slave.now.station in
+    let rank = c.args.rank in
+    let areas = c.areas_after-areas.result.now in
+    let i = c.loop-i.i in
+    let rest = areas_found it station rank (i + 1) (drop (i + 1) areas) in
+    let all = c.args.found.now.items ++ areas_found it station rank 0 areas in
+    let added : (own : List Candidate) → own ≡ area_found it station rank i c.index-areas-i.result → (c.loop-i.found.items ++ own) ++ rest ≡ all = search (rules, areas-added) in
+    elim c.match-judge.branch [
+      | in-Some+in_ok-push w ↦
+          record {
+            areas = c.loop-i.invariant.areas;
+            places = c.judge.ensures.places ∙ c.loop-i.invariant.places;
+            found = search rules;
+          }
+      | in_default w ↦
+          record {
+            areas = c.loop-i.invariant.areas;
+            places = c.judge.ensures.places ∙ c.loop-i.invariant.places;
+            found =
+                ap (λ (vec : Vec Candidate Global). vec.items ++ rest) w.found-is
+                ∙ ap (λ (items : List Candidate). items ++ rest) (sym (append-nil c.loop-i.found.items))
+                ∙ added [] w.in_default.ensures.found;
+          }
+    ]
+
+pub returns-clause-found : goal.returns-clause-found
+returns-clause-found c =
+    let it = c.args.self.now in
+    let found = c.args.found.now.items in
+    let station = c.args.slave.now.station in
+    let areas = c.areas_after-areas.result.now in
+    areas-end it station c.args.rank c.loop-i.i areas c.loop-i.found.items (found ++ areas_found it station c.args.rank 0 areas) c.loop-i-test.false c.loop-i.invariant.found
+    ∙ ap (λ (own : List Candidate). found ++ own) (rank-is it c.args.rank station areas c.requires.station c.loop-i.invariant.areas)

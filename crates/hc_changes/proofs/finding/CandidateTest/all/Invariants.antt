@@ -1,0 +1,13 @@
+use Rattle.std.proofs.Common.{◌≡◌, ◌+◌, length, take}
+use Rattle.hc_tasks.specs.Areas.{areas_by_rank}
+use Rattle.hc_tasks.specs.Kept.{line_kept}
+use Rattle.hc_changes.specs.inner.Found.{found_below}
+use Rattle.hc_changes.proofs.finding.CandidateTest.all.Given as goal
+
+-- the rank of the first slave of the groups that are left, and the candidates of those so far
+abbrev pub invariant-loop-declared : goal.invariant-loop-declared
+invariant-loop-declared l = record {
+  places : l.places ≡ line_kept (areas_by_rank l.self.new);
+  first : l.first ≡ length (areas_by_rank (take l.declared-index l.self.old)) + 1;
+  found : l.found.items ≡ found_below l.self l.first;
+}

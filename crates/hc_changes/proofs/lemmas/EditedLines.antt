@@ -1,0 +1,127 @@
+-- The slaves that a change concerns are those in which the lines before it and after it differ.
+use Rattle.std.proofs.Common.{◌≡◌, ℕ, zero, suc, ◌+◌, ◌<◌, ◌≤◌, Bool, true, false, not, List, [], ◌∷◌, ◌++◌, Option, None, length, take, refl, sym, ap, ◌∙◌, arith, if◌then◌else◌, rules}
+use Rattle.std.specs.Prelude.{◌&&◌, map, slice_index_or}
+use Rattle.std.proofs.lemmas.Bool.{le-ltb, lt-ltb}
+use Rattle.std.proofs.lemmas.List.{length-map, map-append}
+use Rattle.hc_records.specs.declared.records.Area.{Area}
+use Rattle.hc_records.specs.declared.records.Slave.{Slave}
+use Rattle.hc_records.specs.declared.records.Declared.{Declared}
+use Rattle.hc_records.specs.Line.{groups_of, line_from}
+use Rattle.hc_records.specs.Project.{lowest_fault}
+use Rattle.hc_edits.specs.declared.prepared.Prepared.{Prepared}
+use Rattle.hc_edits.specs.Changes.{changed_groups}
+use Rattle.hc_edits.specs.Rows.{ChangesRow, Ranked, areas_in_line, by_rank, first_of, nth_areas, ranked, row}
+use Rattle.hc_tasks.specs.Areas.{areas_at, areas_by_rank}
+use Rattle.hc_tasks.specs.Turn.{AreLines}
+use Rattle.hc_tasks.proofs.lemmas.Projects.{project-line}
+use Rattle.hc_changes.specs.Candidates.{DifferAt, slave_of}
+use Rattle.hc_changes.specs.Edited.{HasEdit}
+use Rattle.hc_changes.specs.EditedLine.{EditedLine, IsEditedLine, changes, edited_line_of}
+use Rattle.hc_changes.proofs.lemmas.InARow.{index-front}
+use Rattle.hc_changes.proofs.lemmas.Ranks.{line-slots, none-below, slot, slots}
+
+-- what is told of each declared slave by rank, and of those of one group
+
+told-of : {X : Type 0} (tell : Ranked → X) (own : Bool → Slave → X) → ((present : Bool) (slave : Slave) → own present slave ≡ tell (record { present = present; slave = slave }))
+    → (present : Bool) (slaves : List Slave) → map (own present) slaves ≡ map tell (ranked present slaves)
+told-of tell own same present [] = refl
+told-of tell own same present (slave ∷ slaves) = search (rules, told-of tell own same present slaves)
+
+areas-told : (groups : List Declared) → areas_by_rank groups ≡ map areas_in_line (by_rank groups)
+areas-told [] = refl
+areas-told (declared ∷ groups) =
+    let slaves = declared.group.slaves in
+    ap (λ (own : List (List Area)). own ++ areas_by_rank groups)
+    (told-of areas_in_line (λ (present : Bool) (slave : Slave). if present then slave.areas else []) (λ present slave. refl) declared.present slaves)
+    ∙ ap (λ (rest : List (List Area)). map areas_in_line (ranked declared.present slaves) ++ rest) (areas-told groups)
+    ∙ sym (map-append areas_in_line (ranked declared.present slaves) (by_rank groups))
+
+abbrev seat : Ranked → Option Slave
+seat it = slot it.present it.slave
+
+slots-told : (groups : List Declared) → slots groups ≡ map seat (by_rank groups)
+slots-told [] = refl
+slots-told (declared ∷ groups) =
+    let slaves = declared.group.slaves in
+    ap (λ (own : List (Option Slave)). own ++ slots groups) (told-of seat slot (λ present slave. refl) declared.present slaves)
+    ∙ ap (λ (rest : List (Option Slave)). map seat (ranked declared.present slaves) ++ rest) (slots-told groups)
+    ∙ sym (map-append seat (ranked declared.present slaves) (by_rank groups))
+
+around : {X : Type 0} (tell : Ranked → X) (all front row behind : List Ranked) → all ≡ front ++ (row ++ behind) → map tell all ≡ map tell front ++ (map tell row ++ map tell behind)
+around tell all front row behind is = search (rules, map-append)
+
+-- the lines differ in the areas of these slaves alone
+change-lines : (groups : List Declared) (change : Prepared) → lowest_fault (groups_of groups) ≡ None → lowest_fault (groups_of (changed_groups change groups)) ≡ None → ChangesRow change groups →
+    AreLines (first_of change) (map areas_in_line (row change groups)) (map areas_in_line (row change (changed_groups change groups))) (areas_by_rank groups) (areas_by_rank (changed_groups change groups))
+change-lines groups change was is it =
+    let front_many = length-map {B = List Area} it.front areas_in_line in
+    record {
+      front = map areas_in_line it.front;
+      behind = map areas_in_line it.behind;
+      rank = omega (arith, front_many);
+      many = length-map (row change (changed_groups change groups)) areas_in_line ∙ it.many_after ∙ sym it.many_before ∙ sym (length-map (row change groups) areas_in_line);
+      was = areas-told groups ∙ around areas_in_line (by_rank groups) it.front (row change groups) it.behind it.before;
+      is = areas-told (changed_groups change groups) ∙ around areas_in_line (by_rank (changed_groups change groups)) it.front (row change (changed_groups change groups)) it.behind it.after;
+      old_line = project-line groups was;
+      new_line = project-line (changed_groups change groups) is;
+    }
+
+-- lists that differ in a stretch have the same outside of it
+outside : {X : Type 0} (front one other behind : List X) (i : ℕ) (none : X) → length other ≡ length one → (length front ≤ i → i < length front + length one → ⊥) →
+    slice_index_or (front ++ (one ++ behind)) i none ≡ slice_index_or (front ++ (other ++ behind)) i none
+outside [] [] [] behind i none many out = refl
+outside [] [] (y ∷ other) behind i none many out = absurd (omega (arith, many))
+outside [] (x ∷ one) [] behind i none many out = absurd (omega (arith, many))
+outside [] (x ∷ one) (y ∷ other) behind zero none many out = absurd (out (omega arith) (omega arith))
+outside [] (x ∷ one) (y ∷ other) behind (suc i) none many out = outside [] one other behind i none (omega (arith, many)) (λ low high. out (omega arith) (omega (arith, high)))
+outside (x ∷ front) one other behind zero none many out = refl
+outside (x ∷ front) one other behind (suc i) none many out = outside front one other behind i none many (λ low high. out (omega (arith, low)) (omega (arith, high)))
+
+inside-by : (low high : Bool) → low ≡ false → high ≡ true → (not low && high) ≡ true
+inside-by low high below above = search rules
+
+-- a slave that isn't among them stands in both lines with the same record, or in neither
+change-differs : (groups : List Declared) (change : Prepared) → ChangesRow change groups → DifferAt (changes (edited_line_of change groups)) (line_from 1 groups) (line_from 1 (changed_groups change groups))
+change-differs groups change it zero unchanged = none-below 1 groups 0 (omega arith) ∙ sym (none-below 1 (changed_groups change groups) 0 (omega arith))
+change-differs groups change it (suc i) unchanged =
+    let after = changed_groups change groups in
+    let rank : suc i ≡ 1 + i = omega arith in
+    let first = it.first in
+    let front_many = length-map {B = Option Slave} it.front seat in
+    let own_many = length-map {B = Option Slave} (row change groups) seat in
+    let areas_many = length-map {B = List Area} (row change groups) areas_in_line in
+    let many : length (map seat (row change after)) ≡ length (map seat (row change groups)) = search (rules, length-map) in
+    let out : length (map seat it.front) ≤ i → i < length (map seat it.front) + length (map seat (row change groups)) → ⊥ = search (rules, inside-by, le-ltb, lt-ltb) in
+    ap (slave_of (line_from 1 groups)) rank
+    ∙ line-slots 1 groups i
+    ∙ ap (λ (list : List (Option Slave)). slice_index_or list i None) (slots-told groups ∙ around seat (by_rank groups) it.front (row change groups) it.behind it.before)
+    ∙ outside (map seat it.front) (map seat (row change groups)) (map seat (row change after)) (map seat it.behind) i None many out
+    ∙ sym (ap (λ (list : List (Option Slave)). slice_index_or list i None) (slots-told after ∙ around seat (by_rank after) it.front (row change after) it.behind it.after))
+    ∙ sym (line-slots 1 after i)
+    ∙ sym (ap (slave_of (line_from 1 after)) rank)
+
+pub change-edited_line : (groups : List Declared) (change : Prepared) → HasEdit groups (changed_groups change groups) → lowest_fault (groups_of groups) ≡ None → lowest_fault (groups_of (changed_groups change groups)) ≡ None → ChangesRow change groups →
+    IsEditedLine (edited_line_of change groups)
+change-edited_line groups change edited was is it = search (rules, change-lines, change-differs)
+
+-- what these slaves have in the line, and the others
+
+among-at : (slaves front own behind : List (List Area)) (first i : ℕ) → slaves ≡ front ++ (own ++ behind) → first ≡ length front + 1 → i < length own →
+    areas_at slaves (first + i) ≡ slice_index_or own i []
+among-at slaves front own behind first i is begins within = search (rules, index-front)
+
+pub before-at : (it : EditedLine) → IsEditedLine it → (rank i : ℕ) → rank ≡ it.first + i → i < length it.before → areas_at (areas_by_rank it.old) rank ≡ slice_index_or it.before i []
+before-at it is rank i at within = search (rules, among-at)
+
+pub other-at : (it : EditedLine) → IsEditedLine it → (rank : ℕ) → changes it rank ≡ false → areas_at (areas_by_rank it.old) rank ≡ areas_at (areas_by_rank it.new) rank
+other-at it is rank unchanged = search (rules, inside-by, le-ltb, lt-ltb, outside)
+
+-- the areas of these slaves read one by one
+
+next-read : (slaves : List Ranked) (i : ℕ) → i < length slaves → take (suc i) (map areas_in_line slaves) ≡ take i (map areas_in_line slaves) ++ nth_areas slaves i ∷ []
+next-read [] i within = absurd (omega arith)
+next-read (slave ∷ slaves) zero within = refl
+next-read (slave ∷ slaves) (suc i) within = ap (λ (rest : List (List Area)). areas_in_line slave ∷ rest) (next-read slaves i (omega arith))
+
+pub read-next : (slaves : List Ranked) (i : ℕ) → i < length slaves → take (i + 1) (map areas_in_line slaves) ≡ take i (map areas_in_line slaves) ++ nth_areas slaves i ∷ []
+read-next slaves i within = search (rules, next-read)

@@ -1,0 +1,65 @@
+//! Where the areas of a line stand and how wide they are: read from the trees of its tasks, for the register blocks.
+use hc_cuts::packing::Placed;
+use hc_records::keys::Key;
+use hc_records::records::Declared;
+use hc_tasks::tasks::LineCuts;
+use std::marker::Model;
+
+/// The areas of the line of declared groups with their places, lent. Contracts see it as the layout of that
+/// line: the areas of each task with their places.
+#[derive(Drop)]
+pub(crate) struct PlacedLine<'a> {
+    groups: &'a [Declared],
+    cuts: &'a LineCuts,
+}
+
+impl<'a> Model for PlacedLine<'a> {
+    ghost use Rattle.std.specs.Prelude.{◌≡◌, List};
+    ghost use Rattle.hc_records.specs.Line.{line_from};
+    ghost use Rattle.hc_records.specs.Packing.{Placed};
+    ghost use Rattle.hc_places.specs.Layout.{layout_of};
+    ghost use Rattle.hc_tasks.specs.Areas.{areas_by_rank};
+    ghost use Rattle.hc_tasks.specs.Kept.{line_kept};
+
+    ghost Value = { List (List Placed) };
+
+    ghost view = { λ placed_line. layout_of (line_from 1 placed_line.groups.now) };
+
+    ghost invariant = { λ placed_line. placed_line.cuts.now ≡ line_kept (areas_by_rank placed_line.groups.now) };
+}
+
+impl<'a> PlacedLine<'a> {
+    ghost use Rattle.std.specs.Prelude.{◌≡◌, ◌<◌};
+    ghost use Rattle.hc_records.specs.Line.{line_from};
+    ghost use Rattle.hc_records.specs.declared.limits.TheConstants.{TASKS};
+    ghost use Rattle.hc_places.specs.Layout.{layout_of, placed_in};
+    ghost use Rattle.hc_tasks.specs.Areas.{areas_by_rank};
+    ghost use Rattle.hc_tasks.specs.Kept.{line_kept};
+    ghost use Rattle.hc_plan.specs.inner.Blocks.{bits_in};
+
+    /// Those of the line of these groups, whose tasks are kept in these trees.
+    pub(crate) fn of(groups: &'a [Declared], cuts: &'a LineCuts) -> PlacedLine<'a>
+        requires { cuts.now ≡ line_kept (areas_by_rank groups.now) }
+        ensures { result ≡ layout_of (line_from 1 groups.now) }
+    {
+        PlacedLine { groups, cuts }
+    }
+
+    /// Where the area with a key stands in a task, 0 to 7; none where the task has no such area, or the area
+    /// has 0 bits. It takes no memory.
+    pub(crate) fn placed(&self, task: u8, key: Key) -> Option<Placed>
+        requires { task < TASKS }
+        ensures { result ≡ placed_in self.now task key }
+    {
+        self.cuts.place(task, key)
+    }
+
+    /// The width in bits of the area with a key in a task, 0 to 7; 0 where the task has no such area. It takes
+    /// no memory.
+    pub(crate) fn bits(&self, task: u8, key: Key) -> u16
+        requires { task < TASKS }
+        ensures { result ≡ bits_in self.now task key }
+    {
+        self.cuts.bits(task, key)
+    }
+}
