@@ -1,9 +1,16 @@
-use Rattle.std.proofs.Common.{◌≡◌, ℕ, List, None, Some, length, ◌∷◌, ap, slice_index_or, sym, subst, ◌∙◌}
+use Rattle.std.proofs.Common.{◌≡◌, ℕ, suc, ◌+◌, ◌*◌, ◌≤◌, List, None, Some, length, ◌∷◌, ap, slice_index_or, sym, subst, ◌∙◌, arith}
+use Rattle.hc_records.specs.declared.records.Area.{Area}
 use Rattle.hc_cuts.specs.Starts.{Kept}
 use Rattle.hc_tasks.specs.Kept.{crowded_from, kept_by, kept_from}
+use Rattle.hc_tasks.specs.Recut.{recut_from, touched_by, touched_from}
 use Rattle.hc_tasks.proofs.Turns.{first-crowded, parts, rest-crowded, set-again, set-at, set-first, split-tasks}
 use Rattle.hc_tasks.proofs.lemmas.Turning.{back-lines}
 use Rattle.hc_tasks.proofs.turning.+turn_tasks.Goals as goal
+
+-- the steps of the first task and those of the rest
+more : (count task start mid last : ℕ) (old new : List (List Area)) → mid ≤ start + 1664 * touched_by task old new → last ≤ mid + 1664 * touched_from count (task + 1) old new
+    → last ≤ start + 1664 * touched_from (suc count) task old new
+more count task start mid last old new first rest = omega arith
 
 pub returns-in_default-clause-refused : goal.returns-in_default-clause-refused
 returns-in_default-clause-refused g t c = λ old new turn.
@@ -63,3 +70,31 @@ returns-in-Err-clause-unchanged g t c =
     ∙ ap (λ (k : Kept). k ∷ c.turn_tasks.new.tasks) (put ∙ sym q.0.stands)
     ∙ ap (λ (ks : List Kept). slice_index_or s.result.0.now 0 c.index-these-0.result ∷ ks) c.in-Err.ensures.unchanged
     ∙ sym (split-tasks s.result.0.now s.result.1.now c.args.tasks.now c.index-these-0.result (sym s.ensures.value) s.ensures.front_len)
+
+pub returns-in-Ok-turn_tasks-clause-recut : goal.returns-in-Ok-turn_tasks-clause-recut
+returns-in-Ok-turn_tasks-clause-recut g t c = λ old new turn.
+    let s = c.split_at_mut-these in
+    let p = parts c.args.task c.args.first c.args.before.now c.args.after.now old new c.args.tasks.now s.result.0.now s.result.1.now c.index-these-0-2.result s.ensures.value s.ensures.front_len turn in
+    subst (λ (n : ℕ). c.in-Ok.recut + c.in-Ok-turn_tasks.behind ≡ recut_from n c.args.task old new) (sym p.2)
+    (omega (arith, c.in-Ok.ensures.recut old new p.0, c.in-Ok-turn_tasks.ensures.recut old new p.1))
+
+pub returns-in-Ok-turn_tasks-clause-steps : goal.returns-in-Ok-turn_tasks-clause-steps
+returns-in-Ok-turn_tasks-clause-steps g t c = λ old new turn.
+    let s = c.split_at_mut-these in
+    let p = parts c.args.task c.args.first c.args.before.now c.args.after.now old new c.args.tasks.now s.result.0.now s.result.1.now c.index-these-0-2.result s.ensures.value s.ensures.front_len turn in
+    subst (λ (n : ℕ). c.turn_tasks.new.steps ≤ c.args.steps.now + 1664 * touched_from n c.args.task old new) (sym p.2)
+    (more (length s.result.1.now) c.args.task c.args.steps.now c.turn_task.new.steps c.turn_tasks.new.steps old new (c.in-Ok.ensures.steps old new p.0) (c.in-Ok-turn_tasks.ensures.steps old new p.1))
+
+pub returns-in-Err-clause-steps : goal.returns-in-Err-clause-steps
+returns-in-Err-clause-steps g t c = λ old new turn.
+    let s = c.split_at_mut-these in
+    let p = parts c.args.task c.args.first c.args.before.now c.args.after.now old new c.args.tasks.now s.result.0.now s.result.1.now c.index-these-0-2.result s.ensures.value s.ensures.front_len turn in
+    subst (λ (n : ℕ). c.turn_tasks.new.steps ≤ c.args.steps.now + 1664 * touched_from n c.args.task old new) (sym p.2)
+    (more (length s.result.1.now) c.args.task c.args.steps.now c.turn_task.new.steps c.turn_tasks.new.steps old new (c.in-Ok.ensures.steps old new p.0) (c.in-Err.ensures.steps old new p.1))
+
+pub returns-in_default-clause-steps : goal.returns-in_default-clause-steps
+returns-in_default-clause-steps g t c = λ old new turn.
+    let s = c.split_at_mut-these in
+    let p = parts c.args.task c.args.first c.args.before.now c.args.after.now old new c.args.tasks.now s.result.0.now s.result.1.now c.index-these-0-2.result s.ensures.value s.ensures.front_len turn in
+    subst (λ (n : ℕ). c.turn_task.new.steps ≤ c.args.steps.now + 1664 * touched_from n c.args.task old new) (sym p.2)
+    (more (length s.result.1.now) c.args.task c.args.steps.now c.turn_task.new.steps c.turn_task.new.steps old new (c.in_default.ensures.steps old new p.0) (omega arith))
