@@ -1,9 +1,9 @@
 -- The addresses of the declared slaves, and the slaves of the line among them.
-use Rattle.std.proofs.Common.{◌≡◌, ◌≢◌, ℕ, ◌+◌, ◌<◌, ◌==◌, ◌||◌, Bool, true, false, List, [], ◌∷◌, ◌++◌, length, refl, sym, ap, subst, if◌then◌else◌, rules}
+use Rattle.std.proofs.Common.{◌≡◌, ◌≢◌, ℕ, ◌+◌, ◌<◌, ◌≤◌, ◌==◌, ◌||◌, Bool, true, false, List, [], ◌∷◌, ◌++◌, length, refl, sym, ap, subst, if◌then◌else◌, rules}
 use Rattle.std.specs.Prelude.{All, AllPairs, Contains, None, map}
 use Rattle.std.specs.List.{list_any}
 use Rattle.std.proofs.lemmas.List.{map-append}
-use Rattle.std.proofs.lemmas.List.Elements.{All-nil, All-append, All-weaker, Contains-append_left, Contains-append_right}
+use Rattle.std.proofs.lemmas.List.Elements.{All-map, All-nil, All-append, All-weaker, Contains-append_left, Contains-append_right}
 use Rattle.std.proofs.lemmas.List.Folds.{list_any-append}
 use Rattle.hc_records.specs.declared.records.Declared.{Declared}
 use Rattle.hc_records.specs.declared.records.Slave.{Slave}
@@ -11,7 +11,7 @@ use Rattle.hc_records.specs.Edits.{has_station}
 use Rattle.hc_records.specs.Line.{Member, groups_of, line_from, members_from, present_slaves}
 use Rattle.hc_records.specs.Project.{lowest_fault}
 use Rattle.hc_records.proofs.lemmas.Limits.{project-inside}
-use Rattle.hc_records.proofs.lemmas.Lines.{declared_slaves, line-ascends, line-pairs}
+use Rattle.hc_records.proofs.lemmas.Lines.{RankWithin, declared_slaves, line-ascends, line-pairs, line-within}
 use Rattle.hc_records.proofs.lemmas.Lists.{AllPairs-map}
 use Rattle.hc_index.specs.declared.addresses.Address.{Address}
 use Rattle.hc_index.proofs.Found.{contains-map}
@@ -71,6 +71,12 @@ addresses-distinct groups none =
 
 pub addresses-ranked : (groups : List Declared) → AllPairs (λ a b. a.rank < b.rank) (addresses groups)
 addresses-ranked groups = AllPairs-map (λ (a b : Address). a.rank < b.rank) address_of (line_from 1 (all_present groups)) (line-ascends 1 (all_present groups))
+
+pub addresses-some : (groups : List Declared) → All (λ address. 1 ≤ address.rank) (addresses groups)
+addresses-some groups =
+    let line = line_from 1 (all_present groups) in
+    All-map (λ (a : Address). 1 ≤ a.rank) address_of line
+    (All-weaker (RankWithin 1 (1 + length (declared_slaves (all_present groups)))) (λ member. 1 ≤ member.rank) (λ member within. within.0) line (line-within 1 (all_present groups)))
 
 -- a station address that is declared stands among them
 

@@ -4,9 +4,8 @@ use Rattle.std.specs.Prelude.{All, AllPairs, Contains, MatchOption, find, is_som
 use Rattle.std.specs.List.{list_any}
 use Rattle.std.proofs.lemmas.Bool.{eq-eqb, eqb-true}
 use Rattle.std.proofs.lemmas.List.{take_all}
-use Rattle.std.proofs.lemmas.List.Elements.{All-map, All-weaker}
+use Rattle.std.proofs.lemmas.List.Elements.{All-weaker}
 use Rattle.std.proofs.lemmas.List.Sums.{sum_by_more_le}
-use Rattle.std.proofs.lemmas.List.Sorted.{All-permutation, Contains-permutation, IsPermutation-sym, list_any-IsPermutation}
 use Rattle.std.proofs.lemmas.Option.{get_or_from_slice_get, slice_get-map, slice_get_past, slice_get_within}
 use Rattle.hc_records.specs.declared.limits.TheConstants.{MOST_AREAS}
 use Rattle.hc_records.specs.declared.records.Declared.{Declared}
@@ -14,15 +13,15 @@ use Rattle.hc_records.specs.declared.records.Slave.{Slave}
 use Rattle.hc_records.specs.Edits.{has_station}
 use Rattle.hc_records.specs.Line.{Member, groups_of, is_at, line_from}
 use Rattle.hc_records.specs.Project.{lowest_fault}
-use Rattle.hc_records.proofs.lemmas.Lines.{RankWithin, declared_slaves, line-within}
 use Rattle.hc_records.proofs.lemmas.Lists.{AllPairs-weaker}
 use Rattle.hc_records.proofs.lemmas.Slaves.{line-inside, line-stations, project-counted}
 use Rattle.hc_records.proofs.lemmas.Walks.{length-line}
 use Rattle.hc_index.specs.declared.addresses.Address.{Address}
-use Rattle.hc_index.specs.Index.{AreSums, Index, IsIndexOf, IsMember, address_of, addresses, all_present, block_sum, blocks_of, declared_count, own_blocks, own_sum, owned_by, present_count, rank_in, slave_in, IsSpot, block_sums}
-use Rattle.hc_index.proofs.Declaring.{addresses-distinct, addresses-ranked, any-station, line-among}
+use Rattle.hc_index.specs.Index.{AreSums, Index, IsIndexOf, IsMember, address_of, addresses, block_sum, blocks_of, declared_count, own_blocks, own_sum, owned_by, present_count, rank_in, slave_in, IsSpot, block_sums}
+use Rattle.hc_index.proofs.Declaring.{addresses-distinct, addresses-ranked, addresses-some, any-station, line-among}
 use Rattle.hc_index.proofs.Found.{differs, differs-behind, any-none, any-some, find-position, only-one, position-at, position-none}
 use Rattle.hc_index.proofs.Lines.{line-absent, line-at, line-front, line-length, line-ranks}
+use Rattle.hc_index.proofs.Owned.{owned, owners-length}
 use Rattle.hc_index.proofs.Owners.{line-sum, owned-at, owned-past}
 use Rattle.hc_index.proofs.Summed.{FallsIn, all-get, are-sums, falls-behind, falls-in, front-at, some-at}
 
@@ -41,19 +40,13 @@ line-low groups none = search (rules, length-line, project-counted)
 alone : (groups : List Declared) (station : ℕ) → lowest_fault (groups_of groups) ≡ None → AllPairs (λ a b. is_at station b ≡ true → is_at station a ≡ false) (line_from 1 groups)
 alone groups station none = search (rules, AllPairs-weaker, differs-behind, line-stations)
 
-declared-among : (groups : List Declared) (index : Index) (address : Address) → IsIndexOf groups index → Contains index.addresses address → Contains (addresses groups) address
-declared-among groups index address is at = search (rules, Contains-permutation, IsPermutation-sym)
-
 ranked-apart : (groups : List Declared) → AllPairs (λ a b. a.rank ≢ b.rank) (addresses groups)
 ranked-apart groups = search (rules, AllPairs-weaker, addresses-ranked)
 
 -- its rank is at least 1
-pub rank-some : (groups : List Declared) (index : Index) (address : Address) → IsIndexOf groups index → Contains index.addresses address → 1 ≤ address.rank
+pub rank-some : (groups : List Declared) (index : Index) (address : Address) → IsIndexOf groups index → Contains (addresses groups) address → 1 ≤ address.rank
 rank-some groups index address is at =
-    all-contained (λ (a : Address). 1 ≤ a.rank) (addresses groups) address
-    (All-map (λ (a : Address). 1 ≤ a.rank) address_of (line_from 1 (all_present groups))
-    (All-weaker (RankWithin 1 (1 + length (declared_slaves (all_present groups)))) (λ member. 1 ≤ member.rank) (λ member within. within.0) (line_from 1 (all_present groups)) (line-within 1 (all_present groups))))
-    (declared-among groups index address is at)
+    all-contained (λ (a : Address). 1 ≤ a.rank) (addresses groups) address (addresses-some groups) at
 
 -- a slave of a group that is present, in the line
 
@@ -93,7 +86,7 @@ stands-at groups group place declared here present inside =
 pub falls-at : (groups : List Declared) (position group place : ℕ) → FallsIn present_count groups position group place → StandsAt groups group place
 falls-at groups position group place falls = search (rules, is-present, falls, stands-at, present-own)
 
-pub position-found : (groups : List Declared) (index : Index) (station rank group place : ℕ) → IsIndexOf groups index → Contains index.addresses (record { station = station; rank = rank })
+pub position-found : (groups : List Declared) (index : Index) (station rank group place : ℕ) → IsIndexOf groups index → Contains (addresses groups) (record { station = station; rank = rank })
     → IsMember groups rank group place → position (is_at station) (line_from 1 groups) ≡ Some (sum_by present_count (take group groups) + place)
 position-found groups index station rank group place is declared member =
     let line = line_from 1 groups in
@@ -101,7 +94,7 @@ position-found groups index station rank group place is declared member =
     let of : Member = record { rank = rank_in groups group place; slave = stands.slave } in
     let own = all-get (λ (m : Member). Contains (addresses groups) (address_of m)) line (sum_by present_count (take group groups) + place) of (line-among groups) stands.at in
     let same = only-one (λ (a : Address). a.rank) (addresses groups) (address_of of) (record { station = station; rank = rank }) (ranked-apart groups) own
-    (declared-among groups index (record { station = station; rank = rank }) is declared) (sym member.ranked) in
+    declared (sym member.ranked) in
     let here : stands.slave.station ≡ station = ap (λ (a : Address). a.station) same in
     position-at (is_at station) line (sum_by present_count (take group groups) + place) of (alone groups station is.declared.project) stands.at (eq-eqb stands.slave.station station here)
 
@@ -112,36 +105,35 @@ by-test rank m all station true is distinct own declared other =
     let same = only-one (λ (a : Address). a.station) all (address_of m) (record { station = station; rank = rank }) distinct own declared (eqb-true m.slave.station station is) in
     absurd (other (ap (λ (a : Address). a.rank) same))
 
-pub position-absent : (groups : List Declared) (index : Index) (station rank : ℕ) → IsIndexOf groups index → Contains index.addresses (record { station = station; rank = rank })
+pub position-absent : (groups : List Declared) (index : Index) (station rank : ℕ) → IsIndexOf groups index → Contains (addresses groups) (record { station = station; rank = rank })
     → All (λ member. member.rank ≢ rank) (line_from 1 groups) → position (is_at station) (line_from 1 groups) ≡ None
 position-absent groups index station rank is declared none =
     let line = line_from 1 groups in
     position-none (is_at station) line
     (λ k d within. by-test rank (get_or line k d) (addresses groups) station ((get_or line k d).slave.station == station) refl (addresses-distinct groups is.declared.project)
-    (line-among groups k d within) (declared-among groups index (record { station = station; rank = rank }) is declared) (none k d within))
+    (line-among groups k d within) declared (none k d within))
 
-pub position-unknown : (groups : List Declared) (index : Index) (station : ℕ) → IsIndexOf groups index → All (λ address. address.station ≢ station) index.addresses
+pub position-unknown : (groups : List Declared) (index : Index) (station : ℕ) → IsIndexOf groups index → All (λ address. address.station ≢ station) (addresses groups)
     → position (is_at station) (line_from 1 groups) ≡ None
 position-unknown groups index station is none =
     let line = line_from 1 groups in
-    let all = All-permutation (λ (a : Address). a.station ≢ station) index.addresses (addresses groups) (IsPermutation-sym (addresses groups) index.addresses is.declared.addresses) none in
     position-none (is_at station) line
     (λ k d within. differs (get_or line k d).slave.station station
-    (all-contained (λ (a : Address). a.station ≢ station) (addresses groups) (address_of (get_or line k d)) all (line-among groups k d within)))
+    (all-contained (λ (a : Address). a.station ≢ station) (addresses groups) (address_of (get_or line k d)) none (line-among groups k d within)))
 
 -- whether it is declared
 pub declared-is : (groups : List Declared) (index : Index) (station : ℕ) (found : Option ℕ) → IsIndexOf groups index
-    → MatchOption found (All (λ address. address.station ≢ station) index.addresses) (λ rank. Contains index.addresses (record { station = station; rank = rank }))
+    → MatchOption found (All (λ address. address.station ≢ station) (addresses groups)) (λ rank. Contains (addresses groups) (record { station = station; rank = rank }))
     → is_some found ≡ list_any (λ (declared : Declared). has_station station declared.group.slaves) groups
 declared-is groups index station None is none =
     let test : Address → Bool = λ address. address.station == station in
-    sym (sym (any-station station 1 groups) ∙ list_any-IsPermutation test (addresses groups) index.addresses is.declared.addresses
-    ∙ any-none test index.addresses (All-weaker (λ (a : Address). a.station ≢ station) (λ a. (a.station == station) ≡ false) (λ a. differs a.station station) index.addresses none))
+    sym (sym (any-station station 1 groups)
+    ∙ any-none test (addresses groups) (All-weaker (λ (a : Address). a.station ≢ station) (λ a. (a.station == station) ≡ false) (λ a. differs a.station station) (addresses groups) none))
 declared-is groups index station (Some rank) is at =
     let test : Address → Bool = λ address. address.station == station in
-    sym (sym (any-station station 1 groups) ∙ list_any-IsPermutation test (addresses groups) index.addresses is.declared.addresses
-    ∙ any-some test index.addresses at.0 (record { station = station; rank = rank }) at.1
-    (eq-eqb (get_or index.addresses at.0 (record { station = station; rank = rank })).station station (ap (λ (a : Address). a.station) at.2)))
+    sym (sym (any-station station 1 groups)
+    ∙ any-some test (addresses groups) at.0 (record { station = station; rank = rank }) at.1
+    (eq-eqb (get_or (addresses groups) at.0 (record { station = station; rank = rank })).station station (ap (λ (a : Address). a.station) at.2)))
 
 -- the slave that has a block
 pub record OwnerOf (groups : List Declared) (n group place number : ℕ) : Type 0 where
@@ -246,41 +238,64 @@ blocks-total groups index is =
 
 -- where a rank or a position falls
 
-falls-here : {X : Type 0} (count : X → ℕ) (xs : List X) (n index offset : ℕ) (x : X) → FallsIn count xs n index offset → slice_get xs index ≡ Some x → (n ≡ sum_by count (take index xs) + offset) × (offset < count x)
-falls-here count xs n index offset x falls at = search rules
+-- the group of the slave with a rank, and how far behind its first slave it is
+pub record Owner (groups : List Declared) (index : Index) (rank group : ℕ) : Type 0 where
+  pub declared : Declared
+  pub at : slice_get groups group ≡ Some declared
+  pub inside : group < length groups
+  pub within : group < length index.ranks
+  pub front : get_or index.ranks group 0 ≤ rank - 1
+  pub ranked : rank ≡ rank_in groups group (rank - 1 - get_or index.ranks group 0)
+  pub low : rank - 1 - get_or index.ranks group 0 < length declared.group.slaves
+
+pub owner-present : (groups : List Declared) (index : Index) (rank group : ℕ) (owner : Owner groups index rank group) (d : Declared) (present : Bool) → (get_or groups group d).present ≡ present
+    → owner.declared.present ≡ present
+owner-present groups index rank group owner d present is = sym (ap (λ (own : Declared). own.present) (get_or_from_slice_get groups group owner.declared d owner.at)) ∙ is
 
 module _ (groups : List Declared) (index : Index) (is : IsIndexOf groups index) where
-  pub ranks-sums : AreSums index.ranks
-  ranks-sums = are-sums declared_count index.ranks groups is.declared.ranks
-
   pub slaves-sums : AreSums index.slaves
   slaves-sums = are-sums present_count index.slaves groups is.slaves
 
-  pub rank-inside : (n group place : ℕ) → IsSpot index.ranks n group place → group < length groups
-  rank-inside n group place spot = let falls = falls-in declared_count index.ranks groups n group place is.declared.ranks spot in slice_get_within groups group falls.x falls.at
+  -- no slave has a rank past the last
+  pub rank-behind : (rank : ℕ) → 1 ≤ rank → length index.owners ≤ rank - 1 → All (λ member. member.rank ≢ rank) (line_from 1 groups)
+  rank-behind rank some past =
+      let long = ap length is.declared.owners ∙ owners-length 0 groups in
+      All-weaker (λ (member : Member). member.rank < 1 + sum_by declared_count groups) (λ member. member.rank ≢ rank) (λ member below same. omega (arith, long, past, some, below, same)) (line_from 1 groups) (line-ranks 1 groups)
 
-  pub rank-behind : (rank : ℕ) → 1 ≤ rank → All (λ sum. sum ≤ rank - 1) index.ranks → All (λ member. member.rank ≢ rank) (line_from 1 groups)
-  rank-behind rank some all =
-      let past = falls-behind declared_count index.ranks groups (rank - 1) is.declared.ranks all in
-      search (rules, All-weaker, line-ranks)
+  falls-owned : (n group : ℕ) → slice_get index.owners n ≡ Some group → (offset : ℕ) × FallsIn declared_count groups n group offset
+  falls-owned n group at =
+      let own = owned 0 groups n group (ap (λ (o : List ℕ). slice_get o n) (sym is.declared.owners) ∙ at) in
+      let number = own.number in
+      let same : own.index ≡ group = omega (arith, number) in
+      (own.offset, subst (λ (k : ℕ). FallsIn declared_count groups n k own.offset) same own.falls)
 
-  rank-falls : (rank group place : ℕ) (declared : Declared) → 1 ≤ rank → IsSpot index.ranks (rank - 1) group place → slice_get groups group ≡ Some declared
-      → (rank ≡ rank_in groups group place) × (place < declared_count declared)
-  rank-falls rank group place declared some spot at =
-      let here = falls-here declared_count groups (rank - 1) group place declared (falls-in declared_count index.ranks groups (rank - 1) group place is.declared.ranks spot) at in
-      (omega (arith, some), here.1)
+  pub rank-falls : (rank group : ℕ) → 1 ≤ rank → slice_get index.owners (rank - 1) ≡ Some group → Owner groups index rank group
+  rank-falls rank group some at =
+      let own = falls-owned (rank - 1) group at in
+      let falls = own.1 in
+      let inside = slice_get_within groups group falls.x falls.at in
+      let front = front-at declared_count index.ranks groups group is.declared.ranks (omega (arith, inside)) in
+      let sum = falls.sum in
+      let first = front.1 in
+      let low = falls.low in
+      record {
+        declared = falls.x;
+        at = falls.at;
+        inside = inside;
+        within = front.0;
+        front = omega (arith, sum, first, some);
+        ranked = omega (arith, sum, first, some);
+        low = omega (arith, sum, first, some, low);
+      }
 
-  pub rank-member : (rank group place : ℕ) (declared : Declared) → 1 ≤ rank → IsSpot index.ranks (rank - 1) group place → slice_get groups group ≡ Some declared → declared.present ≡ true
-      → IsMember groups rank group place
-  rank-member rank group place declared some spot at present =
-      let here = rank-falls rank group place declared some spot at in
-      record { declared = declared; at = at; present = present; inside = here.1; ranked = here.0 }
+  pub rank-member : (rank group : ℕ) → (owner : Owner groups index rank group) → owner.declared.present ≡ true → IsMember groups rank group (rank - 1 - get_or index.ranks group 0)
+  rank-member rank group owner present =
+      record { declared = owner.declared; at = owner.at; present = present; inside = owner.low; ranked = owner.ranked }
 
-  pub rank-absent : (rank group place : ℕ) (declared : Declared) → 1 ≤ rank → IsSpot index.ranks (rank - 1) group place → slice_get groups group ≡ Some declared → declared.present ≡ false
-      → All (λ member. member.rank ≢ rank) (line_from 1 groups)
-  rank-absent rank group place declared some spot at absent =
-      let here = rank-falls rank group place declared some spot at in
-      subst (λ (r : ℕ). All (λ member. member.rank ≢ r) (line_from 1 groups)) (sym here.0) (line-absent 1 groups group place declared at absent here.1)
+  pub rank-absent : (rank group : ℕ) → (owner : Owner groups index rank group) → owner.declared.present ≡ false → All (λ member. member.rank ≢ rank) (line_from 1 groups)
+  rank-absent rank group owner absent =
+      subst (λ (r : ℕ). All (λ member. member.rank ≢ r) (line_from 1 groups)) (sym owner.ranked)
+      (line-absent 1 groups group (rank - 1 - get_or index.ranks group 0) owner.declared owner.at absent owner.low)
 
   pub nth-found : (position group place : ℕ) → IsSpot index.slaves position group place
       → option_map {U = Member} (λ slave. record { rank = rank_in groups group place; slave = slave }) (slave_in groups group place) ≡ slice_get (line_from 1 groups) position
@@ -309,7 +324,7 @@ fronts groups index rank group place is member =
     record { inside = front.0; sum = sum; low = omega (arith, sum, short, few) }
 
 -- it is found there, by its station address
-pub member-found : (groups : List Declared) (index : Index) (station rank group place : ℕ) → IsIndexOf groups index → Contains index.addresses (record { station = station; rank = rank })
+pub member-found : (groups : List Declared) (index : Index) (station rank group place : ℕ) → IsIndexOf groups index → Contains (addresses groups) (record { station = station; rank = rank })
     → IsMember groups rank group place
     → option_map {U = Member} (λ slave. record { rank = rank_in groups group place; slave = slave }) (slave_in groups group place) ≡ find (is_at station) (line_from 1 groups)
 member-found groups index station rank group place is declared member =

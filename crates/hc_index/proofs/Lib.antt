@@ -1,8 +1,11 @@
 pub mod Aliased
 pub mod Declaring
 pub mod Found
+pub mod Halves
 pub mod Indexes
 pub mod Lines
+pub mod Owned
 pub mod Owners
+pub mod Stations
 pub mod Summed
 pub mod lemmas

@@ -1,5 +1,5 @@
 -- What an index of a project's declared groups keeps, so that a group, a slave or a block of the line is found without a walk.
-use Rattle.std.specs.Prelude.{◌≡◌, ℕ, ◌+◌, ◌-◌, ◌*◌, ◌<◌, nat_lt, true, if◌then◌else◌, List, [], ◌∷◌, length, map, slice_get, sum_by, take, Option, Some, None, option_and_then}
+use Rattle.std.specs.Prelude.{◌≡◌, ◌≢◌, ℕ, zero, suc, ◌+◌, ◌-◌, ◌*◌, ◌<◌, nat_lt, true, if◌then◌else◌, All, Contains, List, [], ◌∷◌, ◌++◌, get_or, length, map, slice_get, sum_by, take, Option, Some, None, option_and_then}
 use Rattle.std.specs.List.{enumerate_from}
 use Rattle.std.specs.List.Sorted.{IsNonDecreasing, IsPermutation}
 use Rattle.hc_records.specs.declared.records.Declared.{Declared}
@@ -30,6 +30,20 @@ address_of member = record { station = member.slave.station; rank = member.rank 
 -- the station addresses of all declared slaves, present or not, in declared order
 abbrev pub addresses : List Declared → List Address
 addresses groups = map address_of (line_from 1 (all_present groups))
+
+-- the rank of the declared slave with a station address, among these: 0 where none has it
+abbrev pub IsRankOf : List Address → ℕ → ℕ → Type 0
+IsRankOf all station zero = All (λ (address : Address). address.station ≢ station) all
+IsRankOf all station (suc rank) = Contains all (record { station = station; rank = suc rank })
+
+-- the ranks by station addresses: none has an address past the last
+abbrev pub AreRanks : List Address → List ℕ → Type 0
+AreRanks all ranks = (station : ℕ) → IsRankOf all station (get_or ranks station 0)
+
+-- of each declared slave, in declared order, the number of its group, where the first group has this number
+abbrev pub owners_from : ℕ → List Declared → List ℕ
+owners_from group [] = []
+owners_from group (declared ∷ groups) = map (λ (slave : Slave). group) declared.group.slaves ++ owners_from (group + 1) groups
 
 -- how many register blocks slaves have: two for each area
 
@@ -90,12 +104,13 @@ rank_in groups group place = 1 + sum_by declared_count (take group groups) + pla
 abbrev pub block_sums : Declared → List ℕ
 block_sums declared = sums_from blocks_of 0 declared.group.slaves
 
--- the aliases with the numbers of their groups, in the order of the aliases; the station addresses with their ranks, in the
--- order of the addresses; for each declared group the sums of its slaves' blocks; and the sums of the groups' declared slaves, of
+-- the aliases with the numbers of their groups, in the order of the aliases; at each station address the rank of the declared
+-- slave that has it; of each declared slave its group; for each declared group the sums of its slaves' blocks; and the sums of the groups' declared slaves, of
 -- their slaves of the line, and of the blocks of those
 pub record Index : Type 0 where
   pub aliases : List Alias
-  pub addresses : List Address
+  pub stations : List ℕ
+  pub owners : List ℕ
   pub fronts : List (List ℕ)
   pub ranks : List ℕ
   pub slaves : List ℕ
@@ -106,7 +121,8 @@ pub record Index : Type 0 where
 pub record IsIndexOfDeclared (groups : List Declared) (index : Index) : Type 0 where
   pub project : lowest_fault (groups_of groups) ≡ None
   pub aliases : IsPermutation (aliases groups) index.aliases
-  pub addresses : IsPermutation (addresses groups) index.addresses
+  pub stations : AreRanks (addresses groups) index.stations
+  pub owners : index.owners ≡ owners_from 0 groups
   pub fronts : index.fronts ≡ map block_sums groups
   pub ranks : index.ranks ≡ sums_from declared_count 0 groups
 

@@ -1,8 +1,8 @@
-//! The station addresses of all declared slaves, present or not, sorted.
-ghost use Rattle.std.specs.Prelude.{◌≡◌, ◌≢◌, ◌+◌, ◌<◌, ◌++◌, All, Contains, IfOk, MatchOption, OnOk, false, length, map, nat_lt, true};
-ghost use Rattle.std.specs.List.Sorted.{IsNonDecreasingBy, IsPartitionPoint, IsPermutation};
+//! The ranks of all declared slaves, present or not, by their station addresses.
+ghost use Rattle.std.specs.Prelude.{◌≡◌, ◌≢◌, ◌+◌, ◌<◌, ◌≤◌, ◌++◌, All, Contains, IfOk, List, MatchOption, OnOk, length, map, replicate};
 ghost use Rattle.hc_records.specs.Line.{IsCounted, members_from};
-ghost use Rattle.hc_index.specs.Index.{address_of, addresses};
+ghost use Rattle.hc_index.specs.declared.addresses.Address.{Address};
+ghost use Rattle.hc_index.specs.Index.{AreRanks, address_of, addresses};
 
 use hc_records::records::{Declared, Slave};
 use std::alloc::{AllocError, Global};
@@ -47,38 +47,53 @@ fn declared_addresses(alloc: Global, groups: &[Declared]) -> Result<Vec<Address>
     Ok(all)
 }
 
-/// The station addresses of all declared slaves, the lowest first. `AllocError` where a growth was
-/// refused.
-pub(crate) fn sorted_addresses(
-    alloc: Global,
-    groups: &[Declared],
-) -> Result<Vec<Address>, AllocError>
-    requires { IsCounted groups.now }
-    ensures same { IfOk result (λ all. IsPermutation (addresses groups.now) all.items) }
-    ensures order { IfOk result (λ all. IsNonDecreasingBy (λ address. address.station) all.items) }
+/// The highest station address; 0 where there is none.
+fn highest_station(addresses: &[Address]) -> u16
+    ensures { All (λ address. address.station ≤ result) addresses.now }
 {
-    let mut all = declared_addresses(alloc, groups)?;
-    all.sort_unstable_by_key(|address| address.station);
-    Ok(all)
+    let mut highest = 0;
+    for address in addresses {
+        highest = highest.max(address.station);
+    }
+    highest
 }
 
-/// How many addresses are lower than a station address.
-fn count_below(addresses: &[Address], station: u16) -> usize
-    requires { IsNonDecreasingBy (λ address. address.station) addresses.now }
-    ensures { IsPartitionPoint (λ address. nat_lt address.station station ≡ true) (λ address. nat_lt address.station station ≡ false) addresses.now result }
+/// Writes the rank of each declared slave at its station address.
+fn write_ranks(ranks: &mut [u16], addresses: &[Address])
+    requires room { All (λ address. address.station < length ranks.old) addresses.now }
+    requires some { All (λ address. 1 ≤ address.rank) addresses.now }
+    requires none { ranks.old ≡ replicate (length ranks.old) 0 }
+    ensures { AreRanks addresses.now ranks.new }
 {
-    addresses.partition_point(|address| address.station < station)
+    for address in addresses {
+        ranks[usize::from(address.station)] = address.rank;
+    }
+}
+
+/// So many zeros.
+fn no_ranks(alloc: Global, n: usize) -> Result<Vec<u16>, AllocError>
+    ensures { IfOk result (λ ranks. ranks.items ≡ replicate n 0) }
+{
+    vec![in alloc; 0; n]
+}
+
+/// At each station address up to the highest of a declared slave the slave's rank, or 0 where none has it.
+/// `AllocError` where a growth was refused.
+pub(crate) fn ranks_by_station(alloc: Global, groups: &[Declared]) -> Result<Vec<u16>, AllocError>
+    requires { IsCounted groups.now }
+    ensures { IfOk result (λ ranks. AreRanks (addresses groups.now) ranks.items) }
+{
+    let addresses = declared_addresses(alloc, groups)?;
+    let highest = highest_station(&addresses);
+    let mut ranks = no_ranks(alloc, usize::from(highest) + 1)?;
+    write_ranks(&mut ranks, &addresses);
+    Ok(ranks)
 }
 
 /// The rank of the declared slave with a station address; none where there is none.
-pub(crate) fn find_rank(addresses: &[Address], station: u16) -> Option<u16>
-    requires { IsNonDecreasingBy (λ address. address.station) addresses.now }
-    ensures { MatchOption result (All (λ address. address.station ≢ station) addresses.now) (λ rank. Contains addresses.now (record { station = station; rank = rank })) }
+pub(crate) fn find_rank(ranks: &[u16], station: u16) -> Option<u16>
+    ensures { (all : List Address) → AreRanks all ranks.now → MatchOption result (All (λ address. address.station ≢ station) all) (λ rank. Contains all (record { station = station; rank = rank })) }
 {
-    let address = *addresses.get(count_below(addresses, station))?;
-    if address.station == station {
-        Some(address.rank)
-    } else {
-        None
-    }
+    let rank = *ranks.get(usize::from(station))?;
+    if rank == 0 { None } else { Some(rank) }
 }

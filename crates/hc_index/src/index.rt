@@ -4,8 +4,9 @@ ghost use Rattle.hc_records.specs.Line.{groups_of};
 ghost use Rattle.hc_records.specs.Project.{lowest_fault};
 ghost use Rattle.hc_index.specs.Index.{IsIndexOf, IsIndexOfDeclared};
 
-use crate::addresses::{Address, find_rank, sorted_addresses};
+use crate::addresses::{find_rank, ranks_by_station};
 use crate::aliases::{Alias, find_group, sorted_aliases};
+use crate::owning::owners;
 use crate::sums::{Spot, declared_sums, find_spot, group_fronts, number_at, sum_line};
 use hc_records::records::{Declared, Slave};
 use std::alloc::{AllocError, Global};
@@ -49,8 +50,10 @@ impl<'a> LineSlave<'a> {
 pub struct Index {
     // of all declared groups, the lowest alias first
     aliases: Vec<Alias>,
-    // of all declared slaves, the lowest station address first
-    addresses: Vec<Address>,
+    // at each station address the rank of the declared slave that has it, or 0
+    stations: Vec<u16>,
+    // of each declared slave the number of its group
+    owners: Vec<u16>,
     // of each declared group, how many blocks are in front of each of its slaves in the group, and how many it has
     fronts: Vec<Vec<u32>>,
     // how many slaves are declared in front of each group, and how many there are
@@ -65,7 +68,8 @@ impl Drop for Index {
     fn drop(self) {
         let Index {
             aliases: _,
-            addresses: _,
+            stations: _,
+            owners: _,
             fronts: _,
             ranks: _,
             slaves: _,
@@ -81,9 +85,9 @@ impl Model for Index {
 
     ghost Value = { Index };
 
-    ghost view = { λ index. record { aliases = index.aliases.items; addresses = index.addresses.items; fronts = map (λ sums. sums.items) index.fronts.items; ranks = index.ranks.items; slaves = index.slaves.items; blocks = index.blocks.items } };
+    ghost view = { λ index. record { aliases = index.aliases.items; stations = index.stations.items; owners = index.owners.items; fronts = map (λ sums. sums.items) index.fronts.items; ranks = index.ranks.items; slaves = index.slaves.items; blocks = index.blocks.items } };
 
-    ghost invariant = { λ index. IsNonDecreasingBy (λ alias. alias.alias) index.aliases.items × IsNonDecreasingBy (λ address. address.station) index.addresses.items × (length index.fronts.items < vec_capacity index.slaves) × (length index.fronts.items < vec_capacity index.blocks) };
+    ghost invariant = { λ index. IsNonDecreasingBy (λ alias. alias.alias) index.aliases.items × (length index.fronts.items < vec_capacity index.slaves) × (length index.fronts.items < vec_capacity index.blocks) };
 }
 
 impl Index {
@@ -93,7 +97,8 @@ impl Index {
         ensures { IfOk result (IsIndexOf groups.now) }
     {
         let aliases = sorted_aliases(alloc, groups)?;
-        let addresses = sorted_addresses(alloc, groups)?;
+        let stations = ranks_by_station(alloc, groups)?;
+        let owners = owners(alloc, groups)?;
         let fronts = group_fronts(alloc, groups)?;
         let ranks = declared_sums(alloc, groups)?;
         let mut slaves = Vec::with_capacity(alloc, groups.len() + 1)?;
@@ -101,7 +106,8 @@ impl Index {
         sum_line(&mut slaves, &mut blocks, fronts.as_slice(), groups);
         Ok(Index {
             aliases,
-            addresses,
+            stations,
+            owners,
             fronts,
             ranks,
             slaves,
@@ -129,7 +135,8 @@ impl Index {
         Indexed {
             groups,
             aliases: self.aliases.as_slice(),
-            addresses: self.addresses.as_slice(),
+            stations: self.stations.as_slice(),
+            owners: self.owners.as_slice(),
             fronts: self.fronts.as_slice(),
             ranks: self.ranks.as_slice(),
             slaves: self.slaves.as_slice(),
@@ -143,7 +150,8 @@ impl Index {
 pub struct Indexed<'a> {
     groups: &'a [Declared],
     aliases: &'a [Alias],
-    addresses: &'a [Address],
+    stations: &'a [u16],
+    owners: &'a [u16],
     fronts: &'a [Vec<u32>],
     ranks: &'a [u32],
     slaves: &'a [u32],
@@ -160,7 +168,7 @@ impl<'a> Model for Indexed<'a> {
 
     ghost view = { λ indexed. indexed.groups.now };
 
-    ghost invariant = { λ indexed. IsIndexOf indexed.groups.now (record { aliases = indexed.aliases.now; addresses = indexed.addresses.now; fronts = map (λ sums. sums.items) indexed.fronts.now; ranks = indexed.ranks.now; slaves = indexed.slaves.now; blocks = indexed.blocks.now }) × IsNonDecreasingBy (λ alias. alias.alias) indexed.aliases.now × IsNonDecreasingBy (λ address. address.station) indexed.addresses.now };
+    ghost invariant = { λ indexed. IsIndexOf indexed.groups.now (record { aliases = indexed.aliases.now; stations = indexed.stations.now; owners = indexed.owners.now; fronts = map (λ sums. sums.items) indexed.fronts.now; ranks = indexed.ranks.now; slaves = indexed.slaves.now; blocks = indexed.blocks.now }) × IsNonDecreasingBy (λ alias. alias.alias) indexed.aliases.now };
 }
 
 impl<'a> Indexed<'a> {
@@ -198,7 +206,7 @@ impl<'a> Indexed<'a> {
     pub fn is_declared_station(&self, station: u16) -> bool
         ensures { result ≡ list_any (λ declared. has_station station declared.group.slaves) self.now }
     {
-        find_rank(self.addresses, station).is_some()
+        find_rank(self.stations, station).is_some()
     }
 
     /// Where the slave with a rank stands, if its group is present: the number of the group, from 0, and the
@@ -207,9 +215,13 @@ impl<'a> Indexed<'a> {
         requires { 1 ≤ rank }
         ensures { MatchOption result (All (λ member. member.rank ≢ rank) (line_from 1 self.now)) (λ spot. IsMember self.now rank spot.index spot.offset) }
     {
-        let spot = find_spot(self.ranks, u32::from(rank) - 1)?;
-        let declared = self.groups.get(spot.index)?;
-        if declared.present { Some(spot) } else { None }
+        let index = usize::from(*self.owners.get(usize::from(rank) - 1)?);
+        let offset = u32::from(rank) - 1 - self.ranks[index];
+        if self.groups[index].present {
+            Some(Spot { index, offset })
+        } else {
+            None
+        }
     }
 
     /// The position in the line, from 0, of the slave with a station address; none where it isn't
@@ -218,7 +230,7 @@ impl<'a> Indexed<'a> {
         ensures value { result ≡ position (is_at station) (line_from 1 self.now) }
         ensures low { IfSome result (λ index. index < 65535) }
     {
-        let rank = find_rank(self.addresses, station)?;
+        let rank = find_rank(self.stations, station)?;
         let spot = self.find_present(rank)?;
         let position = number_at(self.slaves, spot.index, spot.offset);
         Some(usize::from(position))
@@ -252,7 +264,7 @@ impl<'a> Indexed<'a> {
     pub fn slave_at(&self, station: u16) -> Option<LineSlave<'a>>
         ensures { result ≡ find (is_at station) (line_from 1 self.now) }
     {
-        let rank = find_rank(self.addresses, station)?;
+        let rank = find_rank(self.stations, station)?;
         let spot = self.find_present(rank)?;
         self.slave_in(spot.index, spot.offset)
     }

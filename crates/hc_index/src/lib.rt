@@ -5,4 +5,5 @@
 mod addresses;
 mod aliases;
 pub mod index;
+mod owning;
 mod sums;

@@ -1,5 +1,5 @@
 //! Sums along lists, in which the element that a number falls in is found by halves.
-ghost use Rattle.std.specs.Prelude.{◌≡◌, ◌+◌, ◌<◌, ◌≤◌, All, IfOk, MatchOption, length, map, slice_index, sum_by, vec_capacity, vec_len};
+ghost use Rattle.std.specs.Prelude.{◌≡◌, ◌+◌, ◌<◌, ◌≤◌, if◌then◌else◌, All, IfOk, MatchOption, length, map, slice_index, sum_by, vec_capacity, vec_len};
 ghost use Rattle.std.specs.List.Sorted.{IsNonDecreasing, IsPartitionPoint};
 ghost use Rattle.hc_records.specs.Line.{IsCounted};
 ghost use Rattle.hc_index.specs.Index.{AreSums, IsSpot, block_sum, block_sums, blocks_of, declared_count, own_sum, present_count, sums_from};
@@ -16,13 +16,27 @@ pub(crate) struct Spot {
     pub offset: u32,
 }
 
-/// How many sums are no greater.
+/// So many, if a condition holds, and else 0. It takes no branch.
+fn count_if(holds: bool, count: usize) -> usize
+    ensures { result ≡ (if holds then count else 0) }
+{
+    count * usize::from(holds)
+}
+
+/// How many sums are no greater. Half of those that are left goes in each step, without a branch on what was read.
 fn count_begun(sums: &[u32], n: u32) -> usize
     requires { IsNonDecreasing sums.now }
     ensures bound { result ≤ length sums.now }
     ensures parted { IsPartitionPoint (λ sum. sum ≤ n) (λ sum. n < sum) sums.now result }
 {
-    sums.partition_point(|sum| *sum <= n)
+    let mut begun = 0;
+    let mut left = sums.len();
+    while left > 0 {
+        let half = left - left / 2;
+        begun += count_if(sums[begun + half - 1] <= n, half);
+        left /= 2;
+    }
+    begun
 }
 
 /// Where a number falls among sums; none where it is no lower than the last.

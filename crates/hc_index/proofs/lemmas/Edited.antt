@@ -1,5 +1,5 @@
 -- Edits leave the aliases, the station addresses and the number of each slave's areas as they are.
-use Rattle.std.proofs.Common.{◌≡◌, ℕ, zero, suc, ◌+◌, Bool, true, false, List, [], ◌∷◌, length, refl, ap, if◌then◌else◌, rules}
+use Rattle.std.proofs.Common.{◌≡◌, ℕ, zero, suc, ◌+◌, Bool, true, false, List, [], ◌∷◌, ◌++◌, length, refl, ap, ◌∙◌, if◌then◌else◌, rules}
 use Rattle.std.specs.Prelude.{None, map}
 use Rattle.std.specs.List.{enumerate_from}
 use Rattle.std.proofs.lemmas.List.{length-map}
@@ -13,7 +13,7 @@ use Rattle.hc_records.specs.Edits.{groups_after, with_area, with_presence, with_
 use Rattle.hc_records.specs.Line.{groups_of}
 use Rattle.hc_records.specs.Lists.{changed_at}
 use Rattle.hc_records.specs.Project.{lowest_fault}
-use Rattle.hc_index.specs.Index.{Index, IsIndexOf, IsIndexOfDeclared, alias_of, block_sum, block_sums, blocks_of, declared_count}
+use Rattle.hc_index.specs.Index.{Index, IsIndexOf, IsIndexOfDeclared, alias_of, block_sum, block_sums, blocks_of, declared_count, owners_from}
 use Rattle.hc_index.proofs.Declaring.{addresses-group, addresses_from, own_addresses}
 use Rattle.hc_index.proofs.Summed.{sums-kept}
 
@@ -21,6 +21,7 @@ use Rattle.hc_index.proofs.Summed.{sums-kept}
 record KeepsDeclared (change : Declared → Declared) : Type 0 where
   alias : (declared : Declared) → (change declared).group.alias ≡ declared.group.alias
   addresses : (rank : ℕ) (declared : Declared) → own_addresses rank (change declared).group.slaves ≡ own_addresses rank declared.group.slaves
+  owners : (group : ℕ) (declared : Declared) → map (λ (slave : Slave). group) (change declared).group.slaves ≡ map (λ (slave : Slave). group) declared.group.slaves
   count : (declared : Declared) → declared_count (change declared) ≡ declared_count declared
   sums : (declared : Declared) → block_sums (change declared) ≡ block_sums declared
 
@@ -35,13 +36,20 @@ addresses-kept change keeps rank (declared ∷ groups) =
     let next = rank + length slaves in
     search (rules, addresses-group, addresses-kept change keeps next groups)
 
+owners-kept : (change : Declared → Declared) → KeepsDeclared change → (group : ℕ) (groups : List Declared) → owners_from group (map change groups) ≡ owners_from group groups
+owners-kept change keeps group [] = refl
+owners-kept change keeps group (declared ∷ groups) =
+    ap (λ (own : List ℕ). own ++ owners_from (group + 1) (map change groups)) (keeps.owners group declared)
+    ∙ ap (λ (rest : List ℕ). map (λ (slave : Slave). group) declared.group.slaves ++ rest) (owners-kept change keeps (group + 1) groups)
+
 fronts-kept : (change : Declared → Declared) → KeepsDeclared change → (groups : List Declared) → map block_sums (map change groups) ≡ map block_sums groups
 fronts-kept change keeps [] = refl
 fronts-kept change keeps (declared ∷ groups) = search (rules, fronts-kept change keeps groups)
 
 declared-kept : (change : Declared → Declared) → KeepsDeclared change → (groups : List Declared) (index : Index) → IsIndexOfDeclared groups index → lowest_fault (groups_of (map change groups)) ≡ None
     → IsIndexOfDeclared (map change groups) index
-declared-kept change keeps groups index is none = search (rules, aliases-kept, addresses-kept, fronts-kept, sums-kept)
+declared-kept change keeps groups index is none =
+    search (rules, aliases-kept, addresses-kept, owners-kept, fronts-kept, sums-kept)
 
 -- presence set
 
@@ -75,8 +83,19 @@ own-kept : (change : Slave → Slave) → KeepsSlave change → (rank : ℕ) (sl
 own-kept change keeps rank [] = refl
 own-kept change keeps rank (slave ∷ slaves) = search (rules, own-kept change keeps (rank + 1) slaves)
 
+numbers-kept : (change : Slave → Slave) (group : ℕ) (slaves : List Slave) → map (λ (slave : Slave). group) (map change slaves) ≡ map (λ (slave : Slave). group) slaves
+numbers-kept change group [] = refl
+numbers-kept change group (slave ∷ slaves) = ap (λ (rest : List ℕ). group ∷ rest) (numbers-kept change group slaves)
+
 slaves-keep : (change : Slave → Slave) → KeepsSlave change → KeepsDeclared (with_slaves change)
-slaves-keep change keeps = search (rules, own-kept, length-map, sums-kept)
+slaves-keep change keeps =
+    record {
+      alias = λ declared. refl;
+      addresses = λ rank declared. own-kept change keeps rank declared.group.slaves;
+      owners = λ group declared. numbers-kept change group declared.group.slaves;
+      count = λ declared. length-map declared.group.slaves change;
+      sums = λ declared. sums-kept blocks_of change keeps.blocks 0 declared.group.slaves;
+    }
 
 area-change : (station area : ℕ) (change : Area → Area) → KeepsDeclared (with_slaves (with_area station area change))
 area-change station area change = slaves-keep (with_area station area change) (area-keeps station area change)

@@ -1,11 +1,12 @@
-use Rattle.std.proofs.Common.{rules}
+use Rattle.std.proofs.Common.{◌∙◌, length, ap, sym, arith}
 use Rattle.std.proofs.lemmas.List.{length-map}
 use Rattle.hc_records.proofs.lemmas.Slaves.{project-counted}
+use Rattle.hc_index.specs.Index.{block_sums}
 use Rattle.hc_index.proofs.Owners.{few-declared, few-present}
 use Rattle.hc_index.proofs.index.Index.new.Goals as goal
 
-pub sorted_addresses-requires : goal.sorted_addresses-requires
-sorted_addresses-requires c = project-counted c.args.groups.now c.requires
+pub ranks_by_station-requires : goal.ranks_by_station-requires
+ranks_by_station-requires c = project-counted c.args.groups.now c.requires
 
 pub group_fronts-requires : goal.group_fronts-requires
 group_fronts-requires c = few-declared c.args.groups.now c.requires
@@ -20,4 +21,11 @@ pub sum_line-requires-clause-few : goal.sum_line-requires-clause-few
 sum_line-requires-clause-few c = few-present c.args.groups.now c.requires
 
 pub invariant_of-result : goal.invariant_of-result
-invariant_of-result c = search (rules, length-map)
+invariant_of-result c =
+    let count = sym (length-map c.in_ok-fronts.fronts.items (λ sums. sums.items)) ∙ ap length c.in_ok-fronts.ensures ∙ length-map c.args.groups.now block_sums in
+    let slaves = c.sum_line.ensures.room.0 in
+    let blocks = c.sum_line.ensures.room.1 in (
+      c.in_ok-aliases.ensures.order,
+      omega (arith, count, slaves, c.in_ok-slaves.ensures.capacity),
+      omega (arith, count, blocks, c.in_ok-blocks.ensures.capacity),
+    )

@@ -1,30 +1,47 @@
-use Rattle.std.proofs.Common.{◌≡◌, ◌-◌, None, arith}
-use Rattle.std.specs.Prelude.{slice_get}
+use Rattle.std.proofs.Common.{◌≡◌, ◌≢◌, ◌-◌, List, get_or, true, false, Some, None, subst, arith}
+use Rattle.std.specs.Prelude.{All, slice_get}
 use Rattle.std.proofs.lemmas.Grind.{common_steps}
 use Rattle.std.proofs.lemmas.Option.{gets}
+use Rattle.hc_records.specs.declared.records.Declared.{Declared}
+use Rattle.hc_records.specs.Line.{line_from}
+use Rattle.hc_index.specs.Index.{IsMember}
 use Rattle.hc_index.proofs.Found.{past-end}
-use Rattle.hc_index.proofs.Indexes.{rank-absent, rank-behind, rank-inside, rank-member, ranks-sums, seen}
+use Rattle.hc_index.proofs.Indexes.{owner-present, rank-absent, rank-behind, rank-falls, rank-member, seen}
 use Rattle.hc_index.proofs.index.Indexed.find_present.Goals as goal
 
-pub find_spot-requires : goal.find_spot-requires
-find_spot-requires c = ranks-sums c.self.inside.groups.now _ c.self.invariant.0
+pub returns-in_err-get : goal.returns-in_err-get
+returns-in_err-get c =
+    let none : slice_get c.self.inside.owners.now (c.args.rank - 1) ≡ None = grind (arith, common_steps, gets) in
+    rw c.from_residual.ensures (rank-behind c.args.self.now _ (seen c.self.view_is c.self.invariant.0) c.args.rank c.requires (past-end c.self.inside.owners.now (c.args.rank - 1) none))
 
-pub returns-in_err-spot : goal.returns-in_err-spot
-returns-in_err-spot c = rw c.from_residual.ensures (rank-behind c.args.self.now _ (seen c.self.view_is c.self.invariant.0) c.args.rank c.requires (rw c.from.ensures at c.in_err-spot.ensures))
+pub bounds-self-inside-index : goal.bounds-self-inside-index
+bounds-self-inside-index c =
+    let at : slice_get c.self.inside.owners.now (c.args.rank - 1) ≡ Some c.from-index.result = grind (arith, common_steps, gets) in
+    let owner = rank-falls c.self.inside.groups.now _ c.self.invariant.0 c.args.rank c.from-index.result c.requires at in
+    owner.within
 
-pub returns-in_err-declared : goal.returns-in_err-declared
-returns-in_err-declared c =
-    let inside = rank-inside c.self.inside.groups.now _ c.self.invariant.0 (c.from.result - 1) _ _ c.in_ok-spot.ensures in
-    let none : slice_get c.self.inside.groups.now c.in_ok-spot.spot.index ≡ None = (grind (arith, common_steps, gets)) in
-    let past = past-end c.self.inside.groups.now c.in_ok-spot.spot.index none in
-    absurd (omega (arith, past, inside))
+pub overflow_sub-offset-2 : goal.overflow_sub-offset-2
+overflow_sub-offset-2 c =
+    let at : slice_get c.self.inside.owners.now (c.args.rank - 1) ≡ Some c.from-index.result = grind (arith, common_steps, gets) in
+    let owner = rank-falls c.self.inside.groups.now _ c.self.invariant.0 c.args.rank c.from-index.result c.requires at in
+    let front = owner.front in omega (arith, front, c.from-2.ensures)
 
-pub returns-then-declared : goal.returns-then-declared
-returns-then-declared c =
-    rank-member c.args.self.now _ (seen c.self.view_is c.self.invariant.0) c.args.rank c.in_ok-spot.spot.index c.in_ok-spot.spot.offset c.in_ok-declared.declared.now c.requires
-    (rw c.from.ensures at c.in_ok-spot.ensures) (grind (arith, common_steps, gets)) c.if-declared.true
+pub bounds-self-inside-index-2 : goal.bounds-self-inside-index-2
+bounds-self-inside-index-2 c =
+    let at : slice_get c.self.inside.owners.now (c.args.rank - 1) ≡ Some c.from-index.result = grind (arith, common_steps, gets) in
+    let owner = rank-falls c.self.inside.groups.now _ c.self.invariant.0 c.args.rank c.from-index.result c.requires at in
+    owner.inside
 
-pub returns-else-declared : goal.returns-else-declared
-returns-else-declared c =
-    rank-absent c.args.self.now _ (seen c.self.view_is c.self.invariant.0) c.args.rank c.in_ok-spot.spot.index c.in_ok-spot.spot.offset c.in_ok-declared.declared.now c.requires
-    (rw c.from.ensures at c.in_ok-spot.ensures) (grind (arith, common_steps, gets)) c.if-declared.false
+pub returns-then-self-index : goal.returns-then-self-index
+returns-then-self-index c =
+    let at : slice_get c.self.inside.owners.now (c.args.rank - 1) ≡ Some c.from-index.result = grind (arith, common_steps, gets) in
+    let owner = rank-falls c.self.inside.groups.now _ c.self.invariant.0 c.args.rank c.from-index.result c.requires at in
+    let present = owner-present c.self.inside.groups.now _ c.args.rank c.from-index.result owner c.index-self-index.result true c.if-self-index.true in
+    rw c.from-2.ensures (subst (λ (g : List Declared). IsMember g c.args.rank c.from-index.result (c.args.rank - 1 - get_or c.self.inside.ranks.now c.from-index.result 0)) c.self.view_is (rank-member c.self.inside.groups.now _ c.self.invariant.0 c.args.rank c.from-index.result owner present))
+
+pub returns-else-self-index : goal.returns-else-self-index
+returns-else-self-index c =
+    let at : slice_get c.self.inside.owners.now (c.args.rank - 1) ≡ Some c.from-index.result = grind (arith, common_steps, gets) in
+    let owner = rank-falls c.self.inside.groups.now _ c.self.invariant.0 c.args.rank c.from-index.result c.requires at in
+    let absent = owner-present c.self.inside.groups.now _ c.args.rank c.from-index.result owner c.index-self-index.result false c.if-self-index.false in
+    subst (λ (g : List Declared). All (λ member. member.rank ≢ c.args.rank) (line_from 1 g)) c.self.view_is (rank-absent c.self.inside.groups.now _ c.self.invariant.0 c.args.rank c.from-index.result owner absent)
