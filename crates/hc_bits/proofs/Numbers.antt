@@ -108,16 +108,16 @@ pub joined-high : (low high n m k : ℕ) → low < 2 ^ n → high < 2 ^ m → n 
 joined-high low high n m k p q room h = bit_at-or_right low (high * 2 ^ n % 2 ^ 64) k (bit_at high (k - n)) (bit_at_above low n k p h)
     (ap (λ x. bit_at x k) (shl_whole high m n 64 q (omega arith)) ∙ bit_at-shl_from high n k h)
 
--- a word and the byte above it, moved down by some bits
-pub funnel-low : (low high at k : ℕ) → at < 64 → k < 64 - at → bit_at (bit_or (low / 2 ^ at) (high * 2 ^ (64 - at) % 2 ^ 64)) k ≡ bit_at low (at + k)
-funnel-low low high at k s h = bit_at-or_left (low / 2 ^ at) (high * 2 ^ (64 - at) % 2 ^ 64) k (bit_at low (at + k)) (bit_at-shr low at k)
-    (bit_at-mod (high * 2 ^ (64 - at)) 64 k (omega arith) ∙ bit_at-shl_below high (64 - at) k h)
+-- a word and what is above it, moved down by some bits
+pub funnel-low : (width low high at k : ℕ) → at < width → k < width - at → bit_at (bit_or (low / 2 ^ at) (high * 2 ^ (width - at) % 2 ^ width)) k ≡ bit_at low (at + k)
+funnel-low width low high at k s h = bit_at-or_left (low / 2 ^ at) (high * 2 ^ (width - at) % 2 ^ width) k (bit_at low (at + k)) (bit_at-shr low at k)
+    (bit_at-mod (high * 2 ^ (width - at)) width k (omega arith) ∙ bit_at-shl_below high (width - at) k h)
 
-pub funnel-high : (low high at k : ℕ) → low < 2 ^ 64 → at < 64 → k < 64 → 64 - at ≤ k → bit_at (bit_or (low / 2 ^ at) (high * 2 ^ (64 - at) % 2 ^ 64)) k ≡ bit_at high (at + k - 64)
-funnel-high low high at k b s small h = bit_at-or_right (low / 2 ^ at) (high * 2 ^ (64 - at) % 2 ^ 64) k (bit_at high (at + k - 64))
-    (bit_at-shr low at k ∙ bit_at_above low 64 (at + k) b (omega arith))
-    (bit_at-mod (high * 2 ^ (64 - at)) 64 k small ∙ bit_at-shl_from high (64 - at) k h
-    ∙ ap (bit_at high) (let e : k - (64 - at) ≡ at + k - 64 = omega arith in e))
+pub funnel-high : (width low high at k : ℕ) → low < 2 ^ width → at < width → k < width → width - at ≤ k → bit_at (bit_or (low / 2 ^ at) (high * 2 ^ (width - at) % 2 ^ width)) k ≡ bit_at high (at + k - width)
+funnel-high width low high at k b s small h = bit_at-or_right (low / 2 ^ at) (high * 2 ^ (width - at) % 2 ^ width) k (bit_at high (at + k - width))
+    (bit_at-shr low at k ∙ bit_at_above low width (at + k) b (omega arith))
+    (bit_at-mod (high * 2 ^ (width - at)) width k small ∙ bit_at-shl_from high (width - at) k h
+    ∙ ap (bit_at high) (let e : k - (width - at) ≡ at + k - width = omega arith in e))
 
 pow_256 : (k : ℕ) → 256 ^ k ≡ 2 ^ (8 * k)
 pow_256 zero = refl

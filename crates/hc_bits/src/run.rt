@@ -94,14 +94,37 @@ fn copy_words(from: &[u8], first: usize, at: usize, to: &mut [u8], first2: usize
     }
 }
 
-/// Copies into whole bytes from `first2` on, as long as 64 bits or more of the `n` are left, and answers how
+/// The eight bits from bit `at` of byte `first` on, where they do not begin with a byte.
+fn octet_at(bytes: &[u8], first: usize, at: usize) -> u8
+    requires some { 0 < at }
+    requires in_byte { at < 8 }
+    requires within { first + 1 < length bytes.now }
+    ensures { (k : ℕ) → k < 8 → bit_at result k ≡ bit_of bytes.now (8 * first + at + k) }
+{
+    bytes[first] >> at | bytes[first + 1] << (8 - at)
+}
+
+/// Copies `count` times eight bits from bit `at` of byte `first` on, where that is not a byte's first bit.
+fn copy_octets(from: &[u8], first: usize, at: usize, to: &mut [u8], first2: usize, count: usize)
+    requires some { 0 < at }
+    requires in_byte { at < 8 }
+    requires from_within { 8 * first + at + 8 * count ≤ 8 * length from.now }
+    requires to_within { first2 + count ≤ length to.old }
+    ensures { ReplacesRun to.old to.new (8 * first2) (8 * count) (λ k. bit_of from.now (8 * first + at + k)) }
+{
+    for i in 0..count {
+        to[first2 + i] = octet_at(from, first + i, at);
+    }
+}
+
+/// Copies into whole bytes from `first2` on, as long as eight bits or more of the `n` are left, and answers how
 /// many bytes it wrote.
 fn copy_most(from: &[u8], first: usize, at: usize, to: &mut [u8], first2: usize, n: usize) -> usize
     requires in_byte { at < 8 }
     requires from_within { 8 * first + at + n ≤ 8 * length from.now }
     requires to_within { 8 * first2 + n ≤ 8 * length to.old }
     ensures within { 8 * result ≤ n }
-    ensures few_left { n < 8 * result + 64 }
+    ensures few_left { n < 8 * result + 8 }
     ensures bits { ReplacesRun to.old to.new (8 * first2) (8 * result) (λ k. bit_of from.now (8 * first + at + k)) }
 {
     if at == 0 {
@@ -109,9 +132,11 @@ fn copy_most(from: &[u8], first: usize, at: usize, to: &mut [u8], first2: usize,
         copy_bytes(from, first, to, first2, count);
         count
     } else {
-        let count = n / WORD;
-        copy_words(from, first, at, to, first2, count);
-        8 * count
+        let words = n / WORD;
+        copy_words(from, first, at, to, first2, words);
+        let done = 8 * words;
+        copy_octets(from, first + done, at, to, first2 + done, n / 8 - done);
+        n / 8
     }
 }
 
@@ -145,7 +170,7 @@ pub fn put_bits(bytes: &mut [u8], at: usize, n: usize, value: u64)
 /// bit stays.
 ///
 /// Both runs lie in their slices, and `n` has no other bound. Every such call copies. Runs that stand alike in
-/// their bytes go by a copy of memory, and others by words of 64 bits.
+/// their bytes go by a copy of memory, and others by words of 64 bits and by bytes.
 pub fn copy_bits(from: &[u8], at: usize, to: &mut [u8], at2: usize, n: usize)
     requires from_within { at + n ≤ 8 * length from.now }
     requires to_within { at2 + n ≤ 8 * length to.old }

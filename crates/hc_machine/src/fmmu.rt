@@ -93,16 +93,15 @@ fn add_mapped(mapped: &mut ArrayVec<Fmmu, 16>, memory: &[u8], i: usize, from: us
     }
 }
 
-/// The FMMUs that pair one of the `n` logical bits from `from` on, in the order of their numbers.
-pub(crate) fn mapped_fmmus(memory: &[u8], from: usize, n: usize) -> ArrayVec<Fmmu, 16>
+/// Adds the FMMUs that pair one of the `n` logical bits from `from` on to none, in the order of their numbers.
+pub(crate) fn add_all_mapped(mapped: &mut ArrayVec<Fmmu, 16>, memory: &[u8], from: usize, n: usize)
+    requires none { mapped.old.items ≡ [] }
     requires memory { length memory.now ≡ MEMORY_BYTES }
     requires fits { from + n < 2 ^ 41 }
-    ensures value { result.items ≡ filter (meets from n) (fmmus_of memory.now) }
-    ensures in_memory { All IsInMemory result.items }
+    ensures value { mapped.new.items ≡ filter (meets from n) (fmmus_of memory.now) }
+    ensures in_memory { All IsInMemory mapped.new.items }
 {
-    let mut mapped = ArrayVec::new();
     for i in 0..FMMUS {
-        add_mapped(&mut mapped, memory, i, from, n);
+        add_mapped(mapped, memory, i, from, n);
     }
-    mapped
 }

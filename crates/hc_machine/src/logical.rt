@@ -8,9 +8,10 @@ ghost use Rattle.hc_machine.specs.Fmmus.{fmmus_of, IsInMemory};
 ghost use Rattle.hc_machine.specs.Memory.{bytes_with};
 ghost use Rattle.hc_machine.specs.Logical.{bit_read, bit_written, logical_count, logical_data, logical_memory, meets, mixes_any, reads_any};
 
-use crate::fmmu::{Fmmu, mapped_fmmus, meets};
+use crate::fmmu::{Fmmu, add_all_mapped, meets};
 use crate::limits::MEMORY_BYTES;
 use crate::memory::{alias_of, put_back};
+use arrayvec::ArrayVec;
 use hc_bits::copy_bits;
 use hc_frames::limits::MAX_DATA;
 
@@ -202,7 +203,8 @@ pub(crate) fn serve_logical(
 {
     let from = 8 * address as usize;
     let n = 8 * bytes.len();
-    let mapped = mapped_fmmus(memory, from, n);
+    let mut mapped = ArrayVec::new();
+    add_all_mapped(&mut mapped, memory, from, n);
     let fmmus = mapped.as_slice();
     let alias = alias_of(memory);
     exchange_data(fmmus, memory, spare, from, bytes);

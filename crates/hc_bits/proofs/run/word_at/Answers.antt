@@ -21,11 +21,11 @@ returns c = λ k h.
     let next : high ≡ get_or a.bytes.now (a.first + 8) 0 = search rules in
     elim (cases_lt k (64 - a.at)) [
       | inl below ↦
-          funnel-low low high a.at k (omega arith) below
+          funnel-low 64 low high a.at k (omega arith) below
           ∙ bit_at-from_le_bytes array low (a.at + k) eight small is (omega arith)
           ∙ ap (λ xs. bit_of xs (a.at + k)) bytes ∙ bit_of-part a.bytes.now a.first 8 (a.at + k) (omega arith)
           ∙ ap (bit_of a.bytes.now) (let e : 8 * a.first + (a.at + k) ≡ 8 * a.first + a.at + k = omega arith in e)
       | inr above ↦
-          funnel-high low high a.at k fits (omega arith) h above ∙ ap (λ x. bit_at x (a.at + k - 64)) next
+          funnel-high 64 low high a.at k fits (omega arith) h above ∙ ap (λ x. bit_at x (a.at + k - 64)) next
           ∙ sym (bit_of-byte a.bytes.now (a.first + 8) (a.at + k - 64) (8 * a.first + a.at + k) (omega arith) (omega arith))
     ]

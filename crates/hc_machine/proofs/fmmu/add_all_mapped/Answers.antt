@@ -5,7 +5,7 @@ use Rattle.std.proofs.lemmas.List.FromFn.{filter_of_map_range_with_len_more}
 use Rattle.hc_machine.specs.declared.fmmu.Fmmu.{Fmmu}
 use Rattle.hc_machine.specs.Fmmus.{block_at, fmmu_of, fmmus_of}
 use Rattle.hc_machine.specs.Logical.{meets}
-use Rattle.hc_machine.proofs.fmmu.mapped_fmmus.Goals as goal
+use Rattle.hc_machine.proofs.fmmu.add_all_mapped.Goals as goal
 
 pub loop-i-preserved : goal.loop-i-preserved
 loop-i-preserved c =

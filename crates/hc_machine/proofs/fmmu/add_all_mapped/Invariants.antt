@@ -3,7 +3,7 @@ use Rattle.std.specs.Prelude.{filter}
 use Rattle.std.specs.List.{range_with_len}
 use Rattle.hc_machine.specs.Fmmus.{block_at, fmmu_of, IsInMemory}
 use Rattle.hc_machine.specs.Logical.{meets}
-use Rattle.hc_machine.proofs.fmmu.mapped_fmmus.Given as goal
+use Rattle.hc_machine.proofs.fmmu.add_all_mapped.Given as goal
 
 abbrev pub invariant-loop-i : goal.invariant-loop-i
 invariant-loop-i l = record {

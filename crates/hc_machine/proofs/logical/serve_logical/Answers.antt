@@ -24,5 +24,5 @@ returns-clause-count c =
     let from = 8 * a.address in
     let size = 8 * length a.bytes.now in
     c.count_of.ensures.value
-    ∙ ap (λ (fs : List Fmmu). (if list_any (λ f. f.reads) fs then 1 else 0) + (if list_any (λ f. f.writes) fs then 2 else 0)) (c.as_slice-fmmus.ensures.value ∙ c.mapped_fmmus-mapped.ensures.value)
+    ∙ ap (λ (fs : List Fmmu). (if list_any (λ f. f.reads) fs then 1 else 0) + (if list_any (λ f. f.writes) fs then 2 else 0)) (c.as_slice-fmmus.ensures.value ∙ c.add_all_mapped.ensures.value)
     ∙ ap₂ (λ (x y : Bool). (if x then 1 else 0) + (if y then 2 else 0)) (reads-mapped (fmmus_of a.memory.now) from size) (writes-mapped (fmmus_of a.memory.now) from size)
