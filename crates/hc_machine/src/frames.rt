@@ -31,8 +31,10 @@ fn end_of_datagrams(frame: &[u8]) -> usize
     HEAD_BYTES + usize::from(word_at(frame, HEADER_AT) % LENGTHS)
 }
 
-/// Serves a frame that is read.
-pub(crate) fn serve_frame(memory: &mut [u8], spare: &mut [u8], frame: &mut [u8])
+/// Does what a slave does with a frame that the reader reads, in the frame's place, over memory that the caller keeps: the
+/// 12,288 bytes of the slave's memory, and 1,486 bytes of room for the data of a datagram, whatever they hold. The frame is
+/// read behind it too. Takes no memory.
+pub fn serve_frame(memory: &mut [u8], spare: &mut [u8], frame: &mut [u8])
     requires memory { length memory.old ≡ MEMORY_BYTES }
     requires spare { length spare.old ≡ MAX_DATA }
     requires readable { is_none (fault_in frame.old) ≡ true }

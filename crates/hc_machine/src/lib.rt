@@ -13,5 +13,5 @@ mod logical;
 mod machine;
 mod memory;
 
-pub use frames::is_readable;
+pub use frames::{is_readable, serve_frame};
 pub use machine::SlaveMachine;
