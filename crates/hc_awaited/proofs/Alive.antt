@@ -7,7 +7,7 @@ use Rattle.std.proofs.lemmas.List.Elements.{All-head, All-tail, filter-append}
 use Rattle.std.proofs.Math.Seq.{take-suc}
 use Rattle.hc_events.specs.Sendings.{Frame, Named}
 use Rattle.hc_awaited.specs.Waiting.{AwaitedFrame, IsNamed, is_alive}
-use Rattle.hc_awaited.specs.Kept.{Kept, is_serial, kept_of}
+use Rattle.hc_awaited.specs.Kept.{KeptFrame, is_serial, kept_of}
 
 -- filters and maps
 
@@ -37,34 +37,34 @@ map-all P f g same (x ∷ xs) all =
 abbrev pub Table : Type 0
 Table = Named → Option ℕ
 
-abbrev pub told_at : Table → Kept → AwaitedFrame
+abbrev pub told_at : Table → KeptFrame → AwaitedFrame
 told_at at frame = record {
   serial = frame.serial;
   datagrams = map (λ named. record { datagram = named; newest = is_serial frame.serial (at named) }) frame.datagrams;
 }
 
-abbrev pub alive_at : Table → List Kept → List AwaitedFrame
+abbrev pub alive_at : Table → List KeptFrame → List AwaitedFrame
 alive_at at frames = filter is_alive (map (told_at at) frames)
 
-abbrev pub stays_at : Table → Kept → Bool
+abbrev pub stays_at : Table → KeptFrame → Bool
 stays_at at frame = is_alive (told_at at frame)
 
 -- those that are awaited tell the same as all
-pub alive-stays : (at : Table) (frames : List Kept) → alive_at at (filter (stays_at at) frames) ≡ alive_at at frames
+pub alive-stays : (at : Table) (frames : List KeptFrame) → alive_at at (filter (stays_at at) frames) ≡ alive_at at frames
 alive-stays at frames =
     filter-map_is is_alive (told_at at) (filter (stays_at at) frames)
     ∙ ap (map (told_at at)) (filter-again (stays_at at) frames)
     ∙ sym (filter-map_is is_alive (told_at at) frames)
 
 -- what tables say that agree
-pub told-same : (a b : Table) → ((named : Named) → IsNamed named → a named ≡ b named) → (frame : Kept) → All IsNamed frame.datagrams → told_at a frame ≡ told_at b frame
+pub told-same : (a b : Table) → ((named : Named) → IsNamed named → a named ≡ b named) → (frame : KeptFrame) → All IsNamed frame.datagrams → told_at a frame ≡ told_at b frame
 told-same a b same frame named =
     ap (λ datagrams. record { serial = frame.serial; datagrams = datagrams })
     (map-all IsNamed _ _ (λ d is. ap (λ found. record { datagram = d; newest = is_serial frame.serial found }) (same d is)) frame.datagrams named)
 
-pub alive-same : (a b : Table) → ((named : Named) → IsNamed named → a named ≡ b named) → (frames : List Kept) → All (λ frame. All IsNamed frame.datagrams) frames → alive_at a frames ≡ alive_at b frames
+pub alive-same : (a b : Table) → ((named : Named) → IsNamed named → a named ≡ b named) → (frames : List KeptFrame) → All (λ frame. All IsNamed frame.datagrams) frames → alive_at a frames ≡ alive_at b frames
 alive-same a b same frames named =
-    ap (filter is_alive) (map-all (λ (frame : Kept). All IsNamed frame.datagrams) (told_at a) (told_at b) (told-same a b same) frames named)
+    ap (filter is_alive) (map-all (λ (frame : KeptFrame). All IsNamed frame.datagrams) (told_at a) (told_at b) (told-same a b same) frames named)
 
 -- a frame is awaited where it is the newest of one of its datagrams
 pub any-told : (at : Table) (serial : ℕ) (datagrams : List Named)
@@ -95,7 +95,7 @@ stays-few at frames i =
     omega (arith, whole, sum)
 
 -- there is room for one more of them
-pub next-room : (at : Table) (frames : List Frame) (i : ℕ) (d : Frame) (before : List Kept) (room : ℕ) → i < length frames
+pub next-room : (at : Table) (frames : List Frame) (i : ℕ) (d : Frame) (before : List KeptFrame) (room : ℕ) → i < length frames
     → stays_at at (kept_of (get_or frames i d)) ≡ true
     → length (before ++ filter (stays_at at) (map kept_of frames)) ≤ room
     → length (before ++ filter (stays_at at) (map kept_of (take i frames))) < room

@@ -14,18 +14,18 @@ use Rattle.hc_events.specs.Sendings.{Named}
 use Rattle.hc_events.proofs.lemmas.Awaited.{by_bool}
 use Rattle.hc_records.specs.declared.limits.TheConstants.{MOST_DATAGRAMS, TASKS}
 use Rattle.hc_awaited.specs.Waiting.{Carried, is_alive}
-use Rattle.hc_awaited.specs.Kept.{AreKept, Kept, Newest, is_serial, newest_of, place_of}
+use Rattle.hc_awaited.specs.Kept.{AreKept, KeptFrame, Newest, datagram_number, is_serial, newest_of}
 use Rattle.hc_awaited.proofs.Alive.{alive_at, filter-map_is, stays_at, told_at}
 
 below-apart : (a b : ℕ) → a < b → a ≢ b
 below-apart a b below same = omega (arith, below, same)
 
 -- serials that ascend are distinct
-distinct : (frames : List Kept) → AllPairs (λ a b. a.serial < b.serial) frames → IsDistinct nat_eq (map (λ (frame : Kept). frame.serial) frames)
+distinct : (frames : List KeptFrame) → AllPairs (λ a b. a.serial < b.serial) frames → IsDistinct nat_eq (map (λ (frame : KeptFrame). frame.serial) frames)
 distinct frames ascend =
-    IsDistinct-from_AllPairs Decides-eqb (map (λ (frame : Kept). frame.serial) frames)
-    (AllPairs-map (λ a b. a ≢ b) (λ (frame : Kept). frame.serial) frames
-    (AllPairs-weaker (λ (a b : Kept). a.serial < b.serial) (λ (a b : Kept). a.serial ≢ b.serial) (λ a b below. below-apart a.serial b.serial below) frames ascend))
+    IsDistinct-from_AllPairs Decides-eqb (map (λ (frame : KeptFrame). frame.serial) frames)
+    (AllPairs-map (λ a b. a ≢ b) (λ (frame : KeptFrame). frame.serial) frames
+    (AllPairs-weaker (λ (a b : KeptFrame). a.serial < b.serial) (λ (a b : KeptFrame). a.serial ≢ b.serial) (λ a b below. below-apart a.serial b.serial below) frames ascend))
 
 -- the serials of a table
 abbrev serials : Newest → List ℕ
@@ -61,35 +61,35 @@ carried-in : (newest : Newest) (serial : ℕ) (datagrams : List Named)
 carried-in newest serial [] e = cc
 carried-in newest serial (d ∷ ds) e =
     by_bool (is_serial serial (newest_of newest d))
-    (λ t. in-table serial newest (place_of d) t)
+    (λ t. in-table serial newest (datagram_number d) t)
     (λ t. carried-in newest serial ds (rw t at e))
 
-abbrev Stays : Newest → Kept → Type 0
+abbrev Stays : Newest → KeptFrame → Type 0
 Stays newest frame = stays_at (newest_of newest) frame ≡ true
 
-all-in : (newest : Newest) (frames : List Kept) → All (Stays newest) frames → (q : ℕ)
-    → is_member nat_eq (map (λ (frame : Kept). frame.serial) frames) q ≡ true → is_member nat_eq (serials newest) q ≡ true
+all-in : (newest : Newest) (frames : List KeptFrame) → All (Stays newest) frames → (q : ℕ)
+    → is_member nat_eq (map (λ (frame : KeptFrame). frame.serial) frames) q ≡ true → is_member nat_eq (serials newest) q ≡ true
 all-in newest [] alive q e = cc
 all-in newest (frame ∷ frames) alive q e =
     by_bool (nat_eq q frame.serial)
     (λ t. ap (λ n. is_member nat_eq (serials newest) n) (same-number q frame.serial t) ∙ carried-in newest frame.serial frame.datagrams (All-head (Stays newest) frame frames alive))
     (λ t. all-in newest frames (All-tail (Stays newest) frame frames alive) q (rw t at e))
 
-few : (newest : Newest) (frames : List Kept) → AllPairs (λ a b. a.serial < b.serial) frames → All (Stays newest) frames → length frames ≤ length newest
+few : (newest : Newest) (frames : List KeptFrame) → AllPairs (λ a b. a.serial < b.serial) frames → All (Stays newest) frames → length frames ≤ length newest
 few newest frames ascend alive =
-    let least = length-le_from_is_member nat_eq_equiv (map (λ (frame : Kept). frame.serial) frames) (serials newest) (distinct frames ascend) (all-in newest frames alive) in
-    let first = length-map frames (λ (frame : Kept). frame.serial) in
+    let least = length-le_from_is_member nat_eq_equiv (map (λ (frame : KeptFrame). frame.serial) frames) (serials newest) (distinct frames ascend) (all-in newest frames alive) in
+    let first = length-map frames (λ (frame : KeptFrame). frame.serial) in
     let second = length-map newest (λ (found : Option ℕ). unwrap_or found 0) in
     omega (arith, least, first, second)
 
 -- so those of any frames that are awaited
-pub few-stay : (newest : Newest) (frames : List Kept) → AllPairs (λ a b. a.serial < b.serial) frames → length (filter (stays_at (newest_of newest)) frames) ≤ length newest
+pub few-stay : (newest : Newest) (frames : List KeptFrame) → AllPairs (λ a b. a.serial < b.serial) frames → length (filter (stays_at (newest_of newest)) frames) ≤ length newest
 few-stay newest frames ascend =
-    few newest (filter (stays_at (newest_of newest)) frames) (AllPairs-filter (λ (a b : Kept). a.serial < b.serial) (stays_at (newest_of newest)) frames ascend)
+    few newest (filter (stays_at (newest_of newest)) frames) (AllPairs-filter (λ (a b : KeptFrame). a.serial < b.serial) (stays_at (newest_of newest)) frames ascend)
     (λ k d within. filter_passes (stays_at (newest_of newest)) frames k d within)
 
 -- and what is told of them
-pub few-told : (newest : Newest) (frames : List Kept) → AreKept newest frames → length (alive_at (newest_of newest) frames) ≤ TASKS * MOST_DATAGRAMS
+pub few-told : (newest : Newest) (frames : List KeptFrame) → AreKept newest frames → length (alive_at (newest_of newest) frames) ≤ TASKS * MOST_DATAGRAMS
 few-told newest frames are =
     let few = few-stay newest frames are.ascend in
     let told = ap length (filter-map_is is_alive (told_at (newest_of newest)) frames) in

@@ -10,7 +10,7 @@ use Rattle.hc_records.proofs.lemmas.Lists.{All-unmap, AllPairs-append, AllPairs-
 use Rattle.hc_events.specs.Sendings.{Frame, Named}
 use Rattle.hc_events.proofs.lemmas.Awaited.{by_bool}
 use Rattle.hc_awaited.specs.Waiting.{AwaitedFrame, AwaitedWrite, Carried, IsNamed, all_sent, as_sent, is_alive, is_named, just_sent, sent_again, with_again}
-use Rattle.hc_awaited.specs.Kept.{AreKept, Kept, Newest, is_serial, kept_of, newest_after, newest_of}
+use Rattle.hc_awaited.specs.Kept.{AreKept, KeptFrame, Newest, is_serial, kept_of, newest_after, newest_of}
 use Rattle.hc_awaited.proofs.Alive.{Table, alive-same, alive-stays, alive_at, filter-map_is, map-all, stays_at, told_at}
 
 -- a table where a frame is the newest of its datagrams
@@ -59,15 +59,15 @@ older-datagrams at frame serial below (d ∷ ds) =
     ap (λ b. record { datagram = d; newest = b } ∷ map (λ named. record { datagram = named; newest = is_serial serial (noted_at frame at named) }) ds) (older at frame serial d below)
     ∙ ap (λ (carried : List Carried). record { datagram = d; newest = is_serial serial (at d) && not (list_any (is_named d) frame.datagrams) } ∷ carried) (older-datagrams at frame serial below ds)
 
-told-older : (at : Table) (frame : Frame) (kept : Kept) → kept.serial < frame.serial → told_at (noted_at frame at) kept ≡ with_again frame.datagrams (told_at at kept)
+told-older : (at : Table) (frame : Frame) (kept : KeptFrame) → kept.serial < frame.serial → told_at (noted_at frame at) kept ≡ with_again frame.datagrams (told_at at kept)
 told-older at frame kept below = ap (λ (datagrams : List Carried). record { serial = kept.serial; datagrams = datagrams }) (older-datagrams at frame kept.serial below kept.datagrams)
 
-older-frames : (at : Table) (frame : Frame) (frames : List Kept) → All (λ kept. kept.serial < frame.serial) frames
+older-frames : (at : Table) (frame : Frame) (frames : List KeptFrame) → All (λ kept. kept.serial < frame.serial) frames
     → map (told_at (noted_at frame at)) frames ≡ map (with_again frame.datagrams) (map (told_at at) frames)
 older-frames at frame [] below = refl
 older-frames at frame (kept ∷ frames) below =
-    ap (λ (one : AwaitedFrame). one ∷ map (told_at (noted_at frame at)) frames) (told-older at frame kept (All-head (λ (k : Kept). k.serial < frame.serial) kept frames below))
-    ∙ ap (λ (rest : List AwaitedFrame). with_again frame.datagrams (told_at at kept) ∷ rest) (older-frames at frame frames (All-tail (λ (k : Kept). k.serial < frame.serial) kept frames below))
+    ap (λ (one : AwaitedFrame). one ∷ map (told_at (noted_at frame at)) frames) (told-older at frame kept (All-head (λ (k : KeptFrame). k.serial < frame.serial) kept frames below))
+    ∙ ap (λ (rest : List AwaitedFrame). with_again frame.datagrams (told_at at kept) ∷ rest) (older-frames at frame frames (All-tail (λ (k : KeptFrame). k.serial < frame.serial) kept frames below))
 
 -- one that is the newest of no datagram stays so
 
@@ -94,7 +94,7 @@ again-alive again (frame ∷ frames) =
     again-either again frame (filter is_alive frames) (filter is_alive (map (with_again again) frames)) (is_alive frame) refl (again-alive again frames)
 
 -- one frame is sent
-sent-one : (at : Table) (frame : Frame) (frames : List Kept) → All (λ kept. kept.serial < frame.serial) frames
+sent-one : (at : Table) (frame : Frame) (frames : List KeptFrame) → All (λ kept. kept.serial < frame.serial) frames
     → alive_at (noted_at frame at) (frames ++ kept_of frame ∷ []) ≡ filter is_alive (map (with_again frame.datagrams) (alive_at at frames) ++ as_sent frame ∷ [])
 sent-one at frame frames below =
     ap (filter is_alive) (map-append (told_at (noted_at frame at)) frames (kept_of frame ∷ []))
@@ -106,25 +106,25 @@ sent-one at frame frames below =
 
 -- and all of them, one after another
 
-abbrev Below : Frame → Kept → Type 0
+abbrev Below : Frame → KeptFrame → Type 0
 Below frame kept = kept.serial < frame.serial
 
-pub sent-all : (frames : List Frame) (at : Table) (kept : List Kept) (write : Option AwaitedWrite)
+pub sent-all : (frames : List Frame) (at : Table) (kept : List KeptFrame) (write : Option AwaitedWrite)
     → AllPairs (λ a b. a.serial < b.serial) frames
     → All (λ old. All (λ next. old.serial < next.serial) frames) kept
     → record { frames = alive_at (λ named. newest_after named (at named) frames) (kept ++ map kept_of frames); write = write }
     ≡ all_sent (record { frames = alive_at at kept; write = write }) frames
 sent-all [] at kept write ascend behind =
-    ap (λ (all : List Kept). record { frames = alive_at at all; write = write }) (append-nil kept)
+    ap (λ (all : List KeptFrame). record { frames = alive_at at all; write = write }) (append-nil kept)
 sent-all (frame ∷ frames) at kept write ascend behind =
     let later = AllPairs-head (λ (a b : Frame). a.serial < b.serial) frame frames ascend in
-    let below : All (Below frame) kept = All-weaker (λ (old : Kept). All (λ (next : Frame). old.serial < next.serial) (frame ∷ frames)) (Below frame) (λ old all. All-head (λ (next : Frame). old.serial < next.serial) frame frames all) kept behind in
-    let rest : All (λ (old : Kept). All (λ (next : Frame). old.serial < next.serial) frames) kept =
-    All-weaker (λ (old : Kept). All (λ (next : Frame). old.serial < next.serial) (frame ∷ frames)) (λ (old : Kept). All (λ (next : Frame). old.serial < next.serial) frames) (λ old all. All-tail (λ (next : Frame). old.serial < next.serial) frame frames all) kept behind in
-    let more : All (λ (old : Kept). All (λ (next : Frame). old.serial < next.serial) frames) (kept ++ kept_of frame ∷ []) =
-    All-append (λ (old : Kept). All (λ (next : Frame). old.serial < next.serial) frames) kept (kept_of frame ∷ []) rest
-    (All-cons (λ (old : Kept). All (λ (next : Frame). old.serial < next.serial) frames) (kept_of frame) [] later (All-nil (λ (old : Kept). All (λ (next : Frame). old.serial < next.serial) frames))) in
-    ap (λ (all : List Kept). record { frames = alive_at (λ named. newest_after named (noted_at frame at named) frames) all; write = write })
+    let below : All (Below frame) kept = All-weaker (λ (old : KeptFrame). All (λ (next : Frame). old.serial < next.serial) (frame ∷ frames)) (Below frame) (λ old all. All-head (λ (next : Frame). old.serial < next.serial) frame frames all) kept behind in
+    let rest : All (λ (old : KeptFrame). All (λ (next : Frame). old.serial < next.serial) frames) kept =
+    All-weaker (λ (old : KeptFrame). All (λ (next : Frame). old.serial < next.serial) (frame ∷ frames)) (λ (old : KeptFrame). All (λ (next : Frame). old.serial < next.serial) frames) (λ old all. All-tail (λ (next : Frame). old.serial < next.serial) frame frames all) kept behind in
+    let more : All (λ (old : KeptFrame). All (λ (next : Frame). old.serial < next.serial) frames) (kept ++ kept_of frame ∷ []) =
+    All-append (λ (old : KeptFrame). All (λ (next : Frame). old.serial < next.serial) frames) kept (kept_of frame ∷ []) rest
+    (All-cons (λ (old : KeptFrame). All (λ (next : Frame). old.serial < next.serial) frames) (kept_of frame) [] later (All-nil (λ (old : KeptFrame). All (λ (next : Frame). old.serial < next.serial) frames))) in
+    ap (λ (all : List KeptFrame). record { frames = alive_at (λ named. newest_after named (noted_at frame at named) frames) all; write = write })
     (sym (append_assoc kept (kept_of frame ∷ []) (map kept_of frames)))
     ∙ sent-all frames (noted_at frame at) (kept ++ kept_of frame ∷ []) write
     (AllPairs-tail (λ (a b : Frame). a.serial < b.serial) frame frames ascend) more
@@ -133,33 +133,33 @@ sent-all (frame ∷ frames) at kept write ascend behind =
 
 -- what is kept of frames that are sent, behind those that were awaited before: serials ascend and datagrams have their places
 
-abbrev Ascend : Kept → Kept → Type 0
+abbrev Ascend : KeptFrame → KeptFrame → Type 0
 Ascend a b = a.serial < b.serial
 
-pub kept-behind : (at : Table) (kept : List Kept) (frames : List Frame) → All (λ old. All (λ next. old.serial < next.serial) frames) (alive_at at kept)
-    → All (λ (old : Kept). All (λ (next : Frame). old.serial < next.serial) frames) (filter (stays_at at) kept)
+pub kept-behind : (at : Table) (kept : List KeptFrame) (frames : List Frame) → All (λ old. All (λ next. old.serial < next.serial) frames) (alive_at at kept)
+    → All (λ (old : KeptFrame). All (λ (next : Frame). old.serial < next.serial) frames) (filter (stays_at at) kept)
 kept-behind at kept frames behind =
     All-unmap (λ (old : AwaitedFrame). All (λ (next : Frame). old.serial < next.serial) frames) (told_at at) (filter (stays_at at) kept)
     (subst (All (λ (old : AwaitedFrame). All (λ (next : Frame). old.serial < next.serial) frames)) (filter-map_is is_alive (told_at at) kept) behind)
 
-pub all-ascend : (kept : List Kept) (frames : List Frame) → AllPairs (λ a b. a.serial < b.serial) kept → AllPairs (λ a b. a.serial < b.serial) frames
-    → All (λ (old : Kept). All (λ (next : Frame). old.serial < next.serial) frames) kept → AllPairs (λ a b. a.serial < b.serial) (kept ++ map kept_of frames)
+pub all-ascend : (kept : List KeptFrame) (frames : List Frame) → AllPairs (λ a b. a.serial < b.serial) kept → AllPairs (λ a b. a.serial < b.serial) frames
+    → All (λ (old : KeptFrame). All (λ (next : Frame). old.serial < next.serial) frames) kept → AllPairs (λ a b. a.serial < b.serial) (kept ++ map kept_of frames)
 all-ascend kept frames first second behind =
     AllPairs-append Ascend kept (map kept_of frames) first (AllPairs-map Ascend kept_of frames second)
-    (All-weaker (λ (old : Kept). All (λ (next : Frame). old.serial < next.serial) frames) (λ (old : Kept). All (Ascend old) (map kept_of frames))
+    (All-weaker (λ (old : KeptFrame). All (λ (next : Frame). old.serial < next.serial) frames) (λ (old : KeptFrame). All (Ascend old) (map kept_of frames))
     (λ old all. All-map (Ascend old) kept_of frames all) kept behind)
 
-pub all-named : (kept : List Kept) (frames : List Frame) → All (λ (frame : Kept). All IsNamed frame.datagrams) kept → All (λ (frame : Frame). All IsNamed frame.datagrams) frames
-    → All (λ (frame : Kept). All IsNamed frame.datagrams) (kept ++ map kept_of frames)
+pub all-named : (kept : List KeptFrame) (frames : List Frame) → All (λ (frame : KeptFrame). All IsNamed frame.datagrams) kept → All (λ (frame : Frame). All IsNamed frame.datagrams) frames
+    → All (λ (frame : KeptFrame). All IsNamed frame.datagrams) (kept ++ map kept_of frames)
 all-named kept frames first second =
-    All-append (λ (frame : Kept). All IsNamed frame.datagrams) kept (map kept_of frames) first (All-map (λ (frame : Kept). All IsNamed frame.datagrams) kept_of frames second)
+    All-append (λ (frame : KeptFrame). All IsNamed frame.datagrams) kept (map kept_of frames) first (All-map (λ (frame : KeptFrame). All IsNamed frame.datagrams) kept_of frames second)
 
 -- the whole of it: those that were answered go, the frames are noted, those that aren't the newest of a datagram go, and those of the new frames that are come behind
 
-abbrev pub left : Table → Newest → List Kept → List Frame → List Kept
+abbrev pub left : Table → Newest → List KeptFrame → List Frame → List KeptFrame
 left before now kept frames = filter (stays_at (newest_of now)) (filter (stays_at before) kept ++ map kept_of frames)
 
-pub left-kept : (before now : Newest) (kept : List Kept) (frames : List Frame) → AreKept before kept → length now ≡ length before
+pub left-kept : (before now : Newest) (kept : List KeptFrame) (frames : List Frame) → AreKept before kept → length now ≡ length before
     → All (λ (frame : Frame). All IsNamed frame.datagrams) frames → AllPairs (λ a b. a.serial < b.serial) frames
     → All (λ old. All (λ next. old.serial < next.serial) frames) (alive_at (newest_of before) kept)
     → AreKept now (left (newest_of before) now kept frames)
@@ -169,11 +169,11 @@ left-kept before now kept frames are places named ascend behind =
       places = places ∙ are.places;
       ascend = AllPairs-filter Ascend (stays_at (newest_of now)) (first ++ map kept_of frames)
           (all-ascend first frames (AllPairs-filter Ascend (stays_at (newest_of before)) kept are.ascend) ascend (kept-behind (newest_of before) kept frames behind));
-      named = All-filter (stays_at (newest_of now)) (λ (frame : Kept). All IsNamed frame.datagrams) (first ++ map kept_of frames)
-          (all-named first frames (All-filter (stays_at (newest_of before)) (λ (frame : Kept). All IsNamed frame.datagrams) kept are.named) named);
+      named = All-filter (stays_at (newest_of now)) (λ (frame : KeptFrame). All IsNamed frame.datagrams) (first ++ map kept_of frames)
+          (all-named first frames (All-filter (stays_at (newest_of before)) (λ (frame : KeptFrame). All IsNamed frame.datagrams) kept are.named) named);
     }
 
-pub left-told : (before now : Newest) (kept : List Kept) (frames : List Frame) (write : Option AwaitedWrite) → AreKept before kept
+pub left-told : (before now : Newest) (kept : List KeptFrame) (frames : List Frame) (write : Option AwaitedWrite) → AreKept before kept
     → ((d : Named) → IsNamed d → newest_of now d ≡ newest_after d (newest_of before d) frames)
     → All (λ (frame : Frame). All IsNamed frame.datagrams) frames → AllPairs (λ a b. a.serial < b.serial) frames
     → All (λ old. All (λ next. old.serial < next.serial) frames) (alive_at (newest_of before) kept)
@@ -184,16 +184,16 @@ left-told before now kept frames write are noted named ascend behind =
     ap (λ (all : List AwaitedFrame). record { frames = all; write = write })
     (alive-stays (newest_of now) (first ++ map kept_of frames)
     ∙ alive-same (newest_of now) (λ d. newest_after d (newest_of before d) frames) noted (first ++ map kept_of frames)
-    (all-named first frames (All-filter (stays_at (newest_of before)) (λ (frame : Kept). All IsNamed frame.datagrams) kept are.named) named))
+    (all-named first frames (All-filter (stays_at (newest_of before)) (λ (frame : KeptFrame). All IsNamed frame.datagrams) kept are.named) named))
     ∙ sent-all frames (newest_of before) first write ascend (kept-behind (newest_of before) kept frames behind)
     ∙ ap (λ (all : List AwaitedFrame). all_sent (record { frames = all; write = write }) frames) (alive-stays (newest_of before) kept)
 
 -- in three steps
-pub left-is : (before : Table) (now : Newest) (kept first second third : List Kept) (frames : List Frame)
+pub left-is : (before : Table) (now : Newest) (kept first second third : List KeptFrame) (frames : List Frame)
     → first ≡ filter (stays_at before) kept → second ≡ filter (stays_at (newest_of now)) first
     → third ≡ second ++ filter (stays_at (newest_of now)) (map kept_of frames)
     → third ≡ left before now kept frames
 left-is before now kept first second third frames one two three =
     three
-    ∙ ap (λ (all : List Kept). all ++ filter (stays_at (newest_of now)) (map kept_of frames)) (two ∙ ap (filter (stays_at (newest_of now))) one)
+    ∙ ap (λ (all : List KeptFrame). all ++ filter (stays_at (newest_of now)) (map kept_of frames)) (two ∙ ap (filter (stays_at (newest_of now))) one)
     ∙ sym (filter-append (stays_at (newest_of now)) (filter (stays_at before) kept) (map kept_of frames))

@@ -15,7 +15,7 @@ use Rattle.hc_events.specs.Arrivals.{Arrival, Part}
 use Rattle.hc_events.specs.Steps.{outcome_for, told_of}
 use Rattle.hc_events.proofs.lemmas.Awaited.{by_bool}
 use Rattle.hc_awaited.specs.Judging.{Due, due_of, found_frame, frame_due, judge_due, judged_due, judged_in, write_due}
-use Rattle.hc_awaited.specs.Kept.{Kept, Newest, carried_by, frame_by}
+use Rattle.hc_awaited.specs.Kept.{KeptFrame, Newest, carried_by, frame_by}
 use Rattle.hc_awaited.specs.Waiting.{AwaitedFrame, AwaitedWrite, Carried, Waiting, is_alive}
 use Rattle.hc_awaited.specs.Walk.{outcomes_in}
 
@@ -112,5 +112,5 @@ found-holds P serial (one ∷ frames) frame all e =
     same a b e = cc
 
 -- so its datagrams are the line's
-pub found-stands : (line : List Member) (newest : Newest) (frame : Kept) → All (λ (carried : Carried). StandsIn line carried.datagram) (frame_by newest frame).datagrams → All (StandsIn line) frame.datagrams
+pub found-stands : (line : List Member) (newest : Newest) (frame : KeptFrame) → All (λ (carried : Carried). StandsIn line carried.datagram) (frame_by newest frame).datagrams → All (StandsIn line) frame.datagrams
 found-stands line newest frame all = All-unmap (λ (carried : Carried). StandsIn line carried.datagram) (carried_by newest frame.serial) frame.datagrams all

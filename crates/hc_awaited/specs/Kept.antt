@@ -7,8 +7,8 @@ use Rattle.hc_events.specs.Sendings.{Frame, Named}
 use Rattle.hc_awaited.specs.Waiting.{AwaitedFrame, Carried, IsNamed, is_alive, is_named}
 
 -- the datagrams of the tasks one after another, sixteen a task
-abbrev pub place_of : Named → ℕ
-place_of named = MOST_DATAGRAMS * named.0 + named.1
+abbrev pub datagram_number : Named → ℕ
+datagram_number named = MOST_DATAGRAMS * named.0 + named.1
 
 -- the newest frame's serial of each; none where a datagram wasn't sent
 abbrev pub Newest : Type 0
@@ -16,7 +16,7 @@ Newest = List (Option ℕ)
 
 -- the serial of the newest frame that a datagram was sent in; none where it wasn't sent
 abbrev pub newest_of : Newest → Named → Option ℕ
-newest_of newest named = slice_index_or newest (place_of named) None
+newest_of newest named = slice_index_or newest (datagram_number named) None
 
 -- a serial was found, and it is this one
 abbrev pub is_serial : ℕ → Option ℕ → Bool
@@ -32,16 +32,16 @@ newest_after named newest frames =
     fold (λ found frame. if list_any (is_named named) frame.datagrams then Some frame.serial else found) newest frames
 
 -- a frame as it is kept: its serial and its datagrams
-pub record Kept : Type 0 where
+pub record KeptFrame : Type 0 where
   pub serial : ℕ
   pub datagrams : List Named
 
 -- a sent frame as it is kept: without the number of its bytes
-abbrev pub kept_of : Frame → Kept
+abbrev pub kept_of : Frame → KeptFrame
 kept_of frame = record { serial = frame.serial; datagrams = frame.datagrams }
 
 -- a frame with this serial, which was answered, has no datagrams any more
-abbrev pub emptied : ℕ → Kept → Kept
+abbrev pub emptied : ℕ → KeptFrame → KeptFrame
 emptied serial frame = if frame.serial == serial then record { serial = frame.serial; datagrams = [] } else frame
 
 -- what the table says of it
@@ -49,15 +49,15 @@ abbrev pub carried_by : Newest → ℕ → Named → Carried
 carried_by newest serial named = record { datagram = named; newest = is_newest newest serial named }
 
 -- a kept frame as an awaited one: of each of its datagrams the table says whether this frame is the newest
-abbrev pub frame_by : Newest → Kept → AwaitedFrame
+abbrev pub frame_by : Newest → KeptFrame → AwaitedFrame
 frame_by newest frame = record { serial = frame.serial; datagrams = map (carried_by newest frame.serial) frame.datagrams }
 
 -- those are awaited that are the newest of some datagram
-abbrev pub awaited_frames : Newest → List Kept → List AwaitedFrame
+abbrev pub awaited_frames : Newest → List KeptFrame → List AwaitedFrame
 awaited_frames newest frames = filter is_alive (map (frame_by newest) frames)
 
 -- the table has a place for each datagram; serials ascend; datagrams have a place
-pub record AreKept (newest : Newest) (frames : List Kept) : Type 0 where
+pub record AreKept (newest : Newest) (frames : List KeptFrame) : Type 0 where
   pub places : length newest ≡ TASKS * MOST_DATAGRAMS
   pub ascend : AllPairs (λ a b. a.serial < b.serial) frames
   pub named : All (λ frame. All IsNamed frame.datagrams) frames

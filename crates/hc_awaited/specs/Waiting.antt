@@ -75,8 +75,8 @@ abbrev pub all_sent : Waiting → List Frame → Waiting
 all_sent waiting frames = fold sent waiting frames
 
 -- a register write is sent: it takes the place of an older one
-abbrev pub written : ℕ → LineBlock → AwaitedWrite
-written serial block = record {
+abbrev pub awaited_write : ℕ → LineBlock → AwaitedWrite
+awaited_write serial block = record {
   serial = serial;
   station = block.station;
   number = block.number;
@@ -86,7 +86,7 @@ written serial block = record {
 
 -- what is awaited once the write of a block was sent with this serial: that write in place of any other
 abbrev pub wrote : ℕ → LineBlock → Waiting → Waiting
-wrote serial block waiting = record waiting { write = Some (written serial block) }
+wrote serial block waiting = record waiting { write = Some (awaited_write serial block) }
 
 -- what was sent with a serial was answered
 abbrev pub ended : ℕ → Waiting → Waiting

@@ -6,7 +6,7 @@ ghost use Rattle.hc_events.specs.Sendings.{Named};
 ghost use Rattle.hc_awaited.specs.Kept.{awaited_frames, emptied, kept_of, newest_after, newest_of, frame_by};
 ghost use Rattle.hc_awaited.specs.Waiting.{IsNamed, is_alive};
 
-use crate::kept::Kept;
+use crate::kept::KeptFrame;
 use crate::newest::{Newest, PLACES};
 use hc_events::sending::Sending;
 use hc_plan::blocks::LineBlock;
@@ -39,7 +39,7 @@ impl Model for Write {
 pub struct Awaited {
     pub(crate) newest: Newest,
     // in the order of their serials; some may be the newest of no datagram
-    pub(crate) frames: Vec<Kept>,
+    pub(crate) frames: Vec<KeptFrame>,
     pub(crate) write: Option<Write>,
 }
 
@@ -88,14 +88,14 @@ fn note_all(newest: &mut Newest, frames: &[Sending])
 }
 
 /// Whether a frame is the newest of one of its datagrams at least.
-pub(crate) fn is_alive(newest: &Newest, frame: &Kept) -> bool
+pub(crate) fn is_alive(newest: &Newest, frame: &KeptFrame) -> bool
     ensures { result ≡ is_alive (frame_by newest.now frame.now) }
 {
     newest.is_any(frame.serial(), frame.datagrams())
 }
 
 /// The frames stay that are the newest of a datagram.
-fn keep_alive(frames: &mut Vec<Kept>, newest: &Newest)
+fn keep_alive(frames: &mut Vec<KeptFrame>, newest: &Newest)
     ensures frames { frames.new.items ≡ filter (λ frame. is_alive (frame_by newest.now frame)) frames.old.items }
     ensures room { vec_capacity frames.new ≡ vec_capacity frames.old }
 {
@@ -103,7 +103,7 @@ fn keep_alive(frames: &mut Vec<Kept>, newest: &Newest)
 }
 
 /// The frame comes behind the others where it is the newest of a datagram; then there is room for it.
-fn add_alive(frames: &mut Vec<Kept>, newest: &Newest, frame: Kept)
+fn add_alive(frames: &mut Vec<KeptFrame>, newest: &Newest, frame: KeptFrame)
     requires { is_alive (frame_by newest.now frame) ≡ true → vec_len frames.old < vec_capacity frames.old }
     ensures frames { frames.new.items ≡ frames.old.items ++ (if is_alive (frame_by newest.now frame) then frame ∷ [] else []) }
     ensures room { vec_capacity frames.new ≡ vec_capacity frames.old }
@@ -114,18 +114,18 @@ fn add_alive(frames: &mut Vec<Kept>, newest: &Newest, frame: Kept)
 }
 
 /// Those of the frames that are the newest of a datagram come behind the others; there is room for them.
-fn add_all(frames: &mut Vec<Kept>, newest: &Newest, more: &[Sending])
+fn add_all(frames: &mut Vec<KeptFrame>, newest: &Newest, more: &[Sending])
     requires { length (frames.old.items ++ filter (λ frame. is_alive (frame_by newest.now frame)) (map kept_of more.now)) ≤ vec_capacity frames.old }
     ensures frames { frames.new.items ≡ frames.old.items ++ filter (λ frame. is_alive (frame_by newest.now frame)) (map kept_of more.now) }
     ensures room { vec_capacity frames.new ≡ vec_capacity frames.old }
 {
     for frame in more {
-        add_alive(frames, newest, Kept::of(frame));
+        add_alive(frames, newest, KeptFrame::of(frame));
     }
 }
 
 /// How many frames have a lower serial.
-fn count_below(frames: &[Kept], serial: u64) -> usize
+fn count_below(frames: &[KeptFrame], serial: u64) -> usize
     requires { AllPairs (λ a b. a.serial < b.serial) frames.now }
     ensures { IsPartitionPoint (λ frame. nat_lt frame.serial serial ≡ true) (λ frame. nat_lt frame.serial serial ≡ false) frames.now result }
 {
@@ -133,7 +133,11 @@ fn count_below(frames: &[Kept], serial: u64) -> usize
 }
 
 /// The frame with a serial, where it is the newest of a datagram.
-pub(crate) fn find_frame<'a>(newest: &Newest, frames: &'a [Kept], serial: u64) -> Option<&'a Kept>
+pub(crate) fn find_frame<'a>(
+    newest: &Newest,
+    frames: &'a [KeptFrame],
+    serial: u64,
+) -> Option<&'a KeptFrame>
     requires { AllPairs (λ a b. a.serial < b.serial) frames.now }
     ensures found { option_map (λ frame. frame_by newest.now frame.now) result ≡ find (λ frame. frame.serial == serial) (awaited_frames newest.now frames.now) }
     ensures alive { IfSome result (λ frame. is_alive (frame_by newest.now frame.now) ≡ true) }
@@ -148,7 +152,7 @@ pub(crate) fn find_frame<'a>(newest: &Newest, frames: &'a [Kept], serial: u64) -
 }
 
 /// The frame with a serial, if it is kept, has no datagrams any more.
-fn empty(frames: &mut Vec<Kept>, serial: u64)
+fn empty(frames: &mut Vec<KeptFrame>, serial: u64)
     requires { AllPairs (λ a b. a.serial < b.serial) frames.old.items }
     ensures frames { frames.new.items ≡ map (emptied serial) frames.old.items }
     ensures room { vec_capacity frames.new ≡ vec_capacity frames.old }

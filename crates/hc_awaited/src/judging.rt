@@ -15,7 +15,7 @@ ghost use Rattle.hc_awaited.specs.Kept.{frame_by};
 ghost use Rattle.hc_awaited.specs.Walk.{head_of, outcomes_in};
 
 use crate::awaited::{Awaited, Write, find_frame, has_serial};
-use crate::kept::Kept;
+use crate::kept::KeptFrame;
 use crate::newest::Newest;
 use hc_events::answer::{Answer, Outcome};
 use hc_events::sending::Named;
@@ -122,7 +122,7 @@ fn outcomes(
     alloc: Global,
     plan: &Plan,
     newest: &Newest,
-    frame: &Kept,
+    frame: &KeptFrame,
     arrival: &Returned<'_>,
 ) -> Result<Option<Items<Outcome>>, AllocError>
     requires named { All IsNamed frame.now.datagrams }

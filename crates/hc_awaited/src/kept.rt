@@ -6,32 +6,32 @@ use std::marker::Model;
 /// The serial of a frame, and its datagrams in order: 115 at most, since the 1,498 bytes behind the EtherCAT
 /// header hold so many of one data byte, 13 bytes each (ETG.1000.4, 5.3 and 5.4). It owns no memory.
 #[derive(Debug, Drop)]
-pub(crate) struct Kept {
+pub(crate) struct KeptFrame {
     serial: u64,
     datagrams: ArrayVec<Named, 115>,
 }
 
-impl Model for Kept {
-    ghost use Rattle.hc_awaited.specs.Kept.{Kept};
+impl Model for KeptFrame {
+    ghost use Rattle.hc_awaited.specs.Kept.{KeptFrame};
 
-    ghost Value = { Kept };
+    ghost Value = { KeptFrame };
 
     ghost view = { λ kept. record { serial = kept.serial; datagrams = kept.datagrams.items } };
 }
 
-impl Kept {
+impl KeptFrame {
     ghost use Rattle.std.specs.Prelude.{◌≡◌, []};
     ghost use Rattle.hc_awaited.specs.Kept.{kept_of};
 
     /// What is kept of a frame.
-    pub(crate) fn of(frame: &Sending) -> Kept
+    pub(crate) fn of(frame: &Sending) -> KeptFrame
         ensures { result ≡ kept_of frame.now }
     {
         let mut datagrams = ArrayVec::new();
         for datagram in frame.datagrams() {
             datagrams.push(*datagram);
         }
-        Kept {
+        KeptFrame {
             serial: frame.serial(),
             datagrams,
         }

@@ -1,6 +1,6 @@
 //! In which frame each datagram was sent last.
 ghost use Rattle.std.specs.Prelude.{◌≡◌};
-ghost use Rattle.hc_awaited.specs.Kept.{place_of};
+ghost use Rattle.hc_awaited.specs.Kept.{datagram_number};
 
 use hc_events::sending::Named;
 use hc_records::limits::{MOST_DATAGRAMS, TASKS};
@@ -30,8 +30,8 @@ impl Model for Newest {
 }
 
 /// Where a datagram stands among those of all tasks.
-fn place_of(datagram: Named) -> usize
-    ensures { result ≡ place_of datagram }
+fn datagram_number(datagram: Named) -> usize
+    ensures { result ≡ datagram_number datagram }
 {
     MOST_DATAGRAMS * usize::from(datagram.0) + usize::from(datagram.1)
 }
@@ -57,7 +57,7 @@ impl Newest {
     pub(crate) fn is(&self, serial: u64, datagram: Named) -> bool
         ensures { result ≡ is_newest self.now serial datagram }
     {
-        match self.serials.get(place_of(datagram)) {
+        match self.serials.get(datagram_number(datagram)) {
             Some(newest) => *newest == Some(serial),
             None => false,
         }
@@ -77,7 +77,7 @@ impl Newest {
         ensures noted { (named : Named) → IsNamed named → newest_of self.new named ≡ (if list_any (is_named named) datagrams.now then Some serial else newest_of self.old named) }
     {
         for datagram in datagrams {
-            self.serials[place_of(*datagram)] = Some(serial);
+            self.serials[datagram_number(*datagram)] = Some(serial);
         }
     }
 }

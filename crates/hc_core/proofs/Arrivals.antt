@@ -35,7 +35,7 @@ use Rattle.hc_core.proofs.Posts.{values-came}
 use Rattle.hc_core.proofs.Known.{kept-alike, known-done, known-framed, known-missed}
 use Rattle.hc_core.proofs.News.{news-came, news-none}
 use Rattle.hc_core.proofs.Told.{TellsInputs, TellsWrite}
-use Rattle.hc_core.specs.Agreement.{Agree, Kept}
+use Rattle.hc_core.specs.Agreement.{Agree, CoreParts}
 use Rattle.hc_core.specs.Goods.{change_of, goods_in}
 
 -- a stale one
@@ -43,7 +43,7 @@ use Rattle.hc_core.specs.Goods.{change_of, goods_in}
 none_fresh : (past : Record) (arrival : Arrival) → is_stale_to past arrival ≡ true → fresh_by past arrival ≡ []
 none_fresh past arrival stale = search (rules, goods-of_news, not-true)
 
-pub agree-stale : (kept : Kept) (past taken : Record) (arrival : Arrival) → is_stale_to past arrival ≡ true → Agree kept past taken → Agree kept (Came arrival ∷ past) taken
+pub agree-stale : (kept : CoreParts) (past taken : Record) (arrival : Arrival) → is_stale_to past arrival ≡ true → Agree kept past taken → Agree kept (Came arrival ∷ past) taken
 agree-stale kept past taken arrival stale agree =
     let says = same-says (Came arrival ∷ past) past (same-stale past arrival stale) in
     record {
@@ -68,7 +68,7 @@ all_sent (other ∷ past) all = all_sent past all.1
 
 -- one that answers a frame of tasks
 
-pub agree-inputs : (kept : Kept) (past taken : Record) (arrival : Arrival) (outcomes : List Outcome) (inputs : Image) → TellsInputs past arrival outcomes
+pub agree-inputs : (kept : CoreParts) (past taken : Record) (arrival : Arrival) (outcomes : List Outcome) (inputs : Image) → TellsInputs past arrival outcomes
     → ((task d : ℕ) → d < MOST_DATAGRAMS → data_of inputs task d ≡ fold (renewed task d) (data_of kept.inputs task d) (goods_in outcomes arrival.parts)) → Agree kept past taken
     → Agree (record kept { awaited = ended arrival.serial kept.awaited; inputs = inputs; changes = kept.changes ++ map change_of (goods_in outcomes arrival.parts) }) (Came arrival ∷ past) taken
 agree-inputs kept past taken arrival outcomes inputs tells puts agree = record {
@@ -90,7 +90,7 @@ agree-inputs kept past taken arrival outcomes inputs tells puts agree = record {
 none_put : (past : Record) (arrival : Arrival) (task d : ℕ) → fresh_by past arrival ≡ [] → slot_of (Came arrival ∷ past) task d ≡ slot_of past task d
 none_put past arrival task d none = ap (fold (renewed task d) (slot_of past task d)) none
 
-pub agree-missed : (kept : Kept) (past taken : Record) (arrival : Arrival) → TellsWrite past arrival false → Agree kept past taken
+pub agree-missed : (kept : CoreParts) (past taken : Record) (arrival : Arrival) → TellsWrite past arrival false → Agree kept past taken
     → Agree (record kept { awaited = ended arrival.serial kept.awaited }) (Came arrival ∷ past) taken
 agree-missed kept past taken arrival tells agree = record {
   accepted = (tt, agree.accepted);
@@ -111,7 +111,7 @@ agree-missed kept past taken arrival tells agree = record {
 heads_same : (a b : LineBlock) (xs ys : List LineBlock) → a ∷ xs ≡ b ∷ ys → a ≡ b
 heads_same a b xs ys e = cc
 
-pub agree-done : (kept : Kept) (past taken : Record) (arrival : Arrival) (block : LineBlock) (rest : List LineBlock) (owed : Board) → TellsWrite past arrival true → owed_blocks past ≡ block ∷ rest
+pub agree-done : (kept : CoreParts) (past taken : Record) (arrival : Arrival) (block : LineBlock) (rest : List LineBlock) (owed : Board) → TellsWrite past arrival true → owed_blocks past ≡ block ∷ rest
     → owed ≡ kept_of (known_with (name_of block) (Some block.block.bytes) (known_bytes past)) (state_of past) → Agree kept past taken
     → Agree (record kept { awaited = ended arrival.serial kept.awaited; owed = owed }) (Came arrival ∷ past) taken
 agree-done kept past taken arrival block rest owed tells first confirmed agree =
@@ -145,7 +145,7 @@ image_fits past project uncrowded good fit =
     let most = (length-sendable (task_list good.task (line state)) good.datagram (project-packable state good.task project) fit.1).most in
     record { task = task; datagram = omega (arith, few, fit.1); few = subst (λ n. n ≤ MOST_DATAGRAM_BYTES) (sym fit.0) most }
 
-pub goods-fit : (kept : Kept) (past taken : Record) (arrival : Arrival) (goods : List Fresh) → Agree kept past taken → fresh_by past arrival ≡ goods → All FitsImage goods
+pub goods-fit : (kept : CoreParts) (past taken : Record) (arrival : Arrival) (goods : List Fresh) → Agree kept past taken → fresh_by past arrival ≡ goods → All FitsImage goods
 goods-fit kept past taken arrival goods agree same =
     subst (All FitsImage) same
     (All-weaker (FitsFresh StandsIn (line_of past)) FitsImage (image_fits past agree.project agree.uncrowded) (fresh_by past arrival) (fresh-fits StandsIn past arrival (all_sent past agree.accepted)))

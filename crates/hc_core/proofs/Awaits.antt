@@ -16,7 +16,7 @@ use Rattle.hc_events.specs.Owed.{owed_blocks}
 use Rattle.hc_events.proofs.lemmas.Answers.{awaited-answered}
 use Rattle.hc_events.proofs.lemmas.Awaited.{same_is}
 use Rattle.hc_events.proofs.lemmas.SameBehind.{same-owed, same-says, same-stale}
-use Rattle.hc_awaited.specs.Waiting.{AwaitedWrite, Waiting, ended, nothing, written, wrote}
+use Rattle.hc_awaited.specs.Waiting.{AwaitedWrite, Waiting, awaited_write, ended, nothing, wrote}
 use Rattle.hc_awaited.proofs.lemmas.Awaits as awaited
 use Rattle.hc_awaited.proofs.lemmas.Ended as over
 use Rattle.hc_core.proofs.Names.{owed-wrote}
@@ -70,7 +70,7 @@ itself : (block : LineBlock) → same_item (Block block.station block.number) (b
 itself block = rw (same_is block.station, same_is block.number) refl
 
 way_new : (past : Record) (block : LineBlock) (rest : List LineBlock) → lowest_fault (groups_of (state_of past).groups) ≡ None → owed_blocks past ≡ block ∷ rest
-    → IsUnderWay (Wrote block ∷ past) (written (next_serial past) block)
+    → IsUnderWay (Wrote block ∷ past) (awaited_write (next_serial past) block)
 way_new past block rest project first = search (rules, itself, owed-wrote)
 
 same_write : (a b : AwaitedWrite) → Some a ≡ Some b → a ≡ b
@@ -80,5 +80,5 @@ pub waits-wrote : (past : Record) (kept : Waiting) (block : LineBlock) (rest : L
     → owed_blocks past ≡ block ∷ rest → Waits past kept → Waits (Wrote block ∷ past) (wrote (next_serial past) block kept)
 waits-wrote past kept block rest all project first waits = record {
   kept = awaited.waits-wrote past kept block rest all first waits.kept;
-  written = λ write e. subst (IsUnderWay (Wrote block ∷ past)) (same_write (written (next_serial past) block) write e) (way_new past block rest project first);
+  written = λ write e. subst (IsUnderWay (Wrote block ∷ past)) (same_write (awaited_write (next_serial past) block) write e) (way_new past block rest project first);
 }

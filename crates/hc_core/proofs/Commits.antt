@@ -26,7 +26,7 @@ use Rattle.hc_sendings.proofs.lemmas.Listed.{standing-task}
 use Rattle.hc_awaited.specs.Waiting.{AwaitedFrame, ComeBehind, IsNamed, all_sent}
 use Rattle.hc_core.proofs.Sendings.{agree-sent}
 use Rattle.hc_core.proofs.SentAll.{first-number}
-use Rattle.hc_core.specs.Agreement.{Agree, Kept}
+use Rattle.hc_core.specs.Agreement.{Agree, CoreParts}
 use Rattle.hc_core.specs.Proposed.{IsProposal}
 
 -- a datagram of the line has a number that tasks can have
@@ -34,7 +34,7 @@ use Rattle.hc_core.specs.Proposed.{IsProposal}
 named : (past : Record) → lowest_fault (groups_of (state_of past).groups) ≡ None → crowded_task (line_of past) ≡ None → (one : Named) → StandsIn (line_of past) one → IsNamed one
 named past project uncrowded one stands = search (rules, standing-task, uncrowded-few)
 
-pub proposal-named : (kept : Kept) (past taken : Record) (frames : List Frame) → IsProposal past frames → Agree kept past taken → All (λ frame. All IsNamed frame.datagrams) frames
+pub proposal-named : (kept : CoreParts) (past taken : Record) (frames : List Frame) → IsProposal past frames → Agree kept past taken → All (λ frame. All IsNamed frame.datagrams) frames
 proposal-named kept past taken frames is agree =
     subst (All (λ frame. All IsNamed frame.datagrams)) (sym is.whole)
     (All-weaker (λ (frame : Frame). All (StandsIn (line_of past)) frame.datagrams) (λ (frame : Frame). All IsNamed frame.datagrams)
@@ -71,7 +71,7 @@ numbers_ascend (frame ∷ frames) serial numbers =
     let first = first-number frame (numbers_of frames) serial (range_with_len (serial + 1) (length frames)) numbers in
     search (rules, first-number, AllPairs-cons, All-weaker, above_number, from_number, next_low, numbers_ascend frames (serial + 1) first.1)
 
-pub proposal-behind : (kept : Kept) (past taken : Record) (frames : List Frame) → IsProposal past frames → Agree kept past taken → ComeBehind kept.awaited frames
+pub proposal-behind : (kept : CoreParts) (past taken : Record) (frames : List Frame) → IsProposal past frames → Agree kept past taken → ComeBehind kept.awaited frames
 proposal-behind kept past taken frames is agree =
     let tasks = is.tasks in
     subst (ComeBehind kept.awaited) (sym is.whole) (record {
@@ -99,9 +99,9 @@ pub record Allowed (past : Record) (tasks : List ℕ) : Type 0 where
 pub allowed : (past : Record) (tasks : List ℕ) → lowest (task_faults past tasks) ≡ None → Allowed past tasks
 allowed past tasks none = search (rules, passed, none_owed, ltb-false, not_not)
 
-pub proposal-left : (kept : Kept) (past taken : Record) (frames : List Frame) → IsProposal past frames → Agree kept past taken → kept.serial + length frames ≤ SETUP_SERIAL
+pub proposal-left : (kept : CoreParts) (past taken : Record) (frames : List Frame) → IsProposal past frames → Agree kept past taken → kept.serial + length frames ≤ SETUP_SERIAL
 proposal-left kept past taken frames is agree = search rules
 
-pub agree-committed : (kept : Kept) (past taken : Record) (frames : List Frame) → IsProposal past frames → Agree kept past taken
+pub agree-committed : (kept : CoreParts) (past taken : Record) (frames : List Frame) → IsProposal past frames → Agree kept past taken
     → Agree (record kept { awaited = all_sent kept.awaited frames; serial = kept.serial + length frames }) (with_sent past frames) taken
 agree-committed kept past taken frames is agree = search (rules, proposal-left, agree-sent, allowed)

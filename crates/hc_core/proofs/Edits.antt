@@ -43,7 +43,7 @@ use Rattle.hc_owed.specs.Laws.{IsEdited, known_over}
 use Rattle.hc_core.proofs.Awaits.{waits-edited}
 use Rattle.hc_core.proofs.Posts.{values-edited}
 use Rattle.hc_core.proofs.Known.{kept-alike, known-edited}
-use Rattle.hc_core.specs.Agreement.{Agree, Kept}
+use Rattle.hc_core.specs.Agreement.{Agree, CoreParts}
 use Rattle.hc_core.specs.News.{TellNews}
 use Rattle.hc_core.specs.Prepared.{CoreEdit, IsReady}
 use Rattle.hc_core.specs.State.{CoreState}
@@ -101,7 +101,7 @@ news-edited taken past edit changes new report accepted tell tells =
 
 -- all that is kept
 
-pub agree-edited : (kept : Kept) (past taken : Record) (new : State) (report : Report) (inputs : Image) (outputs : Packed) (owed : Board) → edited (state_of past) report.swap.edit ≡ Ok new → Tells (state_of past) report.swap.edit new report
+pub agree-edited : (kept : CoreParts) (past taken : Record) (new : State) (report : Report) (inputs : Image) (outputs : Packed) (owed : Board) → edited (state_of past) report.swap.edit ≡ Ok new → Tells (state_of past) report.swap.edit new report
     → crowded_task (line new) ≡ None → HasNone inputs → owed ≡ kept_of (known_over (state_of past) (known_bytes past)) new
     → Holds (table_of (line new)) (kept_over (table_of (line_of past)) (value_bit past)) outputs → Agree kept past taken
     → Agree (record {
@@ -143,7 +143,7 @@ table-leads core edit moves room capacity ready prepared = search rules
 pub new-project : (edit : PreparedEdit) → IsPrepared edit → lowest_fault (groups_of edit.new.groups) ≡ None
 new-project edit prepared = accepted-project edit.old edit.new edit.report.swap.edit prepared.project prepared.accepted
 
-abbrev pub owed-edited : (kept : Kept) (past taken : Record) (edit : PreparedEdit) (gone : Gone) (blocks : List RankedBlock) → edit.old ≡ state_of past → IsPrepared edit → gone ≡ edit.gone → blocks ≡ edit.blocks → Agree kept past taken
+abbrev pub owed-edited : (kept : CoreParts) (past taken : Record) (edit : PreparedEdit) (gone : Gone) (blocks : List RankedBlock) → edit.old ≡ state_of past → IsPrepared edit → gone ≡ edit.gone → blocks ≡ edit.blocks → Agree kept past taken
     → IsEdited kept.owed gone blocks
 owed-edited kept past taken edit gone blocks made prepared left moved agree = record {
   known = known_bytes past;
@@ -157,7 +157,7 @@ owed-edited kept past taken edit gone blocks made prepared left moved agree = re
       (subst (λ (list : List RankedBlock). Differ (places edit.old) (places edit.new) edit.gone list) (sym moved) prepared.differ);
 }
 
-pub agree-carried : (kept : Kept) (past taken : Record) (edit : PreparedEdit) (moves : Moves) (room : List Change) (capacity : ℕ) (inputs : Image) (outputs : Packed) (owed : Board)
+pub agree-carried : (kept : CoreParts) (past taken : Record) (edit : PreparedEdit) (moves : Moves) (room : List Change) (capacity : ℕ) (inputs : Image) (outputs : Packed) (owed : Board)
     → IsReady (record { past = past; taken = taken }) edit moves room capacity → IsPrepared edit → HasNone inputs → owed ≡ kept_of (known_over edit.old (known_bytes past)) edit.new
     → ((value : ℕ → ℕ → ℕ) → Holds moves.before value kept.outputs → Holds (table_after moves) (kept_over moves.before value) outputs) → Agree kept past taken
     → Agree (record {

@@ -16,7 +16,7 @@ use Rattle.hc_events.specs.Owed.{is_owed, known_bytes, owed_blocks}
 use Rattle.hc_events.proofs.lemmas.Answers.{owed-in_line}
 use Rattle.hc_owed.specs.Board.{lacks}
 use Rattle.hc_owed.specs.Laws as owed
-use Rattle.hc_core.specs.Agreement.{Agree, Kept}
+use Rattle.hc_core.specs.Agreement.{Agree, CoreParts}
 use Rattle.hc_core.specs.Firsts.{IsFirstOwed}
 
 -- the line configures its slave with it
@@ -31,9 +31,9 @@ first-lacks past block rest first =
     (subst (All (λ (one : LineBlock). is_owed past one ≡ true)) first (filter_passes (is_owed past) (line_blocks (line_of past))))
 
 -- its place is one of those that are kept
-pub first-within : (kept : Kept) (past taken : Record) (n : ℕ) (block : LineBlock) → Agree kept past taken → IsFirstOwed past n block → n < length kept.owed.known
+pub first-within : (kept : CoreParts) (past taken : Record) (n : ℕ) (block : LineBlock) → Agree kept past taken → IsFirstOwed past n block → n < length kept.owed.known
 first-within kept past taken n block agree first = search (rules, slice_get_within, length-map)
 
 -- what is kept stands at its place
-pub first-kept : (kept : Kept) (past taken : Record) (n : ℕ) (block : LineBlock) → Agree kept past taken → IsFirstOwed past n block → owed.IsKeptAt kept.owed n (known_bytes past) (state_of past) block
+pub first-kept : (kept : CoreParts) (past taken : Record) (n : ℕ) (block : LineBlock) → Agree kept past taken → IsFirstOwed past n block → owed.IsKeptAt kept.owed n (known_bytes past) (state_of past) block
 first-kept kept past taken n block agree first = record { right = agree.known; project = agree.project; stands = first.at }

@@ -16,7 +16,7 @@ use Rattle.hc_events.specs.Changes.{Answered, AreLegalFrom, told_by}
 use Rattle.hc_events.specs.NewsLaws.{state_behind}
 use Rattle.hc_events.proofs.lemmas.Slots.{FitsFresh}
 use Rattle.hc_events.proofs.lemmas.Views.{legal-joined}
-use Rattle.hc_core.specs.Agreement.{Agree, Kept}
+use Rattle.hc_core.specs.Agreement.{Agree, CoreParts}
 use Rattle.hc_core.specs.News.{TellNews}
 use Rattle.hc_core.specs.Goods.{change_of}
 
@@ -45,5 +45,5 @@ news-none taken past arrival changes none tells = search rules
 
 -- behind their taking there are none
 
-pub agree-taken : (kept : Kept) (past taken : Record) → Agree kept past taken → Agree (record kept { changes = [] }) past past
+pub agree-taken : (kept : CoreParts) (past taken : Record) → Agree kept past taken → Agree (record kept { changes = [] }) past past
 agree-taken kept past taken agree = search rules

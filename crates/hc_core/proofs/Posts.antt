@@ -19,7 +19,7 @@ use Rattle.hc_outputs.specs.Values.{kept, posted}
 use Rattle.hc_outputs.proofs.lemmas.Bits.{AreAlike, holds-alike}
 use Rattle.hc_outputs.proofs.lemmas.LaidOut.{offset-of_line, place-of_line}
 use Rattle.hc_core.proofs.Awaits.{waits-posted}
-use Rattle.hc_core.specs.Agreement.{Agree, Kept}
+use Rattle.hc_core.specs.Agreement.{Agree, CoreParts}
 use Rattle.hc_core.specs.Values.{HoldsValues}
 
 -- arrivals, writes and frames say nothing of values
@@ -62,6 +62,6 @@ values-edited past edit packed holds = search (rules, holds-alike, kept_same)
 accepted_posted : (past : Record) (task epoch : ℕ) (bytes : List ℕ) → lowest (post_faults past task epoch bytes) ≡ None → AreAccepted past → AreAccepted (Posted task bytes ∷ past)
 accepted_posted past task epoch bytes none all = search rules
 
-pub agree-posted : (kept : Kept) (past taken : Record) (task epoch : ℕ) (bytes : List ℕ) (outputs : Packed) → lowest (post_faults past task epoch bytes) ≡ None
+pub agree-posted : (kept : CoreParts) (past taken : Record) (task epoch : ℕ) (bytes : List ℕ) (outputs : Packed) → lowest (post_faults past task epoch bytes) ≡ None
     → Holds (table_of (line_of past)) (posted (table_of (line_of past)) task bytes (value_bit past)) outputs → Agree kept past taken → Agree (record kept { outputs = outputs }) (Posted task bytes ∷ past) taken
 agree-posted kept past taken task epoch bytes outputs none holds agree = search (rules, accepted_posted, waits-posted, values-posted)

@@ -25,7 +25,7 @@ use Rattle.hc_core.proofs.Awaits.{waits-wrote}
 use Rattle.hc_core.proofs.Posts.{values-sent, values-wrote}
 use Rattle.hc_core.proofs.Known.{kept-alike, known-wrote}
 use Rattle.hc_core.proofs.SentAll.{waits-all_sent}
-use Rattle.hc_core.specs.Agreement.{Agree, Kept}
+use Rattle.hc_core.specs.Agreement.{Agree, CoreParts}
 use Rattle.hc_core.specs.Firsts.{IsFirstOwed}
 use Rattle.hc_core.specs.Waits.{Waits}
 
@@ -49,7 +49,7 @@ accepted_sent : (past : Record) (tasks : List ℕ) → lowest (task_faults past 
 accepted_sent past tasks none all =
     subst AreAccepted (ap (λ refused. kept_if refused past (with_sent past (proposal past tasks))) none) (kept-after AreAccepted accepted-more past (SendsTasks tasks) all)
 
-pub agree-sent : (kept : Kept) (past taken : Record) (tasks : List ℕ) → lowest (task_faults past tasks) ≡ None → owed_blocks past ≡ [] → kept.serial + length (proposal past tasks) ≤ SETUP_SERIAL → Agree kept past taken
+pub agree-sent : (kept : CoreParts) (past taken : Record) (tasks : List ℕ) → lowest (task_faults past tasks) ≡ None → owed_blocks past ≡ [] → kept.serial + length (proposal past tasks) ≤ SETUP_SERIAL → Agree kept past taken
     → Agree (record kept { awaited = all_sent kept.awaited (proposal past tasks); serial = kept.serial + length (proposal past tasks) }) (with_sent past (proposal past tasks)) taken
 agree-sent kept past taken tasks none owed left agree =
     let frames = proposal past tasks in
@@ -80,7 +80,7 @@ agree-sent kept past taken tasks none owed left agree =
 one_left : (n most : ℕ) → n < most → n + 1 ≤ most
 one_left n most less = omega (arith, less)
 
-pub agree-wrote : (kept : Kept) (past taken : Record) (n : ℕ) (block : LineBlock) (owed : Board) → IsFirstOwed past n block → kept.serial < SETUP_SERIAL
+pub agree-wrote : (kept : CoreParts) (past taken : Record) (n : ℕ) (block : LineBlock) (owed : Board) → IsFirstOwed past n block → kept.serial < SETUP_SERIAL
     → owed ≡ kept_of (known_with (name_of block) None (known_bytes past)) (state_of past) → Agree kept past taken
     → Agree (record kept { awaited = wrote kept.serial block kept.awaited; owed = owed; serial = kept.serial + 1 }) (Wrote block ∷ past) taken
 agree-wrote kept past taken n block owed first left sent agree = record {

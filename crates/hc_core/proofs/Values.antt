@@ -24,7 +24,7 @@ use Rattle.hc_events.specs.Sendings.{Frame, Named}
 use Rattle.hc_events.specs.Steps.{sent_datagram, sent_text}
 use Rattle.hc_events.proofs.lemmas.SentBits.{sent-data}
 use Rattle.hc_events.proofs.lemmas.SentValues.{sent-values}
-use Rattle.hc_outputs.specs.Packed.{Bytes, Carries, Packed, bytes_of, sent_bytes}
+use Rattle.hc_outputs.specs.Packed.{Bytes, Carries, Packed, sent_bytes, slot_bytes}
 use Rattle.hc_outputs.proofs.lemmas.Bits.{HasBit, HasNoBit, bit-lies, carried-bit, sent-there}
 use Rattle.hc_outputs.proofs.lemmas.LaidOut.{length-of_line, place-of_line}
 use Rattle.hc_sendings.specs.Texts.{carried_by, text_of}
@@ -51,7 +51,7 @@ bytes-sent past task d i inside = search (rules, sent-data, get_or-map-range_wit
 
 bit_same : (past : Record) (bytes : Bytes) (task d k : ℕ) → task < TASKS → d < MOST_DATAGRAMS → Carries (table_of (line_of past)) (value_bit past) bytes → IsSentData past task d (sent_data past task d)
     → k < 8 * length (sent_data past task d) → HasBit (table_of (line_of past)) task d k ⊎ HasNoBit (table_of (line_of past)) task d k
-    → bit_of (bytes_of bytes task d) k ≡ bit_of (sent_data past task d) k
+    → bit_of (slot_bytes bytes task d) k ≡ bit_of (sent_data past task d) k
 bit_same past bytes task d k low few carries sent below (inl has) =
     let place = has.place in
     let inside : k - place.bit < place.bits = omega arith in
@@ -73,10 +73,10 @@ bit_same past bytes task d k low few carries sent below (inr none) =
     (record { task_is = is.task_is; datagram = is.datagram; from = lies.from; below = lies.below })))
 
 pub data-same : (past : Record) (bytes : Bytes) (task d : ℕ) → lowest_fault (groups_of (state_of past).groups) ≡ None → task < TASKS → d < MOST_DATAGRAMS → StandsIn (line_of past) (task, d)
-    → Carries (table_of (line_of past)) (value_bit past) bytes → bytes_of bytes task d ≡ sent_data past task d
+    → Carries (table_of (line_of past)) (value_bit past) bytes → slot_bytes bytes task d ≡ sent_data past task d
 data-same past bytes task d project low few stands carries =
     let sent = sent-values past task d project low in
-    same_bytes_from_bits (bytes_of bytes task d) (sent_data past task d) (carries.all_bytes task d low few) (bytes-sent past task d)
+    same_bytes_from_bits (slot_bytes bytes task d) (sent_data past task d) (carries.all_bytes task d low few) (bytes-sent past task d)
     (carries.sizes task d low few ∙ length-of_line (line_of past) task d low stands ∙ sym sent.size)
     (λ k below. bit_same past bytes task d k low few carries sent
     (subst (λ n. k < 8 * n) (carries.sizes task d low few ∙ length-of_line (line_of past) task d low stands ∙ sym sent.size) below)

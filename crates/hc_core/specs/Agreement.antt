@@ -27,7 +27,7 @@ abbrev pub ShowsSlots : Record → Image → Type 0
 ShowsSlots past image = (task d : ℕ) → d < MOST_DATAGRAMS → data_of image task d ≡ slot_of past task d
 
 -- the parts of a core
-pub record Kept : Type 0 where
+pub record CoreParts : Type 0 where
   pub plan : State
   pub serial : ℕ
   pub awaited : Waiting
@@ -37,7 +37,7 @@ pub record Kept : Type 0 where
   pub changes : List Change
 
 -- each part says what the record says
-pub record Agree (kept : Kept) (past taken : Record) : Type 0 where
+pub record Agree (kept : CoreParts) (past taken : Record) : Type 0 where
   pub accepted : AreAccepted past
   pub state : kept.plan ≡ state_of past
   pub project : lowest_fault (groups_of (state_of past).groups) ≡ None
@@ -55,7 +55,7 @@ abbrev pub state_in : Inside → CoreState
 state_in core = record { past = record_of core.past; taken = record_of core.taken.value }
 
 -- what a core keeps beside the two records: its parts, and the changes that weren't taken yet
-abbrev pub kept_in : Inside → Kept
+abbrev pub kept_in : Inside → CoreParts
 kept_in core = record {
   plan = core.plan;
   serial = core.serial;

@@ -7,13 +7,13 @@ use Rattle.hc_events.specs.Arrivals.{arrival_in}
 use Rattle.hc_events.specs.Entries.{Record}
 use Rattle.hc_events.specs.Entries as entry
 use Rattle.hc_events.specs.Steps.{with_arrival}
-use Rattle.hc_core.specs.Texts.{bytes_of}
+use Rattle.hc_core.specs.Texts.{text_bytes}
 
 -- the record of a past, entry by entry: the project's opening, and bytes that arrived by what was read of them, if anything was
 abbrev pub record_of : Past → Record
 record_of (Opened project) = just_opened project.value
 record_of (Edited' m past edit) = entry.Edited edit.value ∷ record_of past
-record_of (Posted' m past task text) = entry.Posted task.value (bytes_of text.value) ∷ record_of past
+record_of (Posted' m past task text) = entry.Posted task.value (text_bytes text.value) ∷ record_of past
 record_of (Sent' m past frame) = entry.Sent frame.value.datagrams ∷ record_of past
 record_of (Wrote' m past block) = entry.Wrote block.value ∷ record_of past
-record_of (Came' m past text) = with_arrival (record_of past) (arrival_in (bytes_of text.value))
+record_of (Came' m past text) = with_arrival (record_of past) (arrival_in (text_bytes text.value))

@@ -4,6 +4,6 @@ use Rattle.hc_core.specs.declared.text.Text.{Text}
 use Rattle.hc_core.specs.declared.text.Text.TheVariants.{Empty, Then'}
 
 -- the bytes of a text, in order: the one that was added last stands last
-abbrev pub bytes_of : Text → List ℕ
-bytes_of Empty = []
-bytes_of (Then' m text byte) = bytes_of text ++ byte.value ∷ []
+abbrev pub text_bytes : Text → List ℕ
+text_bytes Empty = []
+text_bytes (Then' m text byte) = text_bytes text ++ byte.value ∷ []

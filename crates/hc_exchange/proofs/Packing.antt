@@ -21,7 +21,7 @@ use Rattle.hc_records.proofs.lemmas.Walks.{length-line}
 use Rattle.hc_places.specs.Table.{Table, TaskTable, datagram_of, table_of}
 use Rattle.hc_places.proofs.lemmas.Loads.{table-at}
 use Rattle.hc_places.proofs.lemmas.Ranks.{expected-low}
-use Rattle.hc_outputs.specs.Packed.{Holds, Packed, bytes_of, offset_in, sent_bytes}
+use Rattle.hc_outputs.specs.Packed.{Holds, Packed, offset_in, sent_bytes, slot_bytes}
 use Rattle.hc_outputs.specs.Values.{image_bit, posted}
 use Rattle.hc_outputs.proofs.lemmas.Bits.{sent-there}
 use Rattle.hc_outputs.proofs.lemmas.LaidOut.{length-of_line, offset-of_line, place-of_line}
@@ -119,7 +119,7 @@ packed-data state task d image packed can holds low =
           let offset : offset_in table place.task place.datagram ≡ datagram_offset (task_places place.task members) place.datagram =
           offset-of_line members place.task place.datagram (subst (λ (t : ℕ). t < TASKS) (sym own.in_task) is.in_task)
           (subst (λ (t : ℕ). place.datagram < datagram_count (task_places t members)) (sym own.in_task) (subst (λ (n : ℕ). n < datagram_count (task_places task members)) (sym at) is.counted)) in
-          ap (λ (bytes : List ℕ). bit_of bytes (place.bit + k)) (there ∙ ap (bytes_of packed.sent task) (sym at) ∙ ap (λ (t : ℕ). bytes_of packed.sent t place.datagram) (sym own.in_task))
+          ap (λ (bytes : List ℕ). bit_of bytes (place.bit + k)) (there ∙ ap (slot_bytes packed.sent task) (sym at) ∙ ap (λ (t : ℕ). slot_bytes packed.sent t place.datagram) (sym own.in_task))
           ∙ value ∙ posts ∙ ap (λ (n : ℕ). bit_of image (8 * n + place.bit + k)) offset;
       others = λ k none.
           ap (λ (bytes : List ℕ). bit_of bytes k) there

@@ -11,8 +11,8 @@ use Rattle.hc_records.specs.declared.limits.TheConstants.{MOST_DATAGRAMS, TASKS}
 use Rattle.hc_records.specs.Image.{VariablePlace}
 use Rattle.hc_places.specs.Swap.{Change, ChangedRow, ChangesAscend, swapped}
 use Rattle.hc_places.specs.Table.{IsTable, RowsAscend, Table, place_in}
-use Rattle.hc_outputs.specs.Packed.{Bytes, Carries, HasSizes, IsLaidOut, IsOutput, LiesIn, bytes_of, length_in}
-use Rattle.hc_outputs.specs.Pieces.{AreBlank, ReadsEach, ResizesEach, Stand, WritesEach, carried, of_changed, of_list, of_rows, output_of, word_of}
+use Rattle.hc_outputs.specs.Packed.{Bytes, Carries, HasSizes, IsLaidOut, IsOutput, LiesIn, length_in, slot_bytes}
+use Rattle.hc_outputs.specs.Pieces.{AreBlank, ReadsEach, ResizesEach, Stand, WritesEach, carried_bit, of_changed, of_list, of_rows, output_of, word_of}
 use Rattle.hc_outputs.specs.Values.{KeepEntries}
 use Rattle.hc_outputs.proofs.Numbered.{HasNone, by-number}
 use Rattle.hc_outputs.proofs.Outcomes.{blank-bit, blank-carries, blank-sizes}
@@ -80,31 +80,31 @@ taken_sizes e moved = λ task d low few. moved.takes.sizes (MOST_DATAGRAMS * tas
 pub cut-sizes : (old : Table) (change : Change) (taken cut : Bytes) → IsTable old → ChangesAscend change.tasks → HasSizes old taken → ResizesEach (length change.tasks) change.tasks taken cut → HasSizes (swapped change old) cut
 cut-sizes old change taken cut is ascend sizes cuts task d low few =
     ap (λ own. length own) (lengths-changed change old taken cut is ascend sizes cuts task d low few)
-    ∙ resized-size (length_in (swapped change old) task d) (bytes_of taken task d)
+    ∙ resized-size (length_in (swapped change old) task d) (slot_bytes taken task d)
 
 -- a bit that no changed output takes is what it was behind the taking up, as far as the new length goes
-cut_bit : (e : Course) (task d k : ℕ) → AreMoved e → task < TASKS → d < MOST_DATAGRAMS → k < 8 * length_in (next e) task d → bit_of (bytes_of e.cut task d) k ≡ bit_of (bytes_of e.taken task d) k
+cut_bit : (e : Course) (task d k : ℕ) → AreMoved e → task < TASKS → d < MOST_DATAGRAMS → k < 8 * length_in (next e) task d → bit_of (slot_bytes e.cut task d) k ≡ bit_of (slot_bytes e.taken task d) k
 cut_bit e task d k moved low few below =
     ap (λ own. bit_of own k) (lengths-changed e.change e.old e.taken e.cut moved.table moved.tasks (taken_sizes e moved) moved.cuts task d low few)
-    ∙ resized-bit (length_in (next e) task d) (bytes_of e.taken task d) k below
+    ∙ resized-bit (length_in (next e) task d) (slot_bytes e.taken task d) k below
 
-cut_past : (e : Course) (task d k : ℕ) → AreMoved e → task < TASKS → d < MOST_DATAGRAMS → 8 * length_in (next e) task d ≤ k → bit_of (bytes_of e.cut task d) k ≡ 0
+cut_past : (e : Course) (task d k : ℕ) → AreMoved e → task < TASKS → d < MOST_DATAGRAMS → 8 * length_in (next e) task d ≤ k → bit_of (slot_bytes e.cut task d) k ≡ 0
 cut_past e task d k moved low few past =
     ap (λ own. bit_of own k) (lengths-changed e.change e.old e.taken e.cut moved.table moved.tasks (taken_sizes e moved) moved.cuts task d low few)
-    ∙ resized-past (length_in (next e) task d) (bytes_of e.taken task d) k past
+    ∙ resized-past (length_in (next e) task d) (slot_bytes e.taken task d) k past
 
 -- the value of a variable that had no place, and of one that had one
 
-kept_some : (old : Table) (value : ℕ → ℕ → ℕ) (ones : Bool) (variable k : ℕ) (before : VariablePlace) → place_in old variable ≡ Some before → value variable k ≡ carried old value ones variable k
+kept_some : (old : Table) (value : ℕ → ℕ → ℕ) (ones : Bool) (variable k : ℕ) (before : VariablePlace) → place_in old variable ≡ Some before → value variable k ≡ carried_bit old value ones variable k
 kept_some old value ones variable k before there = sym (ap (λ found. cond (is_some found) (value variable k) (cond ones 1 0)) there)
 
-kept_none : (old : Table) (value : ℕ → ℕ → ℕ) (ones : Bool) (variable k : ℕ) → place_in old variable ≡ None → cond ones 1 0 ≡ carried old value ones variable k
+kept_none : (old : Table) (value : ℕ → ℕ → ℕ) (ones : Bool) (variable k : ℕ) → place_in old variable ≡ None → cond ones 1 0 ≡ carried_bit old value ones variable k
 kept_none old value ones variable k none = sym (ap (λ found. cond (is_some found) (value variable k) (cond ones 1 0)) none)
 
 -- the value of a changed variable is put down
 
 put_by : (e : Course) (value : ℕ → ℕ → ℕ) (i k : ℕ) (row : ChangedRow) (place : VariablePlace) (found : Option VariablePlace) → AreMoved e → Carries e.old value e.first → slice_get e.change.rows i ≡ Some row → IsOutput (next e) row.0 place → k < place.bits → k < 64
-    → place_in e.old row.0 ≡ found → bit_at (slice_index_or e.values i 0) k ≡ carried e.old value e.ones row.0 k
+    → place_in e.old row.0 ≡ found → bit_at (slice_index_or e.values i 0) k ≡ carried_bit e.old value e.ones row.0 k
 put_by e value i k row place None moved carries there is below word none =
     let inside = slice_get_within e.change.rows i row there in
     let low : i < length e.places = omega arith in
@@ -121,7 +121,7 @@ put_by e value i k row place (Some before) moved carries there is below word som
     moved.reads.read i k before low stood (omega arith) ∙ carries.values row.0 k before was (omega arith) ∙ kept_some e.old value e.ones row.0 k before some
 
 put_value : (e : Course) (value : ℕ → ℕ → ℕ) (i k : ℕ) (row : ChangedRow) (place : VariablePlace) → AreMoved e → Carries e.old value e.first → slice_get e.change.rows i ≡ Some row → IsOutput (next e) row.0 place → k < place.bits
-    → bit_of (bytes_of e.last place.task place.datagram) (place.bit + k) ≡ carried e.old value e.ones row.0 k
+    → bit_of (slot_bytes e.last place.task place.datagram) (place.bit + k) ≡ carried_bit e.old value e.ones row.0 k
 put_value e value i k row place moved carries there is below =
     let low = slice_get_within e.change.rows i row there in
     let new : of_changed e.change.rows i ≡ Some place = of-new e.change e.old i row moved.table.ascends moved.rows there ∙ found-output (next e) row.0 place is in
@@ -136,7 +136,7 @@ apart_from : (table : Table) (variable other : ℕ) (place another : VariablePla
 apart_from table variable other place another k laid differ there there' below lies = search (rules, not-two)
 
 stayed : (e : Course) (value : ℕ → ℕ → ℕ) (variable k : ℕ) (place : VariablePlace) → AreMoved e → Carries e.old value e.first → HasNone e.change.rows variable → IsOutput (next e) variable place → k < place.bits
-    → bit_of (bytes_of e.last place.task place.datagram) (place.bit + k) ≡ carried e.old value e.ones variable k
+    → bit_of (slot_bytes e.last place.task place.datagram) (place.bit + k) ≡ carried_bit e.old value e.ones variable k
 stayed e value variable k place moved carries none is below =
     let there : place_in e.old variable ≡ Some place = sym (same-place e.change e.old variable moved.table.ascends none) ∙ is.there in
     let lies = moved.laid_out.inside variable place is.there in
@@ -155,7 +155,7 @@ stayed e value variable k place moved carries none is below =
 
 -- a bit that lies in no output's new place
 
-taken_zero : (e : Course) (i task d k : ℕ) (row : ChangedRow) (place : VariablePlace) → AreMoved e → slice_get e.change.rows i ≡ Some row → IsOutput e.old row.0 place → LiesIn place task d k → bit_of (bytes_of e.taken task d) k ≡ 0
+taken_zero : (e : Course) (i task d k : ℕ) (row : ChangedRow) (place : VariablePlace) → AreMoved e → slice_get e.change.rows i ≡ Some row → IsOutput e.old row.0 place → LiesIn place task d k → bit_of (slot_bytes e.taken task d) k ≡ 0
 taken_zero e i task d k row place moved there is lies =
     let from = lies.from in
     let below = lies.below in
@@ -167,7 +167,7 @@ taken_zero e i task d k row place moved there is lies =
     search (rules, bit_at-zero)
 
 free_bit : (e : Course) (value : ℕ → ℕ → ℕ) (task d k : ℕ) → AreMoved e → Carries e.old value e.first → task < TASKS → d < MOST_DATAGRAMS → HasNoBit (next e) task d k
-    → HasBit e.old task d k ⊎ HasNoBit e.old task d k → bit_of (bytes_of e.taken task d) k ≡ 0
+    → HasBit e.old task d k ⊎ HasNoBit e.old task d k → bit_of (slot_bytes e.taken task d) k ≡ 0
 free_bit e value task d k moved carries low few misses (inl has) = elim (by-number e.change.rows has.variable) [
   | inl changed ↦
       taken_zero e changed.index task d k changed.row has.place moved changed.there
@@ -187,16 +187,16 @@ moved_sizes e moved task d low few =
     moved.puts.sizes (MOST_DATAGRAMS * task + d)
     ∙ cut-sizes e.old e.change e.taken e.cut moved.table moved.tasks (taken_sizes e moved) moved.cuts task d low few
 
-pub moved-carries : (e : Course) (value : ℕ → ℕ → ℕ) → AreMoved e → Carries e.old value e.first → Carries (next e) (carried e.old value e.ones) e.last
+pub moved-carries : (e : Course) (value : ℕ → ℕ → ℕ) → AreMoved e → Carries e.old value e.first → Carries (next e) (carried_bit e.old value e.ones) e.last
 moved-carries e value moved carries = record {
   sizes = moved_sizes e moved;
   all_bytes = λ task d low few.
       moved.puts.bytes task d few
       (subst AreBytes (sym (lengths-changed e.change e.old e.taken e.cut moved.table moved.tasks (taken_sizes e moved) moved.cuts task d low few))
-      (resized-bytes (length_in (next e) task d) (bytes_of e.taken task d) (moved.takes.bytes task d few (carries.all_bytes task d low few))));
+      (resized-bytes (length_in (next e) task d) (slot_bytes e.taken task d) (moved.takes.bytes task d few (carries.all_bytes task d low few))));
   values = λ variable k place is below. elim (by-number e.change.rows variable) [
     | inl has ↦
-        subst (λ n. bit_of (bytes_of e.last place.task place.datagram) (place.bit + k) ≡ carried e.old value e.ones n k) has.is
+        subst (λ n. bit_of (slot_bytes e.last place.task place.datagram) (place.bit + k) ≡ carried_bit e.old value e.ones n k) has.is
         (put_value e value has.index k has.row place moved carries has.there
         (subst (λ n. IsOutput (next e) n place) (sym has.is) is) below)
     | inr none ↦ stayed e value variable k place moved carries none is below
@@ -217,7 +217,7 @@ moved-carries e value moved carries = record {
 both_one : (found : Bool) → cond {A = ℕ} found 1 1 ≡ 1
 both_one found = search rules
 
-pub carried-ones : (old new : Table) (bytes : Bytes) → Carries new (carried old (λ variable k. 1) true) bytes → Carries new (λ variable k. 1) bytes
+pub carried-ones : (old new : Table) (bytes : Bytes) → Carries new (carried_bit old (λ variable k. 1) true) bytes → Carries new (λ variable k. 1) bytes
 carried-ones old new bytes carries = search (rules, carries-alike, both_one)
 
 -- what a list is once all of it was lent

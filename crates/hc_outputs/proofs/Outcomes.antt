@@ -12,7 +12,7 @@ use Rattle.hc_bits.proofs.lemmas.Places.{bit_of-drop, bit_of-zeros}
 use Rattle.hc_records.specs.declared.limits.TheConstants.{MOST_DATAGRAMS, TASKS}
 use Rattle.hc_records.specs.Image.{VariablePlace}
 use Rattle.hc_places.specs.Table.{Table, TaskTable, datagrams_in, place_in}
-use Rattle.hc_outputs.specs.Packed.{Bytes, Carries, HasSizes, IsLaidOut, IsOutput, IsWhole, bytes_of, length_in, offset_in}
+use Rattle.hc_outputs.specs.Packed.{Bytes, Carries, HasSizes, IsLaidOut, IsOutput, IsWhole, length_in, offset_in, slot_bytes}
 use Rattle.hc_outputs.specs.Pieces.{AreBlank, Posts}
 use Rattle.hc_outputs.specs.Values.{image_bit, posted}
 use Rattle.hc_outputs.proofs.Masks.{zero-bytes}
@@ -86,7 +86,7 @@ nothing_there table task d past = no_datagram (slice_get table.tasks task) d pas
 abbrev TakesPost : Table → Bytes → Bytes → List ℕ → ℕ → Type 0
 TakesPost table new masks bytes task =
     (d k : ℕ) → d < length (datagrams_in table task)
-    → bit_of (bytes_of new task d) k ≡ min (bit_of (drop (offset_in table task d) bytes) k) (bit_of (bytes_of masks task d) k)
+    → bit_of (slot_bytes new task d) k ≡ min (bit_of (drop (offset_in table task d) bytes) k) (bit_of (slot_bytes masks task d) k)
 
 posted_there : (table : Table) (task : ℕ) (bytes : List ℕ) (value : ℕ → ℕ → ℕ) (variable k : ℕ) (place : VariablePlace) (own : Bool) → place_in table variable ≡ Some place → (place.task == task) ≡ own
     → posted table task bytes value variable k ≡ cond own (bit_of bytes (image_bit table place k)) (value variable k)
@@ -97,13 +97,13 @@ not_same m n other = grind (arith, nat_tests)
 
 post_taken : (table : Table) (new masks : Bytes) (bytes : List ℕ) (variable k : ℕ) (place : VariablePlace) → IsLaidOut table → TakesPost table new masks bytes place.task
     → Carries table (λ v j. 1) masks → IsOutput table variable place → k < place.bits
-    → bit_of (bytes_of new place.task place.datagram) (place.bit + k) ≡ bit_of bytes (image_bit table place k)
+    → bit_of (slot_bytes new place.task place.datagram) (place.bit + k) ≡ bit_of bytes (image_bit table place k)
 post_taken table new masks bytes variable k place out takes ones is low = elim (cases_lt place.datagram (length (datagrams_in table place.task))) [
   | inl inside ↦
       let offset = offset_in table place.task place.datagram in
       let order : 8 * offset + (place.bit + k) ≡ 8 * offset + place.bit + k = omega arith in
       takes place.datagram (place.bit + k) inside
-      ∙ under_one (bit_of (drop offset bytes) (place.bit + k)) (bit_of (bytes_of masks place.task place.datagram) (place.bit + k)) (bit_small (drop offset bytes) (place.bit + k)) (ones.values variable k place is low)
+      ∙ under_one (bit_of (drop offset bytes) (place.bit + k)) (bit_of (slot_bytes masks place.task place.datagram) (place.bit + k)) (bit_small (drop offset bytes) (place.bit + k)) (ones.values variable k place is low)
       ∙ bit_of-drop bytes offset (place.bit + k)
       ∙ ap (bit_of bytes) order
   | inr past ↦

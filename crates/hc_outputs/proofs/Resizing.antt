@@ -14,7 +14,7 @@ use Rattle.hc_records.specs.declared.limits.TheConstants.{MOST_DATAGRAMS, TASKS}
 use Rattle.hc_places.specs.Swap.{Change, ChangedTask, ChangesAscend, swapped, table_said_of}
 use Rattle.hc_places.specs.Table.{IsTable, Table, TaskTable}
 use Rattle.hc_places.proofs.lemmas.Swaps.{swaps-replace}
-use Rattle.hc_outputs.specs.Packed.{Bytes, HasSizes, bytes_of, length_in}
+use Rattle.hc_outputs.specs.Packed.{Bytes, HasSizes, length_in, slot_bytes}
 use Rattle.hc_outputs.specs.Pieces.{Resizes, ResizesEach, length_of, resized}
 use Rattle.hc_outputs.proofs.Masks.{same-at, zero-small}
 use Rattle.hc_outputs.proofs.Numbered.{same-some, ascend-differ, HasNone, HasNumber, by-number, found-at, none-found}
@@ -59,7 +59,7 @@ next-resized n changed last old mid new is ascend each resizes = record {
     | inr more ↦
         let index : n ≡ i = omega arith in
         let same : last ≡ own = same-some last own (sym is ∙ ap (slice_get changed) index ∙ there) in
-        subst (λ (o : ChangedTask). bytes_of new o.0 d ≡ resized (length_of o.1 d) (bytes_of old o.0 d)) same
+        subst (λ (o : ChangedTask). slot_bytes new o.0 d ≡ resized (length_of o.1 d) (slot_bytes old o.0 d)) same
         (resizes.own d few
         ∙ ap (resized (length_of last.1 d))
         (each.rest last.0 d few (λ j other inside at. ascend-differ changed j n other last ascend inside at is)))
@@ -94,7 +94,7 @@ new_task change table task said is ascend low told =
     )
 
 abbrev GetsLength : Change → Table → Bytes → Bytes → ℕ → ℕ → Type 0
-GetsLength change table old new task d = bytes_of new task d ≡ resized (length_in (swapped change table) task d) (bytes_of old task d)
+GetsLength change table old new task d = slot_bytes new task d ≡ resized (length_in (swapped change table) task d) (slot_bytes old task d)
 
 said_length : (change : Change) (table : Table) (old new : Bytes) (task d : ℕ) → IsTable table → ChangesAscend change.tasks → task < TASKS → d < MOST_DATAGRAMS
     → ResizesEach (length change.tasks) change.tasks old new → HasNumber change.tasks task → GetsLength change table old new task d
@@ -110,7 +110,7 @@ kept_length : (change : Change) (table : Table) (old new : Bytes) (task d : ℕ)
 kept_length change table old new task d is ascend low few sizes each none =
     let told : table_said_of change task ≡ None = ap (option_map (λ (c : ChangedTask). c.1)) (none-found change.tasks task none) in
     let there = new_task change table task None is ascend low told in
-    let size : length (bytes_of old task d) ≡ length_in (swapped change table) task d = search (rules, by_task) in
+    let size : length (slot_bytes old task d) ≡ length_in (swapped change table) task d = search (rules, by_task) in
     search (rules, resized-same)
 
 -- once the changed tasks have the lengths of their new tables, each datagram has that of the new table

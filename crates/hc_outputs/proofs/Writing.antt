@@ -9,7 +9,7 @@ use Rattle.hc_records.specs.declared.limits.TheConstants.{MOST_DATAGRAMS}
 use Rattle.hc_records.specs.Image.{VariablePlace}
 use Rattle.hc_records.specs.ImageLaws.{SharesNoBit}
 use Rattle.hc_places.specs.Ranges.{IsPlace}
-use Rattle.hc_outputs.specs.Packed.{Bytes, LiesIn, bytes_of}
+use Rattle.hc_outputs.specs.Packed.{Bytes, LiesIn, slot_bytes}
 use Rattle.hc_outputs.proofs.Numbered.{none-some, same-some}
 use Rattle.hc_outputs.specs.Pieces.{AreApart, Fit, Numbered, ReadsEach, Writes, WritesAt, WritesEach}
 
@@ -20,11 +20,11 @@ beside : (old new : List ℕ) (b : VariablePlace) (run : ℕ → ℕ) (task d k 
 beside old new b run task d k t e replaced misses = search (rules, cases_lt)
 
 kept_bit : (old new : Bytes) (b : VariablePlace) (run : ℕ → ℕ) (task d k : ℕ) → d < MOST_DATAGRAMS → Writes old new b run → (LiesIn b task d k → ⊥)
-    → bit_of (bytes_of new task d) k ≡ bit_of (bytes_of old task d) k
+    → bit_of (slot_bytes new task d) k ≡ bit_of (slot_bytes old task d) k
 kept_bit old new b run task d k few writes misses = search (rules, cases_eq, beside)
 
 kept_size : (old new : Bytes) (b : VariablePlace) (run : ℕ → ℕ) (task d : ℕ) → d < MOST_DATAGRAMS → Writes old new b run
-    → length (bytes_of new task d) ≡ length (bytes_of old task d)
+    → length (slot_bytes new task d) ≡ length (slot_bytes old task d)
 kept_size old new b run task d few writes = search (rules, cases_eq)
 
 kept_sizes : (old new : Bytes) (b : VariablePlace) (run : ℕ → ℕ) (n : ℕ) → Writes old new b run → length (get_or new n []) ≡ length (get_or old n [])
@@ -34,7 +34,7 @@ kept_sizes old new b run n writes =
     subst (λ m. length (get_or new m []) ≡ length (get_or old m [])) whole (kept_size old new b run (n / MOST_DATAGRAMS) (n % MOST_DATAGRAMS) few writes)
 
 kept_bytes : (old new : Bytes) (b : VariablePlace) (run : ℕ → ℕ) (task d : ℕ) → d < MOST_DATAGRAMS → Writes old new b run
-    → AreBytes (bytes_of old task d) → AreBytes (bytes_of new task d)
+    → AreBytes (slot_bytes old task d) → AreBytes (slot_bytes new task d)
 kept_bytes old new b run task d few writes before = search (rules, cases_eq)
 
 -- no bit lies in two places that share none
@@ -59,7 +59,7 @@ up_to : (P : ℕ → VariablePlace → Type 0) (places : Numbered) (n : ℕ) (la
 up_to P places n last is before own i place low there = search (rules, cases_lt, same-some)
 
 abbrev IsHeld : (ℕ → ℕ → ℕ) → Bytes → ℕ → VariablePlace → Type 0
-IsHeld run bytes i place = (k : ℕ) → k < place.bits → bit_of (bytes_of bytes place.task place.datagram) (place.bit + k) ≡ run i k
+IsHeld run bytes i place = (k : ℕ) → k < place.bits → bit_of (slot_bytes bytes place.task place.datagram) (place.bit + k) ≡ run i k
 
 held_still : (n most i : ℕ) (places : Numbered) (run : ℕ → ℕ → ℕ) (old mid new : Bytes) (place last : VariablePlace) → places i ≡ Some place → places n ≡ Some last → i < n → n < most
     → AreApart most places → WritesEach n places run old mid → Writes mid new last (run n) → IsHeld run new i place
@@ -72,12 +72,12 @@ next-written n most places run old mid new found is low apart each same = search
 -- where the next place lies nothing was written yet
 
 pub next-fits : (n most : ℕ) (places : Numbered) (run : ℕ → ℕ → ℕ) (old mid : Bytes) (found : Option VariablePlace) → places n ≡ found → n < most → Fit most places old
-    → WritesEach n places run old mid → IfSome found (λ place. place.bit + place.bits ≤ 8 * length (bytes_of mid place.task place.datagram))
+    → WritesEach n places run old mid → IfSome found (λ place. place.bit + place.bits ≤ 8 * length (slot_bytes mid place.task place.datagram))
 next-fits n most places run old mid found is low fit each = search rules
 
 next_unwritten : (n most k : ℕ) (places : Numbered) (run : ℕ → ℕ → ℕ) (old mid : Bytes) (place : VariablePlace) → n < most → IsPlace place → AreApart most places
     → WritesEach n places run old mid → places n ≡ Some place → k < place.bits
-    → bit_of (bytes_of mid place.task place.datagram) (place.bit + k) ≡ bit_of (bytes_of old place.task place.datagram) (place.bit + k)
+    → bit_of (slot_bytes mid place.task place.datagram) (place.bit + k) ≡ bit_of (slot_bytes old place.task place.datagram) (place.bit + k)
 next_unwritten n most k places run old mid place low range apart each there below = search (rules, not-two_by)
 
 -- so what is read there is what stood there at first
@@ -85,11 +85,11 @@ next_unwritten n most k places run old mid place low range apart each there belo
 abbrev IsValue : Option VariablePlace → ℕ → Bytes → ℕ → Type 0
 IsValue found lacking bytes value =
     MatchOption found (value ≡ lacking)
-    (λ place. (k : ℕ) → k < place.bits → bit_at value k ≡ bit_of (bytes_of bytes place.task place.datagram) (place.bit + k))
+    (λ place. (k : ℕ) → k < place.bits → bit_at value k ≡ bit_of (slot_bytes bytes place.task place.datagram) (place.bit + k))
 
 abbrev IsRead : Bytes → List ℕ → ℕ → VariablePlace → Type 0
 IsRead bytes values i place =
-    (k : ℕ) → k < place.bits → bit_at (get_or values i 0) k ≡ bit_of (bytes_of bytes place.task place.datagram) (place.bit + k)
+    (k : ℕ) → k < place.bits → bit_at (get_or values i 0) k ≡ bit_of (slot_bytes bytes place.task place.datagram) (place.bit + k)
 
 less_differs : (m n : ℕ) → m < n → m ≢ n
 less_differs m n less same = omega arith

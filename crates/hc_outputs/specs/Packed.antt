@@ -18,8 +18,8 @@ abbrev pub slot_number : ℕ → ℕ → ℕ
 slot_number task d = MOST_DATAGRAMS * task + d
 
 -- of lists of bytes (`Bytes`) the one at the datagram's `slot_number`; empty where the lists end before it
-abbrev pub bytes_of : Bytes → ℕ → ℕ → List ℕ
-bytes_of bytes task d = slice_index_or bytes (slot_number task d) []
+abbrev pub slot_bytes : Bytes → ℕ → ℕ → List ℕ
+slot_bytes bytes task d = slice_index_or bytes (slot_number task d) []
 
 -- the length of a datagram in bytes, and where its data begin in its task's image; 0 where the task has no such datagram
 abbrev pub length_in : Table → ℕ → ℕ → ℕ
@@ -57,11 +57,11 @@ pub record LiesIn (place : VariablePlace) (task d k : ℕ) : Type 0 where
 -- there are bytes for each datagram of the table, as many as it has, and none for any other
 abbrev pub HasSizes : Table → Bytes → Type 0
 HasSizes table bytes =
-    (task d : ℕ) → task < TASKS → d < MOST_DATAGRAMS → length (bytes_of bytes task d) ≡ length_in table task d
+    (task d : ℕ) → task < TASKS → d < MOST_DATAGRAMS → length (slot_bytes bytes task d) ≡ length_in table task d
 
 -- and each of their numbers is a byte
 abbrev pub HasBytes : Bytes → Type 0
-HasBytes bytes = (task d : ℕ) → task < TASKS → d < MOST_DATAGRAMS → AreBytes (bytes_of bytes task d)
+HasBytes bytes = (task d : ℕ) → task < TASKS → d < MOST_DATAGRAMS → AreBytes (slot_bytes bytes task d)
 
 -- so many, in which each output variable has the bits of its value, and each bit that lies in no output variable's place is 0
 pub record Carries (table : Table) (value : ℕ → ℕ → ℕ) (bytes : Bytes) : Type 0 where
@@ -69,11 +69,11 @@ pub record Carries (table : Table) (value : ℕ → ℕ → ℕ) (bytes : Bytes)
   pub all_bytes : HasBytes bytes
   pub values :
       (variable k : ℕ) (place : VariablePlace) → IsOutput table variable place → k < place.bits
-      → bit_of (bytes_of bytes place.task place.datagram) (place.bit + k) ≡ value variable k
+      → bit_of (slot_bytes bytes place.task place.datagram) (place.bit + k) ≡ value variable k
   pub others :
       (task d k : ℕ) → task < TASKS → d < MOST_DATAGRAMS
       → ((variable : ℕ) (place : VariablePlace) → IsOutput table variable place → ¬ (LiesIn place task d k))
-      → bit_of (bytes_of bytes task d) k ≡ 0
+      → bit_of (slot_bytes bytes task d) k ≡ 0
 
 -- what is kept: the bytes as they are sent, and masks, in which just the bits of output variables are 1
 pub record Packed : Type 0 where
@@ -83,7 +83,7 @@ pub record Packed : Type 0 where
 -- the data with which a datagram is sent; none for a task or a number that no line has
 abbrev pub sent_bytes : Packed → ℕ → ℕ → List ℕ
 sent_bytes packed task d =
-    if nat_lt task TASKS && nat_lt d MOST_DATAGRAMS then bytes_of packed.sent task d else []
+    if nat_lt task TASKS && nat_lt d MOST_DATAGRAMS then slot_bytes packed.sent task d else []
 
 -- the outputs of a table with these values: bit k of a variable's value is `value variable k`
 pub record Holds (table : Table) (value : ℕ → ℕ → ℕ) (packed : Packed) : Type 0 where

@@ -12,13 +12,13 @@ use Rattle.hc_places.specs.Ranges.{IsPlace}
 use Rattle.hc_places.specs.Swap.{ChangedRow, ChangedTask}
 use Rattle.hc_places.specs.Table.{IsTable, Row, Table, TaskTable, datagrams_in, place_in}
 use Rattle.hc_outputs.specs.Moves.{Moves}
-use Rattle.hc_outputs.specs.Packed.{Bytes, LiesIn, bytes_of, length_in, offset_in}
+use Rattle.hc_outputs.specs.Packed.{Bytes, LiesIn, length_in, offset_in, slot_bytes}
 
 -- the bytes of each datagram of a table are zeros
 pub record AreBlank (table : Table) (bytes : Bytes) : Type 0 where
   pub all : length bytes ≡ MOST_DATAGRAMS * TASKS
   pub zeros :
-      (task d : ℕ) → task < TASKS → d < MOST_DATAGRAMS → bytes_of bytes task d ≡ replicate (length_in table task d) 0
+      (task d : ℕ) → task < TASKS → d < MOST_DATAGRAMS → slot_bytes bytes task d ≡ replicate (length_in table task d) 0
 
 -- a place, if it is that of an output variable
 abbrev pub output_of : VariablePlace → Option VariablePlace
@@ -31,12 +31,12 @@ output_in table variable = option_and_then output_of (place_in table variable)
 -- the bits of a place become those of a run, and every other bit of every datagram stays
 pub record Writes (old new : Bytes) (place : VariablePlace) (run : ℕ → ℕ) : Type 0 where
   pub own :
-      ReplacesRun (bytes_of old place.task place.datagram) (bytes_of new place.task place.datagram) place.bit place.bits run
+      ReplacesRun (slot_bytes old place.task place.datagram) (slot_bytes new place.task place.datagram) place.bit place.bits run
   pub rest :
       (task d : ℕ) → d < MOST_DATAGRAMS → (task ≢ place.task) ⊎ (d ≢ place.datagram)
-      → bytes_of new task d ≡ bytes_of old task d
-  pub size : length (bytes_of new place.task place.datagram) ≡ length (bytes_of old place.task place.datagram)
-  pub bytes : AreBytes (bytes_of new place.task place.datagram)
+      → slot_bytes new task d ≡ slot_bytes old task d
+  pub size : length (slot_bytes new place.task place.datagram) ≡ length (slot_bytes old place.task place.datagram)
+  pub bytes : AreBytes (slot_bytes new place.task place.datagram)
   pub all : length new ≡ length old
 
 -- so it is at a place that may be lacking
@@ -51,7 +51,7 @@ Numbered = ℕ → Option VariablePlace
 abbrev pub Fit : ℕ → Numbered → Bytes → Type 0
 Fit n places bytes =
     (i : ℕ) (place : VariablePlace) → i < n → places i ≡ Some place
-    → place.bit + place.bits ≤ 8 * length (bytes_of bytes place.task place.datagram)
+    → place.bit + place.bits ≤ 8 * length (slot_bytes bytes place.task place.datagram)
 
 -- no two share a bit
 abbrev pub AreApart : ℕ → Numbered → Type 0
@@ -69,19 +69,19 @@ pub record WritesEach (n : ℕ) (places : Numbered) (run : ℕ → ℕ → ℕ) 
   pub ranges : (i : ℕ) (place : VariablePlace) → i < n → places i ≡ Some place → IsPlace place
   pub own :
       (i k : ℕ) (place : VariablePlace) → i < n → places i ≡ Some place → k < place.bits
-      → bit_of (bytes_of new place.task place.datagram) (place.bit + k) ≡ run i k
+      → bit_of (slot_bytes new place.task place.datagram) (place.bit + k) ≡ run i k
   pub rest :
       (task d k : ℕ) → d < MOST_DATAGRAMS → Miss n places task d k
-      → bit_of (bytes_of new task d) k ≡ bit_of (bytes_of old task d) k
+      → bit_of (slot_bytes new task d) k ≡ bit_of (slot_bytes old task d) k
   pub sizes : (n : ℕ) → length (slice_index_or new n []) ≡ length (slice_index_or old n [])
-  pub bytes : (task d : ℕ) → d < MOST_DATAGRAMS → AreBytes (bytes_of old task d) → AreBytes (bytes_of new task d)
+  pub bytes : (task d : ℕ) → d < MOST_DATAGRAMS → AreBytes (slot_bytes old task d) → AreBytes (slot_bytes new task d)
   pub all : length new ≡ length old
 
 -- the value of each is what stood there, and that of one that is lacking is given
 pub record ReadsEach (n : ℕ) (places : Numbered) (bytes : Bytes) (lacking : ℕ) (values : List ℕ) : Type 0 where
   pub read :
       (i k : ℕ) (place : VariablePlace) → i < n → places i ≡ Some place → k < place.bits
-      → bit_at (slice_index_or values i 0) k ≡ bit_of (bytes_of bytes place.task place.datagram) (place.bit + k)
+      → bit_at (slice_index_or values i 0) k ≡ bit_of (slot_bytes bytes place.task place.datagram) (place.bit + k)
   pub given : (i : ℕ) → i < n → places i ≡ None → slice_index_or values i 0 ≡ lacking
 
 -- the output places of a table's rows
@@ -106,24 +106,24 @@ length_of table d = option_map_or (λ datagram. datagram.length) (slice_get tabl
 
 -- the bytes of a task's datagrams get the lengths of its table, and those of every other task stay
 pub record Resizes (task : ℕ) (table : TaskTable) (old new : Bytes) : Type 0 where
-  pub own : (d : ℕ) → d < MOST_DATAGRAMS → bytes_of new task d ≡ resized (length_of table d) (bytes_of old task d)
-  pub rest : (other d : ℕ) → d < MOST_DATAGRAMS → other ≢ task → bytes_of new other d ≡ bytes_of old other d
+  pub own : (d : ℕ) → d < MOST_DATAGRAMS → slot_bytes new task d ≡ resized (length_of table d) (slot_bytes old task d)
+  pub rest : (other d : ℕ) → d < MOST_DATAGRAMS → other ≢ task → slot_bytes new other d ≡ slot_bytes old other d
   pub all : length new ≡ length old
 
 -- so it is with the first n of changed tasks
 pub record ResizesEach (n : ℕ) (changed : List ChangedTask) (old new : Bytes) : Type 0 where
   pub own :
       (i d : ℕ) (own : ChangedTask) → i < n → slice_get changed i ≡ Some own → d < MOST_DATAGRAMS
-      → bytes_of new own.0 d ≡ resized (length_of own.1 d) (bytes_of old own.0 d)
+      → slot_bytes new own.0 d ≡ resized (length_of own.1 d) (slot_bytes old own.0 d)
   pub rest :
       (task d : ℕ) → d < MOST_DATAGRAMS
       → ((i : ℕ) (own : ChangedTask) → i < n → slice_get changed i ≡ Some own → own.0 ≢ task)
-      → bytes_of new task d ≡ bytes_of old task d
+      → slot_bytes new task d ≡ slot_bytes old task d
   pub all : length new ≡ length old
 
 -- over a change a variable keeps its value where it had a place; the bits of one that had none are all alike
-abbrev pub carried : Table → (ℕ → ℕ → ℕ) → Bool → ℕ → ℕ → ℕ
-carried old value ones variable k =
+abbrev pub carried_bit : Table → (ℕ → ℕ → ℕ) → Bool → ℕ → ℕ → ℕ
+carried_bit old value ones variable k =
     if is_some (place_in old variable) then value variable k else (if ones then 1 else 0)
 
 -- a word of ones, or of zeros
@@ -146,10 +146,10 @@ pub record Keeps (moves : Moves) (places : List (Option VariablePlace)) (values 
 pub record Posts (table : Table) (old new masks : Bytes) (task : ℕ) (bytes : List ℕ) : Type 0 where
   pub own :
       (d k : ℕ) → d < length (datagrams_in table task)
-      → bit_of (bytes_of new task d) k ≡ min (bit_of (drop (offset_in table task d) bytes) k) (bit_of (bytes_of masks task d) k)
+      → bit_of (slot_bytes new task d) k ≡ min (bit_of (drop (offset_in table task d) bytes) k) (bit_of (slot_bytes masks task d) k)
   pub rest :
       (t d : ℕ) → d < MOST_DATAGRAMS → (t ≢ task) ⊎ (length (datagrams_in table task) ≤ d)
-      → bytes_of new t d ≡ bytes_of old t d
+      → slot_bytes new t d ≡ slot_bytes old t d
   pub sizes : (n : ℕ) → length (slice_index_or new n []) ≡ length (slice_index_or old n [])
-  pub own_bytes : (d : ℕ) → d < length (datagrams_in table task) → AreBytes (bytes_of new task d)
+  pub own_bytes : (d : ℕ) → d < length (datagrams_in table task) → AreBytes (slot_bytes new task d)
   pub all : length new ≡ length old

@@ -4,7 +4,7 @@ ghost use Rattle.std.specs.Prelude.{◌≡◌, ◌*◌, ℕ, length};
 ghost use Rattle.hc_records.specs.declared.limits.TheConstants.{MOST_DATAGRAMS, TASKS};
 ghost use Rattle.hc_places.specs.Swap.{swapped};
 ghost use Rattle.hc_outputs.specs.Packed.{Carries, HasSizes, IsLaidOut};
-ghost use Rattle.hc_outputs.specs.Pieces.{Keeps, carried, word_of};
+ghost use Rattle.hc_outputs.specs.Pieces.{Keeps, carried_bit, word_of};
 ghost use Rattle.hc_outputs.specs.Values.{KeepEntries};
 
 use crate::row::Row;
@@ -59,7 +59,7 @@ fn carry_over(
     requires laid_out { IsLaidOut (swapped swap.now.change before.now.value) }
     requires entries { KeepEntries before.now.value (swapped swap.now.change before.now.value) }
     requires sizes { HasSizes before.now.value rows.old }
-    ensures carried { (value : ℕ → ℕ → ℕ) → Carries before.now.value value rows.old → Carries (swapped swap.now.change before.now.value) (carried before.now.value value ones) rows.new }
+    ensures carried { (value : ℕ → ℕ → ℕ) → Carries before.now.value value rows.old → Carries (swapped swap.now.change before.now.value) (carried_bit before.now.value value ones) rows.new }
     ensures sizes { HasSizes (swapped swap.now.change before.now.value) rows.new }
     ensures all { length rows.new ≡ MOST_DATAGRAMS * TASKS }
     ensures room { length values.new ≡ length values.old }
@@ -76,7 +76,7 @@ impl Moves {
     ghost use Rattle.hc_records.specs.declared.limits.TheConstants.{MOST_DATAGRAMS, TASKS};
     ghost use Rattle.hc_outputs.specs.Moves.{table_after};
     ghost use Rattle.hc_outputs.specs.Packed.{Carries, HasSizes, IsLaidOut};
-    ghost use Rattle.hc_outputs.specs.Pieces.{carried};
+    ghost use Rattle.hc_outputs.specs.Pieces.{carried_bit};
     ghost use Rattle.hc_outputs.specs.Values.{KeepEntries};
 
     /// The moves of output values over what a swap changes in a table. It looks the changed variables up,
@@ -108,7 +108,7 @@ impl Moves {
         requires laid_out { IsLaidOut (table_after self.old) }
         requires entries { KeepEntries self.old.before (table_after self.old) }
         requires sizes { HasSizes self.old.before rows.old.items }
-        ensures carried { (value : ℕ → ℕ → ℕ) → Carries self.old.before value rows.old.items → Carries (table_after self.old) (carried self.old.before value ones) rows.new.items }
+        ensures carried { (value : ℕ → ℕ → ℕ) → Carries self.old.before value rows.old.items → Carries (table_after self.old) (carried_bit self.old.before value ones) rows.new.items }
         ensures sizes { HasSizes (table_after self.old) rows.new.items }
         ensures all { length rows.new.items ≡ MOST_DATAGRAMS * TASKS }
         ensures same { self.new ≡ self.old }

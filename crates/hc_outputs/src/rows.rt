@@ -5,7 +5,7 @@ ghost use Rattle.std.specs.Option.{MatchOption};
 ghost use Rattle.hc_bits.specs.Bits.{bit_of};
 ghost use Rattle.hc_records.specs.declared.limits.TheConstants.{MOST_DATAGRAMS, TASKS};
 ghost use Rattle.hc_places.specs.Swap.{ChangesAscend};
-ghost use Rattle.hc_outputs.specs.Packed.{Carries, IsLaidOut, bytes_of, length_in, slot_number};
+ghost use Rattle.hc_outputs.specs.Packed.{Carries, IsLaidOut, length_in, slot_bytes, slot_number};
 ghost use Rattle.hc_outputs.specs.Pieces.{AreApart, AreBlank, Fit, ReadsEach, Resizes, ResizesEach, WritesAt, WritesEach, length_of, of_changed, of_list, output_of};
 
 use crate::row::Row;
@@ -67,7 +67,7 @@ pub(crate) fn output(place: Option<Place>) -> Option<Place>
 /// Puts the lowest bits of a value at a place.
 fn put_at(rows: &mut [Row], place: Place, value: u64)
     requires all { length rows.old ≡ MOST_DATAGRAMS * TASKS }
-    requires within { place.bit + place.bits ≤ 8 * length (bytes_of rows.old place.task place.datagram) }
+    requires within { place.bit + place.bits ≤ 8 * length (slot_bytes rows.old place.task place.datagram) }
     ensures { WritesAt (Some place) (bit_at value) rows.old rows.new }
 {
     rows[slot_number(place.task, place.datagram)].put(place.bit, place.bits, value);
@@ -76,8 +76,8 @@ fn put_at(rows: &mut [Row], place: Place, value: u64)
 /// The bits at a place, as a number.
 fn value_at(rows: &[Row], place: Place) -> u64
     requires all { length rows.now ≡ MOST_DATAGRAMS * TASKS }
-    requires within { place.bit + place.bits ≤ 8 * length (bytes_of rows.now place.task place.datagram) }
-    ensures { (k : ℕ) → k < place.bits → bit_at result k ≡ bit_of (bytes_of rows.now place.task place.datagram) (place.bit + k) }
+    requires within { place.bit + place.bits ≤ 8 * length (slot_bytes rows.now place.task place.datagram) }
+    ensures { (k : ℕ) → k < place.bits → bit_at result k ≡ bit_of (slot_bytes rows.now place.task place.datagram) (place.bit + k) }
 {
     rows[slot_number(place.task, place.datagram)].value(place.bit, place.bits)
 }
@@ -85,7 +85,7 @@ fn value_at(rows: &[Row], place: Place) -> u64
 /// Puts the lowest bits of a value at a place, if there is one.
 fn put(rows: &mut [Row], place: Option<Place>, value: u64)
     requires all { length rows.old ≡ MOST_DATAGRAMS * TASKS }
-    requires within { IfSome place (λ place. place.bit + place.bits ≤ 8 * length (bytes_of rows.old place.task place.datagram)) }
+    requires within { IfSome place (λ place. place.bit + place.bits ≤ 8 * length (slot_bytes rows.old place.task place.datagram)) }
     ensures { WritesAt place (bit_at value) rows.old rows.new }
 {
     if let Some(place) = place {
@@ -96,9 +96,9 @@ fn put(rows: &mut [Row], place: Option<Place>, value: u64)
 /// Takes the bits at a place up, which are 0 from then on; if there is none, the value that is given.
 fn take(rows: &mut [Row], place: Option<Place>, lacking: u64) -> u64
     requires all { length rows.old ≡ MOST_DATAGRAMS * TASKS }
-    requires within { IfSome place (λ place. place.bit + place.bits ≤ 8 * length (bytes_of rows.old place.task place.datagram)) }
+    requires within { IfSome place (λ place. place.bit + place.bits ≤ 8 * length (slot_bytes rows.old place.task place.datagram)) }
     ensures writes { WritesAt place (bit_at 0) rows.old rows.new }
-    ensures value { MatchOption place (result ≡ lacking) (λ place. (k : ℕ) → k < place.bits → bit_at result k ≡ bit_of (bytes_of rows.old place.task place.datagram) (place.bit + k)) }
+    ensures value { MatchOption place (result ≡ lacking) (λ place. (k : ℕ) → k < place.bits → bit_at result k ≡ bit_of (slot_bytes rows.old place.task place.datagram) (place.bit + k)) }
 {
     let Some(place) = place else {
         return lacking;

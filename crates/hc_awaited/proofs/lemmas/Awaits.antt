@@ -20,7 +20,7 @@ use Rattle.hc_events.specs.Awaited.{alive, all_sent_again, awaited, is_ended, is
 use Rattle.hc_events.specs.Owed.{owed_blocks}
 use Rattle.hc_events.proofs.lemmas.Awaited.{alive_edited, awaited-stale, by_bool, same_is}
 use Rattle.hc_events.proofs.lemmas.OneWrite.{all-alone}
-use Rattle.hc_awaited.specs.Waiting.{AwaitedFrame, AwaitedWrite, Waiting, nothing, written, wrote}
+use Rattle.hc_awaited.specs.Waiting.{AwaitedFrame, AwaitedWrite, Waiting, awaited_write, nothing, wrote}
 use Rattle.hc_awaited.specs.Judging.{due_with, found_frame, frame_due, write_due}
 use Rattle.hc_awaited.proofs.lemmas.Sorts.{none-framed}
 use Rattle.hc_awaited.specs.Record.{KeepsAwaited, due_by, dues_of}
@@ -86,10 +86,10 @@ due_if_found line true write = refl
 due_if_found line false write = refl
 
 due_wrote : (line : List Member) (serial n : ℕ) (block : LineBlock) (kept : Waiting) → kept.frames ≡ []
-    → due_with line (wrote n block kept) serial ≡ cond (n == serial) (Some (write_due (written n block))) None
+    → due_with line (wrote n block kept) serial ≡ cond (n == serial) (Some (write_due (awaited_write n block))) None
 due_wrote line serial n block kept none =
-    ap (λ frames. option_or (option_map write_due (cond (n == serial) (Some (written n block)) None)) (option_map (frame_due line) (found_frame serial (record { frames = frames; write = None })))) none
-    ∙ due_if_found line (n == serial) (written n block)
+    ap (λ frames. option_or (option_map write_due (cond (n == serial) (Some (awaited_write n block)) None)) (option_map (frame_due line) (found_frame serial (record { frames = frames; write = None })))) none
+    ∙ due_if_found line (n == serial) (awaited_write n block)
 
 awaited_now : (past : Record) (block : LineBlock) (serial : ℕ) → (next_serial past == serial) ≡ true → awaited (Wrote block ∷ past) serial ≡ Some (just_sent (write_head block ∷ []))
 awaited_now past block serial t =
@@ -107,13 +107,13 @@ none_else past block rest serial (Some sending) all first other e =
     let never : true ≡ false = sym same ∙ other in cc
 
 due_written : (past : Record) (block : LineBlock) (rest : List LineBlock) (serial : ℕ) → AreAccepted past → owed_blocks past ≡ block ∷ rest
-    → due_by (Wrote block ∷ past) serial ≡ cond (next_serial past == serial) (Some (write_due (written (next_serial past) block))) None
+    → due_by (Wrote block ∷ past) serial ≡ cond (next_serial past == serial) (Some (write_due (awaited_write (next_serial past) block))) None
 due_written past block rest serial all first =
     by_bool (next_serial past == serial)
     (λ t. ap (option_map dues_of) (awaited_now past block serial t)
-    ∙ sym (ap (λ b. cond b (Some (write_due (written (next_serial past) block))) None) t))
+    ∙ sym (ap (λ b. cond b (Some (write_due (awaited_write (next_serial past) block))) None) t))
     (λ t. ap (option_map dues_of) (none_else past block rest serial (awaited (Wrote block ∷ past) serial) all first t refl)
-    ∙ sym (ap (λ b. cond b (Some (write_due (written (next_serial past) block))) None) t))
+    ∙ sym (ap (λ b. cond b (Some (write_due (awaited_write (next_serial past) block))) None) t))
 
 one_more : (m n : ℕ) → m < n → m < n + 1
 one_more m n below = omega arith

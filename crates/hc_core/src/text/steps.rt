@@ -1,13 +1,13 @@
 //! How such bytes are taken from a slice.
 ghost use Rattle.std.specs.Prelude.{◌≡◌};
-ghost use Rattle.hc_core.specs.Texts.{bytes_of};
+ghost use Rattle.hc_core.specs.Texts.{text_bytes};
 
 use super::Text;
 use std::snapshot::Snapshot;
 
 /// The text of these bytes.
 pub fn text_of(bytes: &[u8]) -> Text
-    ensures { bytes_of result ≡ bytes.now }
+    ensures { text_bytes result ≡ bytes.now }
 {
     let mut text = Text::Empty;
     for byte in bytes {

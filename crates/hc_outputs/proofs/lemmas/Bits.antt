@@ -12,7 +12,7 @@ use Rattle.hc_records.proofs.lemmas.Finds.{found-none, mapped-some}
 use Rattle.hc_places.specs.Table.{Row, RowsAscend, Table, place_in, stands_in_datagram}
 use Rattle.hc_places.proofs.lemmas.Found.{find-holds}
 use Rattle.hc_places.proofs.lemmas.Same.{same-dirs}
-use Rattle.hc_outputs.specs.Packed.{Bytes, Carries, Holds, IsOutput, LiesIn, Packed, bytes_of, sent_bytes}
+use Rattle.hc_outputs.specs.Packed.{Bytes, Carries, Holds, IsOutput, LiesIn, Packed, sent_bytes, slot_bytes}
 use Rattle.hc_outputs.proofs.Standing.{rows-placed}
 
 -- a bit lies in the place of an output's row
@@ -78,7 +78,7 @@ holds-alike table value other packed alike holds = record { sent = carries-alike
 
 -- the bit of a datagram that carries the values
 pub carried-bit : (table : Table) (value : ℕ → ℕ → ℕ) (bytes : Bytes) (task d k : ℕ) → Carries table value bytes → (has : HasBit table task d k)
-    → bit_of (bytes_of bytes task d) k ≡ value has.variable (k - has.place.bit)
+    → bit_of (slot_bytes bytes task d) k ≡ value has.variable (k - has.place.bit)
 carried-bit table value bytes task d k carries has =
     let place = has.place in
     let from = has.lies.from in
@@ -92,5 +92,5 @@ within_limits : (task d : ℕ) → task < TASKS → d < MOST_DATAGRAMS → (nat_
 within_limits task d low few = grind (arith, nat_tests)
 
 -- what is sent of a task and a number that a line can have
-pub sent-there : (packed : Packed) (task d : ℕ) → task < TASKS → d < MOST_DATAGRAMS → sent_bytes packed task d ≡ bytes_of packed.sent task d
+pub sent-there : (packed : Packed) (task d : ℕ) → task < TASKS → d < MOST_DATAGRAMS → sent_bytes packed task d ≡ slot_bytes packed.sent task d
 sent-there packed task d low few = search (rules, within_limits)

@@ -1,6 +1,6 @@
 use Rattle.std.proofs.Common.{◌∙◌, ◌++◌, [], ◌∷◌, ℕ, List, ap, arith, append_assoc, cond, filter, get_or, length, map, sym, take}
 use Rattle.hc_events.specs.Sendings.{Frame}
-use Rattle.hc_awaited.specs.Kept.{Kept, kept_of, newest_of}
+use Rattle.hc_awaited.specs.Kept.{KeptFrame, kept_of, newest_of}
 use Rattle.hc_awaited.proofs.Alive.{Table, next-room, stays_at, stays-more}
 use Rattle.hc_awaited.proofs.awaited.add_all.Goals as goal
 
@@ -22,15 +22,15 @@ loop-frame-preserved c =
     let at : Table = newest_of c.args.newest.now in
     let number : ℕ = c.loop-frame.frame-index in
     let item : Frame = c.frame-item.result in
-    let before : List Kept = c.args.frames.now.items in
-    let own : Kept → List Kept = λ frame. cond (stays_at at frame) (frame ∷ []) [] in
+    let before : List KeptFrame = c.args.frames.now.items in
+    let own : KeptFrame → List KeptFrame = λ frame. cond (stays_at at frame) (frame ∷ []) [] in
     record {
       frames =
           c.add_alive.ensures.frames
-          ∙ ap (λ (frames : List Kept). frames ++ own c.of.result) c.loop-frame.invariant.frames
-          ∙ ap (λ (frame : Kept). (before ++ filter (stays_at at) (map kept_of (take number c.args.more.now))) ++ own frame) c.of.ensures
+          ∙ ap (λ (frames : List KeptFrame). frames ++ own c.of.result) c.loop-frame.invariant.frames
+          ∙ ap (λ (frame : KeptFrame). (before ++ filter (stays_at at) (map kept_of (take number c.args.more.now))) ++ own frame) c.of.ensures
           ∙ ap (λ (frame : Frame). (before ++ filter (stays_at at) (map kept_of (take number c.args.more.now))) ++ own (kept_of frame)) c.frame-item.is
           ∙ append_assoc before (filter (stays_at at) (map kept_of (take number c.args.more.now))) (own (kept_of (get_or c.args.more.now number item)))
-          ∙ ap (λ (all : List Kept). before ++ all) (sym (stays-more at c.args.more.now number item c.loop-frame-test.true));
+          ∙ ap (λ (all : List KeptFrame). before ++ all) (sym (stays-more at c.args.more.now number item c.loop-frame-test.true));
       room = c.add_alive.ensures.room ∙ c.loop-frame.invariant.room;
     }

@@ -4,7 +4,7 @@ use Rattle.std.specs.Option.{option_map_or}
 use Rattle.hc_records.specs.Line.{line}
 use Rattle.hc_events.specs.Accepted.{StandsIn}
 use Rattle.hc_events.specs.Steps.{told_of}
-use Rattle.hc_awaited.specs.Kept.{Kept, Newest, awaited_frames, frame_by}
+use Rattle.hc_awaited.specs.Kept.{KeptFrame, Newest, awaited_frames, frame_by}
 use Rattle.hc_awaited.specs.Waiting.{AwaitedFrame, AwaitedWrite, Carried, Waiting}
 use Rattle.hc_awaited.proofs.Told.{found-holds, found-stands, frame-told, judged-frame}
 use Rattle.hc_awaited.proofs.awaited.Awaited.judge.Goals as goal
@@ -13,11 +13,11 @@ pub outcomes-requires-clause-stands : goal.outcomes-requires-clause-stands
 outcomes-requires-clause-stands c =
     let newest : Newest = c.self.inside.newest in
     let serial : ℕ = c.args.arrival.now.serial in
-    let frame : Kept = c.in-Some.frame.now in
+    let frame : KeptFrame = c.in-Some.frame.now in
     let found : Some (frame_by newest frame) ≡ find (λ (one : AwaitedFrame). one.serial == serial) c.args.self.now.frames =
     c.in-Some.ensures.found
     ∙ ap (λ (n : ℕ). find (λ (one : AwaitedFrame). one.serial == n) (awaited_frames newest c.as_slice.result.now)) c.serial-2.ensures.value
-    ∙ ap (λ (frames : List Kept). find (λ (one : AwaitedFrame). one.serial == serial) (awaited_frames newest frames)) c.as_slice.ensures.value
+    ∙ ap (λ (frames : List KeptFrame). find (λ (one : AwaitedFrame). one.serial == serial) (awaited_frames newest frames)) c.as_slice.ensures.value
     ∙ ap (λ (w : Waiting). find (λ (one : AwaitedFrame). one.serial == serial) w.frames) c.self.view_is in
     found-stands (line c.args.plan.now) newest frame
     (found-holds (λ (one : AwaitedFrame). All (λ (carried : Carried). StandsIn (line c.args.plan.now) carried.datagram) one.datagrams) serial c.args.self.now.frames (frame_by newest frame) c.requires found)
@@ -26,11 +26,11 @@ pub returns-in-Some-2 : goal.returns-in-Some-2
 returns-in-Some-2 c =
     let newest : Newest = c.self.inside.newest in
     let serial : ℕ = c.args.arrival.now.serial in
-    let frame : Kept = c.in-Some.frame.now in
+    let frame : KeptFrame = c.in-Some.frame.now in
     let found : Some (frame_by newest frame) ≡ find (λ (one : AwaitedFrame). one.serial == serial) c.args.self.now.frames =
     c.in-Some.ensures.found
     ∙ ap (λ (n : ℕ). find (λ (one : AwaitedFrame). one.serial == n) (awaited_frames newest c.as_slice.result.now)) c.serial-2.ensures.value
-    ∙ ap (λ (frames : List Kept). find (λ (one : AwaitedFrame). one.serial == serial) (awaited_frames newest frames)) c.as_slice.ensures.value
+    ∙ ap (λ (frames : List KeptFrame). find (λ (one : AwaitedFrame). one.serial == serial) (awaited_frames newest frames)) c.as_slice.ensures.value
     ∙ ap (λ (w : Waiting). find (λ (one : AwaitedFrame). one.serial == serial) w.frames) c.self.view_is in
     let other : option_map_or (λ (one : AwaitedWrite). one.serial == serial) c.self.inside.write false ≡ false =
     ap (λ (n : ℕ). option_map_or (λ (one : AwaitedWrite). one.serial == n) c.self.inside.write false) (sym c.serial.ensures.value) ∙ sym c.has_serial.ensures ∙ c.if-has_serial.false in

@@ -21,7 +21,7 @@ use Rattle.hc_events.specs.Points.{state_of}
 use Rattle.hc_events.specs.Steps.{told_of_edit}
 use Rattle.hc_core.specs.Records.{record_of}
 use Rattle.hc_core.proofs.Edits.{after-is, agree-carried, count-waiting, edited-told, new-project, owed-edited, ready-here, table-leads}
-use Rattle.hc_core.specs.Agreement.{Agree, Kept, kept_in, state_in}
+use Rattle.hc_core.specs.Agreement.{Agree, CoreParts, kept_in, state_in}
 use Rattle.hc_core.specs.Prepared.{CoreEdit, IsReady}
 use Rattle.hc_core.specs.State.{CoreState}
 use Rattle.hc_core.proofs.keeping.Core.carry_out.Goals as goal
@@ -82,7 +82,7 @@ invariant_of-self c =
     let swap = ap (λ (report : Report). report.swap) c.carry_out-report.ensures.report in
     let changes = c.add_swap.ensures ∙ ap (λ (one : Swap). inside.changes.items ++ change.Swapped one ∷ []) swap in
     let grows = c.edited.ensures ∙ ap (λ asked. Edited asked ∷ past) (c.edit.ensures ∙ ap (λ (one : Swap). one.edit) swap) in
-    let kept : State → Waiting → List Change → Kept = λ plan awaited changes. record { plan = plan; serial = inside.serial; awaited = awaited; inputs = c.clear-2.new.self; outputs = c.change-2.new.self; owed = c.change.new.self; changes = changes } in
+    let kept : State → Waiting → List Change → CoreParts = λ plan awaited changes. record { plan = plan; serial = inside.serial; awaited = awaited; inputs = c.clear-2.new.self; outputs = c.change-2.new.self; owed = c.change.new.self; changes = changes } in
     subst (λ (behind : Record). Agree (kept c.carry_out-report.new.self c.clear.new.self c.add_swap.new.changes.items) behind taken) (sym grows)
     (subst (λ (plan : State). Agree (kept plan c.clear.new.self c.add_swap.new.changes.items) (Edited edit.report.swap.edit ∷ past) taken) (sym c.carry_out-report.ensures.plan)
     (subst (λ (waiting : Waiting). Agree (kept edit.new waiting c.add_swap.new.changes.items) (Edited edit.report.swap.edit ∷ past) taken) (sym c.clear.ensures)

@@ -10,7 +10,7 @@ use Rattle.hc_places.specs.Table.{Table, table_of}
 use Rattle.hc_owed.specs.Board.{Board, kept_of, nothing_known}
 use Rattle.hc_core.specs.Records.{record_of}
 use Rattle.hc_core.proofs.Opens.{IsProject, IsUncrowded, agree-opened}
-use Rattle.hc_core.specs.Agreement.{Agree, Kept}
+use Rattle.hc_core.specs.Agreement.{Agree, CoreParts}
 use Rattle.hc_core.proofs.keeping.Core.new.Goals as goal
 
 pub invariant_of-result : goal.invariant_of-result
@@ -20,7 +20,7 @@ invariant_of-result c =
     let plan = c.in_ok-plan.ensures.state in
     let past : record_of c.opened-past.result ≡ just_opened groups = c.opened-past.ensures in
     let taken : record_of c.of-taken.result.value ≡ just_opened groups = ap record_of c.of-taken.ensures ∙ past in
-    let kept : State → Waiting → List Change → Kept = λ state awaited changes. record { plan = state; serial = 0; awaited = awaited; inputs = inputs; outputs = c.in_ok-outputs.outputs; owed = c.in_ok-owed.owed; changes = changes } in
+    let kept : State → Waiting → List Change → CoreParts = λ state awaited changes. record { plan = state; serial = 0; awaited = awaited; inputs = inputs; outputs = c.in_ok-outputs.outputs; owed = c.in_ok-owed.owed; changes = changes } in
     let owed : c.in_ok-owed.owed ≡ kept_of nothing_known (opened groups) = c.in_ok-owed.ensures ∙ ap (kept_of nothing_known) plan in
     let zeros : Holds (table_of (line (opened groups))) (λ variable k. 0) c.in_ok-outputs.outputs =
     subst (λ (t : Table). Holds t (λ variable k. 0) c.in_ok-outputs.outputs) (c.places.ensures.table ∙ ap (λ (state : State). table_of (line state)) plan) c.in_ok-outputs.ensures in

@@ -3,7 +3,7 @@ use Rattle.hc_places.specs.Swap.{Change, swapped}
 use Rattle.hc_places.specs.Table.{Table}
 use Rattle.hc_outputs.specs.Moves.{Moves, table_after}
 use Rattle.hc_outputs.specs.Packed.{Bytes, Carries}
-use Rattle.hc_outputs.specs.Pieces.{carried}
+use Rattle.hc_outputs.specs.Pieces.{carried_bit}
 use Rattle.hc_outputs.proofs.Carrying.{all-lent}
 use Rattle.hc_outputs.proofs.moves.Moves.carry.Goals as goal
 
@@ -14,10 +14,10 @@ returns-clause-carried c = λ value before.
     let table : c.self.inside.before.value ≡ moves.before = ap (λ (m : Moves). m.before) c.self.view_is in
     let first = subst (λ (t : Table). Carries t value c.as_mut_slice.result.now) (sym table) (subst (λ (r : Bytes). Carries moves.before value r) (sym c.as_mut_slice.ensures.value) before) in
     let last = c.carry_over.ensures.carried value first in
-    let moved = subst (λ (t : Table). Carries (swapped c.args.swap.now.change t) (carried t value c.args.ones) rows) table last in
-    let made : Carries (table_after moves) (carried moves.before value c.args.ones) rows = subst (λ (change : Change). Carries (swapped change moves.before) (carried moves.before value c.args.ones) rows) c.requires.swap moved in
+    let moved = subst (λ (t : Table). Carries (swapped c.args.swap.now.change t) (carried_bit t value c.args.ones) rows) table last in
+    let made : Carries (table_after moves) (carried_bit moves.before value c.args.ones) rows = subst (λ (change : Change). Carries (swapped change moves.before) (carried_bit moves.before value c.args.ones) rows) c.requires.swap moved in
     let size = c.as_mut_slice.ensures.len in
     let same = ap (λ (r : Bytes). length r) c.as_mut_slice.ensures.value in
     let all = c.carry_over.ensures.all in
     let was = c.requires.all in
-    subst (Carries (table_after moves) (carried moves.before value c.args.ones)) (sym (all-lent c.args.rows.now.len rows (drop (length rows) c.args.rows.now.items) (omega arith))) made
+    subst (Carries (table_after moves) (carried_bit moves.before value c.args.ones)) (sym (all-lent c.args.rows.now.len rows (drop (length rows) c.args.rows.now.items) (omega arith))) made

@@ -1,7 +1,7 @@
 use Rattle.std.proofs.Common.{subst, sym, true}
 use Rattle.hc_outputs.specs.Moves.{Moves, table_after}
 use Rattle.hc_outputs.specs.Packed.{Carries, HasSizes, Packed}
-use Rattle.hc_outputs.specs.Pieces.{carried}
+use Rattle.hc_outputs.specs.Pieces.{carried_bit}
 use Rattle.hc_outputs.proofs.Carrying.{carried-ones}
 use Rattle.hc_outputs.proofs.Outcomes.{are-whole}
 use Rattle.hc_outputs.proofs.outputs.Outputs.change.Goals as goal
@@ -16,7 +16,7 @@ returns c = λ value before.
     let moves = c.args.moves in
     let sent = subst (λ (p : Packed). Carries moves.before value p.sent) (sym c.self.view_is) before.sent in
     let masks = subst (λ (p : Packed). Carries moves.before (λ variable k. 1) p.masks) (sym c.self.view_is) before.masks in
-    let last = subst (λ (m : Moves). Carries m.before (λ variable k. 1) c.self.inside.masks.items → Carries (table_after m) (carried m.before (λ variable k. 1) true) c.carry-2.new.rows.items)
+    let last = subst (λ (m : Moves). Carries m.before (λ variable k. 1) c.self.inside.masks.items → Carries (table_after m) (carried_bit m.before (λ variable k. 1) true) c.carry-2.new.rows.items)
     c.carry.ensures.same (c.carry-2.ensures.carried (λ variable k. 1)) masks in
     record {
       sent = c.carry.ensures.carried value sent;

@@ -1,5 +1,5 @@
 use Rattle.std.proofs.Common.{◌≡◌, length, take}
-use Rattle.hc_awaited.proofs.kept.Kept.of.Given as goal
+use Rattle.hc_awaited.proofs.kept.KeptFrame.of.Given as goal
 
 abbrev pub invariant-loop-datagram : goal.invariant-loop-datagram
 invariant-loop-datagram l = record {
