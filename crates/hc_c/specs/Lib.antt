@@ -1,0 +1,9 @@
+pub mod Held
+pub mod Embedded
+pub mod Numbers
+pub mod Opening
+pub mod Lists
+pub mod Sends
+pub mod Arrivals
+pub mod Reads
+pub mod Tellings

@@ -1,0 +1,34 @@
+-- What opening the project of a text gives.
+use Rattle.std.specs.Prelude.{ℕ, List, [], Option, Some, None, Result, Ok, Err}
+use Rattle.hc_records.specs.declared.records.Group.{Group}
+use Rattle.hc_records.specs.declared.faults.ProjectFault.{ProjectFault}
+use Rattle.hc_records.specs.Edits.{crowded_task}
+use Rattle.hc_records.specs.Line.{line, opened}
+use Rattle.hc_records.specs.ProjectFault.{project_fault_number}
+use Rattle.hc_events.specs.Accepted.{just_opened}
+use Rattle.hc_c.specs.declared.embedded.Embedded.{Embedded}
+use Rattle.hc_c.specs.declared.numbers.TheConstants.{CROWDED, DONE}
+
+-- a core in which nothing has happened, with no change to tell
+abbrev pub fresh : List Group → Embedded
+fresh groups = record { core = record { past = just_opened groups; taken = just_opened groups }; untold = [] }
+
+-- it, where the text is a project
+abbrev pub opened_by : Result (List Group) ProjectFault → Option Embedded
+opened_by (Ok groups) = Some (fresh groups)
+opened_by (Err fault) = None
+
+-- the lowest task of the opening line that needs more than 16 datagrams
+abbrev pub crowded_in : Result (List Group) ProjectFault → Option ℕ
+crowded_in (Ok groups) = crowded_task (line (opened groups))
+crowded_in (Err fault) = None
+
+-- 12 where there is such a task, else 0
+abbrev pub crowd_number : Option ℕ → ℕ
+crowd_number None = DONE
+crowd_number (Some task) = CROWDED
+
+-- the number of what opening it is answered where memory suffices: the project's fault, 1 to 10, or else as `crowd_number` says
+abbrev pub opening_number : Result (List Group) ProjectFault → ℕ
+opening_number (Ok groups) = crowd_number (crowded_task (line (opened groups)))
+opening_number (Err fault) = project_fault_number fault

@@ -1,0 +1,21 @@
+//! The core as C has it: functions over a handle that C keeps between two calls. Each one's contract says, over what the
+//! handle holds before and after, what the core's own call says. What a call asks of its caller and C may break is tested,
+//! and answered with a number of its own (`numbers`); a closed handle is answered, and never followed.
+//!
+//! `include/zangjulf.h` tells C of them. It zeroes a handle before its first call, and then nothing but these calls writes
+//! it, one at a time.
+#![tactic(auto)]
+
+mod arena;
+mod arriving;
+mod changing;
+mod embedded;
+mod handle;
+mod numbers;
+mod opening;
+mod posting;
+mod reading;
+mod sending;
+mod telling;
+mod untold;
+mod writing;

@@ -1,0 +1,30 @@
+//! The numbers that calls answer. 1 to 29 are those of the faults of edits and events, 14 being none's.
+/// It is done.
+pub const DONE: u8 = 0;
+
+/// A task of the opening line needs more than 16 datagrams.
+pub const CROWDED: u8 = 12;
+
+/// A growth was refused.
+pub const MEMORY: u8 = 28;
+
+/// A slice is too short for what is to stand in it.
+pub const ROOM: u8 = 29;
+
+/// There is no such thing.
+pub const NOTHING: u8 = 100;
+
+/// An arrival answered a register write, and the block is known.
+pub const WRITE_DONE: u8 = 101;
+
+/// An arrival answered a register write that no slave took: the block stays owed.
+pub const WRITE_MISSED: u8 = 102;
+
+/// An arrival answered nothing that is awaited.
+pub const STALE: u8 = 103;
+
+/// What the call asks of its caller doesn't hold.
+pub const MISUSED: u8 = 254;
+
+/// The handle is closed.
+pub const CLOSED: u8 = 255;

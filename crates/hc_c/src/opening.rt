@@ -1,0 +1,78 @@
+//! A handle is opened and closed.
+ghost use Rattle.std.specs.Prelude.{◌≡◌, ◌≢◌, ◌⊎◌, IfErr, IfOk, IsSome, None, OnOk, Some};
+ghost use Rattle.hc_records.specs.Edits.{crowded_task};
+ghost use Rattle.hc_records.specs.Line.{line, opened};
+ghost use Rattle.hc_project.specs.Text.{project_in};
+ghost use Rattle.hc_c.specs.Opening.{crowded_in, fresh, opened_by, opening_number};
+
+use crate::embedded::Embedded;
+use crate::handle::Handle;
+use crate::numbers::{CROWDED, DONE, MEMORY};
+use crate::untold::Untold;
+use hc_core::keeping::Core;
+use hc_project::read_project;
+use hc_records::faults::{EditFault, ProjectFault};
+use hc_records::project::Project;
+use std::alloc::Global;
+
+/// Opens a project in a box. Else the number to answer: `CROWDED` with the lowest task that needs more than 16 datagrams,
+/// or `MEMORY`.
+fn open_project(alloc: Global, project: Project, task: &mut u8) -> Result<Box<Embedded>, u8>
+    ensures opened { IfOk result (λ own. own.value ≡ fresh project) }
+    ensures accepted { OnOk result (crowded_task (line (opened project)) ≡ None) }
+    ensures refused { IfErr result (λ number. (number ≡ MEMORY) ⊎ ((number ≡ CROWDED) × (crowded_task (line (opened project)) ≡ Some task.new))) }
+{
+    let core = match Core::new(alloc, project) {
+        Ok(core) => core,
+        Err(EditFault::TooManyDatagrams(crowded)) => {
+            *task = crowded;
+            return Err(CROWDED);
+        }
+        Err(_) => return Err(MEMORY),
+    };
+    let untold = Untold::nothing(alloc);
+    match Box::new(alloc, Embedded { core, untold }) {
+        Ok(own) => Ok(own),
+        Err(_) => Err(MEMORY),
+    }
+}
+
+/// Opens the project of a text in place of what the handle held, and answers `DONE`: the mandatory group alone is present,
+/// and nothing has happened. Otherwise the handle is closed, and the answer is the project's fault, 1 to 10, the lowest
+/// whose condition holds; `CROWDED` where a task of the opening line needs more than 16 datagrams, and `task` is the lowest
+/// such; or `MEMORY`.
+#[unsafe(no_mangle)]
+pub extern "C" fn zangjulf_open(
+    alloc: Global,
+    handle: &mut Handle,
+    text: &[u8],
+    task: &mut u8,
+) -> u8
+    ensures opened { result ≡ DONE → handle.new.holding.value ≡ opened_by (project_in text.now) }
+    ensures open { result ≡ DONE → IsSome handle.new.holding.value }
+    ensures told { result ≢ MEMORY → result ≡ opening_number (project_in text.now) }
+    ensures crowded { result ≡ CROWDED → crowded_in (project_in text.now) ≡ Some task.new }
+    ensures closed { result ≢ DONE → handle.new.holding.value ≡ None }
+{
+    drop(handle.take(alloc));
+    let project = match read_project(alloc, text) {
+        Ok(project) => project,
+        Err(ProjectFault::Memory) => return MEMORY,
+        Err(fault) => return fault.number(),
+    };
+    match open_project(alloc, project, task) {
+        Ok(own) => {
+            *handle = Handle::of(own);
+            DONE
+        }
+        Err(number) => number,
+    }
+}
+
+/// Frees what the handle holds, which is closed then.
+#[unsafe(no_mangle)]
+pub extern "C" fn zangjulf_close(alloc: Global, handle: &mut Handle)
+    ensures { handle.new.holding.value ≡ None }
+{
+    drop(handle.take(alloc));
+}

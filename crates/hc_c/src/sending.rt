@@ -1,0 +1,93 @@
+//! Tasks are sent.
+ghost use Rattle.std.specs.Prelude.{◌≡◌, ◌≢◌, ◌↔◌, IfSome, IsTrue, None, Some, length};
+ghost use Rattle.hc_records.specs.Lists.{has_repeat, lowest};
+ghost use Rattle.hc_events.specs.Calls.{AreSentTogether, send_into_faults};
+ghost use Rattle.hc_events.specs.Steps.{SendsTasks, entries_after};
+ghost use Rattle.hc_c.specs.Embedded.{past_of, with_past};
+ghost use Rattle.hc_c.specs.Numbers.{number_of};
+ghost use Rattle.hc_c.specs.declared.numbers.TheConstants.{MEMORY};
+ghost use Rattle.hc_c.specs.Sends.{HoldsFrames};
+
+use crate::arena::send_into;
+use crate::handle::Handle;
+use crate::numbers::{CLOSED, DONE, MISUSED};
+use hc_events::faults::CoreFault;
+use hc_records::limits::TASKS;
+use std::alloc::Global;
+
+/// What was sent, as C is told it.
+#[repr(C)]
+#[derive(Clone, Copy)]
+pub struct Sent {
+    /// The bytes of all frames.
+    size: usize,
+    /// How many frames there are, at most 128.
+    frames: usize,
+}
+
+/// Whether a task stands twice.
+fn has_repeat(tasks: &[u8]) -> bool
+    ensures { result ≡ has_repeat tasks.now }
+{
+    let mut rest = tasks;
+    while let [task, later @ ..] = rest {
+        if later.contains(task) {
+            return true;
+        }
+        rest = later;
+    }
+    false
+}
+
+/// Whether tasks can be sent together: at least one, at most eight, and none twice.
+fn are_sent_together(tasks: &[u8]) -> bool
+    ensures { IsTrue result ↔ AreSentTogether tasks.now }
+{
+    !tasks.is_empty() && tasks.len() <= usize::from(TASKS) && !has_repeat(tasks)
+}
+
+/// Tasks are sent, in their order: the frames stand at the front of `out` one after another, each of its own size, and
+/// `sent` tells their bytes and their number, which is 0 where the tasks have no datagram. `DONE`; else the first of the
+/// faults 8, 17, 19 and 29 that holds, `MEMORY`, `MISUSED` where they aren't 1 to 8 tasks, none twice, or `CLOSED`; and
+/// nothing is sent, and nothing changed, `out` neither. With 29 `sent.size` is the bytes that are needed.
+#[unsafe(no_mangle)]
+pub extern "C" fn zangjulf_send(
+    alloc: Global,
+    handle: &mut Handle,
+    tasks: &[u8],
+    out: &mut [u8],
+    sent: &mut Sent,
+) -> u8
+    ensures told { IfSome handle.old.holding.value (λ old. AreSentTogether tasks.now → result ≢ MEMORY → result ≡ number_of (lowest (send_into_faults (past_of old) tasks.now (length out.old)))) }
+    ensures sent { result ≡ DONE → IfSome handle.old.holding.value (λ old. HoldsFrames (past_of old) tasks.now out.old out.new sent.new) }
+    ensures entries { result ≡ DONE → IfSome handle.old.holding.value (λ old. handle.new.holding.value ≡ Some (with_past old (entries_after (past_of old) (SendsTasks tasks.now)))) }
+    ensures misused { IfSome handle.old.holding.value (λ old. ¬ AreSentTogether tasks.now → result ≡ MISUSED) }
+    ensures unchanged { result ≢ DONE → handle.new.holding.value ≡ handle.old.holding.value }
+    ensures untouched { result ≢ DONE → out.new ≡ out.old }
+    ensures closed { handle.old.holding.value ≡ None → result ≡ CLOSED }
+{
+    let Some(mut own) = handle.take(alloc) else {
+        return CLOSED;
+    };
+    let number = if are_sent_together(tasks) {
+        match send_into(&mut own.core, alloc, tasks, out) {
+            Ok((size, frames)) => {
+                *sent = Sent { size, frames };
+                DONE
+            }
+            Err(fault) => {
+                if let CoreFault::Room(needed) = fault {
+                    *sent = Sent {
+                        size: needed,
+                        frames: 0,
+                    };
+                }
+                fault.number()
+            }
+        }
+    } else {
+        MISUSED
+    };
+    *handle = Handle::of(own);
+    number
+}

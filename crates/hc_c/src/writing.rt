@@ -1,0 +1,49 @@
+//! Register writes.
+ghost use Rattle.std.specs.Prelude.{◌≡◌, ◌≢◌, IfSome, None, Some, length};
+ghost use Rattle.hc_records.specs.Lists.{lowest};
+ghost use Rattle.hc_core.specs.Written.{HoldsWrite};
+ghost use Rattle.hc_events.specs.Calls.{write_into_faults};
+ghost use Rattle.hc_events.specs.Steps.{SendsWrite, entries_after};
+ghost use Rattle.hc_c.specs.Embedded.{past_of, with_past};
+ghost use Rattle.hc_c.specs.Numbers.{number_of};
+
+use crate::handle::Handle;
+use crate::numbers::{CLOSED, DONE};
+use hc_events::faults::CoreFault;
+use std::alloc::Global;
+
+/// The first owed register block is sent, with the next serial: its frame stands at the front of `out`, and `size` is its
+/// bytes. `DONE`; else the first of the faults 18, 19 and 29 that holds, or `CLOSED`, and nothing changed, `out` neither.
+/// With 29 `size` is the bytes that are needed. It takes no memory.
+#[unsafe(no_mangle)]
+pub extern "C" fn zangjulf_next_write(
+    alloc: Global,
+    handle: &mut Handle,
+    out: &mut [u8],
+    size: &mut usize,
+) -> u8
+    ensures told { IfSome handle.old.holding.value (λ old. result ≡ number_of (lowest (write_into_faults (past_of old) (length out.old)))) }
+    ensures written { result ≡ DONE → IfSome handle.old.holding.value (λ old. HoldsWrite (past_of old) out.old out.new size.new) }
+    ensures entries { result ≡ DONE → IfSome handle.old.holding.value (λ old. handle.new.holding.value ≡ Some (with_past old (entries_after (past_of old) SendsWrite))) }
+    ensures unchanged { result ≢ DONE → handle.new.holding.value ≡ handle.old.holding.value }
+    ensures untouched { result ≢ DONE → out.new ≡ out.old }
+    ensures closed { handle.old.holding.value ≡ None → result ≡ CLOSED }
+{
+    let Some(mut own) = handle.take(alloc) else {
+        return CLOSED;
+    };
+    let told = match own.core.write_into(out) {
+        Ok(count) => {
+            *size = count;
+            DONE
+        }
+        Err(fault) => {
+            if let CoreFault::Room(needed) = fault {
+                *size = needed;
+            }
+            fault.number()
+        }
+    };
+    *handle = Handle::of(own);
+    told
+}
