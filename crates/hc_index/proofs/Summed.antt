@@ -1,8 +1,8 @@
 -- Sums along a list, and the element that a number falls in.
-use Rattle.std.proofs.Common.{◌≡◌, ℕ, zero, suc, ◌+◌, ◌<◌, ◌≤◌, List, [], ◌∷◌, length, drop, get_or, take, refl, sym, ap, subst, ◌∙◌, arith, rules}
+use Rattle.std.proofs.Common.{◌≡◌, ℕ, zero, suc, ◌+◌, ◌<◌, ◌≤◌, List, [], ◌∷◌, ◌++◌, length, drop, get_or, take, refl, sym, ap, subst, ◌∙◌, append_assoc, arith, rules}
 use Rattle.std.specs.Prelude.{All, Some, map, slice_get, sum_by}
 use Rattle.std.specs.List.Sorted.{IsNonDecreasing}
-use Rattle.std.proofs.lemmas.List.{drop_more, get_or-map, length-map, take_all}
+use Rattle.std.proofs.lemmas.List.{drop_all, drop_more, get_or-map, length-map, take_all}
 use Rattle.std.proofs.lemmas.List.Elements.{All-nil, All-cons, All-weaker}
 use Rattle.std.proofs.lemmas.List.Sums.{sum_by-cons, sum_by_more}
 use Rattle.std.proofs.lemmas.Option.{get_or_from_slice_get, slice_get-get_or, slice_get_within}
@@ -89,6 +89,22 @@ module _ {X : Type 0} (count : X → ℕ) where
 
   pub left-step : (xs : List X) (i : ℕ) (x : X) → i < length xs → x ≡ get_or xs i x → sum_by count (drop i xs) ≡ count x + sum_by count (drop (i + 1) xs)
   left-step xs i x inside is = search (rules, drop_more, sum_by-cons)
+
+  -- sums that are added one by one: that in front of an element and those behind it, and the last one
+  pub sums-on : (xs : List X) (i front next : ℕ) (x : X) (done new all : List ℕ) → i < length xs → x ≡ get_or xs i x → new ≡ done ++ front ∷ [] → next ≡ front + count x
+      → done ++ sums_from count front (drop i xs) ≡ all → new ++ sums_from count next (drop (i + 1) xs) ≡ all
+  sums-on xs i front next x done new all inside is added further told =
+      let rest = drop (i + 1) xs in
+      let cut : drop i xs ≡ x ∷ rest = drop_more xs i x inside ∙ ap (λ (y : X). y ∷ rest) (sym is) in
+      ap (λ (sums : List ℕ). sums ++ sums_from count next rest) added
+      ∙ append_assoc done (front ∷ []) (sums_from count next rest)
+      ∙ ap (λ (n : ℕ). done ++ front ∷ sums_from count n rest) further
+      ∙ ap (λ (left : List X). done ++ sums_from count front left) (sym cut)
+      ∙ told
+
+  pub sums-over : (xs : List X) (i front : ℕ) (done new all : List ℕ) → length xs ≤ i → new ≡ done ++ front ∷ [] → done ++ sums_from count front (drop i xs) ≡ all → new ≡ all
+  sums-over xs i front done new all over added told =
+      added ∙ ap (λ (left : List X). done ++ sums_from count front left) (sym (drop_all i xs over)) ∙ told
 
   -- elements that are changed and count for as many have the same sums
   pub sums-kept : (change : X → X) → ((x : X) → count (change x) ≡ count x) → (front : ℕ) (xs : List X) → sums_from count front (map change xs) ≡ sums_from count front xs

@@ -1,0 +1,27 @@
+use Rattle.std.proofs.Common.{◌≡◌, ◌+◌, ◌∷◌, ◌++◌, ◌∙◌, List, ap, append_assoc, drop, length, sym, arith}
+use Rattle.std.proofs.lemmas.List.{drop_more}
+use Rattle.hc_records.specs.declared.records.Declared.{Declared}
+use Rattle.hc_records.specs.declared.records.Slave.{Slave}
+use Rattle.hc_index.specs.declared.addresses.Address.{Address}
+use Rattle.hc_index.proofs.Declaring.{addresses-group, addresses_from, own_addresses}
+use Rattle.hc_index.proofs.Summed.{left-step}
+use Rattle.hc_index.proofs.addresses.declared_addresses.Goals as goal
+
+pub loop-declared-preserved : goal.loop-declared-preserved
+loop-declared-preserved c =
+    let l = c.loop-declared in
+    let groups = c.args.groups.now in
+    let declared = c.declared-item.result in
+    let slaves = c.as_slice-slaves.result.now in
+    let rest = drop (l.declared-index + 1) groups in
+    let step = left-step (λ (d : Declared). length d.group.slaves) groups l.declared-index declared c.loop-declared-test.true c.declared-item.is in
+    let group : addresses_from l.rank (drop l.declared-index groups) ≡ own_addresses l.rank slaves ++ addresses_from (l.rank + length slaves) rest =
+    ap (addresses_from l.rank) (drop_more groups l.declared-index declared c.loop-declared-test.true ∙ ap (λ (d : Declared). d ∷ rest) (sym c.declared-item.is))
+    ∙ addresses-group l.rank declared rest
+    ∙ ap (λ (own : List Slave). own_addresses l.rank own ++ addresses_from (l.rank + length own) rest) (sym c.as_slice-slaves.ensures) in (
+      ap (λ (all : List Address). all ++ addresses_from (l.rank + length slaves) rest) c.in_ok-add_addresses.ensures
+          ∙ append_assoc l.all.items (own_addresses l.rank slaves) (addresses_from (l.rank + length slaves) rest)
+          ∙ ap (λ (left : List Address). l.all.items ++ left) (sym group)
+          ∙ l.invariant.0,
+      omega (arith, step, ap length c.as_slice-slaves.ensures, l.invariant.1),
+    )
