@@ -12,7 +12,7 @@ use Rattle.hc_places.specs.Table.{Row}
 bits-append : (first second : List Entry) → bits_of (first ++ second) ≡ bits_of first + bits_of second
 bits-append first second = sum_by-append (λ (entry : Entry). entry.1) first second
 
-bits-cons : (entry : Entry) (entries : List Entry) → bits_of (entry ∷ entries) ≡ entry.1 + bits_of entries
+pub bits-cons : (entry : Entry) (entries : List Entry) → bits_of (entry ∷ entries) ≡ entry.1 + bits_of entries
 bits-cons entry entries = sum_by-cons (λ (e : Entry). e.1) entry entries
 
 -- entries behind others begin where those end

@@ -1,8 +1,8 @@
 use Rattle.std.proofs.Common.{◌≡◌, ◌∙◌, ◌+◌, ◌<◌, ◌≤◌, List, ap, arith, length, map, subst, sym}
-use Rattle.std.proofs.lemmas.List.{length-map}
+use Rattle.std.proofs.lemmas.List.{drop_all, length-map}
 use Rattle.std.specs.List.{AllWithin}
 use Rattle.hc_places.specs.Swap.{ChangedRow}
-use Rattle.hc_places.specs.inner.Overwritten.{row_with}
+use Rattle.hc_places.specs.inner.Overwritten.{overwritten, row_with}
 use Rattle.hc_places.specs.Table.{Row, RowsAscend}
 use Rattle.hc_places.proofs.Overwritten.{overwritten-ascends, overwritten-more}
 use Rattle.hc_places.proofs.Reached.{lower-next, lower-still}
@@ -28,3 +28,7 @@ loop-change-preserved c =
       within = omega (arith, bound, size);
       lower = lower-still change rows next front changed (index + 1) is bound (lower-next rows front changed index change c.requires.changes inside c.change-item.is low);
     }
+
+pub returns : goal.returns
+returns c =
+    ap (λ (left : List ChangedRow). overwritten left c.loop-change.rows.items) (sym (drop_all c.loop-change.change-index c.args.changed.now c.loop-change-test.false)) ∙ c.loop-change.invariant.is
