@@ -1,5 +1,5 @@
 -- What is met, and added, while a list is gone along.
-use Rattle.std.proofs.Common.{◌≡◌, ℕ, ◌+◌, ◌<◌, Bool, cond, List, [], ◌∷◌, ◌++◌, drop, length, get_or, append_assoc, if◌then◌else◌, rules}
+use Rattle.std.proofs.Common.{◌≡◌, ℕ, ◌+◌, ◌<◌, Bool, true, false, cond, List, [], ◌∷◌, ◌++◌, drop, length, get_or, sym, ap, ◌∙◌, append_assoc, if◌then◌else◌, rules}
 use Rattle.std.specs.Prelude.{All, Some, filter, map}
 use Rattle.std.specs.List.{flat_map}
 use Rattle.std.proofs.lemmas.List.{drop_more}
@@ -20,6 +20,24 @@ pub kept-added : {X Y : Type 0} (make : X → Y) (test : X → Bool) (xs : List 
     → test x ≡ passes → has ≡ had ++ (if passes then make x ∷ [] else [])
     → had ++ map make (filter test (drop i xs)) ≡ all → has ++ map make (filter test (drop (i + 1) xs)) ≡ all
 kept-added make test xs i x passes had has all within is passed adds so_far = search (rules, kept-first, drop_more)
+
+-- where each makes one, and adds it if that passes a test
+
+one-added : {Y : Type 0} (passes : Bool) (y : Y) (rest had has : List Y) → has ≡ had ++ (if passes then y ∷ [] else []) → has ++ rest ≡ had ++ cond passes (y ∷ rest) rest
+one-added true y rest had has adds = ap (λ (list : List _). list ++ rest) adds ∙ append_assoc had (y ∷ []) rest
+one-added false y rest had has adds = ap (λ (list : List _). list ++ rest) adds ∙ append_assoc had [] rest
+
+pub made-added : {X Y : Type 0} (make : X → Y) (test : Y → Bool) (xs : List X) (i : ℕ) (x : X) (y : Y) (passes : Bool) (had has all : List Y) → i < length xs → x ≡ get_or xs i x
+    → y ≡ make x → passes ≡ test y → has ≡ had ++ (if passes then y ∷ [] else [])
+    → had ++ filter test (map make (drop i xs)) ≡ all → has ++ filter test (map make (drop (i + 1) xs)) ≡ all
+made-added {X} {Y} make test xs i x y passes had has all within is made passed adds so_far =
+    let rest = filter test (map make (drop (i + 1) xs)) in
+    let cut : drop i xs ≡ x ∷ drop (i + 1) xs = drop_more xs i x within ∙ ap (λ (z : X). z ∷ drop (i + 1) xs) (sym is) in
+    one-added passes y rest had has adds
+    ∙ ap (λ (b : Bool). had ++ cond b (y ∷ rest) rest) passed
+    ∙ ap (λ (z : Y). had ++ cond (test z) (z ∷ rest) rest) made
+    ∙ ap (λ (left : List X). had ++ filter test (map make left)) (sym cut)
+    ∙ so_far
 
 -- where each adds what it gives
 

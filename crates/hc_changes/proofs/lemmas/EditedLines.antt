@@ -113,6 +113,11 @@ among-at slaves front own behind first i is begins within = search (rules, index
 pub before-at : (it : EditedLine) → IsEditedLine it → (rank i : ℕ) → rank ≡ it.first + i → i < length it.before → areas_at (areas_by_rank it.old) rank ≡ slice_index_or it.before i []
 before-at it is rank i at within = search (rules, among-at)
 
+pub after-at : (it : EditedLine) → IsEditedLine it → (rank i : ℕ) → rank ≡ it.first + i → i < length it.before → areas_at (areas_by_rank it.new) rank ≡ slice_index_or it.after i []
+after-at it is rank i at within =
+    ap (areas_at (areas_by_rank it.new)) at
+    ∙ among-at (areas_by_rank it.new) is.lines.front it.after is.lines.behind it.first i is.lines.is is.lines.rank (omega (arith, within, is.lines.many))
+
 pub other-at : (it : EditedLine) → IsEditedLine it → (rank : ℕ) → changes it rank ≡ false → areas_at (areas_by_rank it.old) rank ≡ areas_at (areas_by_rank it.new) rank
 other-at it is rank unchanged = search (rules, inside-by, le-ltb, lt-ltb, outside)
 

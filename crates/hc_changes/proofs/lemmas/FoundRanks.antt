@@ -2,7 +2,7 @@
 use Rattle.std.proofs.Common.{◌≡◌, ℕ, zero, suc, ◌+◌, ◌-◌, ◌<◌, ◌≤◌, List, [], ◌∷◌, ◌++◌, Contains, None, append-nil, length, length-append, drop, drop-cons, take, refl, sym, ap, subst, ◌∙◌, append_assoc, arith, rules}
 use Rattle.std.specs.Prelude.{if◌then◌else◌, map, slice_index_or}
 use Rattle.std.proofs.lemmas.Grind.{flat_map-append}
-use Rattle.std.proofs.lemmas.List.{length-map}
+use Rattle.std.proofs.lemmas.List.{length-map, take_more}
 use Rattle.hc_records.specs.declared.limits.TheConstants.{MOST_SLAVES, TASKS}
 use Rattle.hc_records.specs.declared.records.Area.{Area}
 use Rattle.hc_records.specs.declared.records.Declared.{Declared}
@@ -137,6 +137,16 @@ pub group-at : (groups : List Declared) (first i : ℕ) (declared : Declared) �
     → declared ≡ slice_index_or groups i declared → IsGroupAt groups first declared
 group-at groups first i declared rank within is =
     record { front = take i groups; behind = drop (i + 1) groups; stands = split-at groups i declared within is; rank = rank }
+
+-- the rank of the first slave of the next one
+pub group-next : (groups : List Declared) (first i : ℕ) (declared : Declared) → first ≡ length (areas_by_rank (take i groups)) + 1 → i < length groups
+    → declared ≡ slice_index_or groups i declared → first + length declared.group.slaves ≡ length (areas_by_rank (take (i + 1) groups)) + 1
+group-next groups first i declared rank within is =
+    let cut : take (i + 1) groups ≡ take i groups ++ declared ∷ [] = take_more groups i declared within ∙ ap (λ (d : Declared). take i groups ++ d ∷ []) (sym is) in
+    let long = ap (λ (all : List Declared). length (areas_by_rank all)) cut ∙ ap length (flat_map-append present_areas (take i groups) (declared ∷ [])) in
+    let parts = length-append (areas_by_rank (take i groups)) (areas_by_rank (declared ∷ [])) in
+    let own = ap length (append-nil (present_areas declared)) ∙ length-present declared.present declared.group.slaves in
+    omega (arith, rank, long, parts, own)
 
 pub taken-all : {X : Type 0} (xs : List X) (n : ℕ) → length xs ≤ n → take n xs ≡ xs
 taken-all [] zero past = refl

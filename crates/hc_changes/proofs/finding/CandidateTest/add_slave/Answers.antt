@@ -1,5 +1,7 @@
-use Rattle.std.proofs.Common.{◌≡◌, ◌∙◌, ◌+◌, ◌++◌, List, [], Vec, Global, append-nil, ap, drop, sym, rules}
+use Rattle.std.proofs.Common.{◌≡◌, ◌∙◌, ◌+◌, ◌++◌, List, [], Vec, Global, append-nil, ap, drop, refl, sym, rules}
+use Rattle.hc_tasks.specs.Areas.{areas_at, areas_by_rank}
 use Rattle.hc_changes.specs.Candidates.{Candidate}
+use Rattle.hc_changes.specs.EditedLine.{EditedLine}
 use Rattle.hc_changes.specs.inner.Found.{area_found, areas_found}
 use Rattle.hc_changes.proofs.lemmas.FoundRanks.{areas-added, areas-end, rank-is, task-below}
 use Rattle.hc_changes.proofs.finding.CandidateTest.add_slave.Goals as goal
@@ -44,3 +46,16 @@ returns-clause-found c =
     let areas = c.areas_after-areas.result.now in
     areas-end it station c.args.rank c.loop-i.i areas c.loop-i.found.items (found ++ areas_found it station c.args.rank 0 areas) c.loop-i-test.false c.loop-i.invariant.found
     ∙ ap (λ (own : List Candidate). found ++ own) (rank-is it c.args.rank station areas c.requires.station c.loop-i.invariant.areas)
+
+pub judge-requires-clause-places : goal.judge-requires-clause-places
+judge-requires-clause-places c = c.loop-i.invariant.places ∙ c.requires.places
+
+pub loop-i-init : goal.loop-i-init
+loop-i-init c = record {
+  places = refl;
+  areas = c.areas_after-areas.ensures ∙ ap (λ (it : EditedLine). areas_at (areas_by_rank it.new) c.args.rank) c.self.view_is;
+  found = refl;
+}
+
+pub returns-clause-places : goal.returns-clause-places
+returns-clause-places c = c.loop-i.invariant.places
