@@ -1,4 +1,4 @@
-use Rattle.std.proofs.Common.{◌≡◌, ◌∙◌, length, refl, arith}
+use Rattle.std.proofs.Common.{◌≡◌, ◌∙◌, length, refl, sym, arith}
 use Rattle.std.proofs.lemmas.Bool.{eq-eqb, ne_eqb}
 use Rattle.hc_records.specs.declared.limits.TheConstants.{LAST_EPOCH}
 use Rattle.hc_tasks.specs.Areas.{areas_by_rank}
@@ -58,3 +58,32 @@ pub returns-clause-accepted : goal.returns-clause-accepted
 returns-clause-accepted g c =
     let it = c.args.edited_line.now in
     made-accepted it.old it.new c.args.epoch c.args.edit.now c.requires.edit.own c.requires.edit.leads c.in-Ok.ensures.accepted (ne_eqb c.args.epoch LAST_EPOCH c.if-epoch-eq-LAST_EPOCH.false)
+
+-- that trees are those of a line is handed on as it was told: a tactic would open the eight tasks of both lines
+
+pub turn_line-requires-clause-trees : goal.turn_line-requires-clause-trees
+turn_line-requires-clause-trees g c = c.requires.trees
+
+pub see_new_line-seen-requires-clause-trees : goal.see_new_line-seen-requires-clause-trees
+see_new_line-seen-requires-clause-trees g c = c.in-Ok.ensures.turned
+
+pub turn_back-requires-clause-trees : goal.turn_back-requires-clause-trees
+turn_back-requires-clause-trees g c = c.in-Ok.ensures.turned
+
+pub tell-requires-clause-trees : goal.tell-requires-clause-trees
+tell-requires-clause-trees g c = c.turn_back.ensures
+
+pub returns-in-Err-clause-unchanged : goal.returns-in-Err-clause-unchanged
+returns-in-Err-clause-unchanged g c = c.in-Err.ensures.unchanged
+
+pub returns-then-epoch-eq-LAST_EPOCH-clause-unchanged : goal.returns-then-epoch-eq-LAST_EPOCH-clause-unchanged
+returns-then-epoch-eq-LAST_EPOCH-clause-unchanged g c = c.turn_back.ensures ∙ sym c.requires.trees
+
+pub returns-in_err-seen-clause-unchanged : goal.returns-in_err-seen-clause-unchanged
+returns-in_err-seen-clause-unchanged g c = c.turn_back.ensures ∙ sym c.requires.trees
+
+pub returns-in_err-blocks-clause-unchanged : goal.returns-in_err-blocks-clause-unchanged
+returns-in_err-blocks-clause-unchanged g c = c.turn_back.ensures ∙ sym c.requires.trees
+
+pub returns-clause-unchanged : goal.returns-clause-unchanged
+returns-clause-unchanged g c = c.turn_back.ensures ∙ sym c.requires.trees

@@ -4,6 +4,7 @@ use Rattle.hc_records.specs.Edits.{groups_after}
 use Rattle.hc_records.specs.Line.{groups_of}
 use Rattle.hc_records.specs.Project.{lowest_fault}
 use Rattle.hc_tasks.specs.Areas.{areas_by_rank}
+use Rattle.hc_tasks.specs.Kept.{line_kept}
 use Rattle.hc_tasks.specs.Turn.{AreStartsOf}
 use Rattle.hc_edits.specs.Changes.{changed_groups}
 use Rattle.hc_changes.specs.EditedLine.{EditedLine, IsEditedLine, edited_line_of}
@@ -47,3 +48,11 @@ returns-clause-plan c =
     ap (λ (g : List Declared). record { groups = g; epoch = kept.report.epoch }) (c.carry_out.ensures.groups ∙ ap (changed_groups kept.change) (sym was))
     ∙ ap (λ (n : ℕ). record { groups = changed_groups kept.change kept.was.value.groups; epoch = n }) c.prepared.invariant.0.told.epoch
     ∙ ap (λ (p : PreparedEdit). p.new) c.prepared.view_is
+
+pub of-edited_line-requires-clause-was : goal.of-edited_line-requires-clause-was
+of-edited_line-requires-clause-was c = subst (λ (g : List Declared). lowest_fault (groups_of g) ≡ None) (sym c.as_slice.ensures) c.self.invariant.0
+
+pub turn_on-requires-clause-trees : goal.turn_on-requires-clause-trees
+turn_on-requires-clause-trees c =
+    c.self.invariant.3
+    ∙ ap (λ (g : List Declared). line_kept (areas_by_rank g)) (sym (ap (λ (it : EditedLine). it.old) c.of-edited_line.ensures ∙ c.as_slice.ensures))

@@ -6,6 +6,8 @@ use Rattle.hc_records.specs.declared.records.Declared.{Declared}
 use Rattle.hc_records.specs.Edits.{edited, groups_after}
 use Rattle.hc_records.specs.Line.{State, groups_of}
 use Rattle.hc_records.specs.Project.{lowest_fault}
+use Rattle.hc_tasks.specs.Areas.{areas_by_rank}
+use Rattle.hc_tasks.specs.Kept.{line_kept}
 use Rattle.hc_edits.specs.Changes.{change_by, changed_groups}
 use Rattle.hc_edits.specs.Edits.{own_fault}
 use Rattle.hc_edits.specs.Rows.{ChangesRow}
@@ -85,3 +87,35 @@ invariant_of-result c =
 
 pub returns-clause-prepared : goal.returns-clause-prepared
 returns-clause-prepared c = (invariant_of-result c).0
+
+pub of-edited_line-requires-clause-edited : goal.of-edited_line-requires-clause-edited
+of-edited_line-requires-clause-edited c =
+    record { edit = c.args.edit.now; leads = subst (λ (g : List Declared). changed_groups c.in_ok-change.change g ≡ groups_after g c.args.edit.now) (c.as_slice.ensures ∙ sym c.as_slice-2.ensures) c.in_ok-change.ensures.groups }
+
+pub of-edited_line-requires-clause-was : goal.of-edited_line-requires-clause-was
+of-edited_line-requires-clause-was c = subst (λ (g : List Declared). lowest_fault (groups_of g) ≡ None) (sym c.as_slice-2.ensures) c.self.invariant.0
+
+pub of-edited_line-requires-clause-is : goal.of-edited_line-requires-clause-is
+of-edited_line-requires-clause-is c =
+    subst (λ (g : List Declared). lowest_fault (groups_of (changed_groups c.in_ok-change.change g)) ≡ None) (c.as_slice.ensures ∙ sym c.as_slice-2.ensures) c.in_ok-change.ensures.kept
+
+pub of-edited_line-requires-clause-row : goal.of-edited_line-requires-clause-row
+of-edited_line-requires-clause-row c = subst (ChangesRow c.in_ok-change.change) (c.as_slice.ensures ∙ sym c.as_slice-2.ensures) c.in_ok-change.ensures.row
+
+pub work_out-requires-clause-trees : goal.work_out-requires-clause-trees
+work_out-requires-clause-trees c =
+    c.self.invariant.3
+    ∙ ap (λ (g : List Declared). line_kept (areas_by_rank g))
+    (sym (old-groups c.of-edited_line.result c.in_ok-change.change c.as_slice-2.result.now c.self.inside.groups c.of-edited_line.ensures c.as_slice-2.ensures))
+
+pub invariant_of-self : goal.invariant_of-self
+invariant_of-self c = (c.self.invariant.0, c.self.invariant.1, c.self.invariant.2, c.work_out.ensures.unchanged ∙ c.self.invariant.3, c.self.invariant.4)
+
+pub invariant_of-self-2 : goal.invariant_of-self-2
+invariant_of-self-2 c = (c.self.invariant.0, c.self.invariant.1, c.self.invariant.2, c.work_out.ensures.unchanged ∙ c.self.invariant.3, c.self.invariant.4)
+
+pub returns-in_err-worked-clause-unchanged : goal.returns-in_err-worked-clause-unchanged
+returns-in_err-worked-clause-unchanged c = c.self.view_is
+
+pub returns-clause-unchanged : goal.returns-clause-unchanged
+returns-clause-unchanged c = c.self.view_is
