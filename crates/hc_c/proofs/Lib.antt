@@ -1,1 +1,2 @@
 mod Boxed
+mod Refusals

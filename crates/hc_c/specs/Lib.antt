@@ -3,6 +3,8 @@ pub mod Embedded
 pub mod Numbers
 pub mod Opening
 pub mod Lists
+pub mod Looks
+pub mod Edits
 pub mod Sends
 pub mod Arrivals
 pub mod Reads

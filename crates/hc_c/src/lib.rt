@@ -9,13 +9,17 @@
 mod arena;
 mod arriving;
 mod changing;
+mod editing;
 mod embedded;
 mod handle;
+mod looking;
 mod numbers;
 mod opening;
 mod posting;
+mod previewing;
 mod reading;
 mod sending;
+mod slave;
 mod telling;
 mod untold;
 mod writing;

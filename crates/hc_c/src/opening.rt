@@ -74,5 +74,6 @@ pub extern "C" fn zangjulf_open(
 pub extern "C" fn zangjulf_close(alloc: Global, handle: &mut Handle)
     ensures { handle.new.holding.value ≡ None }
 {
-    drop(handle.take(alloc));
+    let own = handle.take(alloc);
+    drop(own);
 }

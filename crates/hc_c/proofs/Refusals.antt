@@ -1,0 +1,34 @@
+-- The numbers of refused edits.
+use Rattle.std.proofs.Common.{◌≡◌, ◌≢◌, ap, Result, Ok, Err}
+use Rattle.hc_records.specs.declared.faults.EditFault.{EditFault}
+use Rattle.hc_records.specs.declared.faults.EditFault.TheVariants.{UnknownAlias, AlreadyPresent, NotPresent, Mandatory, UnknownStation, Absent, NoSuchArea, NoSuchTask, UnknownPdo, RepeatedPdo, AreaTooBig, TooManyDatagrams, EpochsSpent, Memory}
+use Rattle.hc_records.specs.Line.{State}
+use Rattle.hc_events.specs.Faults.{core_fault_number, edit_refusal}
+
+-- that of want of memory is want of memory's alone
+pub not_memory : (fault : EditFault) → core_fault_number (edit_refusal fault) ≢ 28 → fault ≢ Memory
+not_memory fault other is = other (ap (λ (it : EditFault). core_fault_number (edit_refusal it)) is)
+
+-- none is 0
+pub not_done : (fault : EditFault) → core_fault_number (edit_refusal fault) ≢ 0
+not_done UnknownAlias e = cc
+not_done AlreadyPresent e = cc
+not_done NotPresent e = cc
+not_done Mandatory e = cc
+not_done UnknownStation e = cc
+not_done Absent e = cc
+not_done NoSuchArea e = cc
+not_done NoSuchTask e = cc
+not_done UnknownPdo e = cc
+not_done RepeatedPdo e = cc
+not_done AreaTooBig e = cc
+not_done (TooManyDatagrams task) e = cc
+not_done EpochsSpent e = cc
+not_done Memory e = cc
+
+-- an edit is accepted or refused, and refused for one fault
+pub not_accepted : {state : State} {fault : EditFault} → ◌≡◌ {A = Result State EditFault} (Ok state) (Err fault) → ⊥
+not_accepted e = cc
+
+pub same_fault : {first second : EditFault} → ◌≡◌ {A = Result State EditFault} (Err first) (Err second) → first ≡ second
+same_fault e = cc

@@ -1,0 +1,30 @@
+use Rattle.std.proofs.Common.{◌≡◌, ◌≢◌, ◌∙◌, ap, sym, refl, Err}
+use Rattle.hc_records.specs.declared.faults.EditFault.TheVariants.{TooManyDatagrams}
+use Rattle.hc_events.specs.Faults.{core_fault_number, edit_refusal}
+use Rattle.hc_c.specs.declared.editing.Cost.{Cost}
+use Rattle.hc_c.specs.Edits.{edit_number}
+use Rattle.hc_c.proofs.Refusals.{not_accepted, not_done, not_memory, same_fault}
+use Rattle.hc_c.proofs.editing.serve.Goals as goal
+
+pub returns-in-Ok : goal.returns-in-Ok
+returns-in-Ok c =
+    let told = c.in-Ok.ensures in record {
+      told = λ _. sym (ap edit_number told.accepted);
+      cost = λ _. told.cost;
+      carried = λ _ asks. told.carried asks;
+      asked = λ asks. told.asked asks;
+      refused = λ other. absurd (other refl);
+      crowds = λ task other is. absurd (not_accepted (sym told.accepted ∙ is));
+    }
+
+pub returns-in-Err : goal.returns-in-Err
+returns-in-Err c =
+    let fault = c.in-Err.fault in let told = c.in-Err.ensures in let number = c.refuse.ensures.number in
+    record {
+      told = λ other. number ∙ sym (ap edit_number (told.refused (not_memory fault (λ is. other (number ∙ is)))));
+      cost = λ is. absurd (not_done fault (sym number ∙ is));
+      carried = λ is asks. absurd (not_done fault (sym number ∙ is));
+      asked = λ asks. told.asked asks;
+      refused = λ other. (told.unchanged, c.refuse.ensures.rest ∙ ap (λ (cost : Cost). record cost { crowded = c.refuse.new.cost.crowded }) told.untold);
+      crowds = λ task other is. c.refuse.ensures.crowds task (same_fault (sym (told.refused (not_memory fault (λ it. other (number ∙ it)))) ∙ is));
+    }

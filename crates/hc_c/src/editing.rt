@@ -1,0 +1,231 @@
+//! Edits of the line, and what one would cost.
+ghost use Rattle.std.specs.Prelude.{◌≡◌, ◌≢◌, ◌∷◌, ℕ, Err, IfErr, IfOk, IfSome, None, Ok, OnErr, OnOk, false, is_some, true};
+ghost use Rattle.hc_records.specs.declared.edit.Edit.TheVariants.{Connect, Disconnect, Move, Remap};
+ghost use Rattle.hc_records.specs.declared.faults.EditFault.TheVariants.{Memory, TooManyDatagrams};
+ghost use Rattle.hc_records.specs.Edits.{edited, state_after};
+ghost use Rattle.hc_events.specs.Entries.{Edited};
+ghost use Rattle.hc_events.specs.Faults.{core_fault_number, edit_refusal};
+ghost use Rattle.hc_events.specs.Points.{state_of};
+ghost use Rattle.hc_plan.specs.Prepared.{IsPrepared};
+ghost use Rattle.hc_c.specs.Embedded.{past_of, with_past};
+ghost use Rattle.hc_c.specs.Edits.{IsCost, Serves};
+
+use crate::embedded::Embedded;
+use crate::handle::Handle;
+use crate::numbers::{CLOSED, DONE, MEMORY};
+use hc_core::prepared::CoreEdit;
+use hc_events::faults::CoreFault;
+use hc_plan::prepared::PreparedEdit;
+use hc_records::edit::Edit;
+use hc_records::faults::EditFault;
+use hc_records::items::Items;
+use std::alloc::Global;
+
+/// What an edit does, or would do, as C is told it.
+#[repr(C)]
+#[derive(Clone, Copy)]
+pub struct Cost {
+    /// The epoch that begins with it.
+    epoch: u32,
+    /// How many spans of touched tasks aren't settled; an emptied task counts one.
+    recut: u32,
+    /// How many register blocks of the new line weren't blocks with the same bytes at the same register of the same slave
+    /// in the old line.
+    moved: u32,
+    /// How many variables stand elsewhere, appear or go.
+    places: u32,
+    /// Of an edit that is refused because a task would need more than 16 datagrams the lowest such task, 0 to 7.
+    crowded: u8,
+}
+
+/// What a prepared edit would do.
+fn cost_of(edit: &PreparedEdit) -> Cost
+    ensures cost { IsCost edit.now.old edit.now.new result }
+    ensures prepared { IsPrepared edit.now }
+{
+    let report = edit.report();
+    Cost {
+        epoch: report.epoch,
+        recut: report.recut,
+        moved: report.moved,
+        places: report.swap.places(),
+        crowded: 0,
+    }
+}
+
+/// Works an edit out; nothing changes.
+fn prepare(own: &mut Embedded, alloc: Global, edit: &Edit) -> Result<CoreEdit, EditFault>
+    ensures made { IfOk result (λ ready. ready.core ≡ own.old.core) }
+    ensures edit { IfOk result (λ ready. ready.edit.report.swap.edit ≡ edit.now) }
+    ensures accepted { OnOk result (edited (state_of (past_of own.old)) edit.now ≡ Ok (state_after (state_of (past_of own.old)) edit.now)) }
+    ensures refused { IfErr result (λ fault. fault ≢ Memory → edited (state_of (past_of own.old)) edit.now ≡ Err fault) }
+    ensures unchanged { own.new ≡ own.old }
+{
+    own.core.prepare(alloc, edit)
+}
+
+/// Carries a prepared edit out where C doesn't only ask.
+fn carry(own: &mut Embedded, ready: CoreEdit, asks: bool)
+    requires { ready.core ≡ own.old.core }
+    ensures carried { asks ≡ false → own.new ≡ with_past own.old (Edited ready.edit.report.swap.edit ∷ past_of own.old) }
+    ensures asked { asks ≡ true → own.new ≡ own.old }
+{
+    if !asks {
+        let _ = own.core.carry_out(ready);
+    }
+}
+
+/// The number of a refusal; where a task would need too many datagrams it is told.
+fn refuse(fault: EditFault, cost: &mut Cost) -> u8
+    ensures number { result ≡ core_fault_number (edit_refusal fault) }
+    ensures rest { cost.new ≡ record cost.old { crowded = cost.new.crowded } }
+    ensures crowds { (task : ℕ) → fault ≡ TooManyDatagrams task → cost.new.crowded ≡ task }
+{
+    if let EditFault::TooManyDatagrams(task) = fault {
+        cost.crowded = task;
+    }
+    CoreFault::from(fault).number()
+}
+
+/// Works an edit out, and carries it out where C doesn't only ask: what it does is told, or why it is refused.
+fn work_out(
+    own: &mut Embedded,
+    alloc: Global,
+    edit: &Edit,
+    asks: bool,
+    cost: &mut Cost,
+) -> Result<(), EditFault>
+    ensures accepted { OnOk result (edited (state_of (past_of own.old)) edit.now ≡ Ok (state_after (state_of (past_of own.old)) edit.now)) }
+    ensures cost { OnOk result (IsCost (state_of (past_of own.old)) (state_after (state_of (past_of own.old)) edit.now) cost.new) }
+    ensures carried { OnOk result (asks ≡ false → own.new ≡ with_past own.old (Edited edit.now ∷ past_of own.old)) }
+    ensures asked { asks ≡ true → own.new ≡ own.old }
+    ensures refused { IfErr result (λ fault. fault ≢ Memory → edited (state_of (past_of own.old)) edit.now ≡ Err fault) }
+    ensures unchanged { OnErr result (own.new ≡ own.old) }
+    ensures untold { OnErr result (cost.new ≡ cost.old) }
+{
+    let ready = prepare(own, alloc, edit)?;
+    *cost = cost_of(ready.edit());
+    carry(own, ready, asks);
+    Ok(())
+}
+
+/// Serves an edit: `DONE`, or why it is refused.
+fn serve(own: &mut Embedded, alloc: Global, edit: &Edit, asks: bool, cost: &mut Cost) -> u8
+    ensures { Serves own.old own.new edit.now asks result cost.old cost.new }
+{
+    match work_out(own, alloc, edit, asks, cost) {
+        Ok(()) => DONE,
+        Err(fault) => refuse(fault, cost),
+    }
+}
+
+/// The group with an alias joins the line; where `asks`, it is only told what that would cost. `DONE`, and `cost` tells
+/// what it does; else the lowest of the faults 1, 2, 12 and 13 that holds, `MEMORY` or `CLOSED`, and nothing changed.
+#[unsafe(no_mangle)]
+pub extern "C" fn zangjulf_connect(
+    alloc: Global,
+    handle: &mut Handle,
+    alias: u16,
+    asks: bool,
+    cost: &mut Cost,
+) -> u8
+    ensures serves { IfSome handle.old.holding.value (λ old. IfSome handle.new.holding.value (λ new. Serves old new (Connect alias) asks result cost.old cost.new)) }
+    ensures held { is_some handle.new.holding.value ≡ is_some handle.old.holding.value }
+    ensures closed { handle.old.holding.value ≡ None → (result ≡ CLOSED) × (cost.new ≡ cost.old) }
+{
+    let Some(mut own) = handle.take(alloc) else {
+        return CLOSED;
+    };
+    let edit = Edit::Connect(alias);
+    let number = serve(&mut own, alloc, &edit, asks, cost);
+    *handle = Handle::of(own);
+    number
+}
+
+/// The group with an alias leaves the line; where `asks`, it is only told what that would cost. `DONE`, and `cost` tells
+/// what it does; else the lowest of the faults 1, 3, 4, 12 and 13 that holds, `MEMORY` or `CLOSED`, and nothing changed.
+#[unsafe(no_mangle)]
+pub extern "C" fn zangjulf_disconnect(
+    alloc: Global,
+    handle: &mut Handle,
+    alias: u16,
+    asks: bool,
+    cost: &mut Cost,
+) -> u8
+    ensures serves { IfSome handle.old.holding.value (λ old. IfSome handle.new.holding.value (λ new. Serves old new (Disconnect alias) asks result cost.old cost.new)) }
+    ensures held { is_some handle.new.holding.value ≡ is_some handle.old.holding.value }
+    ensures closed { handle.old.holding.value ≡ None → (result ≡ CLOSED) × (cost.new ≡ cost.old) }
+{
+    let Some(mut own) = handle.take(alloc) else {
+        return CLOSED;
+    };
+    let edit = Edit::Disconnect(alias);
+    let number = serve(&mut own, alloc, &edit, asks, cost);
+    *handle = Handle::of(own);
+    number
+}
+
+/// An area, counted from 0, of the present slave with a station address gets the PDOs with these indexes assigned, in this
+/// order; where `asks`, it is only told what that would cost. `DONE`, and `cost` tells what it does; else the lowest of the
+/// faults 5 to 7 and 9 to 13 that holds, `MEMORY` or `CLOSED`, and nothing changed.
+#[unsafe(no_mangle)]
+pub extern "C" fn zangjulf_remap(
+    alloc: Global,
+    handle: &mut Handle,
+    station: u16,
+    area: u8,
+    pdos: &[u16],
+    asks: bool,
+    cost: &mut Cost,
+) -> u8
+    ensures serves { IfSome handle.old.holding.value (λ old. IfSome handle.new.holding.value (λ new. Serves old new (Remap station area pdos.now) asks result cost.old cost.new)) }
+    ensures held { is_some handle.new.holding.value ≡ is_some handle.old.holding.value }
+    ensures closed { handle.old.holding.value ≡ None → (result ≡ CLOSED) × (cost.new ≡ cost.old) }
+{
+    let Some(mut own) = handle.take(alloc) else {
+        return CLOSED;
+    };
+    let number = match Vec::from_slice(alloc, pdos) {
+        Ok(pdos) => {
+            let edit = Edit::Remap {
+                station,
+                area,
+                pdos: Items::of(pdos),
+            };
+            serve(&mut own, alloc, &edit, asks, cost)
+        }
+        Err(_) => MEMORY,
+    };
+    *handle = Handle::of(own);
+    number
+}
+
+/// An area, counted from 0, of the present slave with a station address moves to a task; where `asks`, it is only told what
+/// that would cost. `DONE`, and `cost` tells what it does; else the lowest of the faults 5 to 8, 12 and 13 that holds,
+/// `MEMORY` or `CLOSED`, and nothing changed.
+#[unsafe(no_mangle)]
+pub extern "C" fn zangjulf_move(
+    alloc: Global,
+    handle: &mut Handle,
+    station: u16,
+    area: u8,
+    task: u8,
+    asks: bool,
+    cost: &mut Cost,
+) -> u8
+    ensures serves { IfSome handle.old.holding.value (λ old. IfSome handle.new.holding.value (λ new. Serves old new (Move station area task) asks result cost.old cost.new)) }
+    ensures held { is_some handle.new.holding.value ≡ is_some handle.old.holding.value }
+    ensures closed { handle.old.holding.value ≡ None → (result ≡ CLOSED) × (cost.new ≡ cost.old) }
+{
+    let Some(mut own) = handle.take(alloc) else {
+        return CLOSED;
+    };
+    let edit = Edit::Move {
+        station,
+        area,
+        task,
+    };
+    let number = serve(&mut own, alloc, &edit, asks, cost);
+    *handle = Handle::of(own);
+    number
+}

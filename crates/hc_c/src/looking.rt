@@ -1,0 +1,290 @@
+//! Look-ups in the configuration of the present line.
+ghost use Rattle.std.specs.Prelude.{◌≡◌, ◌≢◌, IfSome, MatchOption, None};
+ghost use Rattle.hc_events.specs.Points.{line_of, state_of};
+ghost use Rattle.hc_plan.specs.Configuration.{block_at, position_of, station_at};
+ghost use Rattle.hc_c.specs.Embedded.{past_of};
+ghost use Rattle.hc_c.specs.Looks.{TellsBlock, TellsPosition, datagram_at, part_at, place_at, told_datagram, told_part, told_place};
+
+use crate::handle::Handle;
+use crate::numbers::{CLOSED, DONE, NOTHING, ROOM};
+use hc_core::keeping::Core;
+use hc_events::faults::CoreFault;
+use hc_places::table::{Datagram as LineDatagram, Place as LinePlace};
+use hc_records::records::{Dir, VarId};
+use hc_registers::blocks::Block as LineBlock;
+use std::alloc::Global;
+
+/// Where a variable stands, as C is told it.
+#[repr(C)]
+#[derive(Clone, Copy)]
+pub struct Place {
+    /// The task, 0 to 7.
+    task: u8,
+    /// The number of its datagram in the task, 0 to 15.
+    datagram: u8,
+    /// Its bits, 1 to 64.
+    bits: u8,
+    /// Whether it is an input.
+    is_input: bool,
+    /// Its first bit in the datagram's data, counted from the least significant bit of byte 0.
+    bit: u16,
+}
+
+/// A datagram of a task, as C is told it.
+#[repr(C)]
+#[derive(Clone, Copy)]
+pub struct Datagram {
+    /// Its logical address.
+    address: u32,
+    /// The bytes of its data, 1 to 1,486.
+    length: u16,
+    /// Its expected working counter.
+    expected: u16,
+    /// The bytes of the task's earlier datagrams.
+    offset: u16,
+}
+
+/// The bytes of a task's image, as C is told them.
+#[repr(C)]
+#[derive(Clone, Copy)]
+pub struct Part {
+    /// Those of its outputs, which come first.
+    outputs: u16,
+    /// Those of its inputs.
+    inputs: u16,
+}
+
+/// A register block, as C is told it.
+#[repr(C)]
+#[derive(Clone, Copy)]
+pub struct Block {
+    /// The register at which it begins.
+    start: u16,
+    /// Its bytes, 8 or 16.
+    size: usize,
+}
+
+/// The place of the variable with a number in the present line.
+fn place_at(core: &Core, number: u32) -> Option<LinePlace>
+    ensures { result ≡ place_at core.now.past number }
+{
+    match VarId::new(number) {
+        Some(variable) => core.plan().places().place(variable),
+        None => None,
+    }
+}
+
+/// The datagram of a task with a number in the present line.
+fn datagram_at(core: &Core, task: u8, number: u8) -> Option<LineDatagram>
+    ensures { result ≡ datagram_at core.now.past task number }
+{
+    core.plan().places().datagram(task, number)
+}
+
+/// The bytes of a task's outputs and inputs in the present line.
+fn part_at(core: &Core, task: u8) -> (u16, u16)
+    ensures { result ≡ part_at core.now.past task }
+{
+    core.plan().places().part(task)
+}
+
+/// What C is told of a place.
+fn told_place(place: LinePlace) -> Place
+    ensures { result ≡ told_place place }
+{
+    Place {
+        task: place.task,
+        datagram: place.datagram,
+        bits: place.bits,
+        is_input: match place.dir {
+            Dir::Out => false,
+            Dir::In => true,
+        },
+        bit: place.bit,
+    }
+}
+
+/// What C is told of a datagram.
+fn told_datagram(datagram: LineDatagram) -> Datagram
+    ensures { result ≡ told_datagram datagram }
+{
+    Datagram {
+        address: datagram.address,
+        length: datagram.length,
+        expected: datagram.expected,
+        offset: datagram.offset,
+    }
+}
+
+/// Where a variable stands, 1 to 4,294,967,295: `DONE`; `NOTHING` where the present line has no place for it; or `CLOSED`.
+#[unsafe(no_mangle)]
+pub extern "C" fn zangjulf_place(
+    alloc: Global,
+    handle: &mut Handle,
+    variable: u32,
+    place: &mut Place,
+) -> u8
+    ensures told { IfSome handle.old.holding.value (λ old. MatchOption (place_at (past_of old) variable) (result ≡ NOTHING) (λ found. (result ≡ DONE) × (place.new ≡ told_place found))) }
+    ensures kept { handle.new.holding.value ≡ handle.old.holding.value }
+    ensures untouched { result ≢ DONE → place.new ≡ place.old }
+    ensures closed { handle.old.holding.value ≡ None → result ≡ CLOSED }
+{
+    let Some(own) = handle.take(alloc) else {
+        return CLOSED;
+    };
+    let number = match place_at(&own.core, variable) {
+        Some(found) => {
+            *place = told_place(found);
+            DONE
+        }
+        None => NOTHING,
+    };
+    *handle = Handle::of(own);
+    number
+}
+
+/// A datagram of a task, 0 to 7, by its number from 0: `DONE`; `NOTHING` where the task has fewer, or there is no such
+/// task; or `CLOSED`.
+#[unsafe(no_mangle)]
+pub extern "C" fn zangjulf_datagram(
+    alloc: Global,
+    handle: &mut Handle,
+    task: u8,
+    datagram: u8,
+    told: &mut Datagram,
+) -> u8
+    ensures told { IfSome handle.old.holding.value (λ old. MatchOption (datagram_at (past_of old) task datagram) (result ≡ NOTHING) (λ found. (result ≡ DONE) × (told.new ≡ told_datagram found))) }
+    ensures kept { handle.new.holding.value ≡ handle.old.holding.value }
+    ensures untouched { result ≢ DONE → told.new ≡ told.old }
+    ensures closed { handle.old.holding.value ≡ None → result ≡ CLOSED }
+{
+    let Some(own) = handle.take(alloc) else {
+        return CLOSED;
+    };
+    let number = match datagram_at(&own.core, task, datagram) {
+        Some(found) => {
+            *told = told_datagram(found);
+            DONE
+        }
+        None => NOTHING,
+    };
+    *handle = Handle::of(own);
+    number
+}
+
+/// The bytes of a task's image, 0 and 0 where there is no such task: `DONE`, or `CLOSED`.
+#[unsafe(no_mangle)]
+pub extern "C" fn zangjulf_part(alloc: Global, handle: &mut Handle, task: u8, part: &mut Part) -> u8
+    ensures told { IfSome handle.old.holding.value (λ old. (result ≡ DONE) × (part.new ≡ told_part (part_at (past_of old) task))) }
+    ensures kept { handle.new.holding.value ≡ handle.old.holding.value }
+    ensures closed { handle.old.holding.value ≡ None → (result ≡ CLOSED) × (part.new ≡ part.old) }
+{
+    let Some(own) = handle.take(alloc) else {
+        return CLOSED;
+    };
+    let (outputs, inputs) = part_at(&own.core, task);
+    *part = Part { outputs, inputs };
+    *handle = Handle::of(own);
+    DONE
+}
+
+/// The station address of the slave at a position of the present line, from 0: `DONE`; `NOTHING` where the line is
+/// shorter; or `CLOSED`.
+#[unsafe(no_mangle)]
+pub extern "C" fn zangjulf_station(
+    alloc: Global,
+    handle: &mut Handle,
+    position: u32,
+    station: &mut u16,
+) -> u8
+    ensures told { IfSome handle.old.holding.value (λ old. MatchOption (station_at (line_of (past_of old)) position) (result ≡ NOTHING) (λ found. (result ≡ DONE) × (station.new ≡ found))) }
+    ensures kept { handle.new.holding.value ≡ handle.old.holding.value }
+    ensures untouched { result ≢ DONE → station.new ≡ station.old }
+    ensures closed { handle.old.holding.value ≡ None → result ≡ CLOSED }
+{
+    let Some(own) = handle.take(alloc) else {
+        return CLOSED;
+    };
+    let number = match own.core.plan().station(position) {
+        Some(found) => {
+            *station = found;
+            DONE
+        }
+        None => NOTHING,
+    };
+    *handle = Handle::of(own);
+    number
+}
+
+/// The position in the present line, from 0, of the slave with a station address: `DONE`; fault 5 where no declared slave
+/// has it; 6 where that slave's group isn't present; or `CLOSED`.
+#[unsafe(no_mangle)]
+pub extern "C" fn zangjulf_position(
+    alloc: Global,
+    handle: &mut Handle,
+    station: u16,
+    position: &mut u32,
+) -> u8
+    ensures told { IfSome handle.old.holding.value (λ old. TellsPosition (position_of (state_of (past_of old)) station) result position.new) }
+    ensures kept { handle.new.holding.value ≡ handle.old.holding.value }
+    ensures untouched { result ≢ DONE → position.new ≡ position.old }
+    ensures closed { handle.old.holding.value ≡ None → result ≡ CLOSED }
+{
+    let Some(own) = handle.take(alloc) else {
+        return CLOSED;
+    };
+    let number = match own.core.plan().position(station) {
+        Ok(found) => {
+            *position = found;
+            DONE
+        }
+        Err(fault) => CoreFault::from(fault).number(),
+    };
+    *handle = Handle::of(own);
+    number
+}
+
+/// Tells a register block: `DONE`, or `ROOM` where `out` is too short.
+fn tell_block(found: &LineBlock, out: &mut [u8], block: &mut Block) -> u8
+    ensures { TellsBlock found.now result block.new out.old out.new }
+{
+    let bytes = found.bytes();
+    *block = Block {
+        start: found.register(),
+        size: bytes.len(),
+    };
+    if out.len() < bytes.len() {
+        return ROOM;
+    }
+    out[..bytes.len()].copy_from_slice(bytes);
+    DONE
+}
+
+/// The register block with a number, from 0, in the order of the slave with a station address: for each area in record
+/// order its sync manager block, then its FMMU block. `DONE`, and its bytes stand at the front of `out`; `NOTHING` where no
+/// such slave is present or it has fewer blocks; `ROOM` where `out` has fewer than `block.size` bytes, and is as it was;
+/// or `CLOSED`.
+#[unsafe(no_mangle)]
+pub extern "C" fn zangjulf_block(
+    alloc: Global,
+    handle: &mut Handle,
+    station: u16,
+    number: u8,
+    out: &mut [u8],
+    block: &mut Block,
+) -> u8
+    ensures told { IfSome handle.old.holding.value (λ old. MatchOption (block_at (line_of (past_of old)) station number) (result ≡ NOTHING) (λ found. TellsBlock found result block.new out.old out.new)) }
+    ensures kept { handle.new.holding.value ≡ handle.old.holding.value }
+    ensures untouched { result ≢ DONE → out.new ≡ out.old }
+    ensures closed { handle.old.holding.value ≡ None → result ≡ CLOSED }
+{
+    let Some(own) = handle.take(alloc) else {
+        return CLOSED;
+    };
+    let told = match own.core.plan().block(station, number) {
+        Some(found) => tell_block(&found, out, block),
+        None => NOTHING,
+    };
+    *handle = Handle::of(own);
+    told
+}
