@@ -1,6 +1,7 @@
 -- Ends of runs, their joins, and what they say of a datagram.
-use Rattle.std.specs.Prelude.{◌≡◌, ℕ, ◌+◌, ◌*◌, ◌/◌, ◌%◌, ◌<◌, ◌≤◌, Bool, ◌||◌, List, [], ◌∷◌, ◌++◌, slice_index, if◌then◌else◌, refl}
+use Rattle.std.specs.Prelude.{◌≡◌, ℕ, ◌+◌, ◌*◌, ◌/◌, ◌%◌, ◌<◌, ◌≤◌, ◌==◌, nat_le, Bool, true, false, ◌||◌, List, [], ◌∷◌, ◌++◌, slice_index, if◌then◌else◌, refl}
 use Rattle.std.proofs.Common.{sym, ap, ◌∙◌, arith}
+use Rattle.hc_records.specs.declared.records.Dir.{Dir}
 use Rattle.hc_records.specs.Keys.{is_turn}
 use Rattle.hc_records.specs.TaskList.{Keyed}
 use Rattle.hc_records.specs.Packing.{next_byte}
@@ -12,17 +13,25 @@ use Rattle.hc_bitsum.specs.Sums.{end_from, ended, ends_by, joined, start_at, sum
 
 -- whole bytes before the start move the end by as much
 pub end_from-bytes : (ends : List ℕ) (q x : ℕ) → end_from ends (8 * q + x) ≡ 8 * q + end_from ends x
-end_from-bytes ends q x = grind arith
+end_from-bytes ends q x =
+    let same : (8 * q + x) % 8 ≡ x % 8 = omega arith in
+    rw same (omega arith)
 
 start_at-bytes : (turns : Bool) (q x : ℕ) → start_at turns (8 * q + x) ≡ 8 * q + start_at turns x
-start_at-bytes turns q x = grind arith
+start_at-bytes true q x = omega arith
+start_at-bytes false q x = refl
 
 pub ends_by-at : (end : ℕ → ℕ) (bit : ℕ) → bit < 8 → slice_index (ends_by end) bit ≡ end bit
 ends_by-at end bit h = grind arith
 
 -- a listed end is the end from that bit
 pub end_from-ends_by : (end : ℕ → ℕ) (bit : ℕ) → bit < 8 → end_from (ends_by end) bit ≡ end bit
-end_from-ends_by end bit h = grind arith
+end_from-ends_by end bit h =
+    let small : bit % 8 ≡ bit = omega arith in
+    let none : 8 * (bit / 8) ≡ 0 = omega arith in
+    let read : slice_index (ends_by end) bit ≡ end bit = ends_by-at end bit h in
+    let moved : slice_index (ends_by end) (bit % 8) ≡ slice_index (ends_by end) bit = ap (slice_index (ends_by end)) small in
+    omega arith
 
 -- the ends of a join are ends of the one run from the end of the other
 pub end_from-both : (ends laters : List ℕ) (turns : Bool) (x : ℕ)
@@ -42,7 +51,9 @@ end_from-both ends laters turns x =
     ap (λ y. 8 * (x / 8) + y) at_r ∙ sym moved
 
 ends_by-same : (f g : ℕ → ℕ) → ((bit : ℕ) → f bit ≡ g bit) → ends_by f ≡ ends_by g
-ends_by-same f g h = grind arith
+ends_by-same f g h =
+    let a = h 0 in let b = h 1 in let c = h 2 in let d = h 3 in let e = h 4 in let i = h 5 in let j = h 6 in let k = h 7 in
+    cc
 
 pub joined-assoc : (a b c : Sum) → joined (joined a b) c ≡ joined a (joined b c)
 joined-assoc Empty b c = refl
@@ -54,30 +65,52 @@ joined-assoc (Run f l e) (Run g m d) (Run h n k) =
     ∙ sym (end_from-both d k (is_turn m h) (start_at (is_turn l g) (end_from e bit)))))
 
 pub joined-Empty : (a : Sum) → joined a Empty ≡ a
-joined-Empty a = grind arith
+joined-Empty Empty = refl
+joined-Empty (Run f l e) = refl
 
 -- a join fills a datagram as the one run and then the other
 pub ended-joined : (a b : Sum) (filled : Filled) → ended (joined a b) filled ≡ ended b (ended a filled)
-ended-joined a b filled = grind arith
+ended-joined Empty b filled = refl
+ended-joined (Run f l e) Empty filled = refl
+ended-joined (Run f l e) (Run g m d) filled =
+    ap (λ y. let r : Filled = record { bit = y; last = m } in r) (end_from-both e d (is_turn l g) (start_at (is_turn filled.last f) filled.bit))
 
 -- the end of one area, by whether it turns and whether it begins a byte
 pub area-bit : (turns wide : Bool) (bits bit : ℕ)
     → end_from (ends_by (λ p. (if wide then next_byte p else p) + bits)) (start_at turns bit) ≡ (if wide || turns then next_byte bit else bit) + bits
-area-bit turns wide bits bit = grind arith
+area-bit true true bits bit = let e = ends_by-at (λ p. next_byte p + bits) (next_byte bit % 8) (omega arith) in omega arith
+area-bit true false bits bit = let e = ends_by-at (λ p. p + bits) (next_byte bit % 8) (omega arith) in omega arith
+area-bit false true bits bit = let e = ends_by-at (λ p. next_byte p + bits) (bit % 8) (omega arith) in omega arith
+area-bit false false bits bit = let e = ends_by-at (λ p. p + bits) (bit % 8) (omega arith) in omega arith
+
+area-by : (none turns wide : Bool) (dir : Dir) (bits : ℕ) (filled : Filled) → is_turn filled.last dir ≡ turns
+    → ended (if none then Empty else Run dir dir (ends_by (λ p. (if wide then next_byte p else p) + bits))) filled
+    ≡ (if none then filled else record { bit = (if wide || turns then next_byte filled.bit else filled.bit) + bits; last = dir })
+area-by true turns wide dir bits filled h = refl
+area-by false turns wide dir bits filled h =
+    rw h (ap (λ y. let r : Filled = record { bit = y; last = dir } in r) (area-bit turns wide bits filled.bit))
 
 pub ended-area : (area : Keyed) (filled : Filled) → ended (sum_of_area area.0.dir area.1) filled ≡ with_area filled area
-ended-area area filled = grind arith
+ended-area area filled = area-by (area.1 == 0) (is_turn filled.last area.0.dir) (nat_le 8 area.1) area.0.dir area.1 filled refl
 
 pub ended-sum_of : (areas : List Keyed) (filled : Filled) → ended (sum_of areas) filled ≡ with_areas filled areas
 ended-sum_of [] filled = refl
 ended-sum_of (area ∷ areas) filled =
-    grind (arith, ended-joined, ended-area, ended-sum_of areas (with_area filled area))
+    ended-joined (sum_of_area area.0.dir area.1) (sum_of areas) filled
+    ∙ ap (ended (sum_of areas)) (ended-area area filled)
+    ∙ ended-sum_of areas (with_area filled area)
 
 pub sum_of-append : (xs ys : List Keyed) → sum_of (xs ++ ys) ≡ joined (sum_of xs) (sum_of ys)
 sum_of-append [] ys = refl
 sum_of-append (x ∷ xs) ys =
     ap (joined (sum_of_area x.0.dir x.1)) (sum_of-append xs ys) ∙ sym (joined-assoc (sum_of_area x.0.dir x.1) (sum_of xs) (sum_of ys))
 
+area-le : (none byte : Bool) (area : Keyed) (filled : Filled)
+    → filled.bit ≤ (let r : Filled = (if none then filled else record { bit = (if byte then next_byte filled.bit else filled.bit) + area.1; last = area.0.dir }) in r.bit)
+area-le true byte area filled = omega arith
+area-le false true area filled = omega arith
+area-le false false area filled = omega arith
+
 -- an end never falls when an area is appended
 pub with_area-le : (filled : Filled) (area : Keyed) → filled.bit ≤ (with_area filled area).bit
-with_area-le filled area = grind arith
+with_area-le filled area = area-le (area.1 == 0) (nat_le 8 area.1 || is_turn filled.last area.0.dir) area filled

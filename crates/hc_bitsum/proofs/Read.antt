@@ -1,6 +1,7 @@
 -- The width of an area is that of its key in the list.
 use Rattle.std.specs.Prelude.{All, filter}
-use Rattle.std.proofs.Common.{◌≡◌, ℕ, zero, suc, ◌+◌, ◌<◌, ◌≤◌, Bool, false, List, [], ◌∷◌, ◌++◌, length, refl, sym, ap, ◌∙◌, arith, if◌then◌else◌}
+use Rattle.std.proofs.Common.{◌≡◌, ℕ, zero, suc, ◌+◌, ◌<◌, ◌≤◌, Bool, true, false, List, [], ◌∷◌, ◌++◌, length, refl, sym, ap, subst, ◌∙◌, arith, if◌then◌else◌}
+use Rattle.std.proofs.lemmas.Bool.Decides.{nat_tests}
 use Rattle.std.proofs.lemmas.List.Elements.{All-cons, All-filter, All-head, All-nil, All-tail, All-weaker, filter-append}
 use Rattle.hc_records.specs.declared.records.Dir.{Dir}
 use Rattle.hc_records.specs.declared.records.Dir.TheVariants.{Out, In}
@@ -8,8 +9,8 @@ use Rattle.hc_records.specs.declared.keys.Key.{Key}
 use Rattle.hc_records.specs.Keys.{same_key}
 use Rattle.hc_records.specs.TaskList.{Keyed}
 use Rattle.hc_records.specs.Boundaries.{width_in}
-use Rattle.hc_records.proofs.lemmas.KeyOrder.{before-other, other-sym}
-use Rattle.hc_records.proofs.lemmas.Spans.{width-absent}
+use Rattle.hc_records.proofs.lemmas.KeyOrder.{before-other, other-sym, same_key-refl, same_key-same}
+use Rattle.hc_records.proofs.lemmas.Spans.{width-absent, width-here, width-skip}
 use Rattle.hc_bitsum.specs.Slots.{IsNarrow, bits_at, key_at}
 use Rattle.hc_bitsum.specs.Tree.{HasPlace, has_width}
 use Rattle.hc_bitsum.specs.Places.{StandFrom}
@@ -20,29 +21,35 @@ use Rattle.hc_bitsum.proofs.lemmas.Lacking.{LacksKey, lacks-before, lacks-behind
 others-behind : (dir : Dir) (place behind : ℕ) (areas : List Keyed) → StandFrom dir behind areas → place < behind → LacksKey (key_at dir place) areas
 others-behind dir place behind [] stand h = All-nil (λ area. same_key area.0 (key_at dir place) ≡ false)
 others-behind dir place behind (area ∷ areas) stand h =
-    grind (arith, All-cons, before-other, before-place, others-behind dir place (behind + 1) areas stand.1 (omega arith))
+    All-cons (λ other. same_key other.0 (key_at dir place) ≡ false) area areas
+    (ap (λ (key : Key). same_key key (key_at dir place)) stand.0 ∙ before-other (key_at dir place) (key_at dir behind) (before-place dir place behind h))
+    (others-behind dir place (behind + 1) areas stand.1 (omega arith))
 
 -- inputs have other keys than outputs
 
 inputs-lack : (place behind : ℕ) (areas : List Keyed) → StandFrom In behind areas → LacksKey (key_at Out place) areas
 inputs-lack place behind [] stand = All-nil (λ area. same_key area.0 (key_at Out place) ≡ false)
 inputs-lack place behind (area ∷ areas) stand =
-    grind (arith, All-cons, inputs-lack place (behind + 1) areas stand.1)
+    All-cons (λ other. same_key other.0 (key_at Out place) ≡ false) area areas
+    (ap (λ (key : Key). same_key key (key_at Out place)) stand.0) (inputs-lack place (behind + 1) areas stand.1)
 
 outputs-lack : (place behind : ℕ) (areas : List Keyed) → StandFrom Out behind areas → LacksKey (key_at In place) areas
 outputs-lack place behind [] stand = All-nil (λ area. same_key area.0 (key_at In place) ≡ false)
 outputs-lack place behind (area ∷ areas) stand =
-    grind (arith, All-cons, outputs-lack place (behind + 1) areas stand.1)
+    All-cons (λ other. same_key other.0 (key_at In place) ≡ false) area areas
+    (ap (λ (key : Key). same_key key (key_at In place)) stand.0) (outputs-lack place (behind + 1) areas stand.1)
 
 -- in one direction
 
 here-by : (wide : Bool) (area : Keyed) (areas : List Keyed) (key : Key) → has_width area ≡ wide → area.0 ≡ key → width_in areas key ≡ 0
     → width_in (if wide then area ∷ areas else areas) key ≡ area.1
-here-by wide area areas key test is rest = grind arith
+here-by true area areas key test is rest = width-here area areas key (ap (λ (k : Key). same_key k key) is ∙ same_key-refl key)
+here-by false area areas key test is rest = rest ∙ grind (arith, nat_tests)
 
 there-by : (wide : Bool) (area : Keyed) (areas : List Keyed) (key : Key) (bits : ℕ) → same_key area.0 key ≡ false → width_in areas key ≡ bits
     → width_in (if wide then area ∷ areas else areas) key ≡ bits
-there-by wide area areas key bits other rest = grind arith
+there-by true area areas key bits other rest = width-skip area areas key other ∙ rest
+there-by false area areas key bits other rest = rest
 
 width-at : (dir : Dir) (place at : ℕ) (areas : List Keyed) → StandFrom dir place areas → at < length areas
     → width_in (filter has_width areas) (key_at dir (place + at)) ≡ bits_at at areas
@@ -54,7 +61,11 @@ width-at dir place zero (area ∷ areas) stand h =
     (width-absent (filter has_width areas) key
     (All-filter has_width (λ other. same_key other.0 key ≡ false) areas (others-behind dir place (place + 1) areas stand.1 (omega arith)))))
 width-at dir place (suc at) (area ∷ areas) stand h =
-    grind (arith, there-by, other-sym, before-other, before-place, width-at dir (place + 1) at areas stand.1 (omega arith))
+    let there : place + suc at ≡ place + 1 + at = omega arith in
+    let key = key_at dir (place + 1 + at) in
+    rw there (there-by (has_width area) area (filter has_width areas) key (bits_at at areas)
+    (ap (λ (k : Key). same_key k key) stand.0 ∙ other-sym key (key_at dir place) (before-other (key_at dir place) key (before-place dir place (place + 1 + at) (omega arith))))
+    (width-at dir (place + 1) at areas stand.1 (omega arith)))
 
 -- in both
 
@@ -96,6 +107,11 @@ bits-back [] ys at = ap (λ (n : ℕ). bits_at n ys) (omega arith)
 bits-back (x ∷ xs) ys at = let more : suc (length xs) + at ≡ suc (length xs + at) = omega arith in rw more (bits-back xs ys at)
 
 -- a key that has no place is no area's
+no-place : (slaves : ℕ) (key : Key) (other : Key) → (HasPlace slaves key → ⊥) → HasPlace slaves other → (same : Bool) → same_key other key ≡ same → same_key other key ≡ false
+no-place slaves key other none has true test = absurd (none (subst (λ (k : Key). HasPlace slaves k) (same_key-same other key test) has))
+no-place slaves key other none has false test = test
 
 pub width-none : (slaves : ℕ) (key : Key) (list : List Keyed) → All (λ area. HasPlace slaves area.0) list → (HasPlace slaves key → ⊥) → width_in list key ≡ 0
-width-none slaves key list places none = grind (arith, width-absent, All-weaker)
+width-none slaves key list places none =
+    width-absent list key
+    (All-weaker (λ area. HasPlace slaves area.0) (λ area. same_key area.0 key ≡ false) (λ area has. no-place slaves key area.0 none has (same_key area.0 key) refl) list places)

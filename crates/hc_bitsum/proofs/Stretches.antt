@@ -1,6 +1,6 @@
 -- The areas from one place up to another, or between two keys, and how far they fill a datagram.
 use Rattle.std.specs.Prelude.{All, filter, nat_lt}
-use Rattle.std.proofs.Common.{◌≡◌, ℕ, zero, suc, ◌+◌, ◌-◌, ◌*◌, ◌<◌, ◌≤◌, ◌&&◌, Bool, true, false, List, [], ◌∷◌, ◌++◌, length, drop, take, refl, sym, ap, ◌∙◌, arith, if◌then◌else◌}
+use Rattle.std.proofs.Common.{◌≡◌, ℕ, zero, suc, ◌+◌, ◌-◌, ◌*◌, ◌<◌, ◌≤◌, ◌&&◌, ◌==◌, Bool, true, false, List, [], ◌∷◌, ◌++◌, length, drop, take, refl, sym, ap, ◌∙◌, arith, if◌then◌else◌}
 use Rattle.std.proofs.Math.Seq.{drop-append-add, take-add, take-append_seam}
 use Rattle.std.proofs.lemmas.Bool.Decides.{nat_tests}
 use Rattle.std.proofs.lemmas.List.Elements.{All-filter, filter-append}
@@ -29,14 +29,19 @@ abbrev no-areas : List Keyed
 no-areas = []
 
 drop-none : (n : ℕ) → drop n no-areas ≡ no-areas
-drop-none n = grind arith
+drop-none zero = refl
+drop-none (suc n) = refl
 
 take-none : (n m : ℕ) → take n (drop m no-areas) ≡ no-areas
-take-none n m = grind arith
+take-none zero m = refl
+take-none (suc n) zero = refl
+take-none (suc n) (suc m) = refl
 
 drop-more : (n m : ℕ) (xs : List Keyed) → drop m (drop n xs) ≡ drop (n + m) xs
 drop-more zero m xs = ap (λ k. drop k xs) (omega arith)
-drop-more (suc n) m [] = grind (arith, drop-none)
+drop-more (suc n) m [] =
+    let more : suc n + m ≡ suc (n + m) = omega arith in
+    drop-none m ∙ sym (ap (λ k. drop k no-areas) more)
 drop-more (suc n) m (x ∷ xs) =
     let more : suc n + m ≡ suc (n + m) = omega arith in
     drop-more n m xs ∙ sym (ap (λ k. drop k (x ∷ xs)) more)
@@ -67,9 +72,13 @@ filled-low filled first mid end xs low high =
 
 pub drop-at : (dir : Dir) (place at : ℕ) (xs : List Keyed) → StandFrom dir place xs → at < length xs → drop at xs ≡ (key_at dir (place + at), bits_at at xs) ∷ drop (at + 1) xs
 drop-at dir place at [] stand h = absurd (omega arith)
-drop-at dir place zero (x ∷ xs) stand h = grind arith
+drop-at dir place zero (x ∷ xs) stand h =
+    let here : place + 0 ≡ place = omega arith in
+    rw here (ap (λ (key : Key). (key, x.1) ∷ xs) stand.0)
 drop-at dir place (suc at) (x ∷ xs) stand h =
-    grind (arith, drop-at dir (place + 1) at xs stand.1 (omega arith))
+    let there : place + suc at ≡ place + 1 + at = omega arith in
+    let more : suc at + 1 ≡ suc (at + 1) = omega arith in
+    rw (there, more) (drop-at dir (place + 1) at xs stand.1 (omega arith))
 
 pub stretch-one : (dir : Dir) (first at : ℕ) (xs : List Keyed) → StandFrom dir 0 xs → first ≤ at → at < length xs
     → stretch first (at + 1) xs ≡ stretch first at xs ++ (key_at dir at, bits_at at xs) ∷ []
@@ -89,7 +98,9 @@ filled-one dir filled end first at xs stand low h is =
     ∙ with_areas-append filled (stretch first at xs) ((key_at dir at, bits_at at xs) ∷ []))
 
 pub stretch-none : (first end : ℕ) (xs : List Keyed) → end ≤ first → stretch first end xs ≡ []
-stretch-none first end xs h = grind arith
+stretch-none first end xs h =
+    let none : end - first ≡ 0 = omega arith in
+    ap (λ n. take n (drop first xs)) none
 
 -- the keys of a branch's areas
 pub branch-keys : (branch : Branch) → IsBranch branch → StandFrom branch.dir 0 (slots_of branch).areas
@@ -129,13 +140,19 @@ pub rows-filled : (branch : Branch) (filled head : Filled) (first row end : ℕ)
     → head ≡ with_areas filled (stretch first (8 * row) (slots_of branch).areas)
     → with_areas head (part branch.dir branch.rows.items row (end - row)) ≡ with_areas filled (stretch first (8 * end) (slots_of branch).areas)
 rows-filled branch filled head first row end is low order within before =
-    grind (arith, part-stretch, filled-on)
+    let areas = (slots_of branch).areas in
+    ap (λ (f : Filled). with_areas f (part branch.dir branch.rows.items row (end - row))) before
+    ∙ ap (with_areas (with_areas filled (stretch first (8 * row) areas))) (part-stretch branch row end is order within)
+    ∙ filled-on filled first (8 * row) (8 * end) areas low (omega arith)
 
 -- areas between two keys
 
 one-between : (within before : Bool) (from until : Key) (area : Keyed) (areas : List Keyed) → is_within from area.0 ≡ within → is_before area.0 until ≡ before
     → areas_between from until (area ∷ areas) ≡ (if within && before then area ∷ areas_between from until areas else areas_between from until areas)
-one-between within before from until area areas w b = grind arith
+one-between true true from until area areas w b = rw (w, b) refl
+one-between true false from until area areas w b = rw (w, b) refl
+one-between false true from until area areas w b = rw w refl
+one-between false false from until area areas w b = rw w refl
 
 between-by : (low high : Bool) (place first end : ℕ) (from until : Key) (area : Keyed) (areas : List Keyed) → nat_lt place first ≡ low → nat_lt place end ≡ high
     → is_before area.0 from ≡ low → is_before area.0 until ≡ high
@@ -160,7 +177,12 @@ between-by false true place first end from until area areas l h from-test until-
     ∙ sym (ap (λ n. take n (drop (first - place) (area ∷ areas))) many
     ∙ ap (λ n. take (suc (end - (place + 1))) (drop n (area ∷ areas))) skip)
 between-by false false place first end from until area areas l h from-test until-test rest =
-    grind (arith, nat_tests, one-between, reached-by)
+    let past : end ≤ place = grind (arith, nat_tests) in
+    let none : end - place - (first - place) ≡ 0 = omega arith in
+    let left : end - (place + 1) - (first - (place + 1)) ≡ 0 = omega arith in
+    one-between true false from until area areas (sym (reached-by false area.0 from from-test)) until-test
+    ∙ rest ∙ ap (λ n. take n (drop (first - (place + 1)) areas)) left
+    ∙ sym (ap (λ n. take n (drop (first - place) (area ∷ areas))) none)
 
 -- where places tell which keys come before two others, the areas between these are a stretch
 pub between-stretch : (dir : Dir) (place first end : ℕ) (from until : Key) (xs : List Keyed) → StandFrom dir place xs
@@ -169,7 +191,10 @@ pub between-stretch : (dir : Dir) (place first end : ℕ) (from until : Key) (xs
     → areas_between from until xs ≡ stretch (first - place) (end - place) xs
 between-stretch dir place first end from until [] stand low high = sym (take-none (end - place - (first - place)) (first - place))
 between-stretch dir place first end from until (area ∷ areas) stand low high =
-    grind (arith, between-by, between-stretch dir (place + 1) first end from until areas stand.1 (λ p h. low p (omega arith)) (λ p h. high p (omega arith)))
+    between-by (nat_lt place first) (nat_lt place end) place first end from until area areas refl refl
+    (ap (λ (key : Key). is_before key from) stand.0 ∙ low place (omega arith))
+    (ap (λ (key : Key). is_before key until) stand.0 ∙ high place (omega arith))
+    (between-stretch dir (place + 1) first end from until areas stand.1 (λ p h. low p (omega arith)) (λ p h. high p (omega arith)))
 
 -- of a branch
 pub branch-between : (branch : Branch) (rows first end : ℕ) (from until : Key) → IsBranch branch → rows ≡ length branch.rows.items
@@ -188,34 +213,53 @@ branch-between branch rows first end from until is many low high =
 
 wide-by : (wide : Bool) (x : Keyed) (xs : List Keyed) (filled : Filled) → has_width x ≡ wide → ((next : Filled) → with_areas next (filter has_width xs) ≡ with_areas next xs)
     → with_areas filled (if wide then x ∷ filter has_width xs else filter has_width xs) ≡ with_areas (with_area filled x) xs
-wide-by wide x xs filled e rest = grind arith
+wide-by true x xs filled e rest = rest (with_area filled x)
+wide-by false x xs filled e rest = let none : (x.1 == 0) ≡ true = grind (arith, nat_tests) in rw none (rest filled)
 
 -- an area without a width fills nothing
 filled-wide : (filled : Filled) (xs : List Keyed) → with_areas filled (filter has_width xs) ≡ with_areas filled xs
 filled-wide filled [] = refl
 filled-wide filled (x ∷ xs) = wide-by (has_width x) x xs filled refl (λ next. filled-wide next xs)
 
+swap-by : (a b : Bool) (p q : Keyed → Bool) (x : Keyed) (xs : List Keyed) → p x ≡ a → q x ≡ b → filter p (filter q xs) ≡ filter q (filter p xs)
+    → filter p (if b then x ∷ filter q xs else filter q xs) ≡ filter q (if a then x ∷ filter p xs else filter p xs)
+swap-by true true p q x xs own other rest = rw (own, other) (ap (λ ys. x ∷ ys) rest)
+swap-by true false p q x xs own other rest = rw other rest
+swap-by false true p q x xs own other rest = rw own rest
+swap-by false false p q x xs own other rest = rest
+
 filter-swap : (p q : Keyed → Bool) (xs : List Keyed) → filter p (filter q xs) ≡ filter q (filter p xs)
 filter-swap p q [] = refl
-filter-swap p q (x ∷ xs) = grind (arith, filter-swap p q xs)
+filter-swap p q (x ∷ xs) = swap-by (p x) (q x) p q x xs refl refl (filter-swap p q xs)
 
 pub between-wide : (from until : Key) (xs : List Keyed) → areas_between from until (filter has_width xs) ≡ filter has_width (areas_between from until xs)
-between-wide from until xs = grind (arith, filter-swap)
+between-wide from until xs =
+    ap (filter (λ area. is_before area.0 until)) (filter-swap (λ area. is_within from area.0) has_width xs)
+    ∙ filter-swap (λ area. is_before area.0 until) has_width (areas_from from xs)
 
 pub between-append : (from until : Key) (xs ys : List Keyed) → areas_between from until (xs ++ ys) ≡ areas_between from until xs ++ areas_between from until ys
-between-append from until xs ys = grind (arith, filter-append)
+between-append from until xs ys =
+    ap (filter (λ area. is_before area.0 until)) (filter-append (λ area. is_within from area.0) xs ys)
+    ∙ filter-append (λ area. is_before area.0 until) (areas_from from xs) (areas_from from ys)
 
 pub filled-both : (from until : Key) (filled : Filled) (outputs inputs : List Keyed)
     → with_areas (with_areas filled (areas_between from until outputs)) (areas_between from until inputs)
     ≡ with_areas filled (areas_between from until (filter has_width (outputs ++ inputs)))
 filled-both from until filled outputs inputs =
-    grind (arith, between-wide, filled-wide, between-append, with_areas-append)
+    sym (ap (with_areas filled) (between-wide from until (outputs ++ inputs))
+    ∙ filled-wide filled (areas_between from until (outputs ++ inputs))
+    ∙ ap (with_areas filled) (between-append from until outputs inputs)
+    ∙ with_areas-append filled (areas_between from until outputs) (areas_between from until inputs))
 
 -- they end low
 
+kept-few : (passes : Bool) (x : Keyed) (kept xs : List Keyed) → length kept ≤ length xs → length (if passes then x ∷ kept else kept) ≤ suc (length xs)
+kept-few true x kept xs rest = omega arith
+kept-few false x kept xs rest = omega arith
+
 fewer-by : (p : Keyed → Bool) (xs : List Keyed) → length (filter p xs) ≤ length xs
 fewer-by p [] = omega arith
-fewer-by p (x ∷ xs) = grind (arith, fewer-by p xs)
+fewer-by p (x ∷ xs) = kept-few (p x) x (filter p xs) xs (fewer-by p xs)
 
 pub filled-few : (from until : Key) (filled : Filled) (xs : List Keyed) → All IsNarrow xs
     → (with_areas filled (areas_between from until xs)).bit ≤ filled.bit + 11895 * length xs
