@@ -1,5 +1,5 @@
 -- A list with one element changed, element by element.
-use Rattle.std.proofs.Common.{◌≡◌, ◌≢◌, ℕ, zero, suc, ◌+◌, ◌<◌, Bool, if◌then◌else◌, List, [], ◌∷◌, ◌++◌, length, take, get_or, refl, ap, arith, rules}
+use Rattle.std.proofs.Common.{◌≡◌, ◌≢◌, ℕ, zero, suc, ◌+◌, ◌<◌, Bool, true, false, if◌then◌else◌, List, [], ◌∷◌, ◌++◌, length, take, get_or, refl, sym, ap, ◌∙◌, arith}
 use Rattle.std.specs.Prelude.{◌==◌}
 use Rattle.std.proofs.Math.Seq.{take-suc, take-length}
 use Rattle.std.proofs.lemmas.Bool.{eqb-true, eqb-false}
@@ -29,7 +29,20 @@ changed-other (suc index) (suc i) change (x ∷ xs) d within other =
 
 pub changed-by : {X : Type 0} (same : Bool) (index i : ℕ) (change : X → X) (xs : List X) (x : X) → (i == index) ≡ same → i < length xs → x ≡ get_or xs i x →
     take (i + 1) (changed_at index change xs) ≡ take i (changed_at index change xs) ++ (if same then change x else x) ∷ []
-changed-by same index i change xs x test within is = search (rules, eqb-true, changed-here, changed-other, eqb-false)
+changed-by true index i change xs x test within is =
+    let same : i ≡ index = eqb-true i index test in
+    let next : i + 1 ≡ suc index = omega arith in
+    ap (λ (n : ℕ). take n (changed_at index change xs)) next
+    ∙ changed-here index change xs x (omega arith)
+    ∙ ap (λ (n : ℕ). take n (changed_at index change xs) ++ change (get_or xs n x) ∷ []) (sym same)
+    ∙ ap (λ y. take i (changed_at index change xs) ++ change y ∷ []) (sym is)
+changed-by false index i change xs x test within is =
+    let next : i + 1 ≡ suc i = omega arith in
+    ap (λ (n : ℕ). take n (changed_at index change xs)) next
+    ∙ changed-other index i change xs x within (eqb-false i index test)
+    ∙ ap (λ y. take i (changed_at index change xs) ++ y ∷ []) (sym is)
 
 pub changed-all : {X : Type 0} (index i : ℕ) (change : X → X) (xs : List X) → i ≡ length xs → take i (changed_at index change xs) ≡ changed_at index change xs
-changed-all index i change xs end = search (rules, length-changed_at, take-length)
+changed-all index i change xs end =
+    ap (λ (n : ℕ). take n (changed_at index change xs)) (end ∙ sym (length-changed_at index change xs))
+    ∙ take-length (changed_at index change xs)

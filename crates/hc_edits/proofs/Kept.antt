@@ -1,10 +1,11 @@
 -- The groups of a project stay those of a project, condition by condition.
-use Rattle.std.proofs.Common.{◌≡◌, ℕ, Bool, true, false, List, [], ◌∷◌, None, refl, sym, ap, ◌∙◌, arith, rules}
+use Rattle.std.proofs.Common.{◌≡◌, ℕ, Bool, true, false, not, List, [], ◌∷◌, None, length, refl, sym, ap, ◌∙◌, arith}
 use Rattle.std.specs.Prelude.{All, ◌+◌, ◌==◌, ◌&&◌, ◌||◌, map, nat_lt, slice_index_or}
 use Rattle.std.specs.List.{flat_map, list_any}
 use Rattle.std.proofs.lemmas.Bool.{or_from, or_parts}
 use Rattle.std.proofs.lemmas.List.{length-map}
 use Rattle.std.proofs.lemmas.List.Folds.{flat_map-map}
+use Rattle.hc_records.specs.declared.limits.TheConstants.{MOST_GROUPS, MOST_SLAVES}
 use Rattle.hc_records.specs.declared.records.Area.{Area}
 use Rattle.hc_records.specs.declared.records.Slave.{Slave}
 use Rattle.hc_records.specs.declared.records.Group.{Group}
@@ -52,7 +53,10 @@ pairs-keys related key (x ∷ xs) = rw (any-keys (related (key x)) key xs, pairs
 
 pairs-changed : {X Y : Type 0} (related : Y → Y → Bool) (key : X → Y) (index : ℕ) (change : X → X) → ((x : X) → key (change x) ≡ key x) → (xs : List X) →
     some_pair (λ a b. related (key a) (key b)) (changed_at index change xs) ≡ some_pair (λ a b. related (key a) (key b)) xs
-pairs-changed related key index change same xs = search (rules, pairs-keys, changed-same)
+pairs-changed related key index change same xs =
+    pairs-keys related key (changed_at index change xs)
+    ∙ ap (some_pair related) (changed-same key index change same xs)
+    ∙ sym (pairs-keys related key xs)
 
 -- the conditions that speak of what is left
 
@@ -73,30 +77,57 @@ names-by : (areas : List Area) → area_names areas ≡ flat_map pdo_names (map 
 names-by areas = sym (flat_map-map pdo_names (λ (area : Area). area.offered) areas)
 
 names-same : (change : Area → Area) (leaves : Leaves change) (station index : ℕ) (slave : Slave) → area_names (with_area station index change slave).areas ≡ area_names slave.areas
-names-same change leaves station index = search (rules, with-same, names-by, changed-same)
+names-same change leaves station index =
+    with-same (λ slave. area_names slave.areas) station index change
+    (λ slave. names-by (changed_at index change slave.areas)
+    ∙ ap (flat_map pdo_names) (changed-same (λ (area : Area). area.offered) index change leaves.offered slave.areas)
+    ∙ sym (names-by slave.areas))
 
 stations-same : (change : Area → Area) (station index : ℕ) (slave : Slave) → (with_area station index change slave).station ≡ slave.station
 stations-same change station index = with-same (λ slave. slave.station) station index change (λ slave. refl)
 
 some-same : (test : Slave → Bool) (change : Slave → Slave) (groups : List Group) → ((slave : Slave) → test (change slave) ≡ test slave) →
     some_slave test (map (on_group change) groups) ≡ some_slave test groups
-some-same test change groups same = search (rules, some-slave, slaves-on_group, any-same)
+some-same test change groups same =
+    some-slave test (map (on_group change) groups)
+    ∙ ap (list_any test) (slaves-on_group change groups)
+    ∙ any-same test change same (slaves_of groups)
+    ∙ sym (some-slave test groups)
 
 -- the conditions that speak of what is changed
 
 some-spared : (test : Slave → Bool) (change : Slave → Slave) (groups : List Group) → some_slave test groups ≡ false → All (Spares test change) (slaves_of groups) →
     some_slave test (map (on_group change) groups) ≡ false
-some-spared test change groups none spares = search (rules, some-slave, slaves-on_group, none-after)
+some-spared test change groups none spares =
+    some-slave test (map (on_group change) groups)
+    ∙ ap (list_any test) (slaves-on_group change groups)
+    ∙ none-after test change (slaves_of groups) (sym (some-slave test groups) ∙ none) spares
 
 bare-same : (change : Slave → Slave) (group : Group) → is_bare (on_group change group) ≡ is_bare group
 bare-same change group = ap (λ (n : ℕ). (group.alias == 0) || (n == 0)) (length-map group.slaves change)
 
 misplaced-same : (change : Slave → Slave) (groups : List Group) → is_misplaced (map (on_group change) groups) ≡ is_misplaced groups
-misplaced-same change groups = search (rules, any-same, bare-same)
+misplaced-same change [] = refl
+misplaced-same change (group ∷ groups) = ap (λ (b : Bool). not (group.alias == 0) || b) (any-same is_bare (on_group change) (bare-same change) groups)
 
 outside-kept : (change : Slave → Slave) (groups : List Group) → has_outside groups ≡ false → All (Spares slave_outside change) (slaves_of groups) →
     has_outside (map (on_group change) groups) ≡ false
-outside-kept change groups inside spares = search (rules, or_parts, misplaced-same, length-map, slaves-on_group, or_from, some-spared)
+outside-kept change groups inside spares =
+    let a = is_misplaced groups in
+    let b = nat_lt MOST_GROUPS (length groups) in
+    let c = nat_lt MOST_SLAVES (length (slaves_of groups)) in
+    let three = or_parts (a || b || c) (some_slave slave_outside groups) inside in
+    let two = or_parts (a || b) c three.0 in
+    let one = or_parts a b two.0 in
+    let after = map (on_group change) groups in
+    let placed = misplaced-same change groups ∙ one.0 in
+    let few_groups = ap (λ (n : ℕ). nat_lt MOST_GROUPS n) (length-map groups (on_group change)) ∙ one.1 in
+    let few_slaves = ap (λ (slaves : List Slave). nat_lt MOST_SLAVES (length slaves)) (slaves-on_group change groups)
+    ∙ ap (λ (n : ℕ). nat_lt MOST_SLAVES n) (length-map (slaves_of groups) change) ∙ two.1 in
+    or_from (is_misplaced after || nat_lt MOST_GROUPS (length after) || nat_lt MOST_SLAVES (length (slaves_of after))) (some_slave slave_outside after)
+    (or_from (is_misplaced after || nat_lt MOST_GROUPS (length after)) (nat_lt MOST_SLAVES (length (slaves_of after)))
+    (or_from (is_misplaced after) (nat_lt MOST_GROUPS (length after)) placed few_groups) few_slaves)
+    (some-spared slave_outside change groups three.1 spares)
 
 -- all of them
 
@@ -118,7 +149,8 @@ area-kept change leaves station index area groups none harmless has =
     ∙ ap has_repeat (map-same (λ (s : Slave). s.station) on_slave (stations-same change station index) slaves) in
     let names = ap (λ (all : List Slave). has_repeat (slave_names all)) (slaves-on_group on_slave groups)
     ∙ ap has_repeat (flat-same (λ (s : Slave). area_names s.areas) on_slave (names-same change leaves station index) slaves) in
-    let spares : (test : Area → Bool) → Spares test change area → All (Spares (λ (s : Slave). list_any test s.areas) on_slave) slaves = search (rules, areas-spared) in
+    let spares : (test : Area → Bool) → Spares test change area → All (Spares (λ (s : Slave). list_any test s.areas) on_slave) slaves =
+    λ test spared i d within. areas-spared test station index change area (slice_index_or slaves i d) spared (has i d within) in
     none-of (has_outside after) (has_repeated_alias after) (has_repeated_station after) (some_slave repeats_sync_manager after) (some_slave has_overlap after)
     (has_repeated_variable after) (some_area has_unknown_pdo after) (some_area is_wide after)
     (outside-kept on_slave groups (holds 0 (false, OutOfRange) (omega arith))
@@ -135,7 +167,8 @@ judged-kept : (groups : List Declared) (station index : ℕ) (change : Area → 
     lowest_fault (groups_of (map (with_slaves (with_area station index change)) groups)) ≡ None
 judged-kept groups station index change leaves none judged =
     let once : has_repeated_station (groups_of groups) ≡ false = none-holds (project_faults (groups_of groups)) none 2 (false, OutOfRange) (omega arith) in
-    search (rules, groups-with_slaves, area-kept, all-have)
+    ap lowest_fault (groups-with_slaves (with_area station index change) groups)
+    ∙ area-kept change leaves station index judged.area (groups_of groups) none judged.harmless (all-have groups station index judged.area once judged.found)
 
 pub project-kept : (groups : List Declared) (edit : Edit) → lowest_fault (groups_of groups) ≡ None → own_fault groups edit ≡ None → lowest_fault (groups_of (groups_after groups edit)) ≡ None
 project-kept groups (Connect alias) none own = ap lowest_fault (groups-with_presence alias true groups) ∙ none
