@@ -9,7 +9,7 @@ use Rattle.hc_records.specs.Keys.{is_before, is_within}
 use Rattle.hc_records.specs.TaskList.{Keyed}
 use Rattle.hc_records.specs.Boundaries.{boundaries, later_keys, width_in}
 use Rattle.hc_records.specs.SpanLaws.{IsTaskList, areas_from}
-use Rattle.hc_records.proofs.lemmas.KeyOrder.{before-apart, within-else, within-from_before, within-refl, within-trans}
+use Rattle.hc_records.proofs.lemmas.KeyOrder.{before-apart, before-else, within-apart, within-else, within-from_before, within-refl, within-trans}
 use Rattle.hc_records.proofs.lemmas.SpanCuts.{areas-from}
 use Rattle.hc_records.proofs.lemmas.Spans.{IsListFrom, filter-keeps, list-behind, list-tail}
 use Rattle.hc_bitsum.specs.declared.filled.Filled.{Filled}
@@ -26,14 +26,27 @@ use Rattle.hc_cuts.proofs.Whole.{length-end}
 
 -- no area lies from a key on and before it
 
+none-by : (low : Bool) (key : Key) (area : Keyed) (areas : List Keyed) → is_within key area.0 ≡ low → areas_between key key areas ≡ []
+    → areas_between key key (area ∷ areas) ≡ []
+none-by true key area areas low rest =
+    ap (areas_before key) (cond-true (is_within key area.0) (area ∷ areas_from key areas) (areas_from key areas) low)
+    ∙ cond-false (is_before area.0 key) (area ∷ areas_between key key areas) (areas_between key key areas) (within-apart key area.0 low)
+    ∙ rest
+none-by false key area areas low rest =
+    ap (areas_before key) (cond-false (is_within key area.0) (area ∷ areas_from key areas) (areas_from key areas) low) ∙ rest
+
 none-between : (key : Key) (list : List Keyed) → areas_between key key list ≡ []
 none-between key [] = refl
-none-between key (area ∷ areas) = grind (arith, none-between key areas)
+none-between key (area ∷ areas) = none-by (is_within key area.0) key area areas refl (none-between key areas)
 
 -- what is before a key is before each one that isn't before that
 
 before-low : (a b c : Key) → is_before a b ≡ true → is_within b c ≡ true → is_before a c ≡ true
-before-low a b c before low = grind arith
+before-low a b c before low = before-else a c (none (is_within c a) refl)
+  where
+    none : (back : Bool) → is_within c a ≡ back → is_within c a ≡ false
+    none true back = let round : is_within b a ≡ true = within-trans b c a low back in let apart = before-apart a b before in cc
+    none false back = back
 
 -- the areas before a key are those before a lower one and those between both
 
@@ -41,7 +54,13 @@ splits-by : (before : Bool) (first middle until : Key) (area : Keyed) (areas : L
     → is_within middle until ≡ true → areas_before until areas ≡ areas_before middle areas ++ areas_between middle until areas
     → areas_before until (area ∷ areas) ≡ areas_before middle (area ∷ areas) ++ areas_between middle until (area ∷ areas)
 splits-by true first middle until area areas test is low rest =
-    grind (arith, before-low, cond-true, areas_before, cond-false, before-apart)
+    let later : is_before area.0 until ≡ true = before-low area.0 middle until test low in
+    cond-true (is_before area.0 until) (area ∷ areas_before until areas) (areas_before until areas) later
+    ∙ ap (λ (l : List Keyed). area ∷ l) rest
+    ∙ ap (λ (l : List Keyed). l ++ areas_between middle until areas)
+    (sym (cond-true (is_before area.0 middle) (area ∷ areas_before middle areas) (areas_before middle areas) test))
+    ∙ ap (λ (l : List Keyed). areas_before middle (area ∷ areas) ++ areas_before until l)
+    (sym (cond-false (is_within middle area.0) (area ∷ areas_from middle areas) (areas_from middle areas) (before-apart area.0 middle test)))
 splits-by false first middle until area areas test is low rest =
     let here : is_within middle area.0 ≡ true = within-else area.0 middle test in
     let all : All (λ a. is_within middle a.0 ≡ true) (area ∷ areas) =
@@ -77,7 +96,13 @@ filling-goes_on from middle until list filled is low high so_far =
 
 pub front-stands : (starts : List Key) (list : List Keyed) (key : Key) (datagram : ℕ) → datagram < length starts → slice_index_or starts datagram END ≡ key
     → StandsIn starts list (record { key = key; datagram = datagram; filled = unfilled })
-front-stands starts list key datagram within is = grind (arith, within-refl, none-between)
+front-stands starts list key datagram within is = record {
+  within = within;
+  begun = ap (λ (k : Key). is_within k key) is ∙ within-refl key;
+  filled =
+      ap (with_areas unfilled) (sym (none-between key list)) ∙ ap (λ (k : Key). with_areas unfilled (areas_between k key list)) (sym is);
+  low = omega arith;
+}
 
 -- the first datagram begins at START
 

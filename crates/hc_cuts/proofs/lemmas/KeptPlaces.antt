@@ -12,7 +12,7 @@ use Rattle.hc_records.specs.declared.records.Dir.TheVariants.{Out, In}
 use Rattle.hc_records.specs.Boundaries.{Interval, boundaries, hull, is_settled, later_keys, meets_hull, spans, touched, width_in}
 use Rattle.hc_records.specs.Keys.{is_before, is_within, same_key}
 use Rattle.hc_records.specs.Laws.{IsPackable}
-use Rattle.hc_records.specs.Packing.{Front, behind, packed}
+use Rattle.hc_records.specs.Packing.{Front, packed}
 use Rattle.hc_records.specs.SpanLaws.{IsTaskList, areas_from}
 use Rattle.hc_records.specs.TaskList.{Keyed}
 use Rattle.hc_records.proofs.lemmas.KeyOrder.{before-apart, before-else, before-other, before-trans, other-sym, same_key-same}

@@ -1,10 +1,12 @@
-use Rattle.std.proofs.Common.{◌≡◌, ℕ, ◌+◌, Bool, true, false, List, [], ◌∷◌, ◌++◌, get_or, drop, refl, sym, ap, subst, ◌∙◌, append_assoc, add-one, drop-cons, rules, if◌then◌else◌}
+use Rattle.std.proofs.Common.{◌≡◌, ℕ, ◌+◌, Bool, true, false, List, [], ◌∷◌, ◌++◌, get_or, drop, refl, sym, ap, subst, ◌∙◌, append-nil, append_assoc, add-one, drop-cons, arith, rules, if◌then◌else◌}
 use Rattle.std.proofs.lemmas.Bool.{cond-true}
+use Rattle.std.proofs.lemmas.List.{drop_all}
 use Rattle.std.proofs.lemmas.List.Elements.{All-get_or}
 use Rattle.hc_records.specs.declared.records.Dir.TheVariants.{Out}
 use Rattle.hc_records.specs.declared.keys.Key.{Key}
 use Rattle.hc_records.specs.declared.keys.TheConstants.Key.{END}
 use Rattle.hc_records.specs.Keys.{is_before}
+use Rattle.hc_records.specs.Laws.{IsPackable}
 use Rattle.hc_records.specs.Packing.{Front, Placed, behind, fits, placed_at}
 use Rattle.hc_records.specs.SpanLaws.{carried, next_cut}
 use Rattle.hc_records.specs.TaskList.{Keyed}
@@ -64,3 +66,16 @@ loop-area-preserved c =
       room = ap (λ (f : Front). next_cut f left) c.behind-front.ensures ∙ next.room;
       number = ap (λ (f : Front). f.datagram) c.behind-front.ensures ∙ next.number ∙ l.invariant.number;
     }
+
+pub place-place-requires-clause-narrow : goal.place-place-requires-clause-narrow
+place-place-requires-clause-narrow c = (All-get_or IsPackable c.args.areas.now c.loop-area.area-index none c.loop-area-test.true c.requires.packable).narrow
+
+pub place-place-requires-clause-few : goal.place-place-requires-clause-few
+place-place-requires-clause-few c = omega (arith, c.loop-area.invariant.number, c.requires.few)
+
+pub returns : goal.returns
+returns c =
+    let l = c.loop-area in
+    sym (append-nil l.places.items)
+    ∙ ap (λ (left : List Keyed). l.places.items ++ carried l.front left) (sym (drop_all l.area-index c.args.areas.now c.loop-area-test.false))
+    ∙ l.invariant.places
