@@ -1,4 +1,4 @@
-use Rattle.std.proofs.Common.{◌≡◌, ℕ, suc, ◌+◌, ◌*◌, ◌≤◌, List, None, Some, length, ◌∷◌, ap, slice_index_or, sym, subst, ◌∙◌, arith}
+use Rattle.std.proofs.Common.{◌≡◌, ℕ, suc, ◌+◌, ◌*◌, ◌≤◌, List, None, Some, length, ◌∷◌, ap, length-append, slice_index_or, sym, subst, ◌∙◌, arith}
 use Rattle.hc_records.specs.declared.records.Area.{Area}
 use Rattle.hc_cuts.specs.Starts.{Kept}
 use Rattle.hc_tasks.specs.Kept.{crowded_from, kept_by, kept_from}
@@ -98,3 +98,29 @@ returns-in_default-clause-steps g t c = λ old new turn.
     let p = parts c.args.task c.args.first c.args.before.now c.args.after.now old new c.args.tasks.now s.result.0.now s.result.1.now c.index-these-0-2.result s.ensures.value s.ensures.front_len turn in
     subst (λ (n : ℕ). c.turn_task.new.steps ≤ c.args.steps.now + 1664 * touched_from n c.args.task old new) (sym p.2)
     (more (length s.result.1.now) c.args.task c.args.steps.now c.turn_task.new.steps c.turn_task.new.steps old new (c.in_default.ensures.steps old new p.0) (omega arith))
+
+pub returns-in-Ok-turn_tasks-clause-few : goal.returns-in-Ok-turn_tasks-clause-few
+returns-in-Ok-turn_tasks-clause-few g t c =
+    let s = c.split_at_mut-these in
+    omega (arith, ap length s.ensures.value, length-append s.result.0.now s.result.1.now, s.ensures.front_len, c.in-Ok.ensures.few, c.in-Ok-turn_tasks.ensures.few)
+
+pub returns-in-Ok-turn_tasks-clause-least : goal.returns-in-Ok-turn_tasks-clause-least
+returns-in-Ok-turn_tasks-clause-least g t c = omega (arith, c.in-Ok.ensures.least, c.in-Ok-turn_tasks.ensures.least)
+
+pub returns-in-Ok-turn_tasks-clause-most : goal.returns-in-Ok-turn_tasks-clause-most
+returns-in-Ok-turn_tasks-clause-most g t c = omega (arith, c.in-Ok.ensures.most, c.in-Ok-turn_tasks.ensures.most)
+
+pub turn_task-requires : goal.turn_task-requires
+turn_task-requires g t c =
+    let s = c.split_at_mut-these in
+    let r = c.requires.lines in
+    let p = parts c.args.task c.args.first c.args.before.now c.args.after.now r.old r.new c.args.tasks.now s.result.0.now s.result.1.now c.index-these-0-2.result s.ensures.value s.ensures.front_len r.turn in
+    record { old = r.old; new = r.new; turn = p.0 }
+
+pub overflow_add-task : goal.overflow_add-task
+overflow_add-task g t c = omega (arith, c.requires.numbers)
+
+pub overflow_add-result : goal.overflow_add-result
+overflow_add-result g t c =
+    let s = c.split_at_mut-these in
+    omega (arith, c.requires.numbers, ap length s.ensures.value, length-append s.result.0.now s.result.1.now, s.ensures.front_len, c.in-Ok.ensures.few, c.in-Ok-turn_tasks.ensures.few)
