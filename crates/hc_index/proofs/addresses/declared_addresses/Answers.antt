@@ -1,11 +1,36 @@
-use Rattle.std.proofs.Common.{◌≡◌, ◌+◌, ◌∷◌, ◌++◌, ◌∙◌, List, ap, append_assoc, drop, length, sym, arith}
+use Rattle.std.proofs.Common.{◌≡◌, ℕ, ◌+◌, ◌<◌, ◌∷◌, ◌++◌, ◌∙◌, List, ap, append_assoc, drop, get_or, length, sym, arith}
+use Rattle.std.specs.Prelude.{sum_by}
 use Rattle.std.proofs.lemmas.List.{drop_more}
 use Rattle.hc_records.specs.declared.records.Declared.{Declared}
 use Rattle.hc_records.specs.declared.records.Slave.{Slave}
+use Rattle.hc_records.specs.Line.{IsCounted}
 use Rattle.hc_index.specs.declared.addresses.Address.{Address}
 use Rattle.hc_index.proofs.Declaring.{addresses-group, addresses_from, own_addresses}
 use Rattle.hc_index.proofs.Summed.{left-step}
 use Rattle.hc_index.proofs.addresses.declared_addresses.Goals as goal
+
+abbrev slaves_in : Declared → ℕ
+slaves_in declared = length declared.group.slaves
+
+-- the ranks so far and those of the next group are among all
+few : (groups : List Declared) (i rank : ℕ) (declared : Declared) (slaves : List Slave) → i < length groups → declared ≡ get_or groups i declared → slaves ≡ declared.group.slaves
+    → rank + sum_by slaves_in (drop i groups) ≡ 1 + sum_by slaves_in groups → IsCounted groups → rank + length slaves < 65536
+few groups i rank declared slaves inside is own sum all = let step = left-step slaves_in groups i declared inside is in omega (arith, step, ap length own, sum, all)
+
+pub add_addresses-requires : goal.add_addresses-requires
+add_addresses-requires c =
+    let l = c.loop-declared in
+    few c.args.groups.now l.declared-index l.rank c.declared-item.result c.as_slice-slaves.result.now c.loop-declared-test.true c.declared-item.is c.as_slice-slaves.ensures l.invariant.1 c.requires
+
+pub overflow_cast-rank : goal.overflow_cast-rank
+overflow_cast-rank c =
+    let l = c.loop-declared in
+    omega (arith, few c.args.groups.now l.declared-index l.rank c.declared-item.result c.as_slice-slaves.result.now c.loop-declared-test.true c.declared-item.is c.as_slice-slaves.ensures l.invariant.1 c.requires)
+
+pub overflow_add-rank : goal.overflow_add-rank
+overflow_add-rank c =
+    let l = c.loop-declared in
+    omega (arith, few c.args.groups.now l.declared-index l.rank c.declared-item.result c.as_slice-slaves.result.now c.loop-declared-test.true c.declared-item.is c.as_slice-slaves.ensures l.invariant.1 c.requires)
 
 pub loop-declared-preserved : goal.loop-declared-preserved
 loop-declared-preserved c =

@@ -1,7 +1,25 @@
-use Rattle.std.proofs.Common.{◌≡◌, ℕ, ◌+◌, ap, arith}
+use Rattle.std.proofs.Common.{◌≡◌, ℕ, ◌+◌, ◌<◌, List, ap, drop, get_or, length, arith}
+use Rattle.std.specs.Prelude.{sum_by}
+use Rattle.hc_records.specs.declared.records.Declared.{Declared}
+use Rattle.hc_records.specs.Line.{IsCounted}
 use Rattle.hc_index.specs.Index.{declared_count, sums_from}
 use Rattle.hc_index.proofs.Summed.{left-step, sums-on, sums-over}
 use Rattle.hc_index.proofs.sums.declared_sums.Goals as goal
+
+-- the slaves so far and those of the next group are among all
+few : (groups : List Declared) (i front slaves : ℕ) (declared : Declared) → i < length groups → declared ≡ get_or groups i declared → slaves ≡ length declared.group.slaves
+    → front + sum_by declared_count (drop i groups) ≡ sum_by declared_count groups → IsCounted groups → front + slaves < 65535
+few groups i front slaves declared inside is long sum all = let step = left-step declared_count groups i declared inside is in omega (arith, step, long, sum, all)
+
+pub overflow_cast-declared_slaves : goal.overflow_cast-declared_slaves
+overflow_cast-declared_slaves c =
+    let l = c.loop-declared in
+    omega (arith, few c.args.groups.now l.declared-index l.declared_slaves c.len.result c.declared-item.result c.loop-declared-test.true c.declared-item.is c.len.ensures l.invariant.1 c.requires)
+
+pub overflow_add-declared_slaves : goal.overflow_add-declared_slaves
+overflow_add-declared_slaves c =
+    let l = c.loop-declared in
+    omega (arith, few c.args.groups.now l.declared-index l.declared_slaves c.len.result c.declared-item.result c.loop-declared-test.true c.declared-item.is c.len.ensures l.invariant.1 c.requires)
 
 pub loop-declared-preserved : goal.loop-declared-preserved
 loop-declared-preserved c =

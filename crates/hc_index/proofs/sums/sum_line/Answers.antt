@@ -17,6 +17,12 @@ overflow_add-line c =
     let few = length-line 1 groups in
     omega (arith, step, long, few, c.requires.counted, c.line_counts-count.ensures.slaves)
 
+pub overflow_add-line_blocks : goal.overflow_add-line_blocks
+overflow_add-line_blocks c =
+    let l = c.loop-declared in
+    let step = left-step own_sum c.args.groups.now l.declared-index c.declared-item.result c.loop-declared-test.true c.declared-item.is in
+    omega (arith, step, l.invariant.3, c.requires.few, c.line_counts-count.ensures.blocks)
+
 pub loop-declared-preserved : goal.loop-declared-preserved
 loop-declared-preserved c =
     let l = c.loop-declared in
