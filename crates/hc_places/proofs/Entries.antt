@@ -1,19 +1,24 @@
 -- The variables of entries that follow one another.
-use Rattle.std.proofs.Common.{◌≡◌, ℕ, ◌+◌, ◌<◌, List, [], ◌∷◌, ◌++◌, length, drop, get_or, refl, ap, arith, append_assoc, drop-cons, add-one}
+use Rattle.std.proofs.Common.{◌≡◌, ℕ, ◌+◌, ◌<◌, List, [], ◌∷◌, ◌++◌, length, drop, get_or, refl, sym, ap, ◌∙◌, arith, append_assoc, drop-cons, add-one}
 use Rattle.std.specs.Prelude.{map}
 use Rattle.std.specs.List.{flat_map}
-use Rattle.std.proofs.lemmas.List.{map-append}
+use Rattle.std.proofs.lemmas.List.{drop_more, map-append}
 use Rattle.std.proofs.lemmas.List.Sums.{sum_by-append, sum_by-cons}
 use Rattle.hc_records.specs.declared.records.Pdo.{Pdo}
 use Rattle.hc_records.specs.Area.{Entry, bits_of, entries_at}
 use Rattle.hc_records.specs.Image.{variables_from}
 use Rattle.hc_places.specs.Table.{Row}
 
-bits-append : (first second : List Entry) → bits_of (first ++ second) ≡ bits_of first + bits_of second
+pub bits-append : (first second : List Entry) → bits_of (first ++ second) ≡ bits_of first + bits_of second
 bits-append first second = sum_by-append (λ (entry : Entry). entry.1) first second
 
 pub bits-cons : (entry : Entry) (entries : List Entry) → bits_of (entry ∷ entries) ≡ entry.1 + bits_of entries
 bits-cons entry entries = sum_by-cons (λ (e : Entry). e.1) entry entries
+
+-- the bits of the entries from an index on
+pub bits-drop : (entries : List Entry) (i : ℕ) (entry : Entry) → i < length entries → entry ≡ get_or entries i entry → bits_of (drop i entries) ≡ entry.1 + bits_of (drop (i + 1) entries)
+bits-drop entries i entry within is =
+    ap bits_of (drop_more entries i entry within ∙ ap (λ (e : Entry). e ∷ drop (i + 1) entries) (sym is)) ∙ bits-cons entry (drop (i + 1) entries)
 
 -- entries behind others begin where those end
 variables-append : (bit : ℕ) (first second : List Entry) → variables_from bit (first ++ second) ≡ variables_from bit first ++ variables_from (bit + bits_of first) second

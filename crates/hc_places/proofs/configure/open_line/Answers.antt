@@ -1,10 +1,13 @@
-use Rattle.std.proofs.Common.{◌∙◌, ◌∷◌, ◌++◌, ◌+◌, ℕ, [], List, ap, arith, length, length-append}
+use Rattle.std.proofs.Common.{◌∙◌, ◌∷◌, ◌++◌, ◌+◌, ℕ, [], List, ap, arith, length, length-append, refl}
+use Rattle.std.specs.Prelude.{option_map}
 use Rattle.std.specs.List.{flat_map}
 use Rattle.std.proofs.lemmas.Result.{err_from_is_err_and}
+use Rattle.hc_records.specs.declared.faults.EditFault.TheVariants.{TooManyDatagrams}
 use Rattle.hc_records.specs.declared.records.Area.{Area}
 use Rattle.hc_records.specs.Image.{task_variables}
 use Rattle.hc_records.specs.Line.{line_from}
 use Rattle.hc_places.specs.Found.{found_variables}
+use Rattle.hc_places.specs.Layout.{NamesCrowded}
 use Rattle.hc_places.specs.Loads.{table_at}
 use Rattle.hc_places.specs.Table.{Row, TaskTable, task_table}
 use Rattle.hc_places.proofs.Opening.{flat_map-last, flat_map-next, map-last, map-next}
@@ -16,10 +19,18 @@ pub open-requires : goal.open-requires
 open-requires g c = is-line c.args.groups.now c.as_slice.result.now (c.as_slice.ensures.value ∙ c.in_ok-slaves.ensures) c.requires.project
 
 pub returns-in_err-cuts-clause-refused : goal.returns-in_err-cuts-clause-refused
-returns-in_err-cuts-clause-refused g c = grind (arith, same-crowded, err_from_is_err_and)
+returns-in_err-cuts-clause-refused g c =
+    let groups = c.args.groups.now in
+    let slaves = c.as_slice.ensures.value ∙ c.in_ok-slaves.ensures in
+    let names : NamesCrowded (line_from 1 groups) c.in_err-cuts.field-0.0 =
+    λ other. ap (option_map TooManyDatagrams) (same-crowded groups c.as_slice.result.now slaves) ∙ c.in_err-cuts.ensures.refused other in
+    let p = err_from_is_err_and c.from_residual-in_err-cuts.result c.from_residual-in_err-cuts.ensures.1 in
+    rw (p.1, p.2) names
 
 pub returns-in_err-places-clause-refused : goal.returns-in_err-places-clause-refused
-returns-in_err-places-clause-refused g c = grind (arith, err_from_is_err_and)
+returns-in_err-places-clause-refused g c =
+    let p = err_from_is_err_and c.from_residual-in_err-places.result c.from_residual-in_err-places.ensures.1 in
+    rw (p.1, p.2) (λ other. absurd (other refl))
 
 pub task_table-requires-clause-sendable : goal.task_table-requires-clause-sendable
 task_table-requires-clause-sendable g c =
@@ -75,7 +86,9 @@ of-requires-clause-ascends g c =
     rw rows (table-ascends c.args.groups.now c.requires.project)
 
 pub returns-in_err-of-clause-refused : goal.returns-in_err-of-clause-refused
-returns-in_err-of-clause-refused g c = grind (arith, err_from_is_err_and)
+returns-in_err-of-clause-refused g c =
+    let p = err_from_is_err_and c.from_residual-in_err-of.result c.from_residual-in_err-of.ensures.1 in
+    rw (p.1, p.2) (λ other. absurd (other refl))
 
 pub returns-clause-places : goal.returns-clause-places
 returns-clause-places g c =

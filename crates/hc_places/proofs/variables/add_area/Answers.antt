@@ -1,9 +1,9 @@
 use Rattle.std.proofs.Common.{◌≡◌, ◌+◌, ◌<◌, ◌++◌, ◌∙◌, ap, sym, length, drop, get_or, arith}
 use Rattle.std.specs.List.{flat_map}
-use Rattle.hc_records.specs.Area.{entries_at}
+use Rattle.hc_records.specs.Area.{bits_of, entries_at}
 use Rattle.hc_places.specs.inner.Parts.{row_at}
 use Rattle.hc_places.proofs.Widths.{entries-bits}
-use Rattle.hc_places.proofs.Entries.{AddsEntries, added-bits, added-rows, entries-drop}
+use Rattle.hc_places.proofs.Entries.{AddsEntries, added-bits, added-rows, bits-append, entries-drop}
 use Rattle.hc_places.proofs.variables.add_area.Goals as goal
 
 pub loop-index-preserved : goal.loop-index-preserved
@@ -27,3 +27,14 @@ loop-index-preserved c =
 
 pub add_entries-requires-clause-widths : goal.add_entries-requires-clause-widths
 add_entries-requires-clause-widths c = grind (arith, get_or, entries-bits)
+
+pub add_entries-requires-clause-inside : goal.add_entries-requires-clause-inside
+add_entries-requires-clause-inside c =
+    let area = c.args.area.now in
+    let i = c.loop-index.index-index in
+    let entries = c.offered_entries-entries.result.now in
+    let within : i < length area.assigned = omega (arith, ap length c.as_slice-index-items.ensures) in
+    let is : entries ≡ entries_at area.offered (get_or area.assigned i 0) = cc in
+    let rest = flat_map (entries_at area.offered) (drop (i + 1) area.assigned) in
+    let whole = entries-drop area.offered area.assigned i within ∙ ap (λ own. own ++ rest) (sym is) in
+    omega (arith, ap bits_of whole, bits-append entries rest, c.loop-index.invariant.bits, c.requires.inside)

@@ -4,9 +4,15 @@ use Rattle.std.proofs.lemmas.List.{drop_more}
 use Rattle.hc_records.specs.Area.{Entry}
 use Rattle.hc_records.specs.Image.{variables_from}
 use Rattle.hc_places.specs.inner.Parts.{row_at}
-use Rattle.hc_places.proofs.Entries.{AddsEntries, added-bits, added-rows, bits-cons}
+use Rattle.hc_places.proofs.Entries.{AddsEntries, added-bits, added-rows, bits-cons, bits-drop}
 use Rattle.hc_places.proofs.variables.add_entries.Goals as goal
 use Rattle.hc_places.proofs.variables.add_entries.Goals.{in-Some+in_ok-push, in_default}
+
+pub overflow_add-bit : goal.overflow_add-bit
+overflow_add-bit c =
+    let l = c.loop-entry in
+    let step = bits-drop c.args.entries.now l.entry-index c.entry-item.result c.loop-entry-test.true c.entry-item.is in
+    omega (arith, step, l.invariant.bits, c.requires.inside, c.from-bit.ensures)
 
 pub loop-entry-preserved : goal.loop-entry-preserved
 loop-entry-preserved c =
