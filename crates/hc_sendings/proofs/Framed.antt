@@ -1,11 +1,96 @@
 -- One more datagram behind the frames.
-use Rattle.std.proofs.Common.{◌≡◌, ◌∙◌, ◌+◌, ◌≤◌, ℕ, Bool, true, false, cond, List, [], ◌∷◌, ◌++◌, refl, sym, ap, arith, append_assoc, map}
+use Rattle.std.proofs.Common.{◌≡◌, ◌∙◌, ◌+◌, ◌-◌, ◌≤◌, ℕ, Bool, true, false, cond, List, [], ◌∷◌, ◌++◌, length, get_or, set, take, refl, sym, ap, arith, append_assoc, length-append, map}
 use Rattle.std.specs.Prelude.{Option, Some, None, IfSome}
 use Rattle.std.specs.List.{range_with_len}
+use Rattle.std.proofs.Math.Seq.{get_or-append_seam}
+use Rattle.std.proofs.lemmas.List.{append-nil, get_or-set_same, length-set, take-append-le, take-set, take_all, take_more}
+use Rattle.std.proofs.lemmas.Option.{get_or_from_slice_get, slice_get-get_or, slice_get_within}
 use Rattle.std.proofs.lemmas.List.FromFn.{map-range_with_len_more}
 use Rattle.hc_records.specs.Line.{Member}
 use Rattle.hc_events.specs.Sendings.{Frame, Named, alone, framed_behind, has_room, joined, length_of}
-use Rattle.hc_sendings.specs.Framing.{done_by, framed_from, last_with}
+use Rattle.hc_sendings.specs.Framing.{closed, done_by, framed_from, last_with, open_in}
+
+-- ---- frames of which the last is open
+
+last-at : (frames : List Frame) → length frames ≡ 0 → frames ≡ []
+last-at [] none = refl
+last-at (frame ∷ frames) none = absurd (omega (arith, none))
+
+pub open-at : (frames : List Frame) (frame : Frame) → 1 ≤ length frames → frame ≡ get_or frames (length frames - 1) frame → open_in frames ≡ Some frame
+open-at frames frame some is = slice_get-get_or frames (length frames - 1) frame (omega (arith, some)) ∙ ap (λ (f : Frame). Some f) (sym is)
+
+pub closed-open : (frames : List Frame) (frame : Frame) → open_in frames ≡ Some frame → closed frames ++ frame ∷ [] ≡ frames
+closed-open frames frame is =
+    let inside = slice_get_within frames (length frames - 1) frame is in
+    let last : length frames - 1 + 1 ≡ length frames = omega (arith, inside) in
+    ap (λ (f : Frame). closed frames ++ f ∷ []) (sym (get_or_from_slice_get frames (length frames - 1) frame frame is))
+    ∙ sym (take_more frames (length frames - 1) frame inside)
+    ∙ ap (λ (n : ℕ). take n frames) last ∙ take_all (length frames) frames (omega arith)
+
+pub closed-push : (frames : List Frame) (frame : Frame) → closed (frames ++ frame ∷ []) ≡ frames
+closed-push frames frame =
+    let long = length-append frames (frame ∷ []) in
+    ap (λ (n : ℕ). take n (frames ++ frame ∷ [])) (omega (arith, long)) ∙ take-append-le (length frames) frames (frame ∷ []) (omega arith) ∙ take_all (length frames) frames (omega arith)
+
+pub open-push : (frames : List Frame) (frame : Frame) → open_in (frames ++ frame ∷ []) ≡ Some frame
+open-push frames frame =
+    let long = length-append frames (frame ∷ []) in
+    let last : length (frames ++ frame ∷ []) - 1 ≡ length frames = omega (arith, long) in
+    open-at (frames ++ frame ∷ []) frame (omega (arith, long)) (sym (ap (λ (n : ℕ). get_or (frames ++ frame ∷ []) n frame) last ∙ get_or-append_seam frames frame [] frame))
+
+-- none is open before the first
+
+pub push-first : (frames : List Frame) (frame : Frame) (serial bytes : ℕ) (datagram : Named) → length frames ≡ 0 → frame ≡ alone serial datagram bytes
+    → (closed (frames ++ frame ∷ []) ≡ closed frames ++ done_by (open_in frames) bytes) × (open_in (frames ++ frame ∷ []) ≡ Some (last_with serial (open_in frames) datagram bytes))
+push-first [] frame serial bytes datagram none is = (refl, ap (λ (f : Frame). Some f) is)
+push-first (first ∷ frames) frame serial bytes datagram none is = absurd (omega (arith, none))
+
+-- the open one has room
+
+by-room : (frames : List Frame) (last frame : Frame) (serial bytes : ℕ) (datagram : Named) (room : Bool) → room ≡ true → frame ≡ joined last datagram bytes
+    → (closed frames ≡ closed frames ++ cond room [] (last ∷ [])) × (Some frame ≡ Some (cond room (joined last datagram bytes) (alone (last.serial + 1) datagram bytes)))
+by-room frames last frame serial bytes datagram true room is = (sym (append-nil (closed frames)), ap (λ (f : Frame). Some f) is)
+by-room frames last frame serial bytes datagram false room is = cc
+
+pub set-joined : (frames : List Frame) (last frame : Frame) (serial bytes : ℕ) (datagram : Named) → open_in frames ≡ Some last → has_room last.bytes bytes ≡ true → frame ≡ joined last datagram bytes
+    → (closed (set frames (length frames - 1) frame) ≡ closed frames ++ done_by (open_in frames) bytes)
+    × (open_in (set frames (length frames - 1) frame) ≡ Some (last_with serial (open_in frames) datagram bytes))
+set-joined frames last frame serial bytes datagram here room is =
+    let at = length frames - 1 in
+    let inside = slice_get_within frames at last here in
+    let long = length-set frames at frame in
+    let end : length (set frames at frame) - 1 ≡ at = omega (arith, long) in
+    let both = by-room frames last frame serial bytes datagram (has_room last.bytes bytes) room is in
+    let stay = ap (λ (n : ℕ). take n (set frames at frame)) end ∙ take-set frames at frame in
+    let lent = open-at (set frames at frame) frame (omega (arith, long, inside)) (sym (ap (λ (n : ℕ). get_or (set frames at frame) n frame) end ∙ get_or-set_same frames at frame frame inside)) in
+    rw here (stay ∙ both.0, lent ∙ both.1)
+
+-- or it is done
+
+by-full : (frames : List Frame) (last frame : Frame) (bytes : ℕ) (datagram : Named) (room : Bool) → room ≡ false → closed frames ++ last ∷ [] ≡ frames → frame ≡ alone (last.serial + 1) datagram bytes
+    → (frames ≡ closed frames ++ cond room [] (last ∷ [])) × (Some frame ≡ Some (cond room (joined last datagram bytes) (alone (last.serial + 1) datagram bytes)))
+by-full frames last frame bytes datagram true room whole is = cc
+by-full frames last frame bytes datagram false room whole is = (sym whole, ap (λ (f : Frame). Some f) is)
+
+pub push-next : (frames : List Frame) (last frame : Frame) (serial bytes : ℕ) (datagram : Named) → open_in frames ≡ Some last → has_room last.bytes bytes ≡ false → frame ≡ alone (last.serial + 1) datagram bytes
+    → (closed (frames ++ frame ∷ []) ≡ closed frames ++ done_by (open_in frames) bytes) × (open_in (frames ++ frame ∷ []) ≡ Some (last_with serial (open_in frames) datagram bytes))
+push-next frames last frame serial bytes datagram here room is =
+    let both = by-full frames last frame bytes datagram (has_room last.bytes bytes) room (closed-open frames last here) is in
+    rw here (closed-push frames frame ∙ both.0, open-push frames frame ∙ both.1)
+
+-- behind all datagrams they are all frames
+
+whole-by : (line : List Member) (serial : ℕ) (frames : List Frame) (last : Option Frame) → open_in frames ≡ last → closed frames ++ framed_from line serial last [] ≡ frames
+whole-by line serial [] None none = refl
+whole-by line serial (frame ∷ frames) None none =
+    let some = slice_get-get_or (frame ∷ frames) (length (frame ∷ frames) - 1) frame (omega arith) in
+    cc
+whole-by line serial frames (Some last) here = closed-open frames last here
+
+pub whole-of : (line : List Member) (serial : ℕ) (frames : List Frame) → closed frames ++ framed_from line serial (open_in frames) [] ≡ frames
+whole-of line serial frames = whole-by line serial frames (open_in frames) refl
+
+-- ---- one more datagram
 
 either-room : (room : Bool) (line : List Member) (frame longer next : Frame) (rest : List Named)
     → cond room [] (frame ∷ []) ++ framed_behind line (cond room longer next) rest ≡ cond room (framed_behind line longer rest) (frame ∷ framed_behind line next rest)

@@ -1,5 +1,5 @@
 -- Frames as they are filled, datagram by datagram: those that are done, and the one that a datagram may still join.
-use Rattle.std.specs.Prelude.{ℕ, ◌+◌, if◌then◌else◌, List, [], ◌∷◌, Option, Some, None}
+use Rattle.std.specs.Prelude.{ℕ, ◌+◌, ◌-◌, if◌then◌else◌, List, [], ◌∷◌, length, slice_get, take, Option, Some, None}
 use Rattle.hc_records.specs.Line.{Member}
 use Rattle.hc_events.specs.Sendings.{Frame, Named, alone, framed, framed_behind, has_room, joined}
 
@@ -7,6 +7,16 @@ use Rattle.hc_events.specs.Sendings.{Frame, Named, alone, framed, framed_behind,
 abbrev pub framed_from : List Member → ℕ → Option Frame → List Named → List Frame
 framed_from line serial None datagrams = framed line serial datagrams
 framed_from line serial (Some frame) datagrams = framed_behind line frame datagrams
+
+-- frames of which the last is open, if there is one
+
+-- those in front of it
+abbrev pub closed : List Frame → List Frame
+closed frames = take (length frames - 1) frames
+
+-- and itself
+abbrev pub open_in : List Frame → Option Frame
+open_in frames = slice_get frames (length frames - 1)
 
 -- the open frame is done where a datagram with so many bytes of data has no room in it
 abbrev pub done_by : Option Frame → ℕ → List Frame

@@ -1,65 +1,61 @@
 //! Puts the datagrams of tasks into frames, one datagram after another.
-ghost use Rattle.std.specs.Prelude.{◌≡◌, ◌+◌, ◌*◌, ◌^◌, ◌<◌, ◌≤◌, ◌++◌, IfOk, IfSome, List, OnOk, ℕ, length};
+ghost use Rattle.std.specs.Prelude.{◌≡◌, ◌+◌, ◌*◌, ◌^◌, ◌<◌, ◌≤◌, ◌++◌, IfOk, IfSome, List, OnOk, Some, ℕ, length};
 ghost use Rattle.hc_records.specs.Line.{line};
 ghost use Rattle.hc_records.specs.declared.limits.TheConstants.{MOST_DATAGRAMS, TASKS};
 ghost use Rattle.hc_frames.specs.declared.limits.TheConstants.{MAX_DATA, SETUP_SERIAL};
 ghost use Rattle.hc_events.specs.Sendings.{Named, sendings_of, task_datagrams};
-ghost use Rattle.hc_sendings.specs.Framing.{done_by, framed_from, last_with};
+ghost use Rattle.hc_sendings.specs.Framing.{closed, done_by, framed_from, last_with, open_in};
 
 use hc_events::sending::{Named, Sending};
 use hc_plan::plan::Plan;
 use std::alloc::{AllocError, Global};
 
-/// Puts a datagram with so many bytes of data, 1 to 1,486, behind the frames: into the open one where
-/// that has room, else the open one is done and the datagram begins a frame with the next serial, or
-/// with the first one. It answers the frame that is then open.
+/// Puts a datagram with so many bytes of data, 1 to 1,486, behind frames, of which the last is open: into that one
+/// where it has room, else it is done and the datagram begins a frame with the next serial, or with the first one.
 fn place(
-    done: &mut Vec<Sending>,
-    last: Option<Sending>,
+    frames: &mut Vec<Sending>,
     serial: u64,
     datagram: Named,
     length: u16,
-) -> Result<Sending, AllocError>
+) -> Result<(), AllocError>
     requires some { 1 ≤ length }
     requires most { length ≤ MAX_DATA }
-    requires serial { IfSome last (λ frame. frame.serial + 1 < 2 ^ 64) }
-    ensures done { OnOk result (done.new.items ≡ done.old.items ++ done_by last length) }
-    ensures last { IfOk result (λ frame. frame ≡ last_with serial last datagram length) }
+    requires serial { IfSome (open_in frames.old.items) (λ frame. frame.serial + 1 < 2 ^ 64) }
+    ensures done { OnOk result (closed frames.new.items ≡ closed frames.old.items ++ done_by (open_in frames.old.items) length) }
+    ensures open { OnOk result (open_in frames.new.items ≡ Some (last_with serial (open_in frames.old.items) datagram length)) }
 {
-    match last {
-        None => Ok(Sending::of(serial, datagram, length)),
-        Some(mut frame) => {
-            if frame.has_room(length) {
-                frame.join(datagram, length);
-                return Ok(frame);
-            }
-            let next = Sending::of(frame.serial() + 1, datagram, length);
-            done.push(frame)?;
-            Ok(next)
-        }
+    let count = frames.len();
+    if count == 0 {
+        frames.push(Sending::of(serial, datagram, length))?;
+        return Ok(());
     }
+    if frames[count - 1].has_room(length) {
+        frames[count - 1].join(datagram, length);
+        return Ok(());
+    }
+    let next = frames[count - 1].serial() + 1;
+    frames.push(Sending::of(next, datagram, length))?;
+    Ok(())
 }
 
-/// Puts the datagrams of a task behind the frames, and answers the frame that is then open.
+/// Puts the datagrams of a task behind the frames, of which the last is open.
 fn place_task(
     plan: &Plan,
-    done: &mut Vec<Sending>,
-    last: Option<Sending>,
+    frames: &mut Vec<Sending>,
     serial: u64,
     task: u8,
-) -> Result<Option<Sending>, AllocError>
+) -> Result<(), AllocError>
     requires serial { serial + MOST_DATAGRAMS < 2 ^ 64 }
-    requires last { IfSome last (λ frame. frame.serial + MOST_DATAGRAMS < 2 ^ 64) }
-    ensures serials { IfOk result (λ next. (bound : ℕ) → serial ≤ bound → IfSome last (λ frame. frame.serial ≤ bound) → IfSome next (λ frame. frame.serial ≤ bound + MOST_DATAGRAMS)) }
-    ensures framed { IfOk result (λ next. (rest : List Named) → done.new.items ++ framed_from (line plan.now) serial next rest ≡ done.old.items ++ framed_from (line plan.now) serial last (task_datagrams (line plan.now) task ++ rest)) }
+    requires last { IfSome (open_in frames.old.items) (λ frame. frame.serial + MOST_DATAGRAMS < 2 ^ 64) }
+    ensures serials { OnOk result ((bound : ℕ) → serial ≤ bound → IfSome (open_in frames.old.items) (λ frame. frame.serial ≤ bound) → IfSome (open_in frames.new.items) (λ frame. frame.serial ≤ bound + MOST_DATAGRAMS)) }
+    ensures framed { OnOk result ((rest : List Named) → closed frames.new.items ++ framed_from (line plan.now) serial (open_in frames.new.items) rest ≡ closed frames.old.items ++ framed_from (line plan.now) serial (open_in frames.old.items) (task_datagrams (line plan.now) task ++ rest)) }
 {
     let datagrams = plan.places().datagrams(task);
-    let mut last = last;
     for number in 0..datagrams.len() {
         let length = datagrams[number].length;
-        last = Some(place(done, last, serial, (task, number as u8), length)?);
+        place(frames, serial, (task, number as u8), length)?;
     }
-    Ok(last)
+    Ok(())
 }
 
 /// How many datagrams tasks have together: no sending of them has more frames.
@@ -83,13 +79,9 @@ pub(crate) fn frames_of(
     requires few { length tasks.now ≤ TASKS }
     ensures { IfOk result (λ frames. frames.items ≡ sendings_of (line plan.now) serial tasks.now) }
 {
-    let mut done = Vec::with_capacity(alloc, most_frames(plan, tasks))?;
-    let mut last = None;
+    let mut frames = Vec::with_capacity(alloc, most_frames(plan, tasks))?;
     for task in tasks {
-        last = place_task(plan, &mut done, last, serial, *task)?;
+        place_task(plan, &mut frames, serial, *task)?;
     }
-    if let Some(frame) = last {
-        done.push(frame)?;
-    }
-    Ok(done)
+    Ok(frames)
 }

@@ -3,11 +3,11 @@ use Rattle.std.specs.Prelude.{IfSome}
 use Rattle.std.specs.List.{flat_map}
 use Rattle.hc_records.specs.Line.{line}
 use Rattle.hc_events.specs.Sendings.{sendings_of, task_datagrams}
-use Rattle.hc_sendings.specs.Framing.{framed_from}
+use Rattle.hc_sendings.specs.Framing.{closed, framed_from, open_in}
 use Rattle.hc_sendings.proofs.framing.frames_of.Given as goal
 
 abbrev pub invariant-loop-task : goal.invariant-loop-task
 invariant-loop-task l = record {
-  framed : l.done.items ++ framed_from (line l.plan) l.serial l.last (flat_map (task_datagrams (line l.plan)) (drop l.task-index l.tasks)) ≡ sendings_of (line l.plan) l.serial l.tasks;
-  serials : IfSome l.last (λ frame. frame.serial ≤ l.serial + 16 * l.task-index);
+  framed : closed l.frames.items ++ framed_from (line l.plan) l.serial (open_in l.frames.items) (flat_map (task_datagrams (line l.plan)) (drop l.task-index l.tasks)) ≡ sendings_of (line l.plan) l.serial l.tasks;
+  serials : IfSome (open_in l.frames.items) (λ frame. frame.serial ≤ l.serial + 16 * l.task-index);
 }
