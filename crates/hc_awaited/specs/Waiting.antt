@@ -3,7 +3,7 @@ use Rattle.std.specs.Prelude.{ℕ, ◌<◌, ◌==◌, ◌&&◌, not, Bool, true,
 use Rattle.std.specs.List.{list_any}
 use Rattle.hc_records.specs.declared.limits.TheConstants.{MOST_DATAGRAMS, TASKS}
 use Rattle.hc_records.specs.Line.{Member}
-use Rattle.hc_registers.specs.Blocks.{LineBlock}
+use Rattle.hc_registers.specs.Blocks.{LineBlock, RegisterBlock}
 use Rattle.hc_frames.specs.FrameText.{station_address}
 use Rattle.hc_events.specs.Sendings.{Frame, Named}
 use Rattle.hc_events.specs.Answering.{only_if}
@@ -19,13 +19,14 @@ pub record AwaitedFrame : Type 0 where
   pub serial : ℕ
   pub datagrams : List Carried
 
--- a register write: its serial, its block by the slave's station address and its number in the slave's order, and the address and the number of data bytes that it was sent with
+-- a register write: its serial, its block by the slave's station address and its number in the slave's order, the address and the number of data bytes that it was sent with, and the block
 pub record AwaitedWrite : Type 0 where
   pub serial : ℕ
   pub station : ℕ
   pub number : ℕ
   pub address : ℕ
   pub length : ℕ
+  pub block : RegisterBlock
 
 -- the awaited frames, the oldest first, and the write under way
 pub record Waiting : Type 0 where
@@ -82,6 +83,7 @@ awaited_write serial block = record {
   number = block.number;
   address = station_address block.station block.block.register;
   length = length block.block.bytes;
+  block = block.block;
 }
 
 -- what is awaited once the write of a block was sent with this serial: that write in place of any other

@@ -10,6 +10,7 @@ use crate::kept::KeptFrame;
 use crate::newest::{Newest, PLACES};
 use hc_events::sending::Sending;
 use hc_plan::blocks::LineBlock;
+use hc_registers::blocks::Block;
 use std::alloc::{AllocError, Global};
 use std::marker::Model;
 
@@ -21,6 +22,7 @@ pub(crate) struct Write {
     number: u8,
     pub(crate) address: u32,
     pub(crate) length: usize,
+    block: Block,
 }
 
 impl Model for Write {
@@ -28,7 +30,7 @@ impl Model for Write {
 
     ghost Value = { AwaitedWrite };
 
-    ghost view = { λ write. record { serial = write.serial; station = write.station; number = write.number; address = write.address; length = write.length } };
+    ghost view = { λ write. record { serial = write.serial; station = write.station; number = write.number; address = write.address; length = write.length; block = write.block } };
 }
 
 /// The frames of tasks and the register write that are awaited. Contracts see a `Waiting`: the frames in
@@ -102,14 +104,14 @@ fn keep_alive(frames: &mut Vec<KeptFrame>, newest: &Newest)
     frames.retain(|frame| is_alive(newest, frame));
 }
 
-/// The frame comes behind the others where it is the newest of a datagram; then there is room for it.
-fn add_alive(frames: &mut Vec<KeptFrame>, newest: &Newest, frame: KeptFrame)
-    requires { is_alive (frame_by newest.now frame) ≡ true → vec_len frames.old < vec_capacity frames.old }
-    ensures frames { frames.new.items ≡ frames.old.items ++ (if is_alive (frame_by newest.now frame) then frame ∷ [] else []) }
+/// What is kept of a frame comes behind the others where it is the newest of a datagram; then there is room for it.
+fn add_alive(frames: &mut Vec<KeptFrame>, newest: &Newest, frame: &Sending)
+    requires { is_alive (frame_by newest.now (kept_of frame.now)) ≡ true → vec_len frames.old < vec_capacity frames.old }
+    ensures frames { frames.new.items ≡ frames.old.items ++ (if is_alive (frame_by newest.now (kept_of frame.now)) then kept_of frame.now ∷ [] else []) }
     ensures room { vec_capacity frames.new ≡ vec_capacity frames.old }
 {
-    if is_alive(newest, &frame) {
-        frames.push_reserved(frame);
+    if newest.is_any(frame.serial(), frame.datagrams()) {
+        frames.push_reserved(KeptFrame::of(frame));
     }
 }
 
@@ -120,7 +122,7 @@ fn add_all(frames: &mut Vec<KeptFrame>, newest: &Newest, more: &[Sending])
     ensures room { vec_capacity frames.new ≡ vec_capacity frames.old }
 {
     for frame in more {
-        add_alive(frames, newest, KeptFrame::of(frame));
+        add_alive(frames, newest, frame);
     }
 }
 
@@ -164,8 +166,9 @@ fn empty(frames: &mut Vec<KeptFrame>, serial: u64)
 }
 
 impl Awaited {
-    ghost use Rattle.std.specs.Prelude.{◌≡◌, ◌<◌, ◌≤◌, ◌*◌, All, IfOk, length};
+    ghost use Rattle.std.specs.Prelude.{◌≡◌, ◌<◌, ◌≤◌, ◌*◌, All, IfOk, length, option_map};
     ghost use Rattle.hc_records.specs.declared.limits.TheConstants.{MOST_DATAGRAMS, TASKS};
+    ghost use Rattle.hc_awaited.specs.Judging.{found_write};
     ghost use Rattle.hc_awaited.specs.Waiting.{ComeBehind, IsNamed, all_sent, ended, nothing, wrote};
 
     /// Nothing is awaited. It takes all the memory that it will need: `AllocError` where that was refused.
@@ -204,16 +207,23 @@ impl Awaited {
         add_all(&mut self.frames, &self.newest, frames);
     }
 
-    /// A register write is sent, and is the one that is awaited from now on. It takes no memory.
-    pub fn write(&mut self, serial: u64, block: &LineBlock)
-        ensures { self.new ≡ wrote serial block.now self.old }
+    /// A register write is sent, and is the one that is awaited from now on. Its block is kept, for who confirms it
+    /// (`end_write`). It takes no memory.
+    pub fn write(&mut self, serial: u64, block: LineBlock)
+        ensures { self.new ≡ wrote serial block self.old }
     {
+        let LineBlock {
+            station,
+            number,
+            block,
+        } = block;
         self.write = Some(Write {
             serial,
-            station: block.station,
-            number: block.number,
-            address: u32::from(block.station) + 65536 * u32::from(block.block.register()),
-            length: block.block.bytes().len(),
+            station,
+            number,
+            address: u32::from(station) + 65536 * u32::from(block.register()),
+            length: block.bytes().len(),
+            block,
         });
     }
 
@@ -225,6 +235,21 @@ impl Awaited {
         empty(&mut self.frames, serial);
         if has_serial(&self.write, serial) {
             self.write = None;
+        }
+    }
+
+    /// The same, and the block of the write with this serial; none where there is no such write. It takes no memory.
+    pub fn end_write(&mut self, serial: u64) -> Option<Block>
+        ensures block { result ≡ option_map (λ write. write.block) (found_write serial self.old) }
+        ensures ended { self.new ≡ ended serial self.old }
+    {
+        empty(&mut self.frames, serial);
+        if !has_serial(&self.write, serial) {
+            return None;
+        }
+        match self.write.take() {
+            Some(write) => Some(write.block),
+            None => None,
         }
     }
 }

@@ -1,7 +1,7 @@
 -- What is kept stays right behind each arrival.
-use Rattle.std.proofs.Common.{◌≡◌, ℕ, ◌<◌, ◌≤◌, arith, true, false, List, [], ◌∷◌, ◌++◌, map, sym, ap, ◌∙◌, subst, Some, None, rules}
-use Rattle.std.specs.Prelude.{All, fold}
-use Rattle.std.proofs.lemmas.Bool.{not-true}
+use Rattle.std.proofs.Common.{◌≡◌, ℕ, ◌<◌, ◌≤◌, arith, ◌==◌, Bool, true, false, cond, Option, List, [], ◌∷◌, ◌++◌, map, sym, ap, ◌∙◌, subst, Some, None, rules}
+use Rattle.std.specs.Prelude.{All, fold, option_and_then, option_map}
+use Rattle.std.proofs.lemmas.Bool.{eq-eqb, not-true}
 use Rattle.std.proofs.lemmas.List.Elements.{All-weaker}
 use Rattle.hc_records.specs.declared.limits.TheConstants.{MOST_DATAGRAMS, MOST_DATAGRAM_BYTES}
 use Rattle.hc_records.specs.Edits.{crowded_task}
@@ -17,7 +17,7 @@ use Rattle.hc_events.specs.Arrivals.{Arrival}
 use Rattle.hc_events.specs.Accepted.{AreAccepted, StandsIn}
 use Rattle.hc_events.specs.Entries.{Record, Opened, Sent, Came}
 use Rattle.hc_events.specs.Points.{line_of, state_of}
-use Rattle.hc_events.specs.Answering.{is_stale_to}
+use Rattle.hc_events.specs.Answering.{is_stale_to, only_if}
 use Rattle.hc_events.specs.Images.{FitsImage, Fresh, fresh_by, renewed, slot_of}
 use Rattle.hc_events.specs.Owed.{known_bytes, owed_blocks}
 use Rattle.hc_events.specs.declared.answer.Outcome.{Outcome}
@@ -25,7 +25,8 @@ use Rattle.hc_events.proofs.lemmas.SameBehind.{same-says, same-stale}
 use Rattle.hc_events.proofs.lemmas.Slots.{AllSent, FitsFresh, fresh-fits}
 use Rattle.hc_sendings.proofs.lemmas.Listed.{standing-task}
 use Rattle.hc_events.proofs.lemmas.WithoutStale.{goods-of_news}
-use Rattle.hc_awaited.specs.Waiting.{ended}
+use Rattle.hc_awaited.specs.Judging.{found_write}
+use Rattle.hc_awaited.specs.Waiting.{AwaitedWrite, Waiting, ended}
 use Rattle.hc_awaited.proofs.lemmas.Sorts.{write-kept}
 use Rattle.hc_inputs.specs.Image.{Image, data_of}
 use Rattle.hc_owed.specs.Board.{Board, kept_of}
@@ -108,8 +109,15 @@ agree-missed kept past taken arrival tells agree = record {
 
 -- the block of the write under way is the first owed one
 
-heads_same : (a b : LineBlock) (xs ys : List LineBlock) → a ∷ xs ≡ b ∷ ys → a ≡ b
+pub heads_same : (a b : LineBlock) (xs ys : List LineBlock) → a ∷ xs ≡ b ∷ ys → a ≡ b
 heads_same a b xs ys e = cc
+
+-- its block is kept with it
+pub kept-block : (waiting : Waiting) (write : AwaitedWrite) (serial : ℕ) → waiting.write ≡ Some write → write.serial ≡ serial
+    → option_map (λ (one : AwaitedWrite). one.block) (found_write serial waiting) ≡ Some write.block
+kept-block waiting write serial there is =
+    ap (λ (found : Option AwaitedWrite). option_map (λ (one : AwaitedWrite). one.block) (option_and_then (only_if (λ (one : AwaitedWrite). one.serial == serial)) found)) there
+    ∙ ap (λ (own : Bool). option_map (λ (one : AwaitedWrite). one.block) (cond own (Some write) None)) (eq-eqb write.serial serial is)
 
 pub agree-done : (kept : CoreParts) (past taken : Record) (arrival : Arrival) (block : LineBlock) (rest : List LineBlock) (owed : Board) → TellsWrite past arrival true → owed_blocks past ≡ block ∷ rest
     → owed ≡ kept_of (known_with (name_of block) (Some block.block.bytes) (known_bytes past)) (state_of past) → Agree kept past taken

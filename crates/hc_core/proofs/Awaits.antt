@@ -39,6 +39,7 @@ way_stale : (past : Record) (arrival : Arrival) (write : AwaitedWrite) → is_st
 way_stale past arrival write stale way = record {
   block = way.block;
   head = way.head;
+  bytes = way.bytes;
   last = way.last;
   rest = way.rest;
   first = same-owed (Came arrival ∷ past) past (same-says (Came arrival ∷ past) past (same-stale past arrival stale)) ∙ way.first;
@@ -49,7 +50,7 @@ waits-stale past kept arrival stale waits =
     record { kept = awaited.waits-stale past kept arrival stale waits.kept; written = λ write e. way_stale past arrival write stale (waits.written write e) }
 
 way_posted : (past : Record) (task : ℕ) (bytes : List ℕ) (write : AwaitedWrite) → IsUnderWay past write → IsUnderWay (Posted task bytes ∷ past) write
-way_posted past task bytes write way = record { block = way.block; head = way.head; last = way.last; rest = way.rest; first = way.first }
+way_posted past task bytes write way = record { block = way.block; head = way.head; bytes = way.bytes; last = way.last; rest = way.rest; first = way.first }
 
 pub waits-posted : (past : Record) (kept : Waiting) (task : ℕ) (bytes : List ℕ) → Waits past kept → Waits (Posted task bytes ∷ past) kept
 waits-posted past kept task bytes waits =

@@ -12,6 +12,7 @@ use Rattle.hc_awaited.specs.Record.{KeepsAwaited}
 pub record IsUnderWay (past : Record) (write : AwaitedWrite) : Type 0 where
   pub block : LineBlock
   pub head : written_head write ≡ write_head block
+  pub bytes : write.block ≡ block.block
   pub last : last_write past block.station block.number ≡ Some (write.serial, block.block.bytes)
   pub rest : List LineBlock
   pub first : owed_blocks past ≡ block ∷ rest

@@ -7,14 +7,12 @@ ghost use Rattle.hc_events.specs.Arrivals.{arrival_in};
 ghost use Rattle.hc_events.specs.Entries.{Came};
 ghost use Rattle.hc_events.specs.Faults.{frame_refusal};
 ghost use Rattle.hc_events.specs.Steps.{Arrives, answer_to, entries_after, told_of};
-ghost use Rattle.hc_core.specs.Firsts.{IsFirstOwed};
 
 use crate::goods::{changes_of, put_goods};
 use crate::keeping::Core;
 use hc_events::answer::{Answer, Outcome};
 use hc_events::faults::CoreFault;
 use hc_frames::reading::{Returned, read_frame};
-use hc_plan::blocks::LineBlock;
 use std::alloc::{AllocError, Global};
 
 impl Core {
@@ -63,14 +61,18 @@ impl Core {
     }
 
     /// The answer to a register write with a working counter of 1: the block is known.
-    fn take_written(&mut self, bytes: &[u8], arrival: &Returned<'_>, n: u32, block: LineBlock)
+    fn take_written(&mut self, bytes: &[u8], arrival: &Returned<'_>)
         requires read { arrival_in bytes.now ≡ Ok arrival.now }
         requires told { told_of (judged_by self.old.past arrival.now) ≡ answer.WriteDone }
-        requires first { IsFirstOwed self.old.past n block }
         ensures { self.new ≡ record self.old { past = Came arrival.now ∷ self.old.past } }
     {
-        self.owed.confirmed(n, block.block);
-        self.awaited.end(arrival.serial());
+        let Some(first) = self.owed.first() else {
+            unreachable!()
+        };
+        let Some(block) = self.awaited.end_write(arrival.serial()) else {
+            unreachable!()
+        };
+        self.owed.confirmed(first.place, block);
         self.past = self.past.came(bytes);
     }
 
@@ -92,11 +94,7 @@ impl Core {
             Answer::Answered(outcomes) => {
                 self.take_inputs(alloc, bytes, arrival, outcomes.as_slice())?;
             }
-            Answer::WriteDone => {
-                if let Some((n, block)) = self.first_block() {
-                    self.take_written(bytes, arrival, n, block);
-                }
-            }
+            Answer::WriteDone => self.take_written(bytes, arrival),
             Answer::WriteMissed => self.take_missed(bytes, arrival),
             _ => self.take_stale(bytes, arrival),
         }

@@ -79,14 +79,14 @@ impl Core {
     }
 
     /// The first owed block is sent, with the next serial. It takes no memory.
-    pub(crate) fn commit_write(&mut self, n: u32, block: &LineBlock)
-        requires first { IsFirstOwed self.old.past n block.now }
+    pub(crate) fn commit_write(&mut self, n: u32, block: LineBlock)
+        requires first { IsFirstOwed self.old.past n block }
         requires left { next_serial self.old.past < SETUP_SERIAL }
-        ensures { self.new ≡ record self.old { past = Wrote block.now ∷ self.old.past } }
+        ensures { self.new ≡ record self.old { past = Wrote block ∷ self.old.past } }
     {
+        self.past = self.past.wrote(&block);
         self.awaited.write(self.serial, block);
         self.owed.sent(n);
         self.serial += 1;
-        self.past = self.past.wrote(block);
     }
 }

@@ -78,7 +78,7 @@ impl Core {
     {
         let found = self.next_write()?;
         let text = text_of(alloc, self.serial, &found.1)?;
-        self.commit_write(found.0, &found.1);
+        self.commit_write(found.0, found.1);
         Ok(Answer::WriteSent(text))
     }
 
@@ -96,7 +96,7 @@ impl Core {
     {
         let found = self.next_write()?;
         let size = write_block(out, self.serial, &found.1)?;
-        self.commit_write(found.0, &found.1);
+        self.commit_write(found.0, found.1);
         Ok(size)
     }
 }

@@ -10,7 +10,7 @@ add_alive-requires c =
     let number : ℕ = c.loop-frame.frame-index in
     let item : Frame = c.frame-item.result in
     λ alive.
-    let stays = ap (λ (frame : Frame). stays_at at (kept_of frame)) (sym c.frame-item.is) ∙ ap (stays_at at) (sym c.of.ensures) ∙ alive in
+    let stays = ap (λ (frame : Frame). stays_at at (kept_of frame)) (sym c.frame-item.is) ∙ alive in
     let low = next-room at c.args.more.now number item c.args.frames.now.items _ c.loop-frame-test.true stays c.requires in
     let count = ap length c.loop-frame.invariant.frames in
     let room = c.loop-frame.invariant.room in
@@ -27,8 +27,7 @@ loop-frame-preserved c =
     record {
       frames =
           c.add_alive.ensures.frames
-          ∙ ap (λ (frames : List KeptFrame). frames ++ own c.of.result) c.loop-frame.invariant.frames
-          ∙ ap (λ (frame : KeptFrame). (before ++ filter (stays_at at) (map kept_of (take number c.args.more.now))) ++ own frame) c.of.ensures
+          ∙ ap (λ (frames : List KeptFrame). frames ++ own (kept_of item)) c.loop-frame.invariant.frames
           ∙ ap (λ (frame : Frame). (before ++ filter (stays_at at) (map kept_of (take number c.args.more.now))) ++ own (kept_of frame)) c.frame-item.is
           ∙ append_assoc before (filter (stays_at at) (map kept_of (take number c.args.more.now))) (own (kept_of (get_or c.args.more.now number item)))
           ∙ ap (λ (all : List KeptFrame). before ++ all) (sym (stays-more at c.args.more.now number item c.loop-frame-test.true));

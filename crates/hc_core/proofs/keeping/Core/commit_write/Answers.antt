@@ -3,7 +3,7 @@ use Rattle.hc_frames.specs.declared.limits.TheConstants.{SETUP_SERIAL}
 use Rattle.hc_events.specs.Entries.{Record, Wrote}
 use Rattle.hc_events.specs.Owed.{known_bytes}
 use Rattle.hc_events.specs.Points.{next_serial, state_of}
-use Rattle.hc_awaited.specs.Waiting.{Waiting, wrote}
+use Rattle.hc_awaited.specs.Waiting.{Waiting}
 use Rattle.hc_core.specs.Records.{record_of}
 use Rattle.hc_core.proofs.Firsts.{first-kept, first-lacks, first-within}
 use Rattle.hc_core.proofs.Sendings.{agree-wrote}
@@ -16,7 +16,7 @@ pub invariant_of-self : goal.invariant_of-self
 invariant_of-self c =
     let inside = c.self.inside in
     let past = record_of inside.past in
-    let block = c.args.block.now in
+    let block = c.args.block in
     let taken = record_of inside.taken.value in
     let first : IsFirstOwed past c.args.n block = subst (λ (state : CoreState). IsFirstOwed state.past c.args.n block) (sym c.self.view_is) c.requires.first in
     let low : next_serial past < SETUP_SERIAL = subst (λ (state : CoreState). next_serial state.past < SETUP_SERIAL) (sym c.self.view_is) c.requires.left in
@@ -29,5 +29,5 @@ invariant_of-self c =
 pub sent-requires : goal.sent-requires
 sent-requires c =
     let past = record_of c.self.inside.past in
-    first-within (kept_in c.self.inside) past (record_of c.self.inside.taken.value) c.args.n c.args.block.now c.self.invariant
-    (subst (λ (state : CoreState). IsFirstOwed state.past c.args.n c.args.block.now) (sym c.self.view_is) c.requires.first)
+    first-within (kept_in c.self.inside) past (record_of c.self.inside.taken.value) c.args.n c.args.block c.self.invariant
+    (subst (λ (state : CoreState). IsFirstOwed state.past c.args.n c.args.block) (sym c.self.view_is) c.requires.first)
