@@ -1,6 +1,4 @@
-use Rattle.std.proofs.Common.{◌≡◌, ◌≢◌, ◌∙◌, ap, sym, refl, Err}
-use Rattle.hc_records.specs.declared.faults.EditFault.TheVariants.{TooManyDatagrams}
-use Rattle.hc_events.specs.Faults.{core_fault_number, edit_refusal}
+use Rattle.std.proofs.Common.{◌∙◌, ap, sym, refl}
 use Rattle.hc_c.specs.declared.editing.Cost.{Cost}
 use Rattle.hc_c.specs.Edits.{edit_number}
 use Rattle.hc_c.proofs.Refusals.{not_accepted, not_done, not_memory, same_fault}

@@ -2,7 +2,7 @@ use Rattle.std.proofs.Common.{◌≡◌, ◌∷◌, ◌∙◌, ap, sym, subst, R
 use Rattle.std.specs.Result.{result_unwrap_or}
 use Rattle.hc_records.specs.declared.edit.Edit.{Edit}
 use Rattle.hc_records.specs.declared.faults.EditFault.{EditFault}
-use Rattle.hc_records.specs.Edits.{edited, state_after}
+use Rattle.hc_records.specs.Edits.{state_after}
 use Rattle.hc_records.specs.Line.{State}
 use Rattle.hc_events.specs.Entries.{Edited}
 use Rattle.hc_events.specs.Points.{state_of}

@@ -1,4 +1,4 @@
-use Rattle.std.proofs.Common.{◌≡◌, ◌∙◌, ap}
+use Rattle.std.proofs.Common.{◌∙◌, ap}
 use Rattle.hc_records.specs.Line.{State, line}
 use Rattle.hc_places.specs.Table.{Table, part_in, table_of}
 use Rattle.hc_c.specs.Looks.{part_at}

@@ -16,7 +16,6 @@ use types.Part.{sub, whole}
 use denote.Exit.{no}
 use denote.Param.{bounded}
 use denote.RawPtr.{block_ptr}
-use denote.RattleType.{RattleType}
 use denote.Signature.{plain}
 use denote.Steps.{nothing, only}
 use denote.Triple.Call.{calls_at_last}
@@ -28,7 +27,7 @@ use Rattle.std.proofs.raw_atomic.Walks.{proved_at, leaves}
 use Rattle.core.proofs.alloc.Shapes.{after}
 use Rattle.core.proofs.atomic.Steps.{fm}
 use Rattle.std_alloc.specs.Box.Ownership.{box_owns}
-use Rattle.std_alloc.proofs.BoxSteps.Form.{Bx, B, D, P, R, Good, box_ty, box_typed, word}
+use Rattle.std_alloc.proofs.BoxSteps.Form.{Bx, B, D, P, R, box_ty, box_typed, word}
 use Rattle.std_alloc.proofs.BoxSteps.Steps.{box_out, box_in}
 use Rattle.std_alloc.specs.contracts.boxed.Box.from_raw as makes
 use Rattle.std_alloc.proofs.boxed.Box.from_raw.Met.{met}
