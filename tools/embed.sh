@@ -1,0 +1,80 @@
+#!/bin/sh
+# Builds the library, its header and its bindings, and calls it from C, with the address and the undefined behaviour
+# sanitizer, from Rust and from Python: each plays examples/*.in, and what it prints is compared with *.out, byte for byte. The
+# C callers also try what a caller may do wrong, and each growth of memory refused in turn. What is missing is named, and
+# counts as failed. The last line is 'N passed, M failed'. It wants gcc with its sanitizers (Debian: gcc, libasan, libubsan),
+# cargo, Python 3.11 and what tools/library.sh wants.
+set -u
+cd "$(dirname "$0")/.."
+scratch=$(mktemp -d)
+trap 'rm -rf "$scratch"' EXIT
+passed=0
+failed=0
+
+# tell STATUS WORDS..
+tell() {
+    if [ "$1" -eq 0 ]; then
+        passed=$((passed + 1))
+    else
+        shift
+        echo "embed: $*"
+        failed=$((failed + 1))
+    fi
+}
+
+# has COMMAND
+has() {
+    command -v "$1" >/dev/null && return
+    tell 1 "$1 is missing"
+    return 1
+}
+
+# play LABEL COMMAND..: plays each example
+play() {
+    label=$1
+    shift
+    for input in examples/*.in; do
+        timeout 60 "$@" <"$input" >"$scratch/printed" && diff "${input%.in}.out" "$scratch/printed" >"$scratch/difference"
+        status=$?
+        tell $status "$label, $input: < is written, > is printed"
+        [ $status -eq 0 ] || head -n 20 "$scratch/difference"
+    done
+}
+
+# compiled NAME FLAGS..: a C caller
+compiled() {
+    name=$1
+    shift
+    gcc -std=c11 -g -O1 -Wall -Wextra -Wpedantic -Werror "$@" -Iinclude "tools/embed/$name.c" build/libzangjulf.a -o "$scratch/$name"
+}
+
+# edges LABEL FLAGS..: what a caller may do wrong
+edges() {
+    label=$1
+    shift
+    compiled edges "$@" && timeout 60 "$scratch/edges" examples/tool_changer.toml >"$scratch/printed"
+    status=$?
+    tell $status "$label"
+    [ $status -eq 0 ] || cat "$scratch/printed"
+}
+
+tools/library.sh >"$scratch/library" 2>&1
+status=$?
+tell $status "the library isn't built"
+[ $status -eq 0 ] || { tail -n 20 "$scratch/library"; echo "$passed passed, $failed failed"; exit 1; }
+
+if has gcc; then
+    compiled play -fsanitize=address,undefined
+    tell $? "the C player isn't built"
+    play C "$scratch/play"
+    edges "C callers that do wrong" -fsanitize=address,undefined
+    edges "growths refused to a C caller" -DWRAPPED -Wl,--wrap=malloc,--wrap=realloc,--wrap=free
+fi
+if has cargo; then
+    CARGO_TARGET_DIR=$scratch/target cargo build --quiet --offline --release --manifest-path bindings/rust/Cargo.toml --example play
+    tell $? "the Rust player isn't built"
+    play Rust "$scratch/target/release/examples/play"
+fi
+has python3 && play Python python3 bindings/python/play.py
+echo "$passed passed, $failed failed"
+[ "$passed" -gt 0 ] && [ "$failed" -eq 0 ]

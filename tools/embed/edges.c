@@ -1,0 +1,270 @@
+/* What a C caller may do wrong or unluckily: closed handles, slices that are too short, tasks that can't be sent together,
+ * growths of memory that are refused; and a simulated line, written, sent and read. It is given the project of the tool
+ * changer, and ends with status 1 at the first answer that isn't the one that include/zangjulf.h tells. Growths are refused
+ * where it is linked with --wrap=malloc, --wrap=realloc and --wrap=free, and WRAPPED is defined. */
+#include <stdio.h>
+#include <stdlib.h>
+#include <string.h>
+
+#include "zangjulf.h"
+
+#define EXPECT(fact) ((fact) ? (void)0 : fail(__LINE__, #fact))
+
+static void fail(int line, const char *fact) {
+    printf("edges.c:%d: not so: %s\n", line, fact);
+    exit(1);
+}
+
+static uint8_t text[1 << 16];
+static size_t length;
+
+/* A slice of its exact size, at whose end a sanitizer watches. */
+static uint8_t *slice(size_t size) {
+    uint8_t *bytes = malloc(size ? size : 1);
+    memset(bytes, 0xaa, size);
+    return bytes;
+}
+
+static void closed(void) {
+    struct zangjulf line = {0};
+    uint8_t byte = 7, tasks[1] = {0};
+    uint16_t word = 7;
+    uint32_t number = 7;
+    uint64_t serial = 7;
+    size_t size = 7, sizes[16];
+    struct zangjulf_sent sent;
+    struct zangjulf_outcome outcomes[1];
+    struct zangjulf_image image;
+    struct zangjulf_change change;
+    struct zangjulf_cost cost;
+    struct zangjulf_place place;
+    struct zangjulf_datagram datagram;
+    struct zangjulf_part part;
+    struct zangjulf_block block;
+    EXPECT(zangjulf_epoch(&line, &number) == ZANGJULF_CLOSED && number == 7);
+    EXPECT(zangjulf_next_serial(&line, &serial) == ZANGJULF_CLOSED && serial == 7);
+    EXPECT(zangjulf_owed(&line, &number) == ZANGJULF_CLOSED && number == 7);
+    EXPECT(zangjulf_post(&line, 0, 0, &byte, 1) == ZANGJULF_CLOSED);
+    EXPECT(zangjulf_next_write(&line, &byte, 1, &size) == ZANGJULF_CLOSED && byte == 7 && size == 7);
+    EXPECT(zangjulf_send(&line, tasks, 1, &byte, 1, &sent) == ZANGJULF_CLOSED && byte == 7);
+    EXPECT(zangjulf_arrive(&line, &byte, 1, outcomes, 1, &size) == ZANGJULF_CLOSED && size == 7);
+    EXPECT(zangjulf_read(&line, 0, &byte, 1, sizes, 16, &image) == ZANGJULF_CLOSED && byte == 7);
+    EXPECT(zangjulf_next_change(&line, &byte, 1, &change) == ZANGJULF_CLOSED && byte == 7);
+    EXPECT(zangjulf_preview(&line, 0, 0, &byte, 1, &size) == ZANGJULF_CLOSED && byte == 7);
+    EXPECT(zangjulf_place(&line, 1, &place) == ZANGJULF_CLOSED);
+    EXPECT(zangjulf_datagram(&line, 0, 0, &datagram) == ZANGJULF_CLOSED);
+    EXPECT(zangjulf_part(&line, 0, &part) == ZANGJULF_CLOSED);
+    EXPECT(zangjulf_station(&line, 0, &word) == ZANGJULF_CLOSED && word == 7);
+    EXPECT(zangjulf_position(&line, 1001, &number) == ZANGJULF_CLOSED && number == 7);
+    EXPECT(zangjulf_block(&line, 1002, 0, &byte, 1, &block) == ZANGJULF_CLOSED && byte == 7);
+    EXPECT(zangjulf_connect(&line, 100, false, &cost) == ZANGJULF_CLOSED);
+    EXPECT(zangjulf_disconnect(&line, 100, false, &cost) == ZANGJULF_CLOSED);
+    EXPECT(zangjulf_remap(&line, 1002, 0, &word, 1, false, &cost) == ZANGJULF_CLOSED);
+    EXPECT(zangjulf_move(&line, 1002, 0, 1, false, &cost) == ZANGJULF_CLOSED);
+    zangjulf_close(&line);
+    EXPECT(!line.is_open && !line.at);
+}
+
+static void misused(void) {
+    struct zangjulf line = {0};
+    uint8_t task = 0, twice[2] = {1, 1}, nine[9] = {0, 1, 2, 3, 4, 5, 6, 7, 8}, *out = slice(59);
+    struct zangjulf_sent sent = {0, 0};
+    struct zangjulf_outcome outcome;
+    uint32_t owed = 0;
+    size_t size = 0;
+    EXPECT(zangjulf_open(&line, (const uint8_t *)"x", 1, &task) == ZANGJULF_PROJECT_NOT_TOML && !line.is_open);
+    EXPECT(zangjulf_open(&line, (const uint8_t *)"[[slave]]", 9, &task) == ZANGJULF_PROJECT_MISSING_FIELD && !line.is_open);
+    EXPECT(zangjulf_open(&line, text, length, &task) == ZANGJULF_DONE && line.is_open);
+    EXPECT(zangjulf_send(&line, twice, 2, out, 59, &sent) == ZANGJULF_MISUSED);
+    EXPECT(zangjulf_send(&line, nine, 9, out, 59, &sent) == ZANGJULF_MISUSED);
+    EXPECT(zangjulf_send(&line, nine, 0, out, 59, &sent) == ZANGJULF_MISUSED);
+    EXPECT(zangjulf_send(&line, twice, 1, out, 59, &sent) == ZANGJULF_UNPROGRAMMED);
+    EXPECT(zangjulf_send(&line, nine + 8, 1, out, 59, &sent) == ZANGJULF_NO_SUCH_TASK);
+    /* three slaves with an output and an input area each, two blocks an area */
+    EXPECT(zangjulf_owed(&line, &owed) == ZANGJULF_DONE && owed == 12);
+    EXPECT(zangjulf_next_write(&line, out, 59, &size) == ZANGJULF_ROOM && size == 60 && out[0] == 0xaa);
+    EXPECT(zangjulf_arrive(&line, out, 27, &outcome, 0, &size) == ZANGJULF_SHORT);
+    EXPECT(zangjulf_post(&line, 0, 0, out, 13) == ZANGJULF_POST_LENGTH);
+    EXPECT(zangjulf_post(&line, 0, 1, out, 14) == ZANGJULF_STALE_POST);
+    EXPECT(zangjulf_post(&line, 8, 1, out, 0) == ZANGJULF_NO_SUCH_TASK);
+    EXPECT(zangjulf_post(&line, 0, 0, out, 14) == ZANGJULF_DONE);
+    zangjulf_close(&line);
+    free(out);
+}
+
+#define SLAVES 4
+static uint8_t memories[SLAVES][ZANGJULF_SLAVE_MEMORY];
+
+static void pass(uint8_t *frame, size_t size) {
+    for (int i = 0; i < SLAVES; i++) EXPECT(zangjulf_slave_process(memories[i], sizeof memories[i], frame, size) == ZANGJULF_DONE);
+}
+
+/* The four slaves of the mandatory group, their station addresses as if they were written. */
+static void start(void) {
+    for (int i = 0; i < SLAVES; i++) {
+        EXPECT(zangjulf_slave_start(memories[i], sizeof memories[i] - 1, 0) == ZANGJULF_MISUSED);
+        EXPECT(zangjulf_slave_start(memories[i], sizeof memories[i], (uint16_t)(3 * i)) == ZANGJULF_DONE);
+        EXPECT(memories[i][0x12] == 3 * i && !memories[i][0x13] && !memories[i][0x10]);
+        memories[i][0x10] = (uint8_t)(1001 + i);
+        memories[i][0x11] = (uint8_t)((1001 + i) >> 8);
+    }
+}
+
+static void write_all(struct zangjulf *line) {
+    uint8_t *frame = slice(60);
+    struct zangjulf_outcome outcome;
+    size_t size = 0, count = 7;
+    unsigned number;
+    while (!(number = zangjulf_next_write(line, frame, 60, &size))) {
+        pass(frame, size);
+        EXPECT(zangjulf_arrive(line, frame, size, &outcome, 1, &count) == ZANGJULF_WRITE_DONE && !count);
+        EXPECT(zangjulf_arrive(line, frame, size, &outcome, 1, &count) == ZANGJULF_STALE);
+    }
+    EXPECT(number == ZANGJULF_NOTHING_OWED);
+    free(frame);
+}
+
+/* Outputs reach the slaves, inputs the tasks, and each is told as a change, in order. */
+static void exchange(struct zangjulf *line) {
+    const uint8_t tasks[2] = {0, 1}, outputs[14] = {1, 2, 3, 4, 5, 6, 7, 8, 9, 10, 11, 12, 13, 14};
+    uint8_t *frames = slice(80), *data = slice(26);
+    struct zangjulf_sent sent = {0, 0};
+    struct zangjulf_outcome outcomes[2];
+    struct zangjulf_change change;
+    struct zangjulf_image image = {0, 0, 0};
+    size_t sizes[16], count = 0;
+    for (int i = 0; i < 6; i++) memories[1][0x1180 + i] = (uint8_t)(0x20 + i), memories[2][0x1180 + i] = (uint8_t)(0x30 + i);
+    EXPECT(zangjulf_post(line, 0, 0, outputs, sizeof outputs) == ZANGJULF_DONE);
+    /* datagrams of 26 and 2 bytes in one frame: 16 + 38 + 14 */
+    EXPECT(zangjulf_send(line, tasks, 2, frames, 67, &sent) == ZANGJULF_ROOM && sent.size == 68 && frames[0] == 0xaa);
+    EXPECT(zangjulf_send(line, tasks, 2, frames, 80, &sent) == ZANGJULF_DONE && sent.frames == 1 && sent.size == 68);
+    EXPECT(zangjulf_frame_size(frames) == 68 && frames[68] == 0xaa);
+    pass(frames, sent.size);
+    /* axis X has the first six output bytes, axis Y the others; its second byte is a gap, of which nothing is sent */
+    EXPECT(memories[1][0x1100] == 1 && memories[1][0x1105] == 6 && memories[2][0x1100] == 7 && memories[2][0x1107] == 14);
+    EXPECT(!memories[2][0x1101]);
+    EXPECT(zangjulf_arrive(line, frames, sent.size, outcomes, 1, &count) == ZANGJULF_DONE && count == 2);
+    EXPECT(outcomes[0].kind == ZANGJULF_INPUTS && outcomes[0].task == 0 && outcomes[0].datagram == 0);
+    EXPECT(zangjulf_read(line, 0, data, 25, sizes, 16, &image) == ZANGJULF_ROOM && data[0] == 0xaa);
+    EXPECT(zangjulf_read(line, 0, data, 26, sizes, 16, &image) == ZANGJULF_DONE && image.datagrams == 1 && image.size == 26 && sizes[0] == 26);
+    EXPECT(!memcmp(data, outputs, 7) && !data[7] && !memcmp(data + 8, outputs + 8, 6) && data[14] == 0x20 && data[19] == 0x25 && data[20] == 0x30 && data[25] == 0x35);
+    EXPECT(zangjulf_next_change(line, data, 25, &change) == ZANGJULF_ROOM && change.kind == ZANGJULF_GOOD && change.size == 26);
+    EXPECT(zangjulf_next_change(line, data, 26, &change) == ZANGJULF_DONE && change.task == 0 && data[14] == 0x20);
+    EXPECT(zangjulf_next_change(line, data, 26, &change) == ZANGJULF_DONE && change.task == 1 && change.size == 2);
+    EXPECT(zangjulf_next_change(line, data, 26, &change) == ZANGJULF_NOTHING);
+    free(frames);
+    free(data);
+}
+
+/* A tool comes: asked first, then carried out; inputs are of the epoch before, and the change says so. */
+static void edit(struct zangjulf *line) {
+    struct zangjulf_cost would, cost;
+    struct zangjulf_change change;
+    struct zangjulf_image image;
+    uint32_t epoch = 7;
+    size_t sizes[16];
+    uint8_t *none = slice(0);
+    EXPECT(zangjulf_connect(line, 99, false, &cost) == ZANGJULF_UNKNOWN_ALIAS);
+    EXPECT(zangjulf_disconnect(line, 0, false, &cost) == ZANGJULF_MANDATORY);
+    EXPECT(zangjulf_disconnect(line, 100, false, &cost) == ZANGJULF_NOT_PRESENT);
+    EXPECT(zangjulf_connect(line, 100, true, &would) == ZANGJULF_DONE && would.epoch == 1);
+    EXPECT(zangjulf_epoch(line, &epoch) == ZANGJULF_DONE && !epoch);
+    EXPECT(zangjulf_connect(line, 100, false, &cost) == ZANGJULF_DONE && cost.epoch == 1);
+    EXPECT(cost.recut == would.recut && cost.moved == would.moved && cost.places == would.places);
+    EXPECT(zangjulf_epoch(line, &epoch) == ZANGJULF_DONE && epoch == 1);
+    EXPECT(zangjulf_next_change(line, none, 0, &change) == ZANGJULF_DONE && change.kind == ZANGJULF_SWAPPED);
+    EXPECT(zangjulf_read(line, 0, none, 0, sizes, 16, &image) == ZANGJULF_DONE && image.epoch == 1 && image.datagrams == 1 && !sizes[0]);
+    free(none);
+}
+
+static void line_of_slaves(void) {
+    struct zangjulf line = {0};
+    uint8_t task;
+    EXPECT(zangjulf_open(&line, text, length, &task) == ZANGJULF_DONE);
+    start();
+    write_all(&line);
+    exchange(&line);
+    edit(&line);
+    /* opened anew in its place, and closed twice */
+    EXPECT(zangjulf_open(&line, text, length, &task) == ZANGJULF_DONE);
+    zangjulf_close(&line);
+    zangjulf_close(&line);
+}
+
+#ifdef WRAPPED
+static long left = -1, live;
+void *__real_malloc(size_t size);
+void *__real_realloc(void *old, size_t size);
+void __real_free(void *old);
+
+static bool is_refused(void) { return left >= 0 && left-- == 0; }
+
+void *__wrap_malloc(size_t size) {
+    if (is_refused()) return NULL;
+    live++;
+    return __real_malloc(size);
+}
+
+void *__wrap_realloc(void *old, size_t size) {
+    if (is_refused()) return NULL;
+    live += !old;
+    return __real_realloc(old, size);
+}
+
+void __wrap_free(void *old) {
+    live -= !!old;
+    __real_free(old);
+}
+
+/* Each growth of an opening refused in turn: a closed handle, and nothing live. */
+static void refused_openings(void) {
+    long before = live, growths = 0;
+    for (bool is_spent = true; is_spent; growths++) {
+        struct zangjulf line = {0};
+        uint8_t task;
+        left = growths;
+        unsigned number = zangjulf_open(&line, text, length, &task);
+        is_spent = left < 0;
+        left = -1;
+        EXPECT(number == (is_spent ? ZANGJULF_MEMORY : ZANGJULF_DONE) && line.is_open == !is_spent);
+        zangjulf_close(&line);
+        EXPECT(live == before);
+    }
+    EXPECT(growths > 100);
+}
+
+/* Each growth of an edit refused in turn: the line as it was, and then the edit. */
+static void refused_edits(void) {
+    struct zangjulf line = {0};
+    struct zangjulf_cost cost;
+    uint8_t task;
+    uint32_t epoch = 0;
+    EXPECT(zangjulf_open(&line, text, length, &task) == ZANGJULF_DONE);
+    for (long growths = 0;; growths++) {
+        left = growths;
+        unsigned number = zangjulf_connect(&line, 100, false, &cost);
+        bool is_spent = left < 0;
+        left = -1;
+        EXPECT(number == (is_spent ? ZANGJULF_MEMORY : ZANGJULF_DONE));
+        EXPECT(zangjulf_epoch(&line, &epoch) == ZANGJULF_DONE && epoch == !is_spent);
+        if (!is_spent) break;
+    }
+    zangjulf_close(&line);
+}
+#endif
+
+int main(int count, char **words) {
+    FILE *in = count == 2 ? fopen(words[1], "rb") : NULL;
+    if (!in) return 2;
+    length = fread(text, 1, sizeof text, in);
+    fclose(in);
+    closed();
+    misused();
+    line_of_slaves();
+#ifdef WRAPPED
+    refused_openings();
+    refused_edits();
+#endif
+    printf("edges: all as told\n");
+    return 0;
+}
