@@ -1,0 +1,165 @@
+//! Plays a script of the program hotline: project text, a line `%%` and commands on standard input, what each answers on
+//! standard output (docs/PROGRAM.md). What an edit would cost is asked before it is carried out.
+
+use std::error::Error;
+use std::io::{self, Read, Write};
+use zangjulf::{Arrival, Dir, Edit, Fault, Line, Outcome, FRAMES};
+
+type Told = Result<(), Box<dyn Error>>;
+
+fn number(word: &str) -> Result<u32, Box<dyn Error>> {
+    Ok(match word.strip_prefix("0x") {
+        Some(digits) => u32::from_str_radix(digits, 16)?,
+        None => word.parse()?,
+    })
+}
+
+fn hex(bytes: &[u8]) -> String {
+    bytes.iter().map(|byte| format!("{byte:02x}")).collect()
+}
+
+fn bytes_in(word: &str) -> Result<Vec<u8>, Box<dyn Error>> {
+    let pairs = (0..word.len() / 2).map(|i| u8::from_str_radix(&word[2 * i..2 * i + 2], 16));
+    Ok(pairs.collect::<Result<_, _>>()?)
+}
+
+fn layout(line: &mut Line, out: &mut impl Write) -> Told {
+    writeln!(out, "epoch {}", line.epoch())?;
+    for task in 0..8 {
+        let mut number = 0;
+        while let Some(datagram) = line.datagram(task, number) {
+            if number == 0 {
+                let part = line.part(task);
+                writeln!(out, "task {task} parts {} {}", part.outputs, part.inputs)?;
+            }
+            let (address, length, expected) = (datagram.address, datagram.length, datagram.expected);
+            writeln!(out, "datagram {number} address {address:#010x} length {length} expected {expected}")?;
+            number += 1;
+        }
+    }
+    Ok(())
+}
+
+fn regs(line: &mut Line, station: u16, out: &mut impl Write) -> Told {
+    line.position(station)?;
+    let mut bytes = [0; 16];
+    for number in 0.. {
+        let Some(block) = line.block(station, number, &mut bytes)? else { break };
+        // sync managers begin at 0x0800, 8 bytes each; FMMUs at 0x0600, 16 bytes each
+        let (word, index) = match number % 2 {
+            0 => ("sm", (block.start - 0x0800) / 8),
+            _ => ("fmmu", (block.start - 0x0600) / 16),
+        };
+        write!(out, "{word} {index} at {:#06x}:", block.start)?;
+        for byte in &bytes[..block.size] {
+            write!(out, " {byte:02x}")?;
+        }
+        writeln!(out)?;
+    }
+    Ok(())
+}
+
+fn place(line: &mut Line, variable: u32, out: &mut impl Write) -> Told {
+    let Some(place) = line.place(variable) else { return Ok(writeln!(out, "none")?) };
+    let dir = if place.dir == Dir::In { "in" } else { "out" };
+    let (task, datagram, bit, bits) = (place.task, place.datagram, place.bit, place.bits);
+    Ok(writeln!(out, "var {variable} task {task} datagram {datagram} bit {bit} bits {bits} dir {dir}")?)
+}
+
+fn edit(line: &mut Line, edit: Edit<'_>, out: &mut impl Write) -> Told {
+    let asked = line.cost(&edit);
+    let cost = line.edit(&edit);
+    assert_eq!(asked, cost, "an edit does what it was told to cost");
+    let cost = cost?;
+    Ok(writeln!(out, "epoch {} recut {} moved {}", cost.epoch, cost.recut, cost.moved)?)
+}
+
+fn arrive(line: &mut Line, bytes: &[u8], out: &mut impl Write) -> Told {
+    match line.arrive(bytes)? {
+        Arrival::WriteDone => writeln!(out, "write done")?,
+        Arrival::WriteMissed => writeln!(out, "write missed")?,
+        Arrival::Stale => writeln!(out, "stale")?,
+        Arrival::Answered(outcomes) => {
+            for outcome in outcomes {
+                match outcome {
+                    Outcome::Inputs { task, datagram } => writeln!(out, "inputs {task} {datagram}")?,
+                    Outcome::WrongCount { expected, got } => writeln!(out, "wrong count {expected} {got}")?,
+                    Outcome::Stale => writeln!(out, "stale")?,
+                }
+            }
+        }
+    }
+    Ok(())
+}
+
+fn read(line: &mut Line, task: u8, out: &mut impl Write) -> Told {
+    let image = line.read(task)?;
+    writeln!(out, "epoch {}", image.epoch)?;
+    for (number, slot) in image.slots.iter().enumerate() {
+        match slot {
+            Some(bytes) => writeln!(out, "slot {number} {}", hex(bytes))?,
+            None => writeln!(out, "slot {number} none")?,
+        }
+    }
+    Ok(())
+}
+
+fn run(line: &mut Line, words: &[&str], frames: &mut [u8], out: &mut impl Write) -> Told {
+    let serial = line.next_serial();
+    match words {
+        ["layout"] => layout(line, out),
+        ["regs", station] => regs(line, number(station)? as u16, out),
+        ["show", task, _] if number(task)? > 7 => Err(Fault::NoSuchTask.into()),
+        ["show", task, datagram] => match line.preview(number(task)? as u8, number(datagram)? as u8, frames)? {
+            Some(frame) => Ok(writeln!(out, "frame {serial}: {}", hex(frame))?),
+            None => Ok(writeln!(out, "none")?),
+        },
+        ["place", variable] => place(line, number(variable)?, out),
+        ["connect", alias] => edit(line, Edit::Connect(number(alias)? as u16), out),
+        ["disconnect", alias] => edit(line, Edit::Disconnect(number(alias)? as u16), out),
+        ["remap", station, area, pdos @ ..] => {
+            let pdos = pdos.iter().map(|pdo| Ok(number(pdo)? as u16)).collect::<Result<Vec<_>, Box<dyn Error>>>()?;
+            edit(line, Edit::Remap { station: number(station)? as u16, area: number(area)? as u8, pdos: &pdos }, out)
+        }
+        ["move", station, area, task] => {
+            let (station, area, task) = (number(station)? as u16, number(area)? as u8, number(task)? as u8);
+            edit(line, Edit::Move { station, area, task }, out)
+        }
+        ["write"] => Ok(writeln!(out, "sent {serial}: {}", hex(line.next_write(frames)?))?),
+        ["send", tasks @ ..] => {
+            let tasks = tasks.iter().map(|task| Ok(number(task)? as u8)).collect::<Result<Vec<_>, Box<dyn Error>>>()?;
+            let sent = line.send(&tasks, frames)?;
+            if sent.clone().next().is_none() {
+                writeln!(out, "no frame")?;
+            }
+            for (number, frame) in sent.enumerate() {
+                writeln!(out, "sent {}: {}", serial + number as u64, hex(frame))?;
+            }
+            Ok(())
+        }
+        ["arrive", word] => arrive(line, &bytes_in(word)?, out),
+        ["read", task] => read(line, number(task)? as u8, out),
+        _ => Err("bad command".into()),
+    }
+}
+
+fn main() -> Told {
+    let mut input = Vec::new();
+    io::stdin().read_to_end(&mut input)?;
+    let text = String::from_utf8(input)?;
+    let (project, commands) = text.split_once("\n%%\n").ok_or("there is no line %%")?;
+    let mut line = Line::open(format!("{project}\n").as_bytes())?;
+    let mut frames = vec![0; FRAMES];
+    let mut out = io::stdout().lock();
+    for command in commands.lines() {
+        let words: Vec<&str> = command.split(' ').filter(|word| !word.is_empty()).collect();
+        if words.is_empty() {
+            continue;
+        }
+        match run(&mut line, &words, &mut frames, &mut out) {
+            Err(refused) if refused.is::<Fault>() => writeln!(out, "refused {refused}")?,
+            told => told?,
+        }
+    }
+    Ok(())
+}
