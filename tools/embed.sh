@@ -1,7 +1,7 @@
 #!/bin/sh
 # Builds the library, its header and its bindings, and calls it from C, with the address and the undefined behaviour
 # sanitizer, from Rust and from Python: each plays examples/*.in, and what it prints is compared with *.out, byte for byte. The
-# C callers also try what a caller may do wrong, and each growth of memory refused in turn. What is missing is named, and
+# C callers also try what a caller may do wrong, each growth of memory refused in turn, and a million drawn calls. What is missing is named, and
 # counts as failed. The last line is 'N passed, M failed'. It wants gcc with its sanitizers (Debian: gcc, libasan, libubsan),
 # cargo, Python 3.11 and what tools/library.sh wants.
 set -u
@@ -69,6 +69,8 @@ if has gcc; then
     play C "$scratch/play"
     edges "C callers that do wrong" -fsanitize=address,undefined
     edges "growths refused to a C caller" -DWRAPPED -Wl,--wrap=malloc,--wrap=realloc,--wrap=free
+    compiled fuzz -Wl,--wrap=malloc,--wrap=realloc,--wrap=free && timeout 600 "$scratch/fuzz" examples/tool_changer.toml 1000000 1
+    tell $? "a million drawn calls from C"
 fi
 if has cargo; then
     CARGO_TARGET_DIR=$scratch/target cargo build --quiet --offline --release --manifest-path bindings/rust/Cargo.toml --example play
