@@ -5,3 +5,4 @@ pub mod Kept
 pub mod Lists
 pub mod Seatings
 pub mod Takings
+pub mod lemmas

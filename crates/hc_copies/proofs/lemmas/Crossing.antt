@@ -1,0 +1,13 @@
+-- A copy may go to another thread, and threads may share it: what it keeps for the proofs alone owns nothing.
+use denote.Param.Send.{IsSend, IsSync, sendable}
+use Rattle.core.proofs.snapshot.Sent.{snapshot_send, snapshot_sync}
+use Rattle.std.proofs.alloc.Global.TheSendSync as heap
+use Rattle.hc_places.proofs.table.Places.TheSendSync as places
+use Rattle.hc_inputs.proofs.inputs.Inputs.TheSendSync as inputs
+use Rattle.hc_copies.specs.contracts.shown.Shown.{the_row}
+
+pub shown_send : IsSend the_row
+shown_send = search (sendable, snapshot_send, heap.the_field_send, places.the_send, inputs.the_send) depth 24
+
+pub shown_sync : IsSync the_row
+shown_sync = search (sendable, snapshot_sync, heap.the_field_sync, places.the_sync, inputs.the_sync) depth 24
