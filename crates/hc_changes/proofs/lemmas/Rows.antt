@@ -1,5 +1,5 @@
 -- The rows that an edit changes are told by the candidates and by the slaves that change.
-use Rattle.std.proofs.Common.{◌≡◌, ℕ, suc, ◌+◌, ◌-◌, ◌<◌, ◌≤◌, ◌==◌, Bool, true, false, cond, List, [], ◌∷◌, ◌++◌, Contains, Option, Some, None, length, refl, sym, ap, subst, ◌∙◌, arith, rules}
+use Rattle.std.proofs.Common.{◌≡◌, ℕ, suc, ◌+◌, ◌-◌, ◌<◌, ◌≤◌, ◌==◌, Bool, true, false, cond, List, [], ◌∷◌, ◌++◌, Contains, Option, Some, None, length, refl, sym, ap, subst, ◌∙◌, arith}
 use Rattle.std.specs.Prelude.{All, filter, find, map, not, option_map, slice_index_or, ◌||◌}
 use Rattle.std.specs.List.{flat_map, list_any, zip}
 use Rattle.std.proofs.lemmas.Bool.{eq-eqb, eqb-true, not-true, or_parts}
@@ -93,7 +93,8 @@ assigned-at variable areas is = among-at variable (assigned_variables areas) is
     among-at variable' (other ∷ names) some = at-by (other == variable) other names refl some (among-at variable' names)
 
 at-assigned : (variable : ℕ) (areas : List Area) → Contains (assigned_variables areas) variable → is_assigned variable areas ≡ true
-at-assigned variable areas at = search (rules, list_any_at, eq-eqb)
+at-assigned variable areas at =
+    list_any_at (λ other. other == variable) (assigned_variables areas) at.0 variable at.1 (eq-eqb _ variable at.2)
 
 -- a variable that a slave's areas carry stands in the table, and is offered at its rank
 record IsCarriedAt (state : State) (rank variable : ℕ) : Type 0 where
@@ -129,7 +130,13 @@ is-carried state none variable place is =
     let found = stands.found in
     let own = own-by found (variable, place) (place_of (line state) found) stands.row in
     let ranked = area-at-rank state.groups found stands.of in
-    search (rules, contains-flat_map)
+    record {
+      found = found;
+      of = stands.of;
+      row = stands.row;
+      own = own;
+      ranked = contains-flat_map area_variables_of (areas_at (areas_by_rank state.groups) found.member.rank) found.area variable ranked own;
+    }
 
 gone-by : (changed : ℕ → Bool) (first : ℕ) (before after : List (List Area)) (old new : State) → IsChange changed first before after old new → (rank variable : ℕ)
     → Contains (assigned_variables (areas_at (areas_by_rank old.groups) rank)) variable → is_assigned variable (areas_at (areas_by_rank new.groups) rank) ≡ false
@@ -140,9 +147,12 @@ gone-by changed first before after old new change rank variable carried gone (So
     let now : IsCarried new variable place = is-carried new change.is_project variable place is in
     let rank' = now.found.member.rank in
     let offered = (carried-at new change.is_project rank' variable now.ranked).offered in
-    let offered' : Contains (slice_index_or ([] ∷ variables_by_rank old.groups) rank' []) variable = search rules in
+    let offered' : Contains (slice_index_or ([] ∷ variables_by_rank old.groups) rank' []) variable =
+    subst (λ (lists : List (List ℕ)). Contains (slice_index_or ([] ∷ lists) rank' []) variable) change.variables offered in
     let same : rank' ≡ rank = one-rank variable (variables_by_rank old.groups) rank' rank (offered-once old.groups change.was_project variable) offered' was.offered in
-    let still : is_assigned variable (areas_at (areas_by_rank new.groups) rank) ≡ true = search (rules, at-assigned) in
+    let still : is_assigned variable (areas_at (areas_by_rank new.groups) rank) ≡ true =
+    at-assigned variable (areas_at (areas_by_rank new.groups) rank)
+    (subst (λ (r : ℕ). Contains (assigned_variables (areas_at (areas_by_rank new.groups) r)) variable) same now.ranked) in
     cc
 
 gone-right : (changed : ℕ → Bool) (first : ℕ) (before after : List (List Area)) (old new : State) → IsChange changed first before after old new
@@ -159,16 +169,26 @@ gone-right changed first before after old new change variable at =
     let is : areas_at (areas_by_rank new.groups) rank ≡ pair.1 = areas-in-row (areas_by_rank new.groups) areas.front after areas.behind index.at areas.is (omega arith) ∙ index.second in
     let test : ℕ → Bool = λ v. not (is_assigned v pair.1) in
     let among = contains-unfiltered test (assigned_variables pair.0) variable piece.own in
-    let left : is_assigned variable pair.1 ≡ false = search (rules, not-true, All-contains, filter_passes) in
-    let carried : Contains (assigned_variables (areas_at (areas_by_rank old.groups) rank)) variable = search rules in
+    let left : is_assigned variable pair.1 ≡ false =
+    not-true (is_assigned variable pair.1) (All-contains (λ v. test v ≡ true) (filter test (assigned_variables pair.0)) variable (filter_passes test (assigned_variables pair.0)) piece.own) in
+    let carried : Contains (assigned_variables (areas_at (areas_by_rank old.groups) rank)) variable =
+    subst (λ (own : List Area). Contains (assigned_variables own) variable) (sym was) among in
     let gone : is_assigned variable (areas_at (areas_by_rank new.groups) rank) ≡ false = ap (is_assigned variable) is ∙ left in
     let stood = carried-at old change.was_project rank variable carried in
-    search (rules, gone-by)
+    record {
+      new = gone-by changed first before after old new change rank variable carried gone (place_in (table new) variable) refl;
+      other = ap (λ (place : Option VariablePlace). same_found place None) stood.stands;
+    }
 
 -- so each row that is told is right
 rows-right : (changed : ℕ → Bool) (first : ℕ) (before after : List (List Area)) (old new : State) → IsChange changed first before after old new
     → All (IsRight (table old) (table new)) (moved_rows (table old) (found_rows changed old new) ++ gone_rows before after)
-rows-right changed first before after old new change = search (rules, All-append, moved-right, All-map, All-weaker, gone-right, All-contains_itself)
+rows-right changed first before after old new change =
+    let gone = flat_map gone_variables (zip before after) in
+    All-append (IsRight (table old) (table new)) (moved_rows (table old) (found_rows changed old new)) (gone_rows before after)
+    (moved-right changed old new change.is_project)
+    (All-map (IsRight (table old) (table new)) gone_row gone
+    (All-weaker (Contains gone) (λ variable. IsRight (table old) (table new) (variable, None)) (λ variable at. gone-right changed first before after old new change variable at) gone (All-contains_itself gone)))
 
 -- and each variable whose place differs is told
 
@@ -191,8 +211,10 @@ appears-by changed first before after old new change variable place now differs 
     let parts = or_parts (changed found.member.rank) (is_recut (line old) (line new) found) is in
     let stood = others-stand changed (line old) (line new) (line-ascends 1 new.groups) change.slaves found (area-stands (line new) found now.of) parts.0 in
     let of = line-area (line old) found stood in
-    let same : place_of (line old) found ≡ place_of (line new) found = search (rules, same-place, line-ascends, project-list) in
-    let row : Contains (rows_of (candidate_of (line old) found)) (variable, place) = search rules in
+    let same : place_of (line old) found ≡ place_of (line new) found =
+    same-place found (line old) (line new) (line-ascends 1 old.groups) (project-list old found.area.task change.was_project) (project-list new found.area.task change.is_project) of now.of parts.1 in
+    let row : Contains (rows_of (candidate_of (line old) found)) (variable, place) =
+    subst (λ (p : Option _). Contains (rows_of (record { station = 0; rank = 0; index = 0; area = found.area; place = p })) (variable, place)) (sym same) now.row in
     let before' : place_in (table old) variable ≡ Some place = area-stands-at old change.was_project found of (variable, place) row in
     let alike = found-same (place_in (table old) variable) (Some place) before' in
     cc
@@ -226,7 +248,8 @@ goes-by changed first before after old new change i variable within none carried
     let rank = suc (length areas.front + i) in
     let many = areas.many in
     let now : areas_at (areas_by_rank new.groups) rank ≡ slice_index_or after i [] = areas-in-row (areas_by_rank new.groups) areas.front after areas.behind i areas.is (omega arith) in
-    let at : Contains (assigned_variables (areas_at (areas_by_rank new.groups) rank)) variable = search (rules, assigned-at) in
+    let at : Contains (assigned_variables (areas_at (areas_by_rank new.groups) rank)) variable =
+    subst (λ (own : List Area). Contains (assigned_variables own) variable) (sym now) (assigned-at variable (slice_index_or after i []) is) in
     let stands = (carried-at new change.is_project rank variable at).stands in
     cc
 
@@ -242,7 +265,8 @@ goes-from changed first before after old new change variable place none was true
     let begins = areas.rank in
     let index = rank-index (length areas.front) (length before) rank (omega (arith, begins, range.0)) (omega (arith, begins, range.1)) in
     let i = rank - suc (length areas.front) in
-    let own : areas_at (areas_by_rank old.groups) rank ≡ slice_index_or before i [] = search (rules, areas-in-row) in
+    let own : areas_at (areas_by_rank old.groups) rank ≡ slice_index_or before i [] =
+    ap (areas_at (areas_by_rank old.groups)) index.0 ∙ areas-in-row (areas_by_rank old.groups) areas.front before areas.behind i areas.was index.1 in
     let carried : Contains (assigned_variables (slice_index_or before i [])) variable = subst (λ (own : List Area). Contains (assigned_variables own) variable) own was.ranked in
     goes-by changed first before after old new change i variable index.1 none carried (is_assigned variable (slice_index_or after i [])) refl
 
@@ -270,17 +294,32 @@ told-by changed first before after old new change variable None None stood stand
 
 said-none : (same : Bool) (rows : List ChangedRow) (variable : ℕ) (now : Option VariablePlace) → All (λ (c : ChangedRow). (c.0 == variable) ≡ false) rows
     → (same ≡ false → IsTold variable rows) → None ≡ cond same None (Some now)
-said-none same rows variable now none told = search (rules, All-contains, eq-eqb)
+said-none true rows variable now none told = refl
+said-none false rows variable now none told =
+    let at = told refl in
+    let other : (variable == variable) ≡ false = All-contains (λ (c : ChangedRow). (c.0 == variable) ≡ false) rows (variable, at.0) none at.1 in
+    let own = eq-eqb variable variable refl in
+    cc
 
 said-some : (old new : Table) (rows : List ChangedRow) (variable : ℕ) (changed : ChangedRow) → All (IsRight old new) rows → find (λ c. c.0 == variable) rows ≡ Some changed
     → Some changed.1 ≡ new_place (place_in old variable) (place_in new variable)
-said-some old new rows variable changed right is = search (rules, found-among, eqb-true, All-contains)
+said-some old new rows variable changed right is =
+    let found = found-among (λ (c : ChangedRow). c.0 == variable) rows changed is in
+    let number : changed.0 ≡ variable = eqb-true changed.0 variable found.passes in
+    let own : IsRight old new changed = All-contains (IsRight old new) rows changed right found.among in
+    let now : place_in new variable ≡ changed.1 = ap (place_in new) (sym number) ∙ own.new in
+    let differs : same_found (place_in old variable) (place_in new variable) ≡ false =
+    ap (λ (place : Option VariablePlace). same_found (place_in old variable) place) now
+    ∙ ap (λ (v : ℕ). same_found (place_in old v) changed.1) (sym number) ∙ own.other in
+    rw (differs, now) refl
 
 said-by : (old new : Table) (rows : List ChangedRow) (variable : ℕ) → All (IsRight old new) rows
     → (same_found (place_in old variable) (place_in new variable) ≡ false → IsTold variable rows)
     → (found : Option ChangedRow) → find (λ c. c.0 == variable) rows ≡ found
     → option_map (λ (c : ChangedRow). c.1) found ≡ new_place (place_in old variable) (place_in new variable)
-said-by old new rows variable right told found is = search (rules, said-none, found-none, said-some)
+said-by old new rows variable right told None is =
+    said-none (same_found (place_in old variable) (place_in new variable)) rows variable (place_in new variable) (found-none (λ (c : ChangedRow). c.0 == variable) rows is) told
+said-by old new rows variable right told (Some changed) is = said-some old new rows variable changed right is
 
 -- and it is said once
 

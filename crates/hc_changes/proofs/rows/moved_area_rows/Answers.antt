@@ -1,5 +1,7 @@
-use Rattle.std.proofs.Common.{◌≡◌, ◌++◌, ◌∙◌, Some, ap, subst, sym, append-nil, rules}
+use Rattle.std.proofs.Common.{◌≡◌, ◌+◌, ◌<◌, ◌≤◌, ◌++◌, ◌∙◌, Some, ap, subst, sym, append-nil, rules}
+use Rattle.hc_records.specs.declared.limits.TheConstants.{MOST_AREA_BITS, TASKS}
 use Rattle.hc_records.specs.declared.records.Area.{Area}
+use Rattle.hc_records.specs.Area.{width}
 use Rattle.hc_places.specs.Ranges.{OffersBits}
 use Rattle.hc_changes.specs.Candidates.{Candidate}
 use Rattle.hc_changes.specs.MovedAreas.{MovedArea}
@@ -15,6 +17,29 @@ add_area-requires-clause-offers c =
     let area : c.moved_area-item.result.found.area ≡ c.found.inside.area.now = ap (λ (f : Candidate). f.area) same in
     let holds = stands-at c.args.moved_areas.now c.loop-moved_area.moved_area-index c.moved_area-item.result c.in-Some.placed c.requires c.loop-moved_area-test.true c.moved_area-item.is place in
     subst (λ (a : Area). OffersBits a) area holds.offers
+
+pub add_area-requires-clause-task : goal.add_area-requires-clause-task
+add_area-requires-clause-task c =
+    let same : c.moved_area-item.result.found ≡ record { station = c.found.inside.station; rank = c.found.inside.rank; index = c.found.inside.index; area = c.found.inside.area.now; place = c.found.inside.place } = search rules in
+    let place : c.moved_area-item.result.found.place ≡ Some c.in-Some.placed = ap (λ (f : Candidate). f.place) same ∙ c.in-Some.is in
+    let area : c.moved_area-item.result.found.area ≡ c.found.inside.area.now = ap (λ (f : Candidate). f.area) same in
+    let holds = stands-at c.args.moved_areas.now c.loop-moved_area.moved_area-index c.moved_area-item.result c.in-Some.placed c.requires c.loop-moved_area-test.true c.moved_area-item.is place in
+    subst (λ (a : Area). a.task < TASKS) area holds.task
+
+pub add_area-requires-clause-few : goal.add_area-requires-clause-few
+add_area-requires-clause-few c =
+    let same : c.moved_area-item.result.found ≡ record { station = c.found.inside.station; rank = c.found.inside.rank; index = c.found.inside.index; area = c.found.inside.area.now; place = c.found.inside.place } = search rules in
+    let place : c.moved_area-item.result.found.place ≡ Some c.in-Some.placed = ap (λ (f : Candidate). f.place) same ∙ c.in-Some.is in
+    let holds = stands-at c.args.moved_areas.now c.loop-moved_area.moved_area-index c.moved_area-item.result c.in-Some.placed c.requires c.loop-moved_area-test.true c.moved_area-item.is place in
+    holds.datagram
+
+pub add_area-requires-clause-inside : goal.add_area-requires-clause-inside
+add_area-requires-clause-inside c =
+    let same : c.moved_area-item.result.found ≡ record { station = c.found.inside.station; rank = c.found.inside.rank; index = c.found.inside.index; area = c.found.inside.area.now; place = c.found.inside.place } = search rules in
+    let place : c.moved_area-item.result.found.place ≡ Some c.in-Some.placed = ap (λ (f : Candidate). f.place) same ∙ c.in-Some.is in
+    let area : c.moved_area-item.result.found.area ≡ c.found.inside.area.now = ap (λ (f : Candidate). f.area) same in
+    let holds = stands-at c.args.moved_areas.now c.loop-moved_area.moved_area-index c.moved_area-item.result c.in-Some.placed c.requires c.loop-moved_area-test.true c.moved_area-item.is place in
+    subst (λ (a : Area). c.in-Some.placed.bit + width a ≤ MOST_AREA_BITS) area holds.inside
 
 pub loop-moved_area-preserved : goal.loop-moved_area-preserved
 loop-moved_area-preserved c =
