@@ -1,9 +1,9 @@
 #!/bin/sh
 # Builds the library, its header and its bindings, and calls it from C, with the address and the undefined behaviour
-# sanitizer, from Rust and from Python: each plays examples/*.in, and what it prints is compared with *.out, byte for byte. The
-# C callers also try what a caller may do wrong, each growth of memory refused in turn, and a million drawn calls. What is missing is named, and
-# counts as failed. The last line is 'N passed, M failed'. It wants gcc with its sanitizers (Debian: gcc, libasan, libubsan),
-# cargo, Python 3.11 and what tools/library.sh wants.
+# sanitizer, from Rust and from Python: each plays examples/*.in, and what it prints is compared with *.out, byte for byte.
+# The C callers also try what a caller may do wrong, each growth of memory refused in turn, and a million drawn calls. A master
+# and its slaves run for five seconds where a network namespace can be made; where none can, that is said. What is missing is
+# named, and counts as failed: tools/embed.packages has the Debian packages. The last line is 'N passed, M failed'.
 set -u
 cd "$(dirname "$0")/.."
 scratch=$(mktemp -d)
@@ -78,5 +78,13 @@ if has cargo; then
     play Rust "$scratch/target/release/examples/play"
 fi
 has python3 && play Python python3 bindings/python/play.py
+
+# a master and its slaves, two processes, for five seconds
+if has gcc && has ip; then
+    gcc -std=c11 -O2 -Wall -Wextra -Werror -Iinclude examples/master/master.c build/libzangjulf.a -o "$scratch/master" &&
+        timeout 60 "$scratch/master" examples/tool_changer.toml 5 1000
+    status=$?
+    [ $status -eq 77 ] || tell $status "the master"
+fi
 echo "$passed passed, $failed failed"
 [ "$passed" -gt 0 ] && [ "$failed" -eq 0 ]
