@@ -1,8 +1,8 @@
 /* Zangjulf's core for C: the configuration and process image of an EtherCAT line that changes while it runs.
  *
- * Each call is proved to do what is said here for every handle that keeps the rules below, in any order and with any numbers
- * and bytes; docs/EMBEDDING.md says what is proved and what is on trust. There are no threads, locks, clocks, files or
- * sockets in the library: frames go out and come in as bytes.
+ * What is said here of each call is proved for every handle that keeps the rules below, in any order of calls and with any
+ * numbers and bytes, but where docs/EMBEDDING.md says that it is only tested; what is on trust stands there too. There are no
+ * threads, locks, clocks, files or sockets in the library: frames go out and come in as bytes.
  *
  * The handle. A `struct zangjulf` is set to zeros before its first call (`struct zangjulf line = {0};`), and from then on
  * nothing but these calls writes it: it isn't copied, and not written by hand. It belongs to whoever declares it;
