@@ -1,7 +1,8 @@
-//! The look-ups in plain Rust: by walks over the declared groups, and in sorted arrays. Of a block both tell the slave and
-//! the register, since where an area is mapped is no part of finding it.
+//! The look-ups in plain Rust: by walks over the declared groups, and in sorted arrays. Of a block both make all bytes, by
+//! the slave's position: the n-th areas of all slaves stand one behind another in the n-th task, 135 to a datagram.
 
-use crate::line::{Group, Slave};
+use crate::line::{Area, Group, Slave};
+use std::hint::black_box;
 
 /// What is looked up, as the library's export takes it.
 #[repr(C)]
@@ -22,11 +23,35 @@ pub const KINDS: usize = 6;
 
 const NONE: u64 = 0xffff_ffff;
 
-/// The register and the size of a slave's block with a number: the sync manager's of its area, or the FMMU's.
-fn block(slave: &Slave, own: u8) -> u64 {
+/// The bytes of an area, and how many of them a datagram carries.
+const SIZE: u8 = 11;
+const MOST: usize = 135;
+
+/// A register and the size of bytes, which are made, as one number, as the library's export tells them.
+fn number_of(register: u64, bytes: &[u8]) -> u64 {
+    register << 8 | black_box(bytes).len() as u64
+}
+
+fn sync_manager(area: &Area) -> [u8; 8] {
+    let control = if area.sm % 2 == 0 { 0x64 } else { 0x20 };
+    let [low, high] = (0x1000 + 16 * u16::from(area.sm)).to_le_bytes();
+    [low, high, SIZE, 0, control, 0, 1, 0]
+}
+
+fn fmmu(area: &Area, position: usize) -> [u8; 16] {
+    let place = u32::from(SIZE) * (position % MOST) as u32;
+    let address = 0x0100_0000 * (u32::from(area.task) + 1) + 2048 * (position / MOST) as u32 + place;
+    let [a0, a1, a2, a3] = address.to_le_bytes();
+    let [low, high] = (0x1000 + 16 * u16::from(area.sm)).to_le_bytes();
+    let kind = if area.sm % 2 == 0 { 2 } else { 1 };
+    [a0, a1, a2, a3, SIZE, 0, 0, 7, low, high, 0, kind, 1, 0, 0, 0]
+}
+
+/// The block with a number of the slave at a position: the sync manager's of its area, or the FMMU's.
+fn block(slave: &Slave, position: usize, own: u8) -> u64 {
     match slave.areas.get(usize::from(own / 2)) {
-        Some(area) if own % 2 == 0 => (0x0800 + 8 * u64::from(area.sm)) << 8 | 8,
-        Some(_) => (0x0600 + 16 * u64::from(own / 2)) << 8 | 16,
+        Some(area) if own % 2 == 0 => number_of(0x0800 + 8 * u64::from(area.sm), &sync_manager(area)),
+        Some(area) => number_of(0x0600 + 16 * u64::from(own / 2), &fmmu(area, position)),
         None => NONE,
     }
 }
@@ -37,15 +62,15 @@ fn slaves(groups: &[Group]) -> impl Iterator<Item = &Slave> {
 
 /// The answer that a walk over the groups finds.
 pub fn walked(groups: &[Group], kind: usize, asked: &Asked) -> u64 {
-    let by_station = |slave: &&Slave| slave.station == asked.station;
+    let by_station = |own: &(usize, &Slave)| own.1.station == asked.station;
     match kind {
-        BLOCK => slaves(groups).find(by_station).map_or(NONE, |slave| block(slave, asked.own)),
+        BLOCK => slaves(groups).enumerate().find(by_station).map_or(NONE, |(at, slave)| block(slave, at, asked.own)),
         NTH_BLOCK => {
             let mut left = asked.number as usize;
-            for slave in slaves(groups) {
+            for (at, slave) in slaves(groups).enumerate() {
                 let own = 2 * slave.areas.len();
                 if left < own {
-                    return u64::from(slave.station) << 32 | block(slave, left as u8);
+                    return u64::from(slave.station) << 32 | block(slave, at, left as u8);
                 }
                 left -= own;
             }
@@ -95,11 +120,12 @@ impl<'a> Sorted<'a> {
 
     pub fn answer(&self, kind: usize, asked: &Asked) -> u64 {
         match kind {
-            BLOCK => self.position(asked.station).map_or(NONE, |at| block(self.line[at].0, asked.own)),
+            BLOCK => self.position(asked.station).map_or(NONE, |at| block(self.line[at].0, at, asked.own)),
             NTH_BLOCK if asked.number >= self.blocks => NONE,
             NTH_BLOCK => {
-                let (slave, front) = self.line[self.line.partition_point(|row| row.1 <= asked.number) - 1];
-                u64::from(slave.station) << 32 | block(slave, (asked.number - front) as u8)
+                let at = self.line.partition_point(|row| row.1 <= asked.number) - 1;
+                let (slave, front) = self.line[at];
+                u64::from(slave.station) << 32 | block(slave, at, (asked.number - front) as u8)
             }
             POSITION => self.position(asked.station).map_or(NONE, |at| at as u64),
             STATION => self.line.get(asked.number as usize).map_or(NONE, |row| row.0.station.into()),
