@@ -6,7 +6,11 @@
 #[cfg(test)]
 mod at_once;
 #[cfg(test)]
+mod changer;
+#[cfg(test)]
 mod dropped;
+#[cfg(test)]
+mod fates;
 #[cfg(test)]
 mod gates;
 #[cfg(test)]
@@ -16,10 +20,16 @@ mod lines;
 #[cfg(test)]
 mod loops;
 #[cfg(test)]
+mod often;
+#[cfg(test)]
 mod posting;
 #[cfg(test)]
 mod posts;
 #[cfg(test)]
 mod rows;
 #[cfg(test)]
+mod scopes;
+#[cfg(test)]
 mod steps;
+#[cfg(test)]
+mod working;

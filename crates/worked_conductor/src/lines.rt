@@ -42,7 +42,14 @@ pub const FRAME: usize = 60;
 pub fn opened<R: Wait>(rt: &R, alloc: Global) -> Option<(Conductor, Vec<TaskSeat>)>
     ensures { IfSome result (λ opened. All (IsFresh (origin_of opened.0)) (map seat_of opened.1.items)) }
 {
-    let project = read_project(alloc, LINE.as_bytes()).ok()?;
+    opened_line(rt, alloc, LINE)
+}
+
+/// A line at its opening.
+pub fn opened_line<R: Wait>(rt: &R, alloc: Global, line: &str) -> Option<(Conductor, Vec<TaskSeat>)>
+    ensures { IfSome result (λ opened. All (IsFresh (origin_of opened.0)) (map seat_of opened.1.items)) }
+{
+    let project = read_project(alloc, line.as_bytes()).ok()?;
     match open(rt, alloc, project) {
         Ok(opened) => Some(opened),
         Err(_) => None,

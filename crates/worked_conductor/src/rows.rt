@@ -22,21 +22,21 @@ pub struct Moment {
 }
 
 /// Before the publishing the answer is not shown.
-const OPENED: Moment = Moment {
+pub const OPENED: Moment = Moment {
     epoch: 0,
     data: None,
     told: &[(9, Err(1)), (1, Err(2)), (2, Err(4))],
 };
 
 /// The twelve bits from the second byte on are 0xa34.
-const ANSWERED: Moment = Moment {
+pub const ANSWERED: Moment = Moment {
     epoch: 0,
     data: Some(b"\x02\x34\x0a"),
     told: &[(9, Err(1)), (1, Err(2)), (2, Ok(2612))],
 };
 
 /// Task 1 has no datagram, and the axis' variables are another task's.
-const ELSEWHERE: Moment = Moment {
+pub const ELSEWHERE: Moment = Moment {
     epoch: 0,
     data: None,
     told: &[(9, Err(1)), (1, Err(2)), (2, Err(3))],
