@@ -14,3 +14,4 @@ pub mod limits;
 pub mod line;
 pub mod project;
 pub mod records;
+pub mod room;
