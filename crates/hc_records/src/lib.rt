@@ -15,3 +15,5 @@ pub mod line;
 pub mod project;
 pub mod records;
 pub mod room;
+
+pub use conditions::names::add_slave_names;
