@@ -1,11 +1,15 @@
 pub mod Aliased
 pub mod Declaring
+pub mod Entering
 pub mod Found
 pub mod Halves
 pub mod Indexes
 pub mod Lines
+pub mod Merging
+pub mod Names
 pub mod Owned
 pub mod Owners
+pub mod Searched
 pub mod Stations
 pub mod Summed
 pub mod lemmas
