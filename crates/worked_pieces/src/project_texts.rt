@@ -1,5 +1,6 @@
 //! Texts that are read, and texts that are refused. What is read is compared as a listing of every
 //! field, written by hand.
+mod groups;
 mod limits;
 mod projects;
 mod refusals;

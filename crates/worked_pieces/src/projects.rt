@@ -78,3 +78,55 @@ fn copies_are_the_same(rt: HostRuntime) -> Result<(), Fail> {
     assert!(rt; is_given_back(rt.alloc())?);
     Ok(())
 }
+
+/// Whether a copy of a group that may be declared is the same; the group's fault where it may not.
+fn is_copied(alloc: Global, group: &Group) -> Result<bool, ProjectFault> {
+    Ok(group.checked(alloc)?.is_same(group))
+}
+
+/// A group with its slaves twice.
+fn doubled(alloc: Global, group: &Group) -> Result<Group, AllocError> {
+    let mut slaves = group.slaves.copied(alloc)?;
+    let room = slaves.room_for(alloc, group.slaves.len())?;
+    slaves.append_into(room, group.slaves.copied(alloc)?);
+    Ok(Group {
+        alias: group.alias,
+        slaves,
+    })
+}
+
+#[test]
+fn groups_are_judged_alone(rt: HostRuntime) -> Result<(), Fail> {
+    for mandatory in groups_of(rt.alloc(), &[0])?.as_slice() {
+        assert_eq!(rt;
+            is_copied(rt.alloc(), mandatory).err(),
+            Some(ProjectFault::OutOfRange)
+        );
+    }
+    for tool in groups_of(rt.alloc(), &[100])?.as_slice() {
+        assert!(rt; is_copied(rt.alloc(), tool)?);
+        let twice = doubled(rt.alloc(), tool)?;
+        assert_eq!(rt;
+            is_copied(rt.alloc(), &twice).err(),
+            Some(ProjectFault::RepeatedStation)
+        );
+    }
+    Ok(())
+}
+
+/// The numbers that a list has after it grew by some, one by one, each time in memory that was taken before.
+fn grown(alloc: Global, count: u16) -> Result<Items<u16>, AllocError> {
+    let mut list = Items::new(alloc);
+    for number in 0..count {
+        let room = list.room_for(alloc, 1)?;
+        list.push_into(room, number);
+    }
+    Ok(list)
+}
+
+#[test]
+fn lists_grow_into_their_room(rt: HostRuntime) -> Result<(), Fail> {
+    let list = grown(rt.alloc(), 9)?;
+    assert!(rt; list.as_slice() == [0, 1, 2, 3, 4, 5, 6, 7, 8].as_slice());
+    Ok(())
+}
