@@ -34,20 +34,20 @@ wide-one branch first at old now next is low within so_far added =
     ap (filter has_width) (stretch-one branch.dir first at areas (branch-keys branch is) low within) ∙ filter-append has_width (stretch first at areas) one in
     added ∙ ap (λ (xs : List Keyed). xs ++ filter has_width one) so_far ∙ append_assoc old so_far' (filter has_width one) ∙ ap (λ (xs : List Keyed). old ++ xs) (sym more)
 
-pub wide-row : (branch : Branch) (first at row : ℕ) (old now : List Keyed) → IsBranch branch → first ≤ at → at ≡ 8 * row → row < length branch.rows.items
+pub wide-row : (branch : Branch) (first at index : ℕ) (old now : List Keyed) → IsBranch branch → first ≤ at → at ≡ 8 * index → index < length branch.rows.items
     → now ≡ old ++ filter has_width (stretch first at (slots_of branch).areas)
-    → filter has_width (part branch.dir branch.rows.items row 1) ≡ []
+    → filter has_width (part branch.dir branch.rows.items index 1) ≡ []
     → now ≡ old ++ filter has_width (stretch first (at + 8) (slots_of branch).areas)
-wide-row branch first at row old now is low at-row within so_far blank =
+wide-row branch first at index old now is low at-row within so_far blank =
     let areas = (slots_of branch).areas in
     let dir = branch.dir in
     let rows = branch.rows.items in
-    let one : row + 1 - row ≡ 1 = omega arith in
-    let here : 8 * row ≡ at = sym at-row in
-    let next : 8 * (row + 1) ≡ at + 8 = omega arith in
-    let own : stretch at (at + 8) areas ≡ part dir rows row 1 =
-    ap (λ n. stretch n (at + 8) areas) (sym here) ∙ ap (λ n. stretch (8 * row) n areas) (sym next)
-    ∙ sym (part-stretch branch row (row + 1) is (omega arith) (omega arith)) ∙ ap (part dir rows row) one in
+    let one : index + 1 - index ≡ 1 = omega arith in
+    let here : 8 * index ≡ at = sym at-row in
+    let next : 8 * (index + 1) ≡ at + 8 = omega arith in
+    let own : stretch at (at + 8) areas ≡ part dir rows index 1 =
+    ap (λ n. stretch n (at + 8) areas) (sym here) ∙ ap (λ n. stretch (8 * index) n areas) (sym next)
+    ∙ sym (part-stretch branch index (index + 1) is (omega arith) (omega arith)) ∙ ap (part dir rows index) one in
     so_far
     ∙ ap (λ xs. old ++ xs)
     (sym (ap (filter has_width) (stretch-split first at (at + 8) areas low (omega arith)) ∙ filter-append has_width (stretch first at areas) (stretch at (at + 8) areas)

@@ -387,12 +387,12 @@ impl Branch {
     }
 
     /// Whether no area of a row has a width, by the row's sum.
-    fn is_blank(&self, row: usize) -> bool
+    fn is_blank(&self, index: usize) -> bool
         requires branch { IsBranch self.now }
-        requires within { row < length self.now.rows.items }
-        ensures { IsTrue result → filter has_width (part self.now.dir self.now.rows.items row 1) ≡ [] }
+        requires within { index < length self.now.rows.items }
+        ensures { IsTrue result → filter has_width (part self.now.dir self.now.rows.items index 1) ≡ [] }
     {
-        match self.sums[self.rows.len() + row] {
+        match self.sums[self.rows.len() + index] {
             Sum::Empty => true,
             Sum::Run { .. } => false,
         }

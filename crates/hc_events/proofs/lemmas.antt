@@ -16,3 +16,4 @@ pub mod StaleStays
 pub mod Views
 pub mod Standing
 pub mod WithoutStale
+pub mod Crossing

@@ -11,3 +11,4 @@ pub mod Same
 pub mod Sorted
 pub mod Swaps
 pub mod Totals
+pub mod Crossing

@@ -5,3 +5,4 @@ pub mod Outputs
 pub mod Results
 pub mod Steps
 pub mod Same
+pub mod Crossing

@@ -2,12 +2,12 @@
 use denote.Param.Send.{IsSend, IsSync, sendable}
 use Rattle.core.proofs.snapshot.Sent.{snapshot_send, snapshot_sync}
 use Rattle.std.proofs.alloc.Global.TheSendSync as heap
-use Rattle.hc_places.proofs.table.Places.TheSendSync as places
-use Rattle.hc_inputs.proofs.inputs.Inputs.TheSendSync as inputs
+use Rattle.hc_inputs.proofs.lemmas.Crossing.{inputs_send, inputs_sync}
+use Rattle.hc_places.proofs.lemmas.Crossing.{places_send, places_sync}
 use Rattle.hc_copies.specs.contracts.shown.Shown.{the_row}
 
 pub shown_send : IsSend the_row
-shown_send = search (sendable, snapshot_send, heap.the_field_send, places.the_send, inputs.the_send) depth 24
+shown_send = search (sendable, snapshot_send, heap.the_field_send, places_send, inputs_send) depth 24
 
 pub shown_sync : IsSync the_row
-shown_sync = search (sendable, snapshot_sync, heap.the_field_sync, places.the_sync, inputs.the_sync) depth 24
+shown_sync = search (sendable, snapshot_sync, heap.the_field_sync, places_sync, inputs_sync) depth 24
