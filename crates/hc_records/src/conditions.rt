@@ -13,7 +13,7 @@ use ranges::is_outside;
 use scan::{Condition, Relation, some_area, some_pair, some_slave};
 use std::alloc::Global;
 
-mod names;
+pub mod names;
 mod ranges;
 pub mod scan;
 

@@ -14,3 +14,5 @@ pub mod limits;
 pub mod line;
 pub mod project;
 pub mod records;
+
+pub use conditions::names::add_slave_names;

@@ -81,7 +81,9 @@ fn add_area_names(names: &mut Vec<u32>, areas: &[Area]) -> Result<(), AllocError
     Ok(())
 }
 
-fn add_slave_names(names: &mut Vec<u32>, slaves: &[Slave]) -> Result<(), AllocError>
+/// Adds the variables that the areas of slaves offer, assigned or not, in order. `AllocError` where a growth was
+/// refused.
+pub fn add_slave_names(names: &mut Vec<u32>, slaves: &[Slave]) -> Result<(), AllocError>
     ensures { OnOk result (names.new.items ≡ names.old.items ++ slave_names slaves.now) }
 {
     for slave in slaves {
