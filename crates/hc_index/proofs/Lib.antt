@@ -4,8 +4,10 @@ pub mod Found
 pub mod Halves
 pub mod Indexes
 pub mod Lines
+pub mod Names
 pub mod Owned
 pub mod Owners
+pub mod Searched
 pub mod Stations
 pub mod Summed
 pub mod lemmas

@@ -5,7 +5,7 @@ use Rattle.std.specs.List.Sorted.{IsNonDecreasing, IsPermutation}
 use Rattle.hc_records.specs.declared.records.Declared.{Declared}
 use Rattle.hc_records.specs.declared.records.Slave.{Slave}
 use Rattle.hc_records.specs.Line.{Member, groups_of, line_from, present_slaves}
-use Rattle.hc_records.specs.Project.{lowest_fault}
+use Rattle.hc_records.specs.Project.{lowest_fault, slave_names, slaves_of}
 use Rattle.hc_index.specs.declared.addresses.Address.{Address}
 use Rattle.hc_index.specs.declared.aliases.Alias.{Alias}
 
@@ -44,6 +44,10 @@ AreRanks all ranks = (station : ℕ) → IsRankOf all station (get_or ranks stat
 abbrev pub owners_from : ℕ → List Declared → List ℕ
 owners_from group [] = []
 owners_from group (declared ∷ groups) = map (λ (slave : Slave). group) declared.group.slaves ++ owners_from (group + 1) groups
+
+-- the variables that areas of declared slaves offer, present or not, assigned or not, in declared order
+abbrev pub variables : List Declared → List ℕ
+variables groups = slave_names (slaves_of (groups_of groups))
 
 -- how many register blocks slaves have: two for each area
 
@@ -105,11 +109,12 @@ abbrev pub block_sums : Declared → List ℕ
 block_sums declared = sums_from blocks_of 0 declared.group.slaves
 
 -- the aliases with the numbers of their groups, in the order of the aliases; at each station address the rank of the declared
--- slave that has it; of each declared slave its group; for each declared group the sums of its slaves' blocks; and the sums of the groups' declared slaves, of
--- their slaves of the line, and of the blocks of those
+-- slave that has it; the variables that declared slaves offer, in the order of their numbers; of each declared slave its group; for each declared group
+-- the sums of its slaves' blocks; and the sums of the groups' declared slaves, of their slaves of the line, and of the blocks of those
 pub record Index : Type 0 where
   pub aliases : List Alias
   pub stations : List ℕ
+  pub variables : List ℕ
   pub owners : List ℕ
   pub fronts : List (List ℕ)
   pub ranks : List ℕ
@@ -117,11 +122,12 @@ pub record Index : Type 0 where
   pub blocks : List ℕ
 
 -- the index has what never changes of a project's groups: their aliases, and of the slaves that they declare the addresses, the
--- ranks and the blocks
+-- offered variables, the ranks and the blocks
 pub record IsIndexOfDeclared (groups : List Declared) (index : Index) : Type 0 where
   pub project : lowest_fault (groups_of groups) ≡ None
   pub aliases : IsPermutation (aliases groups) index.aliases
   pub stations : AreRanks (addresses groups) index.stations
+  pub variables : IsPermutation (variables groups) index.variables
   pub owners : index.owners ≡ owners_from 0 groups
   pub fronts : index.fronts ≡ map block_sums groups
   pub ranks : index.ranks ≡ sums_from declared_count 0 groups

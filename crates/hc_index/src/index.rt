@@ -8,7 +8,8 @@ use crate::addresses::{find_rank, ranks_by_station};
 use crate::aliases::{Alias, find_group, sorted_aliases};
 use crate::owning::owners;
 use crate::sums::{Spot, declared_sums, find_spot, group_fronts, number_at, sum_line};
-use hc_records::records::{Declared, Slave};
+use crate::variables::{is_one_of, sorted_variables};
+use hc_records::records::{Declared, Slave, VarId};
 use std::alloc::{AllocError, Global};
 use std::marker::Model;
 
@@ -52,6 +53,8 @@ pub struct Index {
     aliases: Vec<Alias>,
     // at each station address the rank of the declared slave that has it, or 0
     stations: Vec<u16>,
+    // the variables that declared slaves offer, the lowest first
+    variables: Vec<u32>,
     // of each declared slave the number of its group
     owners: Vec<u16>,
     // of each declared group, how many blocks are in front of each of its slaves in the group, and how many it has
@@ -69,6 +72,7 @@ impl Drop for Index {
         let Index {
             aliases: _,
             stations: _,
+            variables: _,
             owners: _,
             fronts: _,
             ranks: _,
@@ -80,14 +84,14 @@ impl Drop for Index {
 
 impl Model for Index {
     ghost use Rattle.std.specs.Prelude.{◌<◌, length, map, vec_capacity};
-    ghost use Rattle.std.specs.List.Sorted.{IsNonDecreasingBy};
+    ghost use Rattle.std.specs.List.Sorted.{IsNonDecreasing, IsNonDecreasingBy};
     ghost use Rattle.hc_index.specs.Index.{Index};
 
     ghost Value = { Index };
 
-    ghost view = { λ index. record { aliases = index.aliases.items; stations = index.stations.items; owners = index.owners.items; fronts = map (λ sums. sums.items) index.fronts.items; ranks = index.ranks.items; slaves = index.slaves.items; blocks = index.blocks.items } };
+    ghost view = { λ index. record { aliases = index.aliases.items; stations = index.stations.items; variables = index.variables.items; owners = index.owners.items; fronts = map (λ sums. sums.items) index.fronts.items; ranks = index.ranks.items; slaves = index.slaves.items; blocks = index.blocks.items } };
 
-    ghost invariant = { λ index. IsNonDecreasingBy (λ alias. alias.alias) index.aliases.items × (length index.fronts.items < vec_capacity index.slaves) × (length index.fronts.items < vec_capacity index.blocks) };
+    ghost invariant = { λ index. IsNonDecreasingBy (λ alias. alias.alias) index.aliases.items × IsNonDecreasing index.variables.items × (length index.fronts.items < vec_capacity index.slaves) × (length index.fronts.items < vec_capacity index.blocks) };
 }
 
 impl Index {
@@ -98,6 +102,7 @@ impl Index {
     {
         let aliases = sorted_aliases(alloc, groups)?;
         let stations = ranks_by_station(alloc, groups)?;
+        let variables = sorted_variables(alloc, groups)?;
         let owners = owners(alloc, groups)?;
         let fronts = group_fronts(alloc, groups)?;
         let ranks = declared_sums(alloc, groups)?;
@@ -107,6 +112,7 @@ impl Index {
         Ok(Index {
             aliases,
             stations,
+            variables,
             owners,
             fronts,
             ranks,
@@ -136,6 +142,7 @@ impl Index {
             groups,
             aliases: self.aliases.as_slice(),
             stations: self.stations.as_slice(),
+            variables: self.variables.as_slice(),
             owners: self.owners.as_slice(),
             fronts: self.fronts.as_slice(),
             ranks: self.ranks.as_slice(),
@@ -151,6 +158,7 @@ pub struct Indexed<'a> {
     groups: &'a [Declared],
     aliases: &'a [Alias],
     stations: &'a [u16],
+    variables: &'a [u32],
     owners: &'a [u16],
     fronts: &'a [Vec<u32>],
     ranks: &'a [u32],
@@ -160,7 +168,7 @@ pub struct Indexed<'a> {
 
 impl<'a> Model for Indexed<'a> {
     ghost use Rattle.std.specs.Prelude.{List, map};
-    ghost use Rattle.std.specs.List.Sorted.{IsNonDecreasingBy};
+    ghost use Rattle.std.specs.List.Sorted.{IsNonDecreasing, IsNonDecreasingBy};
     ghost use Rattle.hc_records.specs.declared.records.Declared.{Declared};
     ghost use Rattle.hc_index.specs.Index.{IsIndexOf};
 
@@ -168,14 +176,15 @@ impl<'a> Model for Indexed<'a> {
 
     ghost view = { λ indexed. indexed.groups.now };
 
-    ghost invariant = { λ indexed. IsIndexOf indexed.groups.now (record { aliases = indexed.aliases.now; stations = indexed.stations.now; owners = indexed.owners.now; fronts = map (λ sums. sums.items) indexed.fronts.now; ranks = indexed.ranks.now; slaves = indexed.slaves.now; blocks = indexed.blocks.now }) × IsNonDecreasingBy (λ alias. alias.alias) indexed.aliases.now };
+    ghost invariant = { λ indexed. IsIndexOf indexed.groups.now (record { aliases = indexed.aliases.now; stations = indexed.stations.now; variables = indexed.variables.now; owners = indexed.owners.now; fronts = map (λ sums. sums.items) indexed.fronts.now; ranks = indexed.ranks.now; slaves = indexed.slaves.now; blocks = indexed.blocks.now }) × IsNonDecreasingBy (λ alias. alias.alias) indexed.aliases.now × IsNonDecreasing indexed.variables.now };
 }
 
 impl<'a> Indexed<'a> {
     ghost use Rattle.std.specs.Prelude.{◌≡◌, ◌≢◌, ◌==◌, ◌<◌, ◌≤◌, All, IfSome, MatchOption, find, length, option_map, position, slice_get, sum_by};
     ghost use Rattle.std.specs.List.{list_any};
     ghost use Rattle.hc_records.specs.Edits.{has_station};
-    ghost use Rattle.hc_records.specs.Line.{is_at, line_from};
+    ghost use Rattle.hc_records.specs.Line.{groups_of, is_at, line_from};
+    ghost use Rattle.hc_records.specs.Project.{slave_names, slaves_of};
     ghost use Rattle.hc_index.specs.Index.{IsMember, own_blocks, owned_by, rank_in, slave_in};
 
     /// How many slaves the line has.
@@ -207,6 +216,13 @@ impl<'a> Indexed<'a> {
         ensures { result ≡ list_any (λ declared. has_station station declared.group.slaves) self.now }
     {
         find_rank(self.stations, station).is_some()
+    }
+
+    /// Whether an area of a declared slave, present or not, offers a variable, assigned or not.
+    pub fn is_offered(&self, variable: VarId) -> bool
+        ensures { result ≡ list_any (λ other. other == variable) (slave_names (slaves_of (groups_of self.now))) }
+    {
+        is_one_of(self.variables, variable.number())
     }
 
     /// Where the slave with a rank stands, if its group is present: the number of the group, from 0, and the

@@ -1,5 +1,6 @@
 //! Look-ups in a project's declared groups by an index, in place of a walk: a group by its alias, a slave
-//! by its station address or its position in the line, a register block by its number. The plan keeps one.
+//! by its station address or its position in the line, a register block by its number, a variable that a
+//! declared slave offers. The plan keeps one.
 #![tactic(auto)]
 
 mod addresses;
@@ -7,3 +8,4 @@ mod aliases;
 pub mod index;
 mod owning;
 mod sums;
+mod variables;

@@ -26,6 +26,7 @@ invariant_of-result c =
     let slaves = c.sum_line.ensures.room.0 in
     let blocks = c.sum_line.ensures.room.1 in (
       c.in_ok-aliases.ensures.order,
+      c.in_ok-variables.ensures.order,
       omega (arith, count, slaves, c.in_ok-slaves.ensures.capacity),
       omega (arith, count, blocks, c.in_ok-blocks.ensures.capacity),
     )
