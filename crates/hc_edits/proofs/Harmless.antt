@@ -12,7 +12,8 @@ use Rattle.hc_records.specs.declared.edit.Edit.TheVariants.{Remap, Move}
 use Rattle.hc_records.specs.declared.faults.EditFault.{EditFault}
 use Rattle.hc_records.specs.declared.faults.EditFault.TheVariants.{UnknownStation, Absent, NoSuchArea, NoSuchTask, UnknownPdo, RepeatedPdo, AreaTooBig}
 use Rattle.hc_records.specs.Lists.{has_repeat, lowest}
-use Rattle.hc_records.specs.Edits.{area_at, has_unknown, is_too_big}
+use Rattle.hc_records.specs.Edits.{area_at, is_too_big}
+use Rattle.hc_records.specs.Area.{has_unknown}
 use Rattle.hc_records.specs.Project.{area_outside, has_unknown_pdo, is_outside, is_wide, pdo_outside, reach}
 use Rattle.hc_records.proofs.lemmas.Projects.{none-holds}
 use Rattle.hc_edits.specs.Edits.{own_fault, state_of}

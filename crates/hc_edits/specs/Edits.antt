@@ -7,7 +7,8 @@ use Rattle.hc_records.specs.declared.faults.EditFault.{EditFault}
 use Rattle.hc_records.specs.declared.faults.EditFault.TheVariants.{UnknownPdo, RepeatedPdo, AreaTooBig}
 use Rattle.hc_records.specs.Line.{State}
 use Rattle.hc_records.specs.Lists.{has_repeat, lowest}
-use Rattle.hc_records.specs.Edits.{has_unknown, is_too_big, own_faults}
+use Rattle.hc_records.specs.Area.{has_unknown}
+use Rattle.hc_records.specs.Edits.{is_too_big, own_faults}
 use Rattle.hc_edits.specs.declared.areas.AreaChange.{AreaChange}
 use Rattle.hc_edits.specs.declared.areas.AreaChange.TheVariants.{Pdos, Task}
 

@@ -7,8 +7,7 @@ use Rattle.hc_records.specs.declared.limits.TheConstants.{MOST_AREA_BITS}
 use Rattle.hc_records.specs.declared.records.Area.{Area}
 use Rattle.hc_records.specs.declared.records.Slave.{Slave}
 use Rattle.hc_records.specs.declared.records.Group.{Group}
-use Rattle.hc_records.specs.Area.{width}
-use Rattle.hc_records.specs.Edits.{has_unknown, offers}
+use Rattle.hc_records.specs.Area.{has_unknown, offers, width}
 use Rattle.hc_records.specs.Lists.{has_repeat, some_pair}
 use Rattle.hc_records.specs.Project.{has_overlap, has_repeated_alias, has_repeated_station, has_repeated_variable, has_unknown_pdo, is_wide, repeats_sync_manager, same_index, some_area, some_slave}
 use Rattle.hc_project.specs.declared.places.Key.TheVariants as key

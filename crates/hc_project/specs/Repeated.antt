@@ -6,8 +6,7 @@ use Rattle.hc_records.specs.declared.records.Pdo.{Pdo}
 use Rattle.hc_records.specs.declared.records.Area.{Area}
 use Rattle.hc_records.specs.declared.records.Slave.{Slave}
 use Rattle.hc_records.specs.declared.records.Group.{Group}
-use Rattle.hc_records.specs.Area.{Entry, width}
-use Rattle.hc_records.specs.Edits.{offers}
+use Rattle.hc_records.specs.Area.{Entry, offers, width}
 use Rattle.hc_records.specs.Project.{reach}
 use Rattle.hc_project.specs.declared.repeats.Extent.{Extent}
 use Rattle.hc_project.specs.declared.places.Key.TheVariants as key

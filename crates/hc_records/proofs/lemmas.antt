@@ -2,6 +2,7 @@
 pub mod Addresses
 pub mod Ascending
 pub mod Cuts
+pub mod Declaring
 pub mod Disjoint
 pub mod Entries
 pub mod Finds

@@ -1,7 +1,7 @@
--- The width of an area: the bits of its assigned PDOs.
-use Rattle.std.specs.Prelude.{ℕ, ◌==◌, List, [], Option, find, sum_by}
+-- The width of an area: the bits of its assigned PDOs; and which PDOs it offers.
+use Rattle.std.specs.Prelude.{ℕ, ◌==◌, not, Bool, List, [], Option, find, sum_by}
 use Rattle.std.specs.Option.{option_map_or}
-use Rattle.std.specs.List.{flat_map}
+use Rattle.std.specs.List.{flat_map, list_any}
 use Rattle.hc_records.specs.declared.records.Pdo.{Pdo}
 use Rattle.hc_records.specs.declared.records.Area.{Area}
 
@@ -24,3 +24,11 @@ bits_of entries = sum_by (λ entry. entry.1) entries
 -- the width of an area, in bits
 abbrev pub width : Area → ℕ
 width area = bits_of (assigned_entries area)
+
+-- an area offers a PDO with this index
+abbrev pub offers : Area → ℕ → Bool
+offers area index = list_any (λ pdo. pdo.index == index) area.offered
+
+-- one of the indexes isn't offered
+abbrev pub has_unknown : List ℕ → Area → Bool
+has_unknown pdos area = list_any (λ index. not (offers area index)) pdos

@@ -1,19 +1,22 @@
 -- What an edit makes of a state, and when it is refused.
-use Rattle.std.specs.Prelude.{ℕ, ◌+◌, ◌==◌, ◌&&◌, not, nat_lt, is_none, is_some, unwrap_or, Bool, true, false, if◌then◌else◌, List, [], ◌∷◌, ◌++◌, map, find, slice_get, option_and_then, Option, Some, None, Result, Ok, Err}
+use Rattle.std.specs.Prelude.{ℕ, ◌+◌, ◌==◌, ◌&&◌, not, nat_lt, is_none, is_some, unwrap_or, Bool, true, false, if◌then◌else◌, List, [], ◌∷◌, ◌++◌, length, map, find, slice_get, option_and_then, Option, Some, None, Result, Ok, Err}
 use Rattle.std.specs.Option.{option_map_or}
 use Rattle.std.specs.Result.{result_unwrap_or}
 use Rattle.std.specs.List.{list_any}
-use Rattle.hc_records.specs.declared.limits.TheConstants.{LAST_EPOCH, MOST_AREA_BITS, MOST_DATAGRAMS, TASKS}
+use Rattle.hc_records.specs.declared.limits.TheConstants.{LAST_EPOCH, MOST_AREA_BITS, MOST_DATAGRAMS, MOST_GROUPS, MOST_SLAVES, TASKS}
 use Rattle.hc_records.specs.declared.records.Area.{Area}
 use Rattle.hc_records.specs.declared.records.Slave.{Slave}
+use Rattle.hc_records.specs.declared.records.Group.{Group}
 use Rattle.hc_records.specs.declared.edit.Edit.{Edit}
-use Rattle.hc_records.specs.declared.edit.Edit.TheVariants.{Connect, Disconnect, Remap, Move}
+use Rattle.hc_records.specs.declared.edit.Edit.TheVariants.{Connect, Disconnect, Remap, Move, Declare}
+use Rattle.hc_records.specs.declared.faults.ProjectFault.TheVariants.{OutOfRange}
 use Rattle.hc_records.specs.declared.faults.EditFault.{EditFault}
-use Rattle.hc_records.specs.declared.faults.EditFault.TheVariants.{UnknownAlias, AlreadyPresent, NotPresent, Mandatory, UnknownStation, Absent, NoSuchArea, NoSuchTask, UnknownPdo, RepeatedPdo, AreaTooBig, TooManyDatagrams, EpochsSpent}
+use Rattle.hc_records.specs.declared.faults.EditFault.TheVariants.{UnknownAlias, AlreadyPresent, NotPresent, Mandatory, UnknownStation, Absent, NoSuchArea, NoSuchTask, UnknownPdo, RepeatedPdo, AreaTooBig, TooManyDatagrams, EpochsSpent, BadGroup, AliasTaken, StationTaken, VariableTaken, TooManyGroups, TooManySlaves}
 use Rattle.hc_records.specs.Lists.{changed_at, has_repeat, lowest}
-use Rattle.hc_records.specs.Area.{width}
+use Rattle.hc_records.specs.Area.{has_unknown, width}
 use Rattle.hc_records.specs.declared.records.Declared.{Declared}
-use Rattle.hc_records.specs.Line.{State, Member, has_address, is_at, line}
+use Rattle.hc_records.specs.Line.{State, Member, groups_of, has_address, is_at, line}
+use Rattle.hc_records.specs.Project.{lowest_fault, slave_names, slaves_of}
 use Rattle.hc_records.specs.Image.{datagram_count, task_places, tasks}
 
 -- a declared group has the alias
@@ -40,14 +43,6 @@ slave_at state station = find (is_at station) (line state)
 abbrev pub area_at : State → ℕ → ℕ → Option Area
 area_at state station area = option_and_then (λ member. slice_get member.slave.areas area) (slave_at state station)
 
--- an area offers a PDO with this index
-abbrev pub offers : Area → ℕ → Bool
-offers area index = list_any (λ pdo. pdo.index == index) area.offered
-
--- one of the indexes isn't offered
-abbrev pub has_unknown : List ℕ → Area → Bool
-has_unknown pdos area = list_any (λ index. not (offers area index)) pdos
-
 -- with these PDOs assigned the area has more bits than a datagram
 abbrev pub is_too_big : List ℕ → Area → Bool
 is_too_big pdos area = nat_lt MOST_AREA_BITS (width (record area { assigned = pdos }))
@@ -71,12 +66,25 @@ abbrev pub with_slaves : (Slave → Slave) → Declared → Declared
 with_slaves change declared =
     record declared { group = record declared.group { slaves = map change declared.group.slaves } }
 
+-- a group as it is declared: it is absent
+abbrev pub absent : Group → Declared
+absent group = record { group = group; present = false }
+
 -- the declared groups after an edit that isn't refused
 abbrev pub groups_after : List Declared → Edit → List Declared
 groups_after groups (Connect alias) = map (with_presence alias true) groups
 groups_after groups (Disconnect alias) = map (with_presence alias false) groups
 groups_after groups (Remap station area pdos) = map (with_slaves (with_area station area (λ a. record a { assigned = pdos }))) groups
 groups_after groups (Move station area task) = map (with_slaves (with_area station area (λ a. record a { task = task }))) groups
+groups_after groups (Declare group) = groups ++ absent group ∷ []
+
+-- the edit declares a group: every other edit leaves the same groups and slaves declared
+abbrev pub declares : Edit → Bool
+declares (Connect alias) = false
+declares (Disconnect alias) = false
+declares (Remap station area pdos) = false
+declares (Move station area task) = false
+declares (Declare group) = true
 
 -- the state after such an edit: its epoch is one more
 abbrev pub changed : State → Edit → State
@@ -107,14 +115,43 @@ own_faults state (Remap station area pdos) =
     ∷ []
 own_faults state (Move station area task) =
     area_faults state station area ++ (not (nat_lt task TASKS), NoSuchTask) ∷ []
+own_faults state (Declare group) = []
 
--- the faults of an edit: its own, then those that every edit may have, a crowded task of the new line and the last epoch
+-- the smallest project that may have a group: an empty mandatory group stands before it
+abbrev pub alone : Group → List Group
+alone group = record { alias = 0; slaves = [] } ∷ group ∷ []
+
+-- a slave of a declared group, present or not, offers the variable in one of its areas
+abbrev pub is_declared_variable : List Declared → ℕ → Bool
+is_declared_variable groups variable =
+    list_any (λ declared. list_any (λ name. name == variable) (slave_names declared.group.slaves)) groups
+
+-- the faults of a group that is declared behind others, the lowest first: those that it has by itself, what is taken already, and the limits
+abbrev pub declaring_faults : List Declared → Group → List (Bool × EditFault)
+declaring_faults groups group =
+    (is_some (lowest_fault (alone group)), BadGroup (unwrap_or (lowest_fault (alone group)) OutOfRange))
+    ∷ (list_any (λ declared. declared.group.alias == group.alias) groups, AliasTaken)
+    ∷ (list_any (λ slave. list_any (λ declared. has_station slave.station declared.group.slaves) groups) group.slaves, StationTaken)
+    ∷ (list_any (is_declared_variable groups) (slave_names group.slaves), VariableTaken)
+    ∷ (nat_lt MOST_GROUPS (length groups + 1), TooManyGroups)
+    ∷ (nat_lt MOST_SLAVES (length (slaves_of (groups_of groups)) + length group.slaves), TooManySlaves)
+    ∷ []
+
+-- the faults that are judged behind all others: those of a declared group
+abbrev pub late_faults : State → Edit → List (Bool × EditFault)
+late_faults state (Connect alias) = []
+late_faults state (Disconnect alias) = []
+late_faults state (Remap station area pdos) = []
+late_faults state (Move station area task) = []
+late_faults state (Declare group) = declaring_faults state.groups group
+
+-- the faults of an edit: its own, then those that every edit may have, a crowded task of the new line and the last epoch, then those of a declared group
 abbrev pub edit_faults : State → Edit → List (Bool × EditFault)
 edit_faults state edit =
     own_faults state edit
     ++ (is_some (crowded_task (line (changed state edit))), TooManyDatagrams (unwrap_or (crowded_task (line (changed state edit))) 0))
     ∷ (state.epoch == LAST_EPOCH, EpochsSpent)
-    ∷ []
+    ∷ late_faults state edit
 
 -- the fault, if there is one; else the state
 abbrev pub refused_by : Option EditFault → State → Result State EditFault

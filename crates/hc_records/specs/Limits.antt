@@ -5,8 +5,7 @@ use Rattle.hc_records.specs.declared.records.Pdo.{Pdo}
 use Rattle.hc_records.specs.declared.records.Area.{Area}
 use Rattle.hc_records.specs.declared.records.Slave.{Slave}
 use Rattle.hc_records.specs.declared.records.Group.{Group}
-use Rattle.hc_records.specs.Area.{Entry, width}
-use Rattle.hc_records.specs.Edits.{has_unknown}
+use Rattle.hc_records.specs.Area.{Entry, has_unknown, width}
 use Rattle.hc_records.specs.Project.{reach, slave_names, slaves_of}
 
 -- an entry has 1 to 64 bits

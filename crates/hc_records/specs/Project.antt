@@ -9,8 +9,7 @@ use Rattle.hc_records.specs.declared.records.Group.{Group}
 use Rattle.hc_records.specs.declared.faults.ProjectFault.{ProjectFault}
 use Rattle.hc_records.specs.declared.faults.ProjectFault.TheVariants.{OutOfRange, RepeatedAlias, RepeatedStation, RepeatedSyncManager, OverlappingAreas, RepeatedVariable, UnknownPdo, AreaTooBig}
 use Rattle.hc_records.specs.Lists.{has_repeat, lowest, some_pair}
-use Rattle.hc_records.specs.Area.{Entry, bits_of, width}
-use Rattle.hc_records.specs.Edits.{has_unknown}
+use Rattle.hc_records.specs.Area.{Entry, bits_of, has_unknown, width}
 
 -- all slaves, in declared order
 abbrev pub slaves_of : List Group → List Slave

@@ -1,14 +1,15 @@
 -- What a project's conditions say of its line and of its areas. Each is the contract of a function of `laws`.
-use Rattle.std.specs.Prelude.{◌≡◌, ℕ, ◌*◌, ◌<◌, ◌≤◌, false, All, AllPairs, None, List, map}
+use Rattle.std.specs.Prelude.{◌≡◌, ℕ, ◌*◌, ◌<◌, ◌≤◌, false, All, AllPairs, None, List, [], ◌∷◌, ◌++◌, map}
 use Rattle.hc_records.specs.declared.limits.TheConstants.{MEMORY_END, MEMORY_START}
 use Rattle.hc_records.specs.declared.records.Area.{Area}
 use Rattle.hc_records.specs.declared.records.Declared.{Declared}
 use Rattle.hc_records.specs.declared.records.Group.{Group}
 use Rattle.hc_records.specs.declared.records.Slave.{Slave}
 use Rattle.hc_records.specs.Area.{width}
-use Rattle.hc_records.specs.Line.{IsCounted, State, groups_of, line}
+use Rattle.hc_records.specs.Edits.{absent, declaring_faults}
+use Rattle.hc_records.specs.Line.{IsCounted, State, groups_of, line, line_from}
 use Rattle.hc_records.specs.Limits.{IsProjectInside, KeepApart, Reaches}
-use Rattle.hc_records.specs.Lists.{has_repeat}
+use Rattle.hc_records.specs.Lists.{has_repeat, lowest}
 use Rattle.hc_records.specs.Project.{lowest_fault, reach, slaves_of}
 
 -- a project keeps all limits: each value in its range, each name once, each area in memory of its own
@@ -47,3 +48,13 @@ pub record KeepsAreasApart (slave : Slave) : Type 0 where
 -- so do those of each slave of a project
 abbrev pub ReachesShareNoByte : Type 0
 ReachesShareNoByte = (groups : List Group) → lowest_fault groups ≡ None → All KeepsAreasApart (slaves_of groups)
+
+-- a group that is declared behind those of a project, and has none of the faults of a declared group, leaves them again a project's
+abbrev pub DeclaredGroupsKeepProjects : Type 0
+DeclaredGroupsKeepProjects =
+    (groups : List Declared) (group : Group) → lowest_fault (groups_of groups) ≡ None → lowest (declaring_faults groups group) ≡ None
+    → lowest_fault (groups_of (groups ++ absent group ∷ [])) ≡ None
+
+-- a declared group leaves the line as it was
+abbrev pub DeclaredGroupsKeepTheLine : Type 0
+DeclaredGroupsKeepTheLine = (groups : List Declared) (group : Group) → line_from 1 (groups ++ absent group ∷ []) ≡ line_from 1 groups

@@ -8,9 +8,11 @@ use Rattle.hc_records.specs.declared.records.Area.{Area}
 use Rattle.hc_records.specs.declared.records.Slave.{Slave}
 use Rattle.hc_records.specs.declared.records.Group.{Group}
 use Rattle.hc_records.specs.declared.edit.Edit.{Edit}
-use Rattle.hc_records.specs.declared.edit.Edit.TheVariants.{Connect, Disconnect, Remap, Move}
+use Rattle.hc_records.specs.declared.edit.Edit.TheVariants.{Connect, Disconnect, Remap, Move, Declare}
 use Rattle.hc_records.specs.declared.faults.EditFault.{EditFault}
-use Rattle.hc_records.specs.declared.faults.EditFault.TheVariants.{UnknownAlias, AlreadyPresent, NotPresent, Mandatory, TooManyDatagrams}
+use Rattle.hc_records.specs.declared.faults.ProjectFault.TheVariants.{OutOfRange}
+use Rattle.hc_records.specs.declared.faults.EditFault.TheVariants.{UnknownAlias, AlreadyPresent, NotPresent, Mandatory, TooManyDatagrams, EpochsSpent, BadGroup, AliasTaken, StationTaken, VariableTaken, TooManyGroups, TooManySlaves}
+use Rattle.hc_records.specs.declared.limits.TheConstants.{LAST_EPOCH}
 use Rattle.hc_records.specs.Lists.{lowest}
 use Rattle.hc_records.specs.Line.{State, line, opened}
 use Rattle.hc_records.specs.Image.{task_places, datagram_length, datagram_count, logical_address, output_length, input_length, expected_counter, variable_place}
@@ -303,3 +305,89 @@ exchanged = refl
 exchanged_variable : variable_place 3 (line (state_after sensor (Remap 1001 0 (0x1a01 ∷ 0x1a00 ∷ []))))
     ≡ Some (record { task = 0; datagram = 0; bit = 0; bits = 4; dir = In })
 exchanged_variable = refl
+
+-- Another tool is declared while the first one is docked: the line stays, and the tool is connected as any other. What
+-- a declared group has, no later one may have.
+
+abbrev another : ℕ → ℕ → Group
+another alias station = group_of alias (record {
+  station = station;
+  areas = record {
+    sm = 2;
+    dir = Out;
+    phys = 0x1000;
+    offered = record { index = 5; entries = (Some 3, 8) ∷ [] } ∷ [];
+    assigned = 5 ∷ [];
+    task = 0;
+  } ∷ [];
+} ∷ [])
+
+abbrev declared : State
+declared = state_after docked (Declare (another 200 2001))
+
+declared_fault : fault_of docked (Declare (another 200 2001)) ≡ None
+declared_fault = refl
+
+declared_epoch : declared.epoch ≡ 2
+declared_epoch = refl
+
+declared_recut : recut_by docked (Declare (another 200 2001)) ≡ 0
+declared_recut = refl
+
+declared_line : line declared ≡ line docked
+declared_line = refl
+
+declared_variable : variable_place 3 (line declared) ≡ None
+declared_variable = refl
+
+abbrev both_docked : State
+both_docked = state_after declared (Connect 200)
+
+both_docked_epoch : both_docked.epoch ≡ 3
+both_docked_epoch = refl
+
+both_docked_recut : recut_by declared (Connect 200) ≡ 1
+both_docked_recut = refl
+
+both_docked_datagram : datagrams 0 both_docked ≡ (4, 5) ∷ []
+both_docked_datagram = refl
+
+both_docked_variable : variable_place 3 (line both_docked)
+    ≡ Some (record { task = 0; datagram = 0; bit = 8; bits = 8; dir = Out })
+both_docked_variable = refl
+
+-- the variable is taken while the group that offers it is absent, too
+taken : (fault_of both_docked (Declare (another 200 2001))
+    ∷ fault_of both_docked (Declare (another 201 2001))
+    ∷ fault_of both_docked (Declare (another 201 2002))
+    ∷ fault_of declared (Declare (another 201 2002))
+    ∷ [])
+    ≡ Some AliasTaken ∷ Some StationTaken ∷ Some VariableTaken ∷ Some VariableTaken ∷ []
+taken = refl
+
+-- A group that no project may have is refused as such, behind the last epoch and before what is taken.
+
+bare_group : fault_of docked (Declare (another 0 1001)) ≡ Some (BadGroup OutOfRange)
+bare_group = refl
+
+last_epoch : fault_of (record docked { epoch = LAST_EPOCH }) (Declare (another 0 1001)) ≡ Some EpochsSpent
+last_epoch = refl
+
+-- The last group and the last slave that a project may have are declared, and no more.
+
+abbrev bare_slave : ℕ → Slave
+bare_slave station = record { station = station; areas = [] }
+
+abbrev with_slaves : ℕ → State
+with_slaves count = opened (group_of 0 (map bare_slave (range_with_len 1 count)) ∷ [])
+
+many_slaves : (fault_of (with_slaves 2047) (Declare (another 10 3000)) ∷ fault_of (with_slaves 2048) (Declare (another 10 3000)) ∷ [])
+    ≡ None ∷ Some TooManySlaves ∷ []
+many_slaves = refl
+
+abbrev with_groups : ℕ → State
+with_groups count = opened (group_of 0 [] ∷ map (λ n. group_of n (bare_slave n ∷ [])) (range_with_len 1 count))
+
+many_groups : (fault_of (with_groups 510) (Declare (another 1000 3000)) ∷ fault_of (with_groups 511) (Declare (another 1000 3000)) ∷ [])
+    ≡ None ∷ Some TooManyGroups ∷ []
+many_groups = refl

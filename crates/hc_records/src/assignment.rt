@@ -80,8 +80,7 @@ fn all_bits(offered: &[Pdo]) -> u32
 
 impl Area {
     ghost use Rattle.std.specs.Prelude.{◌≡◌, ◌≤◌, min};
-    ghost use Rattle.hc_records.specs.Area.{width};
-    ghost use Rattle.hc_records.specs.Edits.{has_unknown, offers};
+    ghost use Rattle.hc_records.specs.Area.{has_unknown, offers, width};
     ghost use Rattle.hc_records.specs.Project.{reach};
     ghost use Rattle.hc_records.specs.declared.limits.TheConstants.{MOST_AREA_BITS, MOST_DATAGRAM_BYTES};
 

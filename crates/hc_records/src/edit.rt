@@ -1,5 +1,6 @@
 //! What a user asks of a running line.
-use crate::items::{Copied, Items, Same};
+use crate::items::{Copied, Items};
+use crate::records::Group;
 use std::alloc::{AllocError, Global};
 
 /// An edit of the line.
@@ -27,6 +28,8 @@ pub enum Edit {
         /// The task, 0 to 7.
         task: u8,
     },
+    /// A group is declared behind the others. It is absent until it is connected.
+    Declare(Group),
 }
 
 impl Copied for Edit {
@@ -52,6 +55,7 @@ impl Copied for Edit {
                 area: *area,
                 task: *task,
             },
+            Edit::Declare(group) => Edit::Declare(group.copied(alloc)?),
         })
     }
 }

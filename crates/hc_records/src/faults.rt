@@ -43,10 +43,13 @@ pub enum ProjectFault {
     /// A growth was refused.
     #[error("out of memory")]
     Memory,
+    /// The text of a group has a mandatory slave, or not exactly one group.
+    #[error("the text has a mandatory slave or not exactly one group")]
+    NotOneGroup,
 }
 
 impl ProjectFault {
-    /// The fault's number, 1 to 11.
+    /// The fault's number, 1 to 12.
     pub fn number(self) -> u8
         ensures { result ≡ project_fault_number self }
     {
@@ -62,6 +65,7 @@ impl ProjectFault {
             ProjectFault::UnknownPdo => 9,
             ProjectFault::AreaTooBig => 10,
             ProjectFault::Memory => 11,
+            ProjectFault::NotOneGroup => 12,
         }
     }
 }
@@ -122,10 +126,28 @@ pub enum EditFault {
     /// A growth was refused.
     #[error("out of memory")]
     Memory,
+    /// The declared group has this fault by itself.
+    #[error("the group can't be declared: {0}")]
+    BadGroup(ProjectFault),
+    /// A group with the alias is declared already.
+    #[error("the alias is declared already")]
+    AliasTaken,
+    /// A slave with one of the station addresses is declared already.
+    #[error("a station address is declared already")]
+    StationTaken,
+    /// A declared slave offers one of the variables already.
+    #[error("a variable is declared already")]
+    VariableTaken,
+    /// There would be more groups than a project may have.
+    #[error("there would be too many groups")]
+    TooManyGroups,
+    /// There would be more slaves than a project may have.
+    #[error("there would be too many slaves")]
+    TooManySlaves,
 }
 
 impl EditFault {
-    /// The fault's number, 1 to 14.
+    /// The fault's number, 1 to 14, and 30 to 35 for a declared group's.
     pub fn number(self) -> u8
         ensures { result ≡ edit_fault_number self }
     {
@@ -144,6 +166,12 @@ impl EditFault {
             EditFault::TooManyDatagrams(_) => 12,
             EditFault::EpochsSpent => 13,
             EditFault::Memory => 14,
+            EditFault::BadGroup(_) => 30,
+            EditFault::AliasTaken => 31,
+            EditFault::StationTaken => 32,
+            EditFault::VariableTaken => 33,
+            EditFault::TooManyGroups => 34,
+            EditFault::TooManySlaves => 35,
         }
     }
 }

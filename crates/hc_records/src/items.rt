@@ -37,7 +37,7 @@ impl Same for u16 {
 /// A list that keeps its allocator.
 #[derive(Drop, Debug)]
 pub struct Items<T> {
-    inside: Vec<T>,
+    pub(crate) inside: Vec<T>,
 }
 
 impl<T> Model for Items<T> {

@@ -4,7 +4,7 @@ ghost use Rattle.hc_records.specs.Laws.{ProjectsArePackable, PlacesKeepTheList, 
 ghost use Rattle.hc_records.specs.ImageLaws.{DatagramsTileTheImage, ImagesAreShort, VariablesLieInDatagrams, VariablesShareNoBit, VariablesStandInTheirParts};
 ghost use Rattle.hc_records.specs.AddressLaws.{AddressesHaveOneDatagram};
 ghost use Rattle.hc_records.specs.SpanLaws.{ProjectsHaveTaskLists, SettledSpansStay, SpansAreCutAlone, SpansAreDatagrams};
-ghost use Rattle.hc_records.specs.ProjectLaws.{ProjectsKeepTheirLimits, RanksAreCounted, ReachesHoldWidths, ReachesShareNoByte, StationsAreDistinct};
+ghost use Rattle.hc_records.specs.ProjectLaws.{DeclaredGroupsKeepProjects, DeclaredGroupsKeepTheLine, ProjectsKeepTheirLimits, RanksAreCounted, ReachesHoldWidths, ReachesShareNoByte, StationsAreDistinct};
 
 /// In a project each area of a task's list has 1 to 11,888 bits, so that a datagram can carry it,
 /// whichever groups are present.
@@ -175,6 +175,17 @@ pub fn reaches_hold_widths()
 /// reach, and no byte is taken by two of them.
 pub fn reaches_share_no_byte()
     ensures { ReachesShareNoByte }
+{}
+
+/// A group that is declared behind those of a project leaves them again a project's, where no fault of a
+/// declared group holds of it.
+pub fn declared_groups_keep_projects()
+    ensures { DeclaredGroupsKeepProjects }
+{}
+
+/// A group that is declared behind others, absent as it is, leaves the line as it was.
+pub fn declared_groups_keep_the_line()
+    ensures { DeclaredGroupsKeepTheLine }
 {}
 
 /// In a project the list of each task is one that packing and spans are meant for, whichever groups are

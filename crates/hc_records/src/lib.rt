@@ -14,5 +14,6 @@ pub mod limits;
 pub mod line;
 pub mod project;
 pub mod records;
+pub mod room;
 
 pub use conditions::names::add_slave_names;

@@ -10,8 +10,7 @@ use Rattle.hc_records.specs.declared.records.Area.{Area}
 use Rattle.hc_records.specs.declared.records.Slave.{Slave}
 use Rattle.hc_records.specs.declared.records.Group.{Group}
 use Rattle.hc_records.specs.declared.faults.ProjectFault.TheVariants.{OutOfRange}
-use Rattle.hc_records.specs.Area.{Entry, width}
-use Rattle.hc_records.specs.Edits.{has_unknown}
+use Rattle.hc_records.specs.Area.{Entry, has_unknown, width}
 use Rattle.hc_records.specs.Limits.{BeginsMandatory, ComesAndGoes, IsAreaInside, IsEntryInside, IsPdoInside, IsProjectInside, IsSlaveInside, KeepApart}
 use Rattle.hc_records.specs.Lists.{has_repeat, some_pair}
 use Rattle.hc_records.specs.Project.{area_outside, entry_outside, has_overlap, has_unknown_pdo, is_bare, is_misplaced, is_outside, is_wide, lowest_fault, overlap, pdo_outside, project_faults, reach, repeats_sync_manager, same_index, same_sync_manager, slave_outside, slaves_of, slave_names, some_slave}

@@ -8,8 +8,7 @@ use Rattle.hc_records.specs.declared.limits.TheConstants.{MOST_AREA_BITS}
 use Rattle.hc_records.specs.declared.records.Pdo.{Pdo}
 use Rattle.hc_records.specs.declared.records.Area.{Area}
 use Rattle.hc_records.specs.declared.records.Group.{Group}
-use Rattle.hc_records.specs.Area.{Entry, bits_of, entries_at, width}
-use Rattle.hc_records.specs.Edits.{has_unknown}
+use Rattle.hc_records.specs.Area.{Entry, bits_of, entries_at, has_unknown, width}
 use Rattle.hc_records.specs.Lists.{has_repeat, some_pair}
 use Rattle.hc_records.specs.Project.{has_unknown_pdo, lowest_fault, offered_bits, same_index, slaves_of}
 use Rattle.hc_records.specs.Limits.{IsAreaInside, Reaches}
