@@ -6,8 +6,10 @@ use Rattle.std.proofs.lemmas.Grind.{flat_map-append}
 use Rattle.std.proofs.lemmas.List.Sorted.{list_any-IsPermutation}
 use Rattle.hc_records.specs.declared.records.Declared.{Declared}
 use Rattle.hc_records.specs.declared.records.Slave.{Slave}
+use Rattle.hc_records.specs.Edits.{is_declared_variable}
 use Rattle.hc_records.specs.Line.{groups_of}
 use Rattle.hc_records.specs.Project.{area_names, slave_names, slaves_of}
+use Rattle.hc_records.proofs.lemmas.Declaring.{variable-met}
 use Rattle.hc_index.specs.Index.{Index, IsIndexOf, variables}
 
 -- those of a group, then those of the groups behind it
@@ -23,6 +25,6 @@ variables-append (declared ∷ groups) more =
     ∙ ap (λ (front : List ℕ). front ++ variables more) (sym (variables-group declared groups))
 
 -- one is offered where it stands among the sorted ones
-pub offered-is : (groups : List Declared) (index : Index) (variable : ℕ) → IsIndexOf groups index
-    → list_any (λ other. other == variable) index.variables ≡ list_any (λ other. other == variable) (slave_names (slaves_of (groups_of groups)))
-offered-is groups index variable is = sym (list_any-IsPermutation (λ other. other == variable) (variables groups) index.variables is.declared.variables)
+pub offered-is : (groups : List Declared) (index : Index) (variable : ℕ) → IsIndexOf groups index → list_any (λ other. other == variable) index.variables ≡ is_declared_variable groups variable
+offered-is groups index variable is =
+    sym (variable-met groups variable ∙ list_any-IsPermutation (λ other. other == variable) (variables groups) index.variables is.declared.variables)

@@ -1,10 +1,12 @@
 //! The ranks of all declared slaves, present or not, by their station addresses.
-ghost use Rattle.std.specs.Prelude.{◌≡◌, ◌≢◌, ◌+◌, ◌<◌, ◌≤◌, ◌++◌, All, Contains, IfOk, List, MatchOption, OnOk, length, map, replicate};
+ghost use Rattle.std.specs.Prelude.{◌≡◌, ◌≢◌, ◌+◌, ◌-◌, ◌<◌, ◌≤◌, ◌++◌, All, Contains, IfOk, List, MatchOption, OnOk, length, map, replicate};
 ghost use Rattle.hc_records.specs.Line.{IsCounted, members_from};
 ghost use Rattle.hc_index.specs.declared.addresses.Address.{Address};
 ghost use Rattle.hc_index.specs.Index.{AreRanks, address_of, addresses};
 
+use crate::lists::fill;
 use hc_records::records::{Declared, Slave};
+use hc_records::room::Room;
 use std::alloc::{AllocError, Global};
 
 /// The station address of a declared slave, with its rank among all of them, from 1.
@@ -17,7 +19,11 @@ pub struct Address {
 }
 
 /// Adds the addresses of slaves of which the first has this rank.
-fn add_addresses(all: &mut Vec<Address>, rank: u16, slaves: &[Slave]) -> Result<(), AllocError>
+pub(crate) fn add_addresses(
+    all: &mut Vec<Address>,
+    rank: u16,
+    slaves: &[Slave],
+) -> Result<(), AllocError>
     requires { rank + length slaves.now < 65536 }
     ensures { OnOk result (all.new.items ≡ all.old.items ++ map address_of (members_from rank slaves.now)) }
 {
@@ -48,7 +54,7 @@ fn declared_addresses(alloc: Global, groups: &[Declared]) -> Result<Vec<Address>
 }
 
 /// The highest station address; 0 where there is none.
-fn highest_station(addresses: &[Address]) -> u16
+pub(crate) fn highest_station(addresses: &[Address]) -> u16
     ensures { All (λ address. address.station ≤ result) addresses.now }
 {
     let mut highest = 0;
@@ -58,12 +64,11 @@ fn highest_station(addresses: &[Address]) -> u16
     highest
 }
 
-/// Writes the rank of each declared slave at its station address.
+/// Writes the ranks of slaves at their station addresses, among those of others.
 fn write_ranks(ranks: &mut [u16], addresses: &[Address])
     requires room { All (λ address. address.station < length ranks.old) addresses.now }
     requires some { All (λ address. 1 ≤ address.rank) addresses.now }
-    requires none { ranks.old ≡ replicate (length ranks.old) 0 }
-    ensures { AreRanks addresses.now ranks.new }
+    ensures { (others : List Address) → AreRanks others ranks.old → AreRanks (others ++ addresses.now) ranks.new }
 {
     for address in addresses {
         ranks[usize::from(address.station)] = address.rank;
@@ -88,6 +93,19 @@ pub(crate) fn ranks_by_station(alloc: Global, groups: &[Declared]) -> Result<Vec
     let mut ranks = no_ranks(alloc, usize::from(highest) + 1)?;
     write_ranks(&mut ranks, &addresses);
     Ok(ranks)
+}
+
+/// Adds the ranks of slaves at their station addresses, all of which are below a number, with the help of memory
+/// that was taken before.
+pub(crate) fn add_ranks(ranks: &mut Vec<u16>, room: Room<u16>, addresses: &[Address], reach: usize)
+    requires room { length ranks.old.items + (reach - length ranks.old.items) ≤ room }
+    requires reach { All (λ address. address.station < reach) addresses.now }
+    requires some { All (λ address. 1 ≤ address.rank) addresses.now }
+    ensures { (others : List Address) → AreRanks others ranks.old.items → AreRanks (others ++ addresses.now) ranks.new.items }
+{
+    let more = reach.saturating_sub(ranks.len());
+    fill(ranks, room, more, 0);
+    write_ranks(ranks.as_mut_slice(), addresses);
 }
 
 /// The rank of the declared slave with a station address; none where there is none.

@@ -1,9 +1,10 @@
 //! The aliases of all declared groups, present or not, sorted.
-ghost use Rattle.std.specs.Prelude.{◌≡◌, ◌≢◌, ◌<◌, All, Contains, IfOk, MatchOption, false, length, nat_lt, true};
+ghost use Rattle.std.specs.Prelude.{◌≡◌, ◌≢◌, ◌+◌, ◌<◌, ◌≤◌, ◌∷◌, All, Contains, IfOk, MatchOption, false, length, nat_lt, true};
 ghost use Rattle.std.specs.List.Sorted.{IsNonDecreasingBy, IsPartitionPoint, IsPermutation};
 ghost use Rattle.hc_index.specs.Index.{aliases};
 
 use hc_records::records::Declared;
+use hc_records::room::Room;
 use std::alloc::{AllocError, Global};
 
 /// The alias of a declared group, with the group's number.
@@ -62,4 +63,16 @@ pub(crate) fn find_group(aliases: &[Alias], alias: u16) -> Option<u16>
     } else {
         None
     }
+}
+
+/// Adds an alias to others, with the help of memory that was taken before: those behind it are shifted once.
+pub(crate) fn add_alias(aliases: &mut Vec<Alias>, room: Room<Alias>, alias: Alias)
+    requires order { IsNonDecreasingBy (λ own. own.alias) aliases.old.items }
+    requires room { length aliases.old.items + 1 ≤ room }
+    ensures same { IsPermutation (alias ∷ aliases.old.items) aliases.new.items }
+    ensures order { IsNonDecreasingBy (λ own. own.alias) aliases.new.items }
+{
+    room.widen(aliases, 1);
+    let at = count_below(aliases.as_slice(), alias.alias);
+    let _added = aliases.insert(at, alias);
 }

@@ -50,21 +50,21 @@ impl<'a> LineSlave<'a> {
 #[derive(Debug)]
 pub struct Index {
     // of all declared groups, the lowest alias first
-    aliases: Vec<Alias>,
+    pub(crate) aliases: Vec<Alias>,
     // at each station address the rank of the declared slave that has it, or 0
-    stations: Vec<u16>,
+    pub(crate) stations: Vec<u16>,
     // the variables that declared slaves offer, the lowest first
-    variables: Vec<u32>,
+    pub(crate) variables: Vec<u32>,
     // of each declared slave the number of its group
-    owners: Vec<u16>,
+    pub(crate) owners: Vec<u16>,
     // of each declared group, how many blocks are in front of each of its slaves in the group, and how many it has
-    fronts: Vec<Vec<u32>>,
+    pub(crate) fronts: Vec<Vec<u32>>,
     // how many slaves are declared in front of each group, and how many there are
-    ranks: Vec<u32>,
+    pub(crate) ranks: Vec<u32>,
     // how many slaves of the line are in front of each group, and how many it has
-    slaves: Vec<u32>,
+    pub(crate) slaves: Vec<u32>,
     // and how many blocks of the line
-    blocks: Vec<u32>,
+    pub(crate) blocks: Vec<u32>,
 }
 
 impl Drop for Index {
@@ -182,9 +182,9 @@ impl<'a> Model for Indexed<'a> {
 impl<'a> Indexed<'a> {
     ghost use Rattle.std.specs.Prelude.{◌≡◌, ◌≢◌, ◌==◌, ◌<◌, ◌≤◌, All, IfSome, MatchOption, find, length, option_map, position, slice_get, sum_by};
     ghost use Rattle.std.specs.List.{list_any};
-    ghost use Rattle.hc_records.specs.Edits.{has_station};
+    ghost use Rattle.hc_records.specs.Edits.{has_station, is_declared_variable};
     ghost use Rattle.hc_records.specs.Line.{groups_of, is_at, line_from};
-    ghost use Rattle.hc_records.specs.Project.{slave_names, slaves_of};
+    ghost use Rattle.hc_records.specs.Project.{slaves_of};
     ghost use Rattle.hc_index.specs.Index.{IsMember, own_blocks, owned_by, rank_in, slave_in};
 
     /// How many slaves the line has.
@@ -218,9 +218,16 @@ impl<'a> Indexed<'a> {
         find_rank(self.stations, station).is_some()
     }
 
+    /// How many slaves are declared, present or not.
+    pub fn declared(&self) -> usize
+        ensures { result ≡ length (slaves_of (groups_of self.now)) }
+    {
+        self.owners.len()
+    }
+
     /// Whether an area of a declared slave, present or not, offers a variable, assigned or not.
-    pub fn is_offered(&self, variable: VarId) -> bool
-        ensures { result ≡ list_any (λ other. other == variable) (slave_names (slaves_of (groups_of self.now))) }
+    pub fn is_declared_variable(&self, variable: VarId) -> bool
+        ensures { result ≡ is_declared_variable self.now variable }
     {
         is_one_of(self.variables, variable.number())
     }

@@ -6,6 +6,8 @@
 mod addresses;
 mod aliases;
 pub mod index;
+mod lists;
 mod owning;
+pub mod room;
 mod sums;
 mod variables;

@@ -64,7 +64,7 @@ pub(crate) fn number_at(sums: &[u32], index: usize, offset: u32) -> u16
 }
 
 /// The sums of the blocks of slaves.
-fn slave_sums(alloc: Global, slaves: &[Slave]) -> Result<Vec<u32>, AllocError>
+pub(crate) fn slave_sums(alloc: Global, slaves: &[Slave]) -> Result<Vec<u32>, AllocError>
     requires { block_sum slaves.now < 4294967296 }
     ensures { IfOk result (λ sums. sums.items ≡ sums_from blocks_of 0 slaves.now) }
 {

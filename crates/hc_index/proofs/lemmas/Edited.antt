@@ -1,16 +1,16 @@
--- Edits leave the aliases, the station addresses, the offered variables and the number of each slave's areas as they are.
+-- Edits that declare nothing leave the aliases, the station addresses, the offered variables and the number of each slave's areas as they are.
 use Rattle.std.proofs.Common.{◌≡◌, ℕ, zero, suc, ◌+◌, ◌==◌, Bool, true, false, List, [], ◌∷◌, ◌++◌, length, refl, ap, ◌∙◌, if◌then◌else◌, rules}
 use Rattle.std.specs.Prelude.{None, map}
 use Rattle.std.specs.List.{enumerate_from}
 use Rattle.std.proofs.lemmas.List.{length-map}
 use Rattle.std.proofs.lemmas.List.Sums.{sum_by-cons}
 use Rattle.hc_records.specs.declared.edit.Edit.{Edit}
-use Rattle.hc_records.specs.declared.edit.Edit.TheVariants.{Connect, Disconnect, Remap, Move}
+use Rattle.hc_records.specs.declared.edit.Edit.TheVariants.{Connect, Disconnect, Remap, Move, Declare}
 use Rattle.hc_records.specs.declared.records.Area.{Area}
 use Rattle.hc_records.specs.declared.records.Declared.{Declared}
 use Rattle.hc_records.specs.declared.records.Pdo.{Pdo}
 use Rattle.hc_records.specs.declared.records.Slave.{Slave}
-use Rattle.hc_records.specs.Edits.{groups_after, with_area, with_presence, with_slaves}
+use Rattle.hc_records.specs.Edits.{declares, groups_after, with_area, with_presence, with_slaves}
 use Rattle.hc_records.specs.Line.{groups_of}
 use Rattle.hc_records.specs.Lists.{changed_at}
 use Rattle.hc_records.specs.Project.{area_names, lowest_fault, pdo_names, slave_names}
@@ -128,16 +128,17 @@ area-change : (station area : ℕ) (change : Area → Area) → ((area : Area) �
 area-change station area change offered = slaves-keep (with_area station area change) (area-keeps station area change offered)
 
 pub kept-declared :
-    (groups : List Declared) (index : Index) (edit : Edit) → IsIndexOfDeclared groups index → lowest_fault (groups_of (groups_after groups edit)) ≡ None
+    (groups : List Declared) (index : Index) (edit : Edit) → declares edit ≡ false → IsIndexOfDeclared groups index → lowest_fault (groups_of (groups_after groups edit)) ≡ None
     → IsIndexOfDeclared (groups_after groups edit) index
-kept-declared groups index (Connect alias) is none = declared-kept (with_presence alias true) (presence-keeps alias true) groups index is none
-kept-declared groups index (Disconnect alias) is none = declared-kept (with_presence alias false) (presence-keeps alias false) groups index is none
-kept-declared groups index (Remap station area pdos) is none =
+kept-declared groups index (Connect alias) same is none = declared-kept (with_presence alias true) (presence-keeps alias true) groups index is none
+kept-declared groups index (Disconnect alias) same is none = declared-kept (with_presence alias false) (presence-keeps alias false) groups index is none
+kept-declared groups index (Remap station area pdos) same is none =
     let change : Area → Area = λ a. record a { assigned = pdos } in
     declared-kept (with_slaves (with_area station area change)) (area-change station area change (λ a. refl)) groups index is none
-kept-declared groups index (Move station area task) is none =
+kept-declared groups index (Move station area task) same is none =
     let change : Area → Area = λ a. record a { task = task } in
     declared-kept (with_slaves (with_area station area change)) (area-change station area change (λ a. refl)) groups index is none
+kept-declared groups index (Declare group) declares is none = cc
 
 -- where areas change alone, the line has as many slaves and blocks
 

@@ -3,7 +3,7 @@ use Rattle.std.specs.Prelude.{◌==◌}
 use Rattle.std.specs.List.{list_any}
 use Rattle.hc_index.proofs.Indexes.{seen}
 use Rattle.hc_index.proofs.Names.{offered-is}
-use Rattle.hc_index.proofs.index.Indexed.is_offered.Goals as goal
+use Rattle.hc_index.proofs.index.Indexed.is_declared_variable.Goals as goal
 
 pub returns : goal.returns
 returns c =

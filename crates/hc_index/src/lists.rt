@@ -1,0 +1,35 @@
+//! Lists that grow into memory that was taken before.
+ghost use Rattle.std.specs.Prelude.{◌≡◌, ◌+◌, ◌-◌, ◌<◌, ◌≤◌, ◌++◌, ◌∷◌, [], length, replicate, slice_index};
+
+use hc_records::room::Room;
+
+/// Puts a number behind others, so many times, with the help of memory that was taken before.
+pub(crate) fn fill(list: &mut Vec<u16>, room: Room<u16>, more: usize, number: u16)
+    requires { length list.old.items + more ≤ room }
+    ensures { list.new.items ≡ list.old.items ++ replicate more number }
+{
+    room.widen(list, more);
+    let count = list.len() + more;
+    let _filled = list.resize(count, number);
+}
+
+/// Puts a list behind others, with the help of memory that was taken before.
+pub(crate) fn add_list(lists: &mut Vec<Vec<u32>>, room: Room<Vec<u32>>, list: Vec<u32>)
+    requires { length lists.old.items + 1 ≤ room }
+    ensures { lists.new.items ≡ lists.old.items ++ list ∷ [] }
+{
+    room.widen(lists, 1);
+    lists.push_reserved(list);
+}
+
+/// Adds the sum behind an element that counts for so many to sums, with the help of memory that was taken before.
+pub(crate) fn add_sum(sums: &mut Vec<u32>, room: Room<u32>, count: u32)
+    requires some { 0 < length sums.old.items }
+    requires low { slice_index sums.old.items (length sums.old.items - 1) + count < 4294967296 }
+    requires room { length sums.old.items + 1 ≤ room }
+    ensures { sums.new.items ≡ sums.old.items ++ (slice_index sums.old.items (length sums.old.items - 1) + count) ∷ [] }
+{
+    let sum = sums[sums.len() - 1] + count;
+    room.widen(sums, 1);
+    sums.push_reserved(sum);
+}
