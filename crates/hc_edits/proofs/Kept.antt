@@ -11,11 +11,11 @@ use Rattle.hc_records.specs.declared.records.Slave.{Slave}
 use Rattle.hc_records.specs.declared.records.Group.{Group}
 use Rattle.hc_records.specs.declared.records.Declared.{Declared}
 use Rattle.hc_records.specs.declared.edit.Edit.{Edit}
-use Rattle.hc_records.specs.declared.edit.Edit.TheVariants.{Connect, Disconnect, Remap, Move}
+use Rattle.hc_records.specs.declared.edit.Edit.TheVariants.{Connect, Disconnect, Remap, Move, Declare}
 use Rattle.hc_records.specs.declared.faults.ProjectFault.{ProjectFault}
 use Rattle.hc_records.specs.declared.faults.ProjectFault.TheVariants.{OutOfRange, RepeatedAlias, RepeatedStation, RepeatedSyncManager, OverlappingAreas, RepeatedVariable, UnknownPdo, AreaTooBig}
 use Rattle.hc_records.specs.Lists.{changed_at, has_repeat, lowest, some_pair}
-use Rattle.hc_records.specs.Edits.{groups_after, with_area, with_slaves}
+use Rattle.hc_records.specs.Edits.{declares, groups_after, with_area, with_slaves}
 use Rattle.hc_records.specs.Project.{area_names, has_outside, has_overlap, has_repeated_alias, has_repeated_station, has_repeated_variable, has_unknown_pdo, is_bare, is_misplaced, is_wide, lowest_fault, pdo_names, project_faults, reach, repeats_sync_manager, slave_names, slave_outside, slaves_of, some_area, some_slave}
 use Rattle.hc_records.proofs.lemmas.Projects.{none-holds}
 use Rattle.hc_records.specs.Line.{groups_of}
@@ -170,8 +170,10 @@ judged-kept groups station index change leaves none judged =
     ap lowest_fault (groups-with_slaves (with_area station index change) groups)
     ∙ area-kept change leaves station index judged.area (groups_of groups) none judged.harmless (all-have groups station index judged.area once judged.found)
 
-pub project-kept : (groups : List Declared) (edit : Edit) → lowest_fault (groups_of groups) ≡ None → own_fault groups edit ≡ None → lowest_fault (groups_of (groups_after groups edit)) ≡ None
-project-kept groups (Connect alias) none own = ap lowest_fault (groups-with_presence alias true groups) ∙ none
-project-kept groups (Disconnect alias) none own = ap lowest_fault (groups-with_presence alias false groups) ∙ none
-project-kept groups (Remap station index pdos) none own = judged-kept groups station index (with_pdos pdos) (pdos-leave pdos) none (remap-judged groups station index pdos own)
-project-kept groups (Move station index task) none own = judged-kept groups station index (in_task task) (task-leaves task) none (move-judged groups station index task own)
+-- an edit that declares no group leaves them a project's
+pub project-kept : (groups : List Declared) (edit : Edit) → declares edit ≡ false → lowest_fault (groups_of groups) ≡ None → own_fault groups edit ≡ None → lowest_fault (groups_of (groups_after groups edit)) ≡ None
+project-kept groups (Connect alias) changes none own = ap lowest_fault (groups-with_presence alias true groups) ∙ none
+project-kept groups (Disconnect alias) changes none own = ap lowest_fault (groups-with_presence alias false groups) ∙ none
+project-kept groups (Remap station index pdos) changes none own = judged-kept groups station index (with_pdos pdos) (pdos-leave pdos) none (remap-judged groups station index pdos own)
+project-kept groups (Move station index task) changes none own = judged-kept groups station index (in_task task) (task-leaves task) none (move-judged groups station index task own)
+project-kept groups (Declare group) changes none own = cc

@@ -1,11 +1,11 @@
 -- What an edit changes of declared groups: which group comes or goes, or which slave gets which areas.
-use Rattle.std.specs.Prelude.{ℕ, ◌+◌, ◌==◌, Bool, true, false, List, [], length, position, slice_get, option_and_then, option_map, sum_by, take, Option}
+use Rattle.std.specs.Prelude.{ℕ, ◌+◌, ◌==◌, Bool, true, false, List, [], length, position, slice_get, option_and_then, option_map, sum_by, take, Option, None}
 use Rattle.std.specs.Option.{option_map_or}
 use Rattle.hc_records.specs.declared.records.Area.{Area}
 use Rattle.hc_records.specs.declared.records.Slave.{Slave}
 use Rattle.hc_records.specs.declared.records.Declared.{Declared}
 use Rattle.hc_records.specs.declared.edit.Edit.{Edit}
-use Rattle.hc_records.specs.declared.edit.Edit.TheVariants.{Connect, Disconnect, Remap, Move}
+use Rattle.hc_records.specs.declared.edit.Edit.TheVariants.{Connect, Disconnect, Remap, Move, Declare}
 use Rattle.hc_records.specs.Edits.{has_station}
 use Rattle.hc_records.specs.Line.{has_address}
 use Rattle.hc_records.specs.Lists.{changed_at}
@@ -68,12 +68,13 @@ areas_changed groups area change place = record { place = place; areas = changed
 abbrev pub areas_change : List Declared → ℕ → ℕ → (Area → Area) → Option AreasChange
 areas_change groups station area change = option_map (areas_changed groups area change) (slave_place groups station)
 
--- what an edit changes, if it names a declared group or slave
+-- what an edit changes, if it names a declared group or slave; one that declares a group changes none
 abbrev pub change_by : List Declared → Edit → Option Prepared
 change_by groups (Connect alias) = option_map Presence (presence_change groups alias true)
 change_by groups (Disconnect alias) = option_map Presence (presence_change groups alias false)
 change_by groups (Remap station area pdos) = option_map Areas (areas_change groups station area (λ a. record a { assigned = pdos }))
 change_by groups (Move station area task) = option_map Areas (areas_change groups station area (λ a. record a { task = task }))
+change_by groups (Declare group) = None
 
 -- the groups with the presence of one of them set, and with the areas of one slave replaced; as they were where there is none
 abbrev pub with_present : Bool → Declared → Declared

@@ -112,8 +112,8 @@ fn move_fault(groups: &[Declared], station: u16, area: u8, task: u8) -> Option<E
 }
 
 /// The lowest fault that an edit has by itself, none where it has none: of the faults 1 to 11, by
-/// number, the first that holds over the declared groups. The groups of a project meet the
-/// condition. It takes no memory.
+/// number, the first that holds over the declared groups. An edit that declares a group has none of
+/// these. The groups of a project meet the condition. It takes no memory.
 pub fn own_fault(groups: &[Declared], edit: &Edit) -> Option<EditFault>
     requires { IsCounted groups.now }
     ensures { result ≡ own_fault groups.now edit.now }
@@ -131,5 +131,6 @@ pub fn own_fault(groups: &[Declared], edit: &Edit) -> Option<EditFault>
             area,
             task,
         } => move_fault(groups, *station, *area, *task),
+        Edit::Declare(_) => None,
     }
 }

@@ -1,6 +1,7 @@
 //! An edit as it is known before anything changes, and its carrying out where the groups stand.
-ghost use Rattle.std.specs.Prelude.{◌≡◌, true, IfOk, None, Some, option_map};
+ghost use Rattle.std.specs.Prelude.{◌≡◌, false, true, IfOk, None, Some, option_map};
 ghost use Rattle.std.specs.List.{list_any};
+ghost use Rattle.hc_records.specs.Edits.{declares};
 ghost use Rattle.hc_records.specs.Line.{IsCounted};
 ghost use Rattle.hc_edits.specs.Edits.{own_fault};
 ghost use Rattle.hc_edits.specs.Changes.{change_by, has_alias, presence_change};
@@ -37,9 +38,10 @@ fn presence_by(groups: &[Declared], alias: u16, present: bool) -> Prepared
     Prepared::Presence(change)
 }
 
-/// What an edit without a fault of its own changes. `AllocError` where a growth was refused.
+/// What an edit without a fault of its own changes, one that declares no group. `AllocError` where a growth was refused.
 fn change_by(alloc: Global, groups: &[Declared], edit: &Edit) -> Result<Prepared, AllocError>
     requires counted { IsCounted groups.now }
+    requires changes { declares edit.now ≡ false }
     requires own { own_fault groups.now edit.now ≡ None }
     ensures { IfOk result (λ change. change_by groups.now edit.now ≡ Some change) }
 {
@@ -70,26 +72,28 @@ fn change_by(alloc: Global, groups: &[Declared], edit: &Edit) -> Result<Prepared
             };
             Ok(Prepared::Areas(areas_change(alloc, groups, &area_edit)?))
         }
+        Edit::Declare(_) => unreachable!(),
     }
 }
 
 impl Prepared {
-    ghost use Rattle.std.specs.Prelude.{◌≡◌, ◌≢◌, Err, IfErr, IfOk, IfSome, None, OnOk, Some};
+    ghost use Rattle.std.specs.Prelude.{◌≡◌, ◌≢◌, false, Err, IfErr, IfOk, IfSome, None, OnOk, Some};
     ghost use Rattle.hc_records.specs.declared.faults.EditFault.TheVariants.{Memory};
-    ghost use Rattle.hc_records.specs.Edits.{groups_after};
+    ghost use Rattle.hc_records.specs.Edits.{declares, groups_after};
     ghost use Rattle.hc_records.specs.Line.{groups_of};
     ghost use Rattle.hc_records.specs.Project.{lowest_fault};
     ghost use Rattle.hc_edits.specs.Edits.{own_fault};
     ghost use Rattle.hc_edits.specs.Changes.{change_by, changed_groups};
     ghost use Rattle.hc_edits.specs.Rows.{ChangesRow, SameRow};
 
-    /// What an edit changes of the groups of a project: carried out, it leaves the groups that the edit
+    /// What an edit that declares no group changes of the groups of a project: carried out, it leaves the groups that the edit
     /// leaves, again a project's. The slaves that it concerns have ranks that follow one another, and each
     /// other slave keeps its record, and whether it is present. The areas that a slave gets are taken into
     /// memory here. Otherwise the lowest fault that the edit has by itself, judged before the first growth,
     /// or `Memory` where a growth was refused. Either way the groups given stay as they are.
     pub fn of(alloc: Global, groups: &[Declared], edit: &Edit) -> Result<Prepared, EditFault>
-        requires { lowest_fault (groups_of groups.now) ≡ None }
+        requires project { lowest_fault (groups_of groups.now) ≡ None }
+        requires changes { declares edit.now ≡ false }
         ensures change { IfOk result (λ change. change_by groups.now edit.now ≡ Some change) }
         ensures groups { IfOk result (λ change. changed_groups change groups.now ≡ groups_after groups.now edit.now) }
         ensures kept { IfOk result (λ change. lowest_fault (groups_of (changed_groups change groups.now)) ≡ None) }

@@ -26,6 +26,7 @@ condition read fault.RepeatedVariable = has_repeated_variable read.value
 condition read fault.UnknownPdo = some_area has_unknown_pdo read.value
 condition read fault.AreaTooBig = some_area is_wide read.value
 condition read fault.Memory = false
+condition read fault.NotOneGroup = false
 
 -- each of these faults whose test passes meets its condition
 abbrev Judges : (ProjectFault → Bool) → List (Bool × ProjectFault) → Type 0
@@ -83,6 +84,7 @@ unmet fault.RepeatedVariable d none = variables_none (declared_groups d).value n
 unmet fault.UnknownPdo d none = unknown_none (declared_groups d).value none
 unmet fault.AreaTooBig d none = wide_none (declared_groups d).value none
 unmet fault.Memory d none = refl
+unmet fault.NotOneGroup d none = refl
 
 both-ways : (b : Bool) → b ≡ true → b ≡ false → ⊥
 both-ways b held unheld = cc

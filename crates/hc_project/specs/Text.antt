@@ -1,11 +1,12 @@
--- The project of a text, or its lowest fault.
-use Rattle.std.specs.Prelude.{ℕ, Bool, if◌then◌else◌, List, ◌∷◌, Option, Some, None, Result, Ok, Err}
+-- The project of a text, the group of a text, or its lowest fault.
+use Rattle.std.specs.Prelude.{ℕ, ◌==◌, Bool, if◌then◌else◌, List, [], ◌∷◌, length, Option, Some, None, Result, Ok, Err}
+use Rattle.std.specs.Option.{ok_or}
 use Rattle.std.specs.Str.{is_utf8}
 use Rattle.toml.specs.Data.{Members, table}
 use Rattle.toml.specs.Parse.{parse_document}
 use Rattle.hc_records.specs.declared.records.Group.{Group}
 use Rattle.hc_records.specs.declared.faults.ProjectFault.{ProjectFault}
-use Rattle.hc_records.specs.declared.faults.ProjectFault.TheVariants.{NotToml, MissingField, OutOfRange}
+use Rattle.hc_records.specs.declared.faults.ProjectFault.TheVariants.{NotToml, MissingField, OutOfRange, NotOneGroup}
 use Rattle.hc_records.specs.Lists.{lowest}
 use Rattle.hc_records.specs.Project.{project_faults}
 use Rattle.hc_project.specs.declared.reading.Reading.{Reading}
@@ -34,3 +35,19 @@ project_of (Some members) = settled (declared_groups (table members))
 -- the project of a text, or its lowest fault
 unfoldable pub project_in : List ℕ → Result (List Group) ProjectFault
 project_in text = if is_utf8 text then project_of (parse_document text) else Err NotToml
+
+-- the one group behind a mandatory one without slaves; none where the groups are others
+abbrev pub only_group : List Group → Option Group
+only_group [] = None
+only_group (mandatory ∷ []) = None
+only_group (mandatory ∷ group ∷ []) = if length mandatory.slaves == 0 then Some group else None
+only_group (mandatory ∷ group ∷ other ∷ others) = None
+
+-- the group of a project that has just one and no mandatory slave
+abbrev pub single : Result (List Group) ProjectFault → Result Group ProjectFault
+single (Err fault) = Err fault
+single (Ok groups) = ok_or (only_group groups) NotOneGroup
+
+-- the group of a text, or its lowest fault
+abbrev pub group_in : List ℕ → Result Group ProjectFault
+group_in text = single (project_in text)

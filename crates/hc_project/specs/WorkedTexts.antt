@@ -5,8 +5,8 @@ use Rattle.toml.specs.View.{items_of}
 use Rattle.hc_records.specs.declared.records.Dir.TheVariants.{Out}
 use Rattle.hc_records.specs.declared.records.Group.{Group}
 use Rattle.hc_records.specs.declared.faults.ProjectFault.{ProjectFault}
-use Rattle.hc_records.specs.declared.faults.ProjectFault.TheVariants.{NotToml, MissingField, OutOfRange, RepeatedStation}
-use Rattle.hc_project.specs.Text.{project_of}
+use Rattle.hc_records.specs.declared.faults.ProjectFault.TheVariants.{NotToml, MissingField, OutOfRange, RepeatedStation, NotOneGroup}
+use Rattle.hc_project.specs.Text.{project_of, single}
 use Rattle.hc_project.specs.Laws.{number_tree}
 
 abbrev read : Members → Result (List Group) ProjectFault
@@ -90,3 +90,26 @@ station_below_0 = refl
 
 station_as_string : read (of_stations (number_tree 1 ∷ number_tree 1 ∷ number_tree 0 ∷ string (codes "1") ∷ [])) ≡ Err MissingField
 station_as_string = refl
+
+-- A text of one group is that group's; one with a mandatory slave, or without a group, is not. Any other fault is told first.
+
+abbrev read_one : Members → Result Group ProjectFault
+read_one members = single (read members)
+
+abbrev station_of : ℕ → Members
+station_of station = member (codes "station") (number_tree station) no_members
+
+abbrev tool : Members → Members
+tool slave = member (codes "alias") (number_tree 200) (member (codes "slave") (tables (slave ∷ [])) no_members)
+
+one_group : read_one (member (codes "group") (tables (tool (station_of 2001) ∷ [])) no_members) ≡ Ok (record { alias = 200; slaves = record { station = 2001; areas = [] } ∷ [] })
+one_group = refl
+
+no_group : read_one no_members ≡ Err NotOneGroup
+no_group = refl
+
+mandatory_slave : read_one (member (codes "group") (tables (tool (station_of 2001) ∷ [])) (member (codes "slave") (tables (station_of 1 ∷ [])) no_members)) ≡ Err NotOneGroup
+mandatory_slave = refl
+
+two_faults : read_one (of_stations (number_tree 1 ∷ number_tree 1 ∷ [])) ≡ Err RepeatedStation
+two_faults = refl

@@ -16,4 +16,4 @@ mod values;
 
 pub use located::{Found, locate};
 pub use places::{Key, Place, Spot};
-pub use text::read_project;
+pub use text::{read_group, read_project};

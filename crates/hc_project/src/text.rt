@@ -1,8 +1,9 @@
 //! Project text as a whole: the document that TOML reads, its groups, and the project that they
-//! make or the lowest fault.
+//! make, or the one group that it declares, or the lowest fault.
 ghost use Rattle.std.specs.Prelude.{◌≡◌, ◌≢◌, IfErr, IfOk};
-ghost use Rattle.hc_project.specs.Text.{project_in, settled};
-ghost use Rattle.hc_records.specs.declared.faults.ProjectFault.TheVariants.{Memory};
+ghost use Rattle.std.specs.Option.{ok_or};
+ghost use Rattle.hc_project.specs.Text.{group_in, only_group, project_in, settled};
+ghost use Rattle.hc_records.specs.declared.faults.ProjectFault.TheVariants.{Memory, NotOneGroup};
 
 use crate::levels::read_groups;
 use crate::reading::Reading;
@@ -52,4 +53,29 @@ pub fn read_project(alloc: Global, text: &[u8]) -> Result<Project, ProjectFault>
     };
     let groups = read_groups(alloc, &Value::Table(table))?;
     settle(alloc, groups)
+}
+
+/// The one group behind a mandatory group without slaves, or `NotOneGroup` where the groups are others.
+fn only_group(groups: Items<Group>) -> Result<Group, ProjectFault>
+    ensures { result ≡ ok_or (only_group groups) NotOneGroup }
+{
+    let mut groups = groups.into_vec();
+    if groups.len() != 2 || !groups[0].slaves.is_empty() {
+        return Err(ProjectFault::NotOneGroup);
+    }
+    groups.pop().ok_or(ProjectFault::NotOneGroup)
+}
+
+/// The group of a text: a project's text, as docs/PROJECT_TEXT.md describes it, with exactly one group and
+/// no mandatory slave.
+///
+/// Otherwise the lowest fault whose condition holds over the whole text, as `read_project` answers it, or
+/// behind all of these `NotOneGroup` where it is the text of another project. `Memory` may come in place of
+/// any, where a growth was refused.
+pub fn read_group(alloc: Global, text: &[u8]) -> Result<Group, ProjectFault>
+    ensures group { IfOk result (λ group. group_in text.now ≡ Ok group) }
+    ensures refused { IfErr result (λ fault. fault ≢ Memory → group_in text.now ≡ Err fault) }
+{
+    let project = read_project(alloc, text)?;
+    only_group(project.into_groups())
 }

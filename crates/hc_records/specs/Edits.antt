@@ -123,8 +123,7 @@ alone group = record { alias = 0; slaves = [] } ∷ group ∷ []
 
 -- a slave of a declared group, present or not, offers the variable in one of its areas
 abbrev pub is_declared_variable : List Declared → ℕ → Bool
-is_declared_variable groups variable =
-    list_any (λ declared. list_any (λ name. name == variable) (slave_names declared.group.slaves)) groups
+is_declared_variable groups variable = list_any (λ name. name == variable) (slave_names (slaves_of (groups_of groups)))
 
 -- the faults of a group that is declared behind others, the lowest first: those that it has by itself, what is taken already, and the limits
 abbrev pub declaring_faults : List Declared → Group → List (Bool × EditFault)

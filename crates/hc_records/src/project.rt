@@ -1,14 +1,15 @@
 //! A project: declared groups in which every value is in its range and every name stands once.
 ghost use Rattle.std.specs.Prelude.{◌≡◌, ◌≢◌, Err, None, Some, IfErr, IfOk, IsTrue, OnOk};
+ghost use Rattle.hc_records.specs.Edits.{alone};
 ghost use Rattle.hc_records.specs.Limits.{IsProjectInside};
 ghost use Rattle.hc_records.specs.Project.{has_outside, lowest_fault};
 ghost use Rattle.hc_records.specs.declared.faults.ProjectFault.TheVariants.{Memory, OutOfRange};
 
 use crate::conditions::judge;
 use crate::faults::ProjectFault;
-use crate::items::Items;
+use crate::items::{Copied, Items};
 use crate::records::Group;
-use std::alloc::Global;
+use std::alloc::{AllocError, Global};
 use std::marker::Model;
 
 /// Declared groups, the mandatory one first, in which no fault's condition holds.
@@ -60,5 +61,36 @@ impl Project {
     {
         let Project { groups } = self;
         groups
+    }
+}
+
+/// An empty mandatory group, and a copy of a group behind it.
+fn alone(alloc: Global, group: &Group) -> Result<Vec<Group>, AllocError>
+    ensures { IfOk result (λ groups. groups.items ≡ alone group.now) }
+{
+    let mut groups = Vec::with_capacity(alloc, 2)?;
+    groups.push_reserved(Group {
+        alias: 0,
+        slaves: Items::new(alloc),
+    });
+    groups.push_reserved(group.copied(alloc)?);
+    Ok(groups)
+}
+
+impl Group {
+    /// A copy of the group, if it may stand in a project: no fault's condition holds of it beside an empty
+    /// mandatory group. Otherwise the lowest of the faults from `OutOfRange` to `AreaTooBig` whose
+    /// condition holds, or `Memory` where a growth was refused. The group stays as it is.
+    pub fn checked(&self, alloc: Global) -> Result<Group, ProjectFault>
+        ensures copy { IfOk result (λ copy. copy ≡ self.now) }
+        ensures accepted { OnOk result (lowest_fault (alone self.now) ≡ None) }
+        ensures refused { IfErr result (λ fault. fault ≢ Memory → lowest_fault (alone self.now) ≡ Some fault) }
+    {
+        let mut both = alone(alloc, self)?;
+        judge(alloc, both.as_slice())?;
+        let Some(copy) = both.pop() else {
+            unreachable!()
+        };
+        Ok(copy)
     }
 }

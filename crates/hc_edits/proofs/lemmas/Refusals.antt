@@ -7,7 +7,7 @@ use Rattle.hc_records.specs.declared.faults.EditFault.{EditFault}
 use Rattle.hc_records.specs.declared.faults.EditFault.TheVariants.{TooManyDatagrams, EpochsSpent}
 use Rattle.hc_records.specs.Line.{State, line}
 use Rattle.hc_records.specs.Lists.{lowest}
-use Rattle.hc_records.specs.Edits.{changed, crowded_task, edit_faults, edited, own_faults}
+use Rattle.hc_records.specs.Edits.{changed, crowded_task, edit_faults, edited, late_faults, own_faults}
 use Rattle.hc_edits.specs.Edits.{own_fault, state_of}
 
 -- those of a state are those over its groups
@@ -24,12 +24,12 @@ lowest-before [] others fault some = cc
 lowest-before ((true, first) ∷ faults) others fault some = some
 lowest-before ((false, first) ∷ faults) others fault some = lowest-before faults others fault some
 
--- the faults that concern the new line and the epoch
+-- the faults that concern the new line, the epoch and a declared group
 abbrev pub line_faults : State → Edit → List (Bool × EditFault)
 line_faults state edit =
     (is_some (crowded_task (line (changed state edit))), TooManyDatagrams (unwrap_or (crowded_task (line (changed state edit))) 0))
     ∷ (state.epoch == LAST_EPOCH, EpochsSpent)
-    ∷ []
+    ∷ late_faults state edit
 
 -- an own fault refuses the edit
 pub own-refuses : (state : State) (edit : Edit) (fault : EditFault) → own_fault state.groups edit ≡ Some fault → edited state edit ≡ Err fault

@@ -75,18 +75,6 @@ station-met groups station =
     ∙ any-flat (λ (slave : Slave). slave.station == station) (λ (group : Group). group.slaves) (groups_of groups)
     ∙ any-map (λ (group : Group). has_station station group.slaves) (λ (declared : Declared). declared.group) groups)
 
-names-of-groups : (groups : List Group) → slave_names (slaves_of groups) ≡ flat_map (λ group. slave_names group.slaves) groups
-names-of-groups [] = refl
-names-of-groups (group ∷ groups) =
-    flat_map-append (λ (slave : Slave). area_names slave.areas) group.slaves (slaves_of groups)
-    ∙ ap (λ (names : List ℕ). slave_names group.slaves ++ names) (names-of-groups groups)
-
-pub variable-met : (groups : List Declared) (variable : ℕ) → is_declared_variable groups variable ≡ list_any (λ x. x == variable) (slave_names (slaves_of (groups_of groups)))
-variable-met groups variable =
-    sym (ap (list_any (λ x. x == variable)) (names-of-groups (groups_of groups))
-    ∙ any-flat (λ x. x == variable) (λ (group : Group). slave_names group.slaves) (groups_of groups)
-    ∙ any-map (λ (group : Group). list_any (λ x. x == variable) (slave_names group.slaves)) (λ (declared : Declared). declared.group) groups)
-
 -- one condition
 
 slaves-joined : (groups : List Group) (group : Group) → slaves_of (groups ++ group ∷ []) ≡ slaves_of groups ++ group.slaves
@@ -159,10 +147,9 @@ variables-joined : (groups : List Declared) (group : Group) → has_repeated_var
 variables-joined groups group once own free =
     let all = slave_names (slaves_of (groups_of groups)) in
     let distinct = ap (λ (slaves : List Slave). has_repeat (slave_names slaves)) (sym (append-nil group.slaves)) ∙ own in
-    let apart = any-same (λ y. list_any (λ x. x == y) all) (is_declared_variable groups) (λ y. sym (variable-met groups y)) (slave_names group.slaves) ∙ free in
     ap (λ (slaves : List Slave). has_repeat (slave_names slaves)) (slaves-joined (groups_of groups) group)
     ∙ ap has_repeat (flat_map-append (λ (slave : Slave). area_names slave.areas) (slaves_of (groups_of groups)) group.slaves)
-    ∙ joined-once all (slave_names group.slaves) once distinct apart
+    ∙ joined-once all (slave_names group.slaves) once distinct free
 
 -- all of them
 
