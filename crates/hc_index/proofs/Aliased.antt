@@ -1,11 +1,12 @@
 -- The declared group with an alias, by the aliases of all.
-use Rattle.std.proofs.Common.{◌≡◌, ◌≢◌, ℕ, ◌+◌, ◌<◌, ◌==◌, Bool, true, false, List, [], ◌∷◌, length, get_or, Option, Some, None, sym, ap, subst, ◌∙◌, arith}
-use Rattle.std.specs.Prelude.{All, AllPairs, Contains, MatchOption, position}
-use Rattle.std.specs.List.{enumerate_from}
-use Rattle.std.proofs.lemmas.Bool.{eq-eqb}
+use Rattle.std.proofs.Common.{◌≡◌, ◌≢◌, ℕ, ◌+◌, ◌<◌, ◌≤◌, ◌==◌, Bool, true, false, List, [], ◌∷◌, length, get_or, Option, Some, None, sym, ap, subst, ◌∙◌, arith}
+use Rattle.std.specs.Prelude.{All, AllPairs, Contains, MatchOption, nat_lt, position}
+use Rattle.std.specs.List.{enumerate_from, insert}
+use Rattle.std.specs.List.Sorted.{IsNonDecreasingBy, IsPartitionPoint}
+use Rattle.std.proofs.lemmas.Bool.{eq-eqb, ltb-false, ltb-true}
 use Rattle.std.proofs.lemmas.List.{get_or-map, length-map}
 use Rattle.std.proofs.lemmas.List.FromFn.{get_or-enumerate_from, length-enumerate_from}
-use Rattle.std.proofs.lemmas.List.Sorted.{All-permutation, Contains-permutation, IsPermutation-sym}
+use Rattle.std.proofs.lemmas.List.Sorted.{All-permutation, Contains-permutation, IsNonDecreasingBy-insert, IsPermutation-sym}
 use Rattle.std.proofs.lemmas.Option.{slice_get-get_or}
 use Rattle.hc_records.specs.declared.records.Declared.{Declared}
 use Rattle.hc_records.specs.declared.records.Group.{Group}
@@ -68,3 +69,12 @@ group-is groups index alias None is none = sym (position-none (has_alias alias) 
 group-is groups index alias (Some group) is at =
     sym (declared-at groups alias group is.project
     (Contains-permutation index.aliases (aliases groups) (record { alias = alias; group = group }) (IsPermutation-sym (aliases groups) index.aliases is.aliases) at))
+
+-- an alias is put behind those that are lower
+
+pub alias-inserted : (old : List Alias) (at : ℕ) (alias : Alias) → IsNonDecreasingBy (λ own. own.alias) old → at ≤ length old
+    → IsPartitionPoint (λ own. nat_lt own.alias alias.alias ≡ true) (λ own. nat_lt own.alias alias.alias ≡ false) old at → IsNonDecreasingBy (λ own. own.alias) (insert old at alias)
+alias-inserted old at alias order inside parted =
+    IsNonDecreasingBy-insert (λ (own : Alias). own.alias) old at alias order inside
+    (λ k d low. let less = ltb-true (get_or old k d).alias alias.alias (parted.0 k d (omega arith) low) in omega (arith, less))
+    (λ k d behind within. ltb-false (get_or old k d).alias alias.alias (parted.1 k d behind within))

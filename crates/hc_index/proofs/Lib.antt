@@ -1,9 +1,11 @@
 pub mod Aliased
 pub mod Declaring
+pub mod Entering
 pub mod Found
 pub mod Halves
 pub mod Indexes
 pub mod Lines
+pub mod Merging
 pub mod Names
 pub mod Owned
 pub mod Owners

@@ -9,7 +9,6 @@ use Rattle.hc_records.specs.declared.records.Slave.{Slave}
 use Rattle.hc_records.specs.Edits.{is_declared_variable}
 use Rattle.hc_records.specs.Line.{groups_of}
 use Rattle.hc_records.specs.Project.{area_names, slave_names, slaves_of}
-use Rattle.hc_records.proofs.lemmas.Declaring.{variable-met}
 use Rattle.hc_index.specs.Index.{Index, IsIndexOf, variables}
 
 -- those of a group, then those of the groups behind it
@@ -26,5 +25,4 @@ variables-append (declared ∷ groups) more =
 
 -- one is offered where it stands among the sorted ones
 pub offered-is : (groups : List Declared) (index : Index) (variable : ℕ) → IsIndexOf groups index → list_any (λ other. other == variable) index.variables ≡ is_declared_variable groups variable
-offered-is groups index variable is =
-    sym (variable-met groups variable ∙ list_any-IsPermutation (λ other. other == variable) (variables groups) index.variables is.declared.variables)
+offered-is groups index variable is = sym (list_any-IsPermutation (λ other. other == variable) (variables groups) index.variables is.declared.variables)

@@ -39,29 +39,37 @@ by-station seen address ranks station false is some low before =
 
 -- and all
 
-all-written : (seen more : List Address) (ranks : List ℕ) → All (λ address. address.station < length ranks) more → All (λ address. 1 ≤ address.rank) more → AreRanks seen ranks
+pub ranks-written : (seen more : List Address) (ranks : List ℕ) → All (λ address. address.station < length ranks) more → All (λ address. 1 ≤ address.rank) more → AreRanks seen ranks
     → AreRanks (seen ++ more) (written more ranks)
-all-written seen [] ranks room some before = subst (λ (all : List Address). AreRanks all ranks) (sym (append-nil seen)) before
-all-written seen (address ∷ more) ranks room some before =
+ranks-written seen [] ranks room some before = subst (λ (all : List Address). AreRanks all ranks) (sym (append-nil seen)) before
+ranks-written seen (address ∷ more) ranks room some before =
     let next = set ranks address.station address.rank in
     let long = length-set ranks address.station address.rank in
     subst (λ (all : List Address). AreRanks all (written more next)) (append_assoc seen (address ∷ []) more)
-    (all-written (seen ++ address ∷ []) more next
+    (ranks-written (seen ++ address ∷ []) more next
     (subst (λ (n : ℕ). All (λ (a : Address). a.station < n) more) (sym long) (All-tail (λ (a : Address). a.station < length ranks) address more room))
     (All-tail (λ (a : Address). 1 ≤ a.rank) address more some)
     (λ station. by-station seen address ranks station (address.station == station) refl (All-head (λ (a : Address). 1 ≤ a.rank) address more some)
     (All-head (λ (a : Address). a.station < length ranks) address more room) (before station)))
 
-no-ranks : (n station : ℕ) → get_or (replicate {A = ℕ} n 0) station 0 ≡ 0
-no-ranks zero station = refl
-no-ranks (suc n) zero = refl
-no-ranks (suc n) (suc station) = no-ranks n station
+-- none, and more places for them
 
-pub ranks-written : (addresses : List Address) (ranks : List ℕ) → All (λ address. address.station < length ranks) addresses → All (λ address. 1 ≤ address.rank) addresses → ranks ≡ replicate (length ranks) 0
-    → AreRanks addresses (written addresses ranks)
-ranks-written addresses ranks room some none =
-    all-written [] addresses ranks room some
-    (λ station. subst (IsRankOf [] station) (sym (ap (λ (r : List ℕ). get_or r station 0) none ∙ no-ranks (length ranks) station)) (All-nil (λ (a : Address). a.station ≢ station)))
+no-rank-at : (n station : ℕ) → get_or (replicate {A = ℕ} n 0) station 0 ≡ 0
+no-rank-at zero station = refl
+no-rank-at (suc n) zero = refl
+no-rank-at (suc n) (suc station) = no-rank-at n station
+
+pub no-ranks : (ranks : List ℕ) (n : ℕ) → ranks ≡ replicate n 0 → AreRanks [] ranks
+no-ranks ranks n is station =
+    subst (IsRankOf [] station) (sym (ap (λ (r : List ℕ). get_or r station 0) is ∙ no-rank-at n station)) (All-nil (λ (a : Address). a.station ≢ station))
+
+longer-at : (ranks : List ℕ) (n station : ℕ) → get_or (ranks ++ replicate n 0) station 0 ≡ get_or ranks station 0
+longer-at [] n station = no-rank-at n station
+longer-at (rank ∷ ranks) n zero = refl
+longer-at (rank ∷ ranks) n (suc station) = longer-at ranks n station
+
+pub ranks-longer : (all : List Address) (ranks : List ℕ) (n : ℕ) → AreRanks all ranks → AreRanks all (ranks ++ replicate n 0)
+ranks-longer all ranks n are station = subst (IsRankOf all station) (sym (longer-at ranks n station)) (are station)
 
 -- the rank that is read
 

@@ -65,10 +65,10 @@ pub(crate) fn highest_station(addresses: &[Address]) -> u16
 }
 
 /// Writes the ranks of slaves at their station addresses, among those of others.
-fn write_ranks(ranks: &mut [u16], addresses: &[Address])
-    requires room { All (λ address. address.station < length ranks.old) addresses.now }
+fn write_ranks(ranks: &mut Vec<u16>, addresses: &[Address])
+    requires room { All (λ address. address.station < length ranks.old.items) addresses.now }
     requires some { All (λ address. 1 ≤ address.rank) addresses.now }
-    ensures { (others : List Address) → AreRanks others ranks.old → AreRanks (others ++ addresses.now) ranks.new }
+    ensures { (others : List Address) → AreRanks others ranks.old.items → AreRanks (others ++ addresses.now) ranks.new.items }
 {
     for address in addresses {
         ranks[usize::from(address.station)] = address.rank;
@@ -105,7 +105,7 @@ pub(crate) fn add_ranks(ranks: &mut Vec<u16>, room: Room<u16>, addresses: &[Addr
 {
     let more = reach.saturating_sub(ranks.len());
     fill(ranks, room, more, 0);
-    write_ranks(ranks.as_mut_slice(), addresses);
+    write_ranks(ranks, addresses);
 }
 
 /// The rank of the declared slave with a station address; none where there is none.

@@ -47,7 +47,8 @@ pub(crate) fn sorted_aliases(alloc: Global, groups: &[Declared]) -> Result<Vec<A
 /// How many aliases are lower than this one.
 fn count_below(aliases: &[Alias], alias: u16) -> usize
     requires { IsNonDecreasingBy (λ own. own.alias) aliases.now }
-    ensures { IsPartitionPoint (λ own. nat_lt own.alias alias ≡ true) (λ own. nat_lt own.alias alias ≡ false) aliases.now result }
+    ensures bound { result ≤ length aliases.now }
+    ensures parted { IsPartitionPoint (λ own. nat_lt own.alias alias ≡ true) (λ own. nat_lt own.alias alias ≡ false) aliases.now result }
 {
     aliases.partition_point(|own| own.alias < alias)
 }

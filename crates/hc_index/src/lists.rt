@@ -13,6 +13,15 @@ pub(crate) fn fill(list: &mut Vec<u16>, room: Room<u16>, more: usize, number: u1
     let _filled = list.resize(count, number);
 }
 
+/// Puts numbers behind others, with the help of memory that was taken before.
+pub(crate) fn append(list: &mut Vec<u32>, room: Room<u32>, more: &[u32])
+    requires { length list.old.items + length more.now ≤ room }
+    ensures { list.new.items ≡ list.old.items ++ more.now }
+{
+    room.widen(list, more.len());
+    let _longer = list.extend_from_slice(more);
+}
+
 /// Puts a list behind others, with the help of memory that was taken before.
 pub(crate) fn add_list(lists: &mut Vec<Vec<u32>>, room: Room<Vec<u32>>, list: Vec<u32>)
     requires { length lists.old.items + 1 ≤ room }

@@ -1,10 +1,11 @@
 //! The variables that areas of declared slaves offer, present or not, assigned or not, sorted.
-ghost use Rattle.std.specs.Prelude.{◌≡◌, ◌+◌, ◌==◌, ◌≤◌, ◌∷◌, ◌++◌, All, IfOk, drop, length, slice_range, take};
+ghost use Rattle.std.specs.Prelude.{◌≡◌, ◌+◌, ◌==◌, ◌≤◌, ◌∷◌, ◌++◌, IfOk, drop, false, length, nat_lt, slice_range, take, true};
 ghost use Rattle.std.specs.List.{list_any};
-ghost use Rattle.std.specs.List.Sorted.{IsNonDecreasing, IsPermutation};
+ghost use Rattle.std.specs.List.Sorted.{IsNonDecreasing, IsPartitionPoint, IsPermutation};
 ghost use Rattle.hc_records.specs.Project.{slave_names};
 ghost use Rattle.hc_index.specs.Index.{variables};
 
+use crate::lists::append;
 use hc_records::add_slave_names;
 use hc_records::records::{Declared, Slave};
 use hc_records::room::Room;
@@ -50,15 +51,13 @@ pub(crate) fn is_one_of(variables: &[u32], variable: u32) -> bool
     variables.binary_search(&variable).is_ok()
 }
 
-/// How many variables of the first so many have lower numbers.
-fn count_lower(variables: &[u32], left: usize, variable: u32) -> usize
-    requires bound { left ≤ length variables.now }
-    requires order { IsNonDecreasing (take left variables.now) }
-    ensures bound { result ≤ left }
-    ensures low { All (λ other. other ≤ variable) (take result variables.now) }
-    ensures high { All (λ other. variable ≤ other) (slice_range variables.now result left) }
+/// How many variables are lower than this one.
+fn count_lower(variables: &[u32], variable: u32) -> usize
+    requires { IsNonDecreasing variables.now }
+    ensures bound { result ≤ length variables.now }
+    ensures parted { IsPartitionPoint (λ other. nat_lt other variable ≡ true) (λ other. nat_lt other variable ≡ false) variables.now result }
 {
-    variables[..left].partition_point(|other| *other < variable)
+    variables.partition_point(|other| *other < variable)
 }
 
 /// Shifts the variables from a place to another up by so many, and puts a variable in front of them.
@@ -83,10 +82,11 @@ pub(crate) fn add_variables(variables: &mut Vec<u32>, room: Room<u32>, names: &[
     ensures order { IsNonDecreasing variables.new.items }
 {
     let mut left = variables.len();
-    room.widen(variables, names.len());
-    let _longer = variables.extend_from_slice(names);
-    for more in (0..names.len()).rev() {
-        let at = count_lower(variables.as_slice(), left, names[more]);
+    let mut more = names.len();
+    append(variables, room, names);
+    while more > 0 {
+        more -= 1;
+        let at = count_lower(&variables[..left], names[more]);
         put_below(variables, at, left, more, names[more]);
         left = at;
     }

@@ -18,7 +18,7 @@ line-inside groups none = line-slaves IsSlaveInside 1 groups (each-group IsSlave
 pub line-stations : (groups : List Declared) → lowest_fault (map (λ declared. declared.group) groups) ≡ None → AllPairs (λ a b. a.slave.station ≢ b.slave.station) (line_from 1 groups)
 line-stations groups none = line-pairs (λ a b. a.station ≢ b.station) 1 groups (project-inside (groups_of groups) none).stations
 
-length-slaves : (groups : List Declared) → length (slaves_of (map (λ declared. declared.group) groups)) ≡ sum_by (λ declared. length declared.group.slaves) groups
+pub length-slaves : (groups : List Declared) → length (slaves_of (map (λ declared. declared.group) groups)) ≡ sum_by (λ declared. length declared.group.slaves) groups
 length-slaves [] = refl
 length-slaves (declared ∷ groups) =
     length-append declared.group.slaves (declared_slaves groups)

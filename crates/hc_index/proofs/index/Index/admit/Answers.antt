@@ -1,0 +1,126 @@
+use Rattle.std.proofs.Common.{◌≡◌, ◌+◌, ◌-◌, ◌<◌, ◌≤◌, ◌∷◌, ◌++◌, ◌∙◌, ℕ, [], List, length, ap, map, replicate, subst, sym, arith}
+use Rattle.std.specs.Prelude.{All, slice_index}
+use Rattle.std.specs.List.Sorted.{IsNonDecreasing, IsPermutation}
+use Rattle.std.proofs.lemmas.List.{length-append, length-map, map-append}
+use Rattle.hc_index.specs.declared.addresses.Address.{Address}
+use Rattle.hc_index.specs.declared.aliases.Alias.{Alias}
+use Rattle.hc_index.specs.Index.{AreRanks, Index}
+use Rattle.hc_index.specs.Room.{IndexRoom}
+use Rattle.hc_index.proofs.Entering.{HasTaken, can-enter, own-some, taken}
+use Rattle.hc_index.proofs.index.Index.admit.Goals as goal
+
+pub overflow_cast-number : goal.overflow_cast-number
+overflow_cast-number c =
+    let fronts = ap (λ (index : Index). length index.fronts) c.self.view_is in
+    let size = length-map c.self.inside.fronts.items (λ sums. sums.items) in
+    omega (arith, (can-enter c.args.self.now c.args.group.now c.requires.enters).groups, fronts, size, c.len-number.ensures, c.self.inside.fronts.ok.0)
+
+pub add_ranks-requires-clause-some : goal.add_ranks-requires-clause-some
+add_ranks-requires-clause-some c =
+    let addresses = ap (λ (room : IndexRoom). room.addresses) c.room.view_is in
+    subst (All (λ (address : Address). 1 ≤ address.rank)) (sym (c.deref.ensures.value ∙ addresses ∙ c.requires.room.addresses))
+    (own-some (length c.args.self.now.owners + 1) c.args.group.now.slaves (omega arith))
+
+pub add_variables-requires-clause-own : goal.add_variables-requires-clause-own
+add_variables-requires-clause-own c =
+    let names = ap (λ (room : IndexRoom). room.names) c.room.view_is in
+    subst IsNonDecreasing (sym (c.deref-2.ensures.value ∙ names)) c.requires.room.order
+
+pub overflow_cast-count : goal.overflow_cast-count
+overflow_cast-count c = omega (arith, (can-enter c.args.self.now c.args.group.now c.requires.enters).slaves, c.len-count.ensures)
+
+pub add_sum-requires-clause-some : goal.add_sum-requires-clause-some
+add_sum-requires-clause-some c =
+    subst (λ (index : Index). 0 < length index.ranks) (sym c.self.view_is) (can-enter c.args.self.now c.args.group.now c.requires.enters).some
+
+pub add_sum-requires-clause-low : goal.add_sum-requires-clause-low
+add_sum-requires-clause-low c =
+    let low = subst (λ (index : Index). slice_index index.ranks (length index.ranks - 1) + length c.args.group.now.slaves < 65535) (sym c.self.view_is)
+    (can-enter c.args.self.now c.args.group.now c.requires.enters).ranks in
+    omega (arith, low, c.len-count.ensures)
+
+pub add_sum-requires-2-clause-some : goal.add_sum-requires-2-clause-some
+add_sum-requires-2-clause-some c =
+    let is = can-enter c.args.self.now c.args.group.now c.requires.enters in
+    subst (λ (index : Index). 0 < length index.slaves) (sym c.self.view_is) (omega (arith, is.slave_sums))
+
+pub add_sum-requires-2-clause-low : goal.add_sum-requires-2-clause-low
+add_sum-requires-2-clause-low c =
+    let low = subst (λ (index : Index). slice_index index.slaves (length index.slaves - 1) < 65535) (sym c.self.view_is)
+    (can-enter c.args.self.now c.args.group.now c.requires.enters).line in
+    omega (arith, low)
+
+pub add_sum-requires-3-clause-some : goal.add_sum-requires-3-clause-some
+add_sum-requires-3-clause-some c =
+    let is = can-enter c.args.self.now c.args.group.now c.requires.enters in
+    subst (λ (index : Index). 0 < length index.blocks) (sym c.self.view_is) (omega (arith, is.block_sums))
+
+pub add_sum-requires-3-clause-low : goal.add_sum-requires-3-clause-low
+add_sum-requires-3-clause-low c =
+    let low = subst (λ (index : Index). slice_index index.blocks (length index.blocks - 1) < 4294967296) (sym c.self.view_is)
+    (can-enter c.args.self.now c.args.group.now c.requires.enters).line_blocks in
+    omega (arith, low)
+
+pub invariant_of-self : goal.invariant_of-self
+invariant_of-self c =
+    let is = can-enter c.args.self.now c.args.group.now c.requires.enters in
+    let count = length-map c.self.inside.fronts.items (λ sums. sums.items) in
+    let fronts = ap (λ (index : Index). length index.fronts) c.self.view_is in
+    let slaves = ap (λ (index : Index). length index.slaves) c.self.view_is in
+    let blocks = ap (λ (index : Index). length index.blocks) c.self.view_is in
+    let longer = ap length c.add_list.ensures ∙ length-append c.self.inside.fronts.items _ in
+    let more_slaves = ap length c.add_sum-2.ensures ∙ length-append c.self.inside.slaves.items _ in
+    let more_blocks = ap length c.add_sum-3.ensures ∙ length-append c.self.inside.blocks.items _ in (
+      c.add_alias.ensures.order,
+      c.add_variables.ensures.order,
+      omega (arith, is.slave_sums, count, fronts, slaves, longer, more_slaves, c.add_sum-2.new.sums.ok.0, c.add_sum-2.new.sums.ok.1),
+      omega (arith, is.block_sums, count, fronts, blocks, longer, more_blocks, c.add_sum-3.new.sums.ok.0, c.add_sum-3.new.sums.ok.1),
+    )
+
+pub returns : goal.returns
+returns c enters =
+    let inside = c.self.inside in
+    let group = c.args.group.now in
+    let old : Index = record {
+      aliases = inside.aliases.items;
+      stations = inside.stations.items;
+      variables = inside.variables.items;
+      owners = inside.owners.items;
+      fronts = map (λ sums. sums.items) inside.fronts.items;
+      ranks = inside.ranks.items;
+      slaves = inside.slaves.items;
+      blocks = inside.blocks.items;
+    } in
+    let new : Index = record {
+      aliases = c.add_alias.new.aliases.items;
+      stations = c.add_ranks.new.ranks.items;
+      variables = c.add_variables.new.variables.items;
+      owners = c.fill.new.list.items;
+      fronts = map (λ sums. sums.items) c.add_list.new.lists.items;
+      ranks = c.add_sum.new.sums.items;
+      slaves = c.add_sum-2.new.sums.items;
+      blocks = c.add_sum-3.new.sums.items;
+    } in
+    let number : c.len-number.result ≡ length old.fronts = let size = length-map inside.fronts.items (λ sums. sums.items) in omega (arith, c.len-number.ensures, inside.fronts.ok.0, size) in
+    let count : c.len-count.result ≡ length group.slaves = c.len-count.ensures in
+    let addresses = ap (λ (room : IndexRoom). room.addresses) c.room.view_is in
+    let names = ap (λ (room : IndexRoom). room.names) c.room.view_is in
+    let sums = ap (λ (room : IndexRoom). room.sums) c.room.view_is in
+    taken enters.groups c.args.self.now new group c.args.room enters.is enters.project c.requires.room
+    (subst (λ (i : Index). HasTaken i new group c.args.room) c.self.view_is
+    (record {
+      aliases = subst (λ (n : ℕ). let own : Alias = record { alias = group.alias; group = n } in IsPermutation (own ∷ old.aliases) new.aliases) number c.add_alias.ensures.same;
+      stations = λ others are. subst (λ (l : List Address). AreRanks (others ++ l) new.stations) (c.deref.ensures.value ∙ addresses) (c.add_ranks.ensures others are);
+      variables = subst (λ (l : List ℕ). IsPermutation (old.variables ++ l) new.variables) (c.deref-2.ensures.value ∙ names) c.add_variables.ensures.same;
+      owners =
+          c.fill.ensures
+          ∙ ap (λ (n : ℕ). old.owners ++ replicate n c.len-number.result) count
+          ∙ ap (λ (n : ℕ). old.owners ++ replicate (length group.slaves) n) number;
+      fronts =
+          ap (map (λ sums. sums.items)) c.add_list.ensures
+          ∙ map-append (λ sums. sums.items) inside.fronts.items (c.room.inside.sums ∷ [])
+          ∙ ap (λ (l : List ℕ). old.fronts ++ l ∷ []) sums;
+      ranks = c.add_sum.ensures ∙ ap (λ (n : ℕ). old.ranks ++ (slice_index old.ranks (length old.ranks - 1) + n) ∷ []) count;
+      slaves = c.add_sum-2.ensures;
+      blocks = c.add_sum-3.ensures;
+    }))

@@ -1,0 +1,13 @@
+use Rattle.std.proofs.Common.{◌∙◌, List, ap, length, sym}
+use Rattle.hc_records.specs.declared.records.Declared.{Declared}
+use Rattle.hc_records.specs.Line.{groups_of}
+use Rattle.hc_records.specs.Project.{slaves_of}
+use Rattle.hc_records.proofs.lemmas.Slaves.{length-slaves}
+use Rattle.hc_index.proofs.Indexes.{seen}
+use Rattle.hc_index.proofs.Owned.{owners-length}
+use Rattle.hc_index.proofs.index.Indexed.declared.Goals as goal
+
+pub returns : goal.returns
+returns c =
+    let groups = c.args.self.now in
+    ap length (seen c.self.view_is c.self.invariant.0).declared.owners ∙ owners-length 0 groups ∙ sym (length-slaves groups)
