@@ -21,7 +21,7 @@ use Rattle.hc_index.proofs.Found.{differs, differs-behind, position-at, position
 abbrev has_alias : ℕ → Declared → Bool
 has_alias alias declared = declared.group.alias == alias
 
-aliases-length : (groups : List Declared) → length (aliases groups) ≡ length groups
+pub aliases-length : (groups : List Declared) → length (aliases groups) ≡ length groups
 aliases-length groups = length-map (enumerate_from 0 groups) alias_of ∙ length-enumerate_from 0 groups
 
 alias-at : (groups : List Declared) (k : ℕ) (d : Declared) (e : Alias) → k < length groups → get_or (aliases groups) k e ≡ record { alias = (get_or groups k d).group.alias; group = k }

@@ -5,7 +5,7 @@ use Rattle.std.specs.List.{enumerate_from}
 use Rattle.std.specs.List.Sorted.{IsPermutation}
 use Rattle.std.proofs.lemmas.List.{append-nil, length-map, map-append, take_all}
 use Rattle.std.proofs.lemmas.List.Elements.{All-cons, All-head, All-nil}
-use Rattle.std.proofs.lemmas.List.Sorted.{IsPermutation-append, IsPermutation-append_left, IsPermutation-cons, IsPermutation-to_front, IsPermutation-trans}
+use Rattle.std.proofs.lemmas.List.Sorted.{IsPermutation-append, IsPermutation-append_left, IsPermutation-cons, IsPermutation-to_front, IsPermutation-trans, length_permutation}
 use Rattle.std.proofs.lemmas.List.Sums.{sum_by-append, sum_by-cons}
 use Rattle.hc_records.specs.declared.records.Declared.{Declared}
 use Rattle.hc_records.specs.declared.records.Group.{Group}
@@ -20,7 +20,8 @@ use Rattle.hc_records.proofs.lemmas.Walks.{length-line}
 use Rattle.hc_index.specs.declared.addresses.Address.{Address}
 use Rattle.hc_index.specs.declared.aliases.Alias.{Alias}
 use Rattle.hc_index.specs.Index.{AreRanks, Index, IsIndexOf, IsIndexOfDeclared, addresses, alias_of, aliases, block_sum, block_sums, declared_count, own_sum, owners_from, present_count, sums_from, variables}
-use Rattle.hc_index.specs.Room.{CanEnter, IndexRoom, IsRoomFor}
+use Rattle.hc_index.specs.Room.{CanAdmit, CanEnter, IndexRoom}
+use Rattle.hc_index.proofs.Aliased.{aliases-length}
 use Rattle.hc_index.proofs.Declaring.{addresses-group, addresses_from, own_addresses}
 use Rattle.hc_index.proofs.Names.{variables-append, variables-group}
 use Rattle.hc_index.proofs.Owned.{owners-length}
@@ -85,6 +86,56 @@ can-enter index group can =
       slave_sums = let size = ap length can.is.slaves ∙ sums-length present_count 0 groups in omega (arith, size, fronts);
       block_sums = let size = ap length can.is.blocks ∙ sums-length own_sum 0 groups in omega (arith, size, fronts);
     }
+
+-- there is room for what the lists of an index take of a group
+pub record Fits (index : Index) (group : Group) (room : IndexRoom) : Type 0 where
+  pub aliases : length index.aliases + 1 ≤ room.aliases
+  pub variables : length index.variables + length room.names ≤ room.variables
+  pub owners : length index.owners + length group.slaves ≤ room.owners
+  pub fronts : length index.fronts + 1 ≤ room.fronts
+  pub ranks : length index.ranks + 1 ≤ room.ranks
+  pub slaves : length index.slaves + 1 ≤ room.slaves
+  pub blocks : length index.blocks + 1 ≤ room.blocks
+
+-- how long the lists of an index are
+pub record HasLengths (groups : List Declared) (index : Index) : Type 0 where
+  pub aliases : length index.aliases ≡ length groups
+  pub variables : length index.variables ≡ length (variables groups)
+  pub owners : length index.owners ≡ sum_by declared_count groups
+  pub fronts : length index.fronts ≡ length groups
+  pub ranks : length index.ranks ≡ length groups + 1
+  pub slaves : length index.slaves ≡ length groups + 1
+  pub blocks : length index.blocks ≡ length groups + 1
+
+pub lengths : (groups : List Declared) (index : Index) → IsIndexOf groups index → HasLengths groups index
+lengths groups index is =
+    let declared = is.declared in
+    record {
+      aliases = length_permutation (aliases groups) index.aliases declared.aliases ∙ aliases-length groups;
+      variables = length_permutation (variables groups) index.variables declared.variables;
+      owners = ap length declared.owners ∙ owners-length 0 groups;
+      fronts = ap length declared.fronts ∙ length-map groups block_sums;
+      ranks = ap length declared.ranks ∙ sums-length declared_count 0 groups;
+      slaves = ap length is.slaves ∙ sums-length present_count 0 groups;
+      blocks = ap length is.blocks ∙ sums-length own_sum 0 groups;
+    }
+
+pub fits : (index : Index) (group : Group) (room : IndexRoom) → CanAdmit index group room → Fits index group room
+fits index group room can =
+    let long = lengths can.groups index can.is in
+    let is = can.fits in
+    record {
+      aliases = omega (arith, is.aliases, long.aliases);
+      variables = omega (arith, is.variables, long.variables);
+      owners = omega (arith, is.owners, long.owners);
+      fronts = omega (arith, is.fronts, long.fronts);
+      ranks = omega (arith, is.ranks, long.ranks);
+      slaves = omega (arith, is.slaves, long.slaves);
+      blocks = omega (arith, is.blocks, long.blocks);
+    }
+
+pub enters : (index : Index) (group : Group) (room : IndexRoom) → CanAdmit index group room → Enters index group
+enters index group room can = can-enter index group (record { groups = can.groups; is = can.is; project = can.project })
 
 -- a rank is 1 or more
 pub own-some : (rank : ℕ) (slaves : List Slave) → 1 ≤ rank → All (λ address. 1 ≤ address.rank) (own_addresses rank slaves)
@@ -166,22 +217,23 @@ pub record HasTaken (old new : Index) (group : Group) (room : IndexRoom) : Type 
   pub slaves : new.slaves ≡ old.slaves ++ (slice_index old.slaves (length old.slaves - 1) + 0) ∷ []
   pub blocks : new.blocks ≡ old.blocks ++ (slice_index old.blocks (length old.blocks - 1) + 0) ∷ []
 
-pub taken : (groups : List Declared) (old new : Index) (group : Group) (room : IndexRoom) → IsIndexOf groups old → lowest_fault (groups_of (groups ++ absent group ∷ [])) ≡ None → IsRoomFor old group room
-    → HasTaken old new group room → IsIndexOf (groups ++ absent group ∷ []) new
-taken groups old new group room is project roomy has =
+pub taken : (old new : Index) (group : Group) (room : IndexRoom) (can : CanAdmit old group room) → HasTaken old new group room → IsIndexOf (can.groups ++ absent group ∷ []) new
+taken old new group room can has =
+    let groups = can.groups in
+    let is = can.is in
+    let roomy = can.fits in
     let one = absent group in
     let d = is.declared in
     let alias : Alias = record { alias = group.alias; group = length groups } in
     let names = slave_names group.slaves in
     let count = length group.slaves in
     let number : length old.fronts ≡ length groups = ap length d.fronts ∙ length-map groups block_sums in
-    let long = ap length d.owners ∙ owners-length 0 groups in
-    let behind : room.addresses ≡ own_addresses (1 + sum_by declared_count groups) group.slaves = roomy.addresses ∙ ap (λ (r : ℕ). own_addresses r group.slaves) (omega (arith, long)) in
+    let behind : room.addresses ≡ own_addresses (1 + sum_by declared_count groups) group.slaves = roomy.addresses ∙ ap (λ (r : ℕ). own_addresses r group.slaves) (omega arith) in
     let offered : variables (groups ++ one ∷ []) ≡ variables groups ++ names =
     variables-append groups (one ∷ []) ∙ ap (λ (l : List ℕ). variables groups ++ l) (variables-group one [] ∙ append-nil names) in
     record {
       declared = record {
-        project = project;
+        project = can.project;
         aliases =
             subst (λ (l : List Alias). IsPermutation l new.aliases) (sym (aliases-more groups one))
             (IsPermutation-trans (aliases groups ++ alias ∷ []) (alias ∷ aliases groups) new.aliases (IsPermutation-to_front (aliases groups) alias)

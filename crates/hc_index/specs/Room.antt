@@ -1,5 +1,5 @@
 -- A declared group's way into an index: the memory that it takes, and what the index takes of the group.
-use Rattle.std.specs.Prelude.{◌≡◌, ℕ, ◌+◌, ◌-◌, ◌<◌, ◌≤◌, All, List, [], ◌∷◌, ◌++◌, None, length, map}
+use Rattle.std.specs.Prelude.{◌≡◌, ℕ, ◌+◌, ◌<◌, ◌≤◌, All, List, [], ◌∷◌, ◌++◌, None, length, map, sum_by}
 use Rattle.std.specs.List.Sorted.{IsNonDecreasing, IsPermutation}
 use Rattle.hc_records.specs.declared.records.Declared.{Declared}
 use Rattle.hc_records.specs.declared.records.Group.{Group}
@@ -7,7 +7,7 @@ use Rattle.hc_records.specs.Edits.{absent}
 use Rattle.hc_records.specs.Line.{groups_of, members_from}
 use Rattle.hc_records.specs.Project.{lowest_fault, slave_names}
 use Rattle.hc_index.specs.declared.addresses.Address.{Address}
-use Rattle.hc_index.specs.Index.{Index, IsIndexOf, address_of, blocks_of, sums_from}
+use Rattle.hc_index.specs.Index.{Index, IsIndexOf, address_of, blocks_of, declared_count, sums_from, variables}
 
 -- the index is that of a project's groups, which are a project's again with the group behind them, absent
 pub record CanEnter (index : Index) (group : Group) : Type 0 where
@@ -31,19 +31,26 @@ pub record IndexRoom : Type 0 where
   pub names : List ℕ
   pub sums : List ℕ
 
--- there is room for what a group brings: one element in each list that has one for each group, one for each of its slaves and of its variables, and
--- the ranks up to its highest station address; and that is what the index takes of it
-pub record IsRoomFor (index : Index) (group : Group) (room : IndexRoom) : Type 0 where
-  pub aliases : length index.aliases + 1 ≤ room.aliases
-  pub stations : length index.stations + (room.reach - length index.stations) ≤ room.stations
-  pub variables : length index.variables + length room.names ≤ room.variables
-  pub owners : length index.owners + length group.slaves ≤ room.owners
-  pub fronts : length index.fronts + 1 ≤ room.fronts
-  pub ranks : length index.ranks + 1 ≤ room.ranks
-  pub slaves : length index.slaves + 1 ≤ room.slaves
-  pub blocks : length index.blocks + 1 ≤ room.blocks
-  pub addresses : room.addresses ≡ map address_of (members_from (length index.owners + 1) group.slaves)
+-- there is room for what a group brings behind these groups: one element in each list that has one for each group, one for each of its slaves and of its
+-- variables, and the ranks up to its highest station address; and that is what an index takes of it
+pub record IsRoomFor (groups : List Declared) (group : Group) (room : IndexRoom) : Type 0 where
+  pub aliases : length groups + 1 ≤ room.aliases
+  pub stations : room.reach ≤ room.stations
+  pub variables : length (variables groups) + length room.names ≤ room.variables
+  pub owners : sum_by declared_count groups + length group.slaves ≤ room.owners
+  pub fronts : length groups + 1 ≤ room.fronts
+  pub ranks : length groups + 2 ≤ room.ranks
+  pub slaves : length groups + 2 ≤ room.slaves
+  pub blocks : length groups + 2 ≤ room.blocks
+  pub addresses : room.addresses ≡ map address_of (members_from (sum_by declared_count groups + 1) group.slaves)
   pub reach : All (λ address. address.station < room.reach) room.addresses
   pub names : IsPermutation (slave_names group.slaves) room.names
   pub order : IsNonDecreasing room.names
   pub sums : room.sums ≡ sums_from blocks_of 0 group.slaves
+
+-- the group enters behind the groups of the index, in this memory
+pub record CanAdmit (index : Index) (group : Group) (room : IndexRoom) : Type 0 where
+  pub groups : List Declared
+  pub is : IsIndexOf groups index
+  pub project : lowest_fault (groups_of (groups ++ absent group ∷ [])) ≡ None
+  pub fits : IsRoomFor groups group room

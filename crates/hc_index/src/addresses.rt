@@ -1,5 +1,5 @@
 //! The ranks of all declared slaves, present or not, by their station addresses.
-ghost use Rattle.std.specs.Prelude.{◌≡◌, ◌≢◌, ◌+◌, ◌-◌, ◌<◌, ◌≤◌, ◌++◌, All, Contains, IfOk, List, MatchOption, OnOk, length, map, replicate};
+ghost use Rattle.std.specs.Prelude.{◌≡◌, ◌≢◌, ◌+◌, ◌<◌, ◌≤◌, ◌++◌, All, Contains, IfOk, List, MatchOption, OnOk, length, map, replicate};
 ghost use Rattle.hc_records.specs.Line.{IsCounted, members_from};
 ghost use Rattle.hc_index.specs.declared.addresses.Address.{Address};
 ghost use Rattle.hc_index.specs.Index.{AreRanks, address_of, addresses};
@@ -95,16 +95,29 @@ pub(crate) fn ranks_by_station(alloc: Global, groups: &[Declared]) -> Result<Vec
     Ok(ranks)
 }
 
+/// Makes ranks reach up to a number, with the help of memory that was taken before: there is no slave at the
+/// station addresses that are added.
+fn lengthen(ranks: &mut Vec<u16>, room: Room<u16>, reach: usize)
+    requires { reach ≤ room }
+    ensures reach { reach ≤ length ranks.new.items }
+    ensures same { (all : List Address) → AreRanks all ranks.old.items → AreRanks all ranks.new.items }
+{
+    let count = ranks.len();
+    if reach <= count {
+        return;
+    }
+    fill(ranks, room, reach - count, 0);
+}
+
 /// Adds the ranks of slaves at their station addresses, all of which are below a number, with the help of memory
 /// that was taken before.
 pub(crate) fn add_ranks(ranks: &mut Vec<u16>, room: Room<u16>, addresses: &[Address], reach: usize)
-    requires room { length ranks.old.items + (reach - length ranks.old.items) ≤ room }
+    requires room { reach ≤ room }
     requires reach { All (λ address. address.station < reach) addresses.now }
     requires some { All (λ address. 1 ≤ address.rank) addresses.now }
     ensures { (others : List Address) → AreRanks others ranks.old.items → AreRanks (others ++ addresses.now) ranks.new.items }
 {
-    let more = reach.saturating_sub(ranks.len());
-    fill(ranks, room, more, 0);
+    lengthen(ranks, room, reach);
     write_ranks(ranks, addresses);
 }
 

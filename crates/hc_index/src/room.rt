@@ -54,16 +54,17 @@ fn own_addresses(alloc: Global, rank: u16, slaves: &[Slave]) -> Result<Vec<Addre
 }
 
 impl Index {
-    ghost use Rattle.std.specs.Prelude.{◌≡◌, ◌++◌, ◌∷◌, [], IfOk};
+    ghost use Rattle.std.specs.Prelude.{◌++◌, ◌∷◌, [], IfOk, List};
+    ghost use Rattle.hc_records.specs.declared.records.Declared.{Declared};
     ghost use Rattle.hc_records.specs.Edits.{absent};
     ghost use Rattle.hc_index.specs.Index.{IsIndexOf};
-    ghost use Rattle.hc_index.specs.Room.{CanEnter, IsRoomFor};
+    ghost use Rattle.hc_index.specs.Room.{CanAdmit, CanEnter, IsRoomFor};
 
     /// The memory that it needs to take in a group that is declared behind the others. `AllocError` where a growth
     /// was refused. It looks at the group alone.
     pub fn room_for(&self, alloc: Global, group: &Group) -> Result<IndexRoom, AllocError>
         requires { CanEnter self.now group.now }
-        ensures { IfOk result (IsRoomFor self.now group.now) }
+        ensures { IfOk result (λ room. (groups : List Declared) → IsIndexOf groups self.now → IsRoomFor groups group.now room) }
     {
         let slaves = group.slaves.as_slice();
         let addresses = own_addresses(alloc, self.owners.len() as u16 + 1, slaves)?;
@@ -90,9 +91,8 @@ impl Index {
     /// that was taken before, and nothing can be refused. It looks at what the group brings; of the others, the
     /// aliases and the variables that are higher than its own are shifted once.
     pub fn admit(&mut self, group: &Group, room: IndexRoom)
-        requires enters { CanEnter self.old group.now }
-        requires room { IsRoomFor self.old group.now room }
-        ensures { (enters : CanEnter self.old group.now) → IsIndexOf (enters.groups ++ absent group.now ∷ []) self.new }
+        requires { CanAdmit self.old group.now room }
+        ensures { (can : CanAdmit self.old group.now room) → IsIndexOf (can.groups ++ absent group.now ∷ []) self.new }
     {
         let number = self.fronts.len() as u16;
         let count = group.slaves.len();
