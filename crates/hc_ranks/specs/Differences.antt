@@ -1,4 +1,4 @@
--- How two lines of the same declared slaves differ, place by place: what left, what stayed, and what moved.
+-- How two lines differ, place by place, of which the new one has the same declared slaves, or more behind them: what left, what stayed, and what moved.
 use Rattle.std.specs.Prelude.{◌≡◌, ◌≢◌, ℕ, ◌+◌, ◌-◌, ◌*◌, ◌<◌, ◌≤◌, List, All, length, slice_get, Option, Some, None}
 use Rattle.hc_registers.specs.Blocks.{LineBlock}
 use Rattle.hc_ranks.specs.declared.blocks.Gone.{Gone}
@@ -33,9 +33,9 @@ pub record Names (old new : List (Option LineBlock)) (moved : List RankedBlock) 
   pub stand : All (StandsIn new) moved
   pub others : (n : ℕ) (block : LineBlock) → slice_get new n ≡ Some (Some block) → All (λ other. block_place other ≢ n) moved → StoodAt old n block
 
--- two lines differ by slaves that left, others that came, and the moved blocks
+-- two lines differ by slaves that left, others that came, and the moved blocks; the new one may have places of more declared slaves behind those of the old one
 pub record Differ (old new : List (Option LineBlock)) (gone : Gone) (moved : List RankedBlock) : Type 0 where
-  pub size : length old ≡ length new
+  pub size : length old ≤ length new
   pub rank : 1 ≤ gone.rank
   pub inside : first_gone gone + 16 * gone.slaves ≤ length new
   pub went : (n : ℕ) → IsGone gone n → slice_get new n ≡ Some None

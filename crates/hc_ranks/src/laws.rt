@@ -1,6 +1,6 @@
 //! What follows from the definitions, so that a reader can trust them: each function here does nothing, and
 //! its contract is a law. Nobody calls it.
-ghost use Rattle.hc_ranks.specs.Laws.{MembersHavePlaces, PlacesHoldTheLine, RankedAreMoved};
+ghost use Rattle.hc_ranks.specs.Laws.{DeclaredGroupsAddEmptyPlaces, MembersHavePlaces, PlacesHoldTheLine, RankedAreMoved};
 
 /// The blocks at the places of a project's line are the line's blocks, in line and block order.
 pub fn places_hold_the_line()
@@ -15,4 +15,9 @@ pub fn members_have_places()
 /// The moved blocks that are told with their ranks are those of the definition, in line and block order.
 pub fn ranked_are_moved()
     ensures { RankedAreMoved }
+{}
+
+/// A group that is declared, absent, adds sixteen empty places for each of its slaves behind those of the others.
+pub fn declared_groups_add_empty_places()
+    ensures { DeclaredGroupsAddEmptyPlaces }
 {}
