@@ -16,4 +16,5 @@ pub mod Between
 pub mod Strides
 pub mod Anew
 pub mod Blank
+pub mod More
 pub mod lemmas

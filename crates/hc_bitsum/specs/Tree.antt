@@ -1,5 +1,5 @@
 -- What a tree of sums is seen as.
-use Rattle.std.specs.Prelude.{◌≡◌, ℕ, ◌<◌, ◌≤◌, ◌==◌, ◌⊎◌, nat_lt, Bool, if◌then◌else◌, All, List, [], ◌∷◌, ◌++◌, filter}
+use Rattle.std.specs.Prelude.{◌≡◌, ℕ, ◌^◌, ◌<◌, ◌≤◌, ◌==◌, ◌⊎◌, nat_lt, Bool, if◌then◌else◌, All, List, [], ◌∷◌, ◌++◌, filter}
 use Rattle.hc_records.specs.declared.keys.Key.{Key}
 use Rattle.hc_records.specs.declared.keys.TheConstants.Key.{START}
 use Rattle.hc_records.specs.declared.limits.TheConstants.{MOST_AREAS}
@@ -17,6 +17,10 @@ pub record HasPlace (slaves : ℕ) (key : Key) : Type 0 where
   pub first : 1 ≤ key.rank
   pub last : key.rank ≤ slaves
   pub area : key.area < MOST_AREAS
+
+-- what has places for so many slaves has room for others too: each power of two that is no less than the one number is no less than the other
+abbrev pub HasRoom : ℕ → ℕ → Type 0
+HasRoom slaves others = (levels : ℕ) → slaves ≤ 2 ^ levels → others ≤ 2 ^ levels
 
 -- what any tree has: the list of a task, and a place for each of its areas
 pub record HoldsTaskList (tree : Tree) : Type 0 where

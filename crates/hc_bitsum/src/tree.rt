@@ -1,5 +1,5 @@
 //! A tree of sums over the areas of a task: those with a width, in key order.
-ghost use Rattle.std.specs.Prelude.{◌≡◌, ◌+◌, ◌*◌, ◌^◌, ◌<◌, ◌≤◌, ◌++◌, IsTrue, drop, length};
+ghost use Rattle.std.specs.Prelude.{◌≡◌, ◌+◌, ◌*◌, ◌^◌, ◌<◌, ◌≤◌, ◌++◌, ℕ, IfOk, IsTrue, drop, length};
 ghost use Rattle.hc_records.specs.declared.limits.TheConstants.{MOST_SLAVES};
 ghost use Rattle.hc_bitsum.specs.Tree.{CanBegin, HasPlace, HoldsTaskList};
 ghost use Rattle.hc_bitsum.specs.Branch.{IsBranch, slots_of};
@@ -54,6 +54,7 @@ fn levels_of(slaves: u16) -> u32
     requires { slaves ≤ MOST_SLAVES }
     ensures room { slaves ≤ 2 ^ result }
     ensures low { result ≤ 11 }
+    ensures least { (levels : ℕ) → slaves ≤ 2 ^ levels → result ≤ levels }
 {
     for levels in 0..11 {
         if u32::from(slaves) <= 1 << levels {
@@ -79,6 +80,21 @@ fn place_of(key: Key) -> u32
     ensures within { result + 8 ≡ 8 * key.rank + key.area }
 {
     8 * (u32::from(key.rank) - 1) + u32::from(key.area)
+}
+
+/// A tree with places for the areas of so many slaves, at most 2,048, and with these areas. `AllocError` where
+/// a growth was refused.
+fn filled_tree(alloc: Global, slaves: u16, areas: &[(Key, u16)]) -> Result<SumTree, AllocError>
+    requires most { slaves ≤ MOST_SLAVES }
+    requires holds { HoldsTaskList (record { slaves = slaves; list = areas.now }) }
+    ensures { IfOk result (λ tree. tree ≡ record { slaves = slaves; list = areas.now }) }
+{
+    let mut tree = SumTree::new(alloc, slaves)?;
+    for area in areas {
+        let (key, bits) = *area;
+        tree.set(key, bits);
+    }
+    Ok(tree)
 }
 
 /// Fills a datagram with the areas of two parts in a row, from the one behind `skip` others of the first
@@ -107,14 +123,14 @@ fn fit_both<L: Ledger>(
 }
 
 impl SumTree {
-    ghost use Rattle.std.specs.Prelude.{◌≡◌, [], IfOk, IsTrue};
+    ghost use Rattle.std.specs.Prelude.{◌≡◌, ◌↔◌, [], IfOk, IsTrue, OnOk};
     ghost use Rattle.hc_records.specs.declared.limits.TheConstants.{MOST_AREA_BITS};
     ghost use Rattle.hc_records.specs.Boundaries.{width_in};
     ghost use Rattle.hc_records.specs.SpanLaws.{areas_from};
     ghost use Rattle.hc_bitsum.specs.Filling.{areas_between, with_areas};
     ghost use Rattle.hc_bitsum.specs.Search.{begun, first_beyond};
     ghost use Rattle.hc_bitsum.specs.Sums.{sum_of};
-    ghost use Rattle.hc_bitsum.specs.Tree.{with_width};
+    ghost use Rattle.hc_bitsum.specs.Tree.{HasRoom, with_width};
 
     /// A tree with places for the areas of so many slaves, at most 2,048, none of which has a width
     /// yet. `AllocError` where a growth was refused.
@@ -143,6 +159,37 @@ impl SumTree {
             Dir::Out => self.outputs.set(place, bits),
             Dir::In => self.inputs.set(place, bits),
         }
+    }
+
+    /// Whether it has room for so many slaves: it has places for as many as the least power of two that its own
+    /// slaves need. It takes no memory.
+    pub fn has_room(&self, slaves: u16) -> bool
+        ensures { IsTrue result ↔ HasRoom self.now.slaves slaves }
+    {
+        u32::from(slaves) <= 1 << levels_of(self.slaves)
+    }
+
+    /// From now on there are so many slaves, for whom it has room: those behind its own have no areas yet. Its
+    /// areas stay, and are a task's list. It takes no memory.
+    pub fn admit(&mut self, slaves: u16)
+        requires more { self.old.slaves ≤ slaves }
+        requires room { HasRoom self.old.slaves slaves }
+        ensures admitted { self.new ≡ record self.old { slaves = slaves } }
+        ensures holds { HoldsTaskList self.new }
+    {
+        self.slaves = slaves;
+    }
+
+    /// A tree of its own areas with places for so many slaves, at most 2,048: those behind its own have no areas
+    /// yet. Its areas are gone over. `AllocError` where a growth was refused.
+    pub fn widened(&self, alloc: Global, slaves: u16) -> Result<SumTree, AllocError>
+        requires more { self.now.slaves ≤ slaves }
+        requires most { slaves ≤ MOST_SLAVES }
+        ensures widened { IfOk result (λ tree. tree ≡ record self.now { slaves = slaves }) }
+        ensures holds { IfOk result HoldsTaskList }
+    {
+        let areas = self.areas_between(alloc, Key::START, Key::END)?;
+        filled_tree(alloc, slaves, &areas)
     }
 
     /// The width in bits of the area with a key, at most 11,888; 0 where it takes no place. The key may
@@ -176,14 +223,15 @@ impl SumTree {
 
     /// Its areas from one key on, that one included, and before another, in key order, each with its width. The
     /// keys may be any, as for `filled_between`. The rows of slaves without such areas are passed over, each by
-    /// its sum; it takes no steps. `AllocError` where a growth was refused.
+    /// its sum; it takes no steps. Its areas are a task's list. `AllocError` where a growth was refused.
     pub fn areas_between(
         &self,
         alloc: Global,
         from: Key,
         until: Key,
     ) -> Result<Vec<(Key, u16)>, AllocError>
-        ensures { IfOk result (λ areas. areas.items ≡ areas_between from until self.now.list) }
+        ensures areas { IfOk result (λ areas. areas.items ≡ areas_between from until self.now.list) }
+        ensures holds { OnOk result (HoldsTaskList self.now) }
     {
         let mut areas = Vec::new(alloc);
         self.outputs.add_between(&mut areas, from, until)?;

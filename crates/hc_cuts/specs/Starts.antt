@@ -23,3 +23,7 @@ pub record Kept : Type 0 where
 -- a task of so many slaves without areas
 abbrev pub kept_empty : ℕ → Kept
 kept_empty slaves = record { tree = record { slaves = slaves; list = [] }; starts = START ∷ [] }
+
+-- the same areas and boundaries where there are so many slaves
+abbrev pub with_slaves : ℕ → Kept → Kept
+with_slaves slaves kept = record { tree = record { slaves = slaves; list = kept.tree.list }; starts = kept.starts }

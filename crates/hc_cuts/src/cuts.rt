@@ -61,17 +61,17 @@ pub(crate) fn end_of(starts: &[Key], i: usize) -> Key
 }
 
 impl Cuts {
-    ghost use Rattle.std.specs.Prelude.{◌≡◌, ◌+◌, ◌*◌, ◌≤◌, ◌∷◌, ◌++◌, List, [], IfOk, OnErr, OnOk, length};
+    ghost use Rattle.std.specs.Prelude.{◌≡◌, ◌↔◌, ◌+◌, ◌*◌, ◌≤◌, ◌∷◌, ◌++◌, List, [], IfOk, IsTrue, OnErr, OnOk, length};
     ghost use Rattle.hc_records.specs.declared.limits.TheConstants.{MOST_AREA_BITS, MOST_DATAGRAMS, MOST_SLAVES};
     ghost use Rattle.hc_records.specs.TaskList.{Keyed};
     ghost use Rattle.hc_records.specs.Boundaries.{is_touched, unsettled_spans, width_in};
-    ghost use Rattle.hc_bitsum.specs.Tree.{HasPlace, HoldsTaskList, with_width};
+    ghost use Rattle.hc_bitsum.specs.Tree.{HasPlace, HasRoom, HoldsTaskList, with_width};
     ghost use Rattle.hc_cuts.specs.Cursors.{StandsIn};
     ghost use Rattle.hc_cuts.specs.Hulls.{AreHulls};
     ghost use Rattle.hc_cuts.specs.Inputs.{has_inputs};
     ghost use Rattle.hc_cuts.specs.Place.{place_of};
     ghost use Rattle.hc_cuts.specs.Repair.{AreOfBefore, unsettled_between};
-    ghost use Rattle.hc_cuts.specs.Starts.{kept_empty};
+    ghost use Rattle.hc_cuts.specs.Starts.{kept_empty, with_slaves};
 
     /// A task without areas of so many slaves, at most 2,048. `AllocError` where a growth was refused.
     pub fn new(alloc: Global, slaves: u16) -> Result<Cuts, AllocError>
@@ -95,6 +95,37 @@ impl Cuts {
         ensures holds { HoldsTaskList self.new.tree }
     {
         self.tree.set(key, bits);
+    }
+
+    /// Whether it has room for so many slaves (`SumTree::has_room`). It takes no memory.
+    pub fn has_room(&self, slaves: u16) -> bool
+        ensures { IsTrue result ↔ HasRoom self.now.tree.slaves slaves }
+    {
+        self.tree.has_room(slaves)
+    }
+
+    /// From now on there are so many slaves, for whom it has room: those behind its own have no areas yet. Its
+    /// areas and boundaries stay. It takes no memory.
+    pub fn admit(&mut self, slaves: u16)
+        requires more { self.old.tree.slaves ≤ slaves }
+        requires room { HasRoom self.old.tree.slaves slaves }
+        ensures { self.new ≡ with_slaves slaves self.old }
+    {
+        self.tree.admit(slaves);
+    }
+
+    /// Its own areas and boundaries in a tree with places for so many slaves, at most 2,048: those behind its own
+    /// have no areas yet. No boundary is searched; the areas are gone over. `AllocError` where a growth was
+    /// refused.
+    pub fn widened(&self, alloc: Global, slaves: u16) -> Result<Cuts, AllocError>
+        requires more { self.now.tree.slaves ≤ slaves }
+        requires most { slaves ≤ MOST_SLAVES }
+        ensures { IfOk result (λ cuts. cuts ≡ with_slaves slaves self.now) }
+    {
+        Ok(Cuts {
+            tree: self.tree.widened(alloc, slaves)?,
+            starts: self.copied_starts(),
+        })
     }
 
     /// Whether the task has inputs: whether the last of its areas is one, as outputs come first. The sum of

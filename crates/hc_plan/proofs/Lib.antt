@@ -1,5 +1,6 @@
 pub mod Answering
 pub mod ByRank
+pub mod Declared
 pub mod Editing
 pub mod LineBlocks
 pub mod Mapped

@@ -1,15 +1,19 @@
 -- What is worked out of an edit makes it a prepared one.
-use Rattle.std.proofs.Common.{◌≡◌, ◌∙◌, ◌+◌, ℕ, List, None, ap, sym, subst, rules}
-use Rattle.std.specs.Prelude.{Ok, Option, Some}
+use Rattle.std.proofs.Common.{◌≡◌, ◌∙◌, ◌+◌, ℕ, false, List, [], ◌∷◌, ◌++◌, None, ap, refl, sym, subst, rules}
+use Rattle.std.specs.Prelude.{◌==◌, Ok, Some}
 use Rattle.hc_records.specs.declared.edit.Edit.{Edit}
-use Rattle.hc_records.specs.declared.keys.Key.{Key}
 use Rattle.hc_records.specs.declared.records.Declared.{Declared}
-use Rattle.hc_records.specs.Edits.{crowded_task, edited, groups_after}
+use Rattle.hc_records.specs.declared.edit.Edit.TheVariants.{Declare}
+use Rattle.hc_records.specs.declared.limits.TheConstants.{LAST_EPOCH}
+use Rattle.hc_records.specs.Edits.{absent, changed, crowded_task, declares, declaring_faults, edited, groups_after}
+use Rattle.hc_records.specs.Lists.{lowest}
+use Rattle.hc_records.proofs.lemmas.Declaring.{declared-keep, line-absent}
 use Rattle.hc_records.specs.Line.{State, groups_of, line, line_from}
 use Rattle.hc_records.specs.Project.{lowest_fault}
 use Rattle.hc_ranks.specs.Blocks.{RankedBlock, moved_ranked}
 use Rattle.hc_ranks.specs.Differences.{Differ}
 use Rattle.hc_ranks.specs.Places.{places}
+use Rattle.hc_ranks.proofs.lemmas.Declared.{declared-differ}
 use Rattle.hc_tasks.specs.Areas.{areas_by_rank}
 use Rattle.hc_tasks.specs.Turn.{AreStartsOf}
 use Rattle.hc_edits.specs.declared.prepared.Prepared.{Prepared}
@@ -18,37 +22,44 @@ use Rattle.hc_edits.specs.Edits.{own_fault}
 use Rattle.hc_edits.specs.Rows.{ChangesRow}
 use Rattle.hc_places.specs.Room.{IsRoomFor}
 use Rattle.hc_places.specs.Table.{Table, table_of}
-use Rattle.hc_changes.specs.EditedLine.{EditedLine, IsEditedLine, IsRoomFor as HasRoomFor, Room, edited_line_of}
+use Rattle.hc_changes.specs.EditedLine.{EditedLine, IsEditedLine, IsRoomFor as HasRoomFor, edited_line_of}
 use Rattle.hc_changes.proofs.lemmas.EditedLines.{change-edited_line}
 use Rattle.hc_plan.specs.declared.report.Report.{Report}
 use Rattle.hc_plan.specs.Gone.{gone_of}
 use Rattle.hc_plan.specs.inner.Applied.{Makes}
-use Rattle.hc_plan.specs.inner.Prepared.{IsReady, prepared_of}
-use Rattle.hc_plan.specs.Prepared.{IsPrepared, PreparedEdit}
+use Rattle.hc_plan.specs.declared.declaring.Declaration.{Declaration}
+use Rattle.hc_plan.specs.declared.work.LineWork.{LineWork}
+use Rattle.hc_plan.specs.declared.work.Work.TheVariants.{NewGroup, NewLine}
+use Rattle.hc_plan.specs.inner.Declaring.{CanDeclare, TellsNothing}
+use Rattle.hc_plan.specs.inner.Prepared.{IsLineReady, IsReady, prepared_of}
+use Rattle.hc_plan.specs.Prepared.{IsPrepared}
+use Rattle.hc_plan.proofs.Declared.{none-ranked}
+use Rattle.hc_plan.proofs.Editing.{declared-accepted}
 use Rattle.hc_plan.specs.Reports.{Tells}
 use Rattle.hc_plan.proofs.lemmas.Differing.{edits-differ}
 
 -- a change makes this of a plan's line
-pub makes : (it : EditedLine) (change : Prepared) (edit : Edit) (table : Table) (groups : List Declared) → IsEditedLine it → it ≡ edited_line_of change groups
+pub makes : (it : EditedLine) (change : Prepared) (edit : Edit) (table : Table) (groups : List Declared) → declares edit ≡ false → IsEditedLine it → it ≡ edited_line_of change groups
     → own_fault groups edit ≡ None → changed_groups change groups ≡ groups_after groups edit → crowded_task (line_from 1 groups) ≡ None → table ≡ table_of (line_from 1 groups)
     → Makes edit table it
-makes it change edit table groups is same own leads fits stands = search rules
+makes it change edit table groups changes is same own leads fits stands = search rules
 
 -- what is told of it, by the states
-pub is-prepared : (old : State) (change : Prepared) (it : EditedLine) (edit : Edit) (report : Report) (blocks : List RankedBlock)
-    → lowest_fault (groups_of old.groups) ≡ None → crowded_task (line old) ≡ None → change_by old.groups edit ≡ Some change → it ≡ edited_line_of change old.groups
+pub is-prepared : (old : State) (work : LineWork) (it : EditedLine) (edit : Edit) (report : Report) (blocks : List RankedBlock)
+    → lowest_fault (groups_of old.groups) ≡ None → crowded_task (line old) ≡ None → change_by old.groups edit ≡ Some work.change → it ≡ edited_line_of work.change old.groups
     → Tells (record { groups = it.old; epoch = old.epoch }) edit (record { groups = it.new; epoch = old.epoch + 1 }) report
     → edited (record { groups = it.old; epoch = old.epoch }) edit ≡ Ok (record { groups = it.new; epoch = old.epoch + 1 })
     → crowded_task (line_from 1 it.new) ≡ None → blocks ≡ moved_ranked (line_from 1 it.old) (line_from 1 it.new)
-    → IsPrepared (prepared_of old change report blocks)
-is-prepared old change it edit report blocks project fits changes same =
+    → IsPrepared (prepared_of old (NewLine work) report blocks)
+is-prepared old work it edit report blocks project fits changes same =
+    let change = work.change in
     let new : State = record { groups = changed_groups change old.groups; epoch = old.epoch + 1 } in
     subst
     (λ (o : EditedLine).
     Tells (record { groups = o.old; epoch = old.epoch }) edit (record { groups = o.new; epoch = old.epoch + 1 }) report
     → edited (record { groups = o.old; epoch = old.epoch }) edit ≡ Ok (record { groups = o.new; epoch = old.epoch + 1 })
     → crowded_task (line_from 1 o.new) ≡ None → blocks ≡ moved_ranked (line_from 1 o.old) (line_from 1 o.new)
-    → IsPrepared (prepared_of old change report blocks)) (sym same)
+    → IsPrepared (prepared_of old (NewLine work) report blocks)) (sym same)
     (λ told accepted uncrowded moved. record {
       project = project;
       accepted = subst (λ (e : Edit). edited old e ≡ Ok new) (sym told.named) accepted;
@@ -59,19 +70,52 @@ is-prepared old change it edit report blocks project fits changes same =
     })
 
 -- and what is kept for carrying it out
-pub is-ready : (old : State) (change : Prepared) (it : EditedLine) (edit : Edit) (report : Report) (blocks : List RankedBlock) (starts : List (List Key)) (areas : Room) (table : Table) (rows : Option ℕ)
-    → report.swap.edit ≡ edit → changed_groups change old.groups ≡ groups_after old.groups edit → lowest_fault (groups_of (changed_groups change old.groups)) ≡ None → ChangesRow change old.groups
-    → it ≡ edited_line_of change old.groups → AreStartsOf (areas_by_rank it.new) starts → HasRoomFor change areas
-    → table ≡ table_of (line old) → IsRoomFor report.swap.change table rows
-    → IsReady (prepared_of old change report blocks) change starts areas rows
-is-ready old change it edit report blocks starts areas table rows named leads project row same known room stands space = search rules
+pub is-ready : (old : State) (work : LineWork) (it : EditedLine) (edit : Edit) (report : Report) (table : Table)
+    → report.swap.edit ≡ edit → declares edit ≡ false → changed_groups work.change old.groups ≡ groups_after old.groups edit → lowest_fault (groups_of (changed_groups work.change old.groups)) ≡ None
+    → ChangesRow work.change old.groups
+    → it ≡ edited_line_of work.change old.groups → AreStartsOf (areas_by_rank it.new) work.starts → HasRoomFor work.change work.slaves
+    → table ≡ table_of (line old) → IsRoomFor report.swap.change table work.rows
+    → IsReady old report (NewLine work)
+is-ready old work it edit report table named changes leads project row same known room stands space = search rules
 
--- which is in the groups of the plan that carries it out, whose line the change makes what it made then
+-- the edited line, where it is built again
+pub ready-edited_line : (old : State) (report : Report) (work : LineWork) → lowest_fault (groups_of old.groups) ≡ None → IsLineReady old report work → IsEditedLine (edited_line_of work.change old.groups)
+ready-edited_line old report work project ready = search (rules, change-edited_line)
 
-pub same-groups : (one other : PreparedEdit) (plan now : State) → one ≡ other → other.old ≡ now → plan ≡ now → one.old.groups ≡ plan.groups
-same-groups one other plan now first second third = ap (λ (s : State). s.groups) (ap (λ (p : PreparedEdit). p.old) first ∙ second ∙ sym third)
+-- a declared group changes no block of the line
+pub declared-prepared : (old : State) (edit : Edit) (declaration : Declaration) (report : Report) → lowest_fault (groups_of old.groups) ≡ None → crowded_task (line old) ≡ None
+    → (old.epoch == LAST_EPOCH) ≡ false → edit ≡ Declare declaration.group → report.swap.edit ≡ edit → lowest (declaring_faults old.groups declaration.group) ≡ None → TellsNothing old edit report
+    → IsPrepared (prepared_of old (NewGroup declaration) report [])
+declared-prepared old edit declaration report project fits more is named free nothing =
+    let group = declaration.group in
+    let new = changed old (Declare group) in
+    let same = line-absent 1 old.groups group in
+    let asked = named ∙ is in
+    record {
+      project = project;
+      accepted = ap (edited old) asked ∙ declared-accepted old group fits more free;
+      told = subst (λ (e : Edit). Tells old e new report) (sym named) (nothing new same refl);
+      crowds = (fits, ap crowded_task same ∙ fits);
+      blocks = sym (ap (moved_ranked (line old)) same ∙ none-ranked (line old));
+      differ = declared-differ old group;
+    }
 
-pub ready-edited_line : (old : State) (change : Prepared) (report : Report) (blocks : List RankedBlock) (starts : List (List Key)) (areas : Room) (rows : Option ℕ)
-    → IsPrepared (prepared_of old change report blocks) → IsReady (prepared_of old change report blocks) change starts areas rows
-    → IsEditedLine (edited_line_of change old.groups)
-ready-edited_line old change report blocks starts areas rows is ready = search (rules, change-edited_line)
+-- what a report of the same line tells, it tells of the edit
+pub nothing-named : (old : State) (edit : Edit) (report : Report) → TellsNothing old edit report → report.swap.edit ≡ edit
+nothing-named old edit report nothing = (nothing (record { groups = old.groups; epoch = old.epoch + 1 }) refl refl).named
+
+-- the groups with the declared one, and their line
+pub record IsDeclared (groups : List Declared) (table : Table) : Type 0 where
+  pub project : lowest_fault (groups_of groups) ≡ None
+  pub fits : crowded_task (line_from 1 groups) ≡ None
+  pub stands : table ≡ table_of (line_from 1 groups)
+
+pub declared-line : (groups new : List Declared) (declaration : Declaration) → CanDeclare groups declaration → new ≡ groups ++ absent declaration.group ∷ [] → (table : Table)
+    → crowded_task (line_from 1 groups) ≡ None → table ≡ table_of (line_from 1 groups) → IsDeclared new table
+declared-line groups new declaration can is table fits stands =
+    let same : line_from 1 new ≡ line_from 1 groups = ap (line_from 1) is ∙ line-absent 1 groups declaration.group in
+    record {
+      project = ap (λ (g : List Declared). lowest_fault (groups_of g)) is ∙ declared-keep groups declaration.group can.project can.free;
+      fits = ap crowded_task same ∙ fits;
+      stands = stands ∙ ap table_of (sym same);
+    }

@@ -26,7 +26,7 @@ use Rattle.hc_plan.specs.Reports.{name_of}
 use Rattle.hc_plan.proofs.LineBlocks.{few-moved}
 
 -- the table of a project's line is one
-is-table : (groups : List Declared) → lowest_fault (groups_of groups) ≡ None → IsTable (table_of (line_from 1 groups))
+pub is-table : (groups : List Declared) → lowest_fault (groups_of groups) ≡ None → IsTable (table_of (line_from 1 groups))
 is-table groups none = record { eight = refl; ascends = table-ascends groups none }
 
 -- the moved areas stand in datagrams that there are

@@ -1,4 +1,5 @@
 -- Words that contracts of private functions alone use.
 pub mod Blocks
 pub mod Applied
+pub mod Declaring
 pub mod Prepared

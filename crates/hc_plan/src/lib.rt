@@ -4,9 +4,11 @@
 
 mod applying;
 pub mod blocks;
+mod declaring;
 pub mod laws;
 mod placed_line;
 pub mod plan;
 pub mod prepared;
 pub mod report;
 mod turning;
+mod work;

@@ -1,15 +1,19 @@
 //! A plan: the declared groups, those that are present, the epoch, and the configuration of the line.
-ghost use Rattle.std.specs.Prelude.{◌≡◌, IfOk, map};
+ghost use Rattle.std.specs.Prelude.{◌≡◌, false, IfOk, MatchOption, map};
+ghost use Rattle.hc_records.specs.declared.edit.Edit.TheVariants.{Declare};
+ghost use Rattle.hc_records.specs.Edits.{declares};
 ghost use Rattle.hc_records.specs.Line.{opened_group};
 ghost use Rattle.hc_index.specs.Index.{IsIndexOf};
 ghost use Rattle.hc_plan.specs.inner.Applied.{Follows};
 
 use crate::applying::work_out;
 use crate::blocks::{block_at, nth_block};
+use crate::declaring::{Declaration, declared_report};
 use crate::placed_line::PlacedLine;
 use crate::prepared::PreparedEdit;
 use crate::report::Report;
 use crate::turning::turn_on;
+use crate::work::{LineWork, Work};
 use hc_changes::edited_line::{EditedLine, EditedLineRoom};
 use hc_edits::prepared::Prepared;
 use hc_index::index::{Index, Indexed};
@@ -19,6 +23,7 @@ use hc_records::edit::Edit;
 use hc_records::faults::EditFault;
 use hc_records::items::Items;
 use hc_records::keys::Key;
+use hc_records::limits::LAST_EPOCH;
 use hc_records::project::Project;
 use hc_records::records::{Declared, Group};
 use hc_registers::blocks::Block;
@@ -50,6 +55,17 @@ fn follow(index: &mut Index, groups: &[Declared], edit: &Edit)
     match edit {
         Edit::Connect(_) | Edit::Disconnect(_) => index.follow(groups),
         Edit::Remap { .. } | Edit::Move { .. } => {}
+        Edit::Declare(_) => unreachable!(),
+    }
+}
+
+/// The group that an edit declares, none where it declares none.
+fn declared_group(edit: &Edit) -> Option<&Group>
+    ensures { MatchOption result (declares edit.now ≡ false) (λ group. edit.now ≡ Declare group.now) }
+{
+    match edit {
+        Edit::Declare(group) => Some(group),
+        Edit::Connect(_) | Edit::Disconnect(_) | Edit::Remap { .. } | Edit::Move { .. } => None,
     }
 }
 
@@ -96,19 +112,23 @@ impl Model for Plan {
 }
 
 impl Plan {
-    ghost use Rattle.std.specs.Prelude.{◌≡◌, ◌≢◌, ◌<◌, ◌≤◌, ◌∷◌, ◌++◌, [], Err, IfErr, IfOk, IfSome, None, Ok, OnErr, OnOk, length, map};
+    ghost use Rattle.std.specs.Prelude.{◌≡◌, ◌≢◌, ◌<◌, ◌≤◌, ◌∷◌, ◌++◌, [], false, Err, IfErr, IfOk, IfSome, None, Ok, OnErr, OnOk, length, map};
     ghost use Rattle.hc_records.specs.declared.faults.EditFault.TheVariants.{Memory};
     ghost use Rattle.hc_records.specs.declared.keys.TheConstants.Key.{END};
     ghost use Rattle.hc_records.specs.declared.limits.TheConstants.{MOST_DATAGRAMS, TASKS};
     ghost use Rattle.hc_records.specs.Boundaries.{boundaries};
     ghost use Rattle.hc_records.specs.TaskList.{task_list};
     ghost use Rattle.std.specs.List.{zip};
-    ghost use Rattle.hc_records.specs.Edits.{crowded_task, edited, state_after_all};
+    ghost use Rattle.hc_records.specs.declared.edit.Edit.TheVariants.{Declare};
+    ghost use Rattle.hc_records.specs.Edits.{crowded_task, declares, edited, state_after_all};
     ghost use Rattle.hc_records.specs.Line.{groups_of, line, opened};
     ghost use Rattle.hc_records.specs.Project.{lowest_fault};
     ghost use Rattle.hc_edits.specs.Edits.{own_fault};
     ghost use Rattle.hc_places.specs.Layout.{NamesCrowded};
+    ghost use Rattle.hc_edits.specs.Changes.{changed_groups};
+    ghost use Rattle.hc_plan.specs.declared.work.Work.TheVariants.{NewLine};
     ghost use Rattle.hc_plan.specs.inner.Blocks.{IsLayoutOf};
+    ghost use Rattle.hc_plan.specs.inner.Prepared.{CanCarry, left_by};
     ghost use Rattle.hc_plan.specs.Prepared.{IsPrepared};
     ghost use Rattle.hc_plan.specs.Configuration.{block_at, config, line_block_at, position_of, station_at};
     ghost use Rattle.hc_plan.specs.Reports.{AreAnswers, Tells, carried_out};
@@ -244,6 +264,51 @@ impl Plan {
         ensures own { IfSome (own_fault self.old.groups edit.now) (λ fault. result ≡ Err fault) }
         ensures unchanged { self.new ≡ self.old }
     {
+        match declared_group(edit) {
+            Some(group) => self.prepare_group(alloc, edit, group),
+            None => self.prepare_change(alloc, edit),
+        }
+    }
+
+    /// The same of an edit that declares a group: the line stays as it is, so no edit is worked out on it.
+    fn prepare_group(
+        &self,
+        alloc: Global,
+        edit: &Edit,
+        group: &Group,
+    ) -> Result<PreparedEdit, EditFault>
+        requires { edit.now ≡ Declare group.now }
+        ensures made { IfOk result (λ prepared. prepared.old ≡ self.now) }
+        ensures edit { IfOk result (λ prepared. prepared.report.swap.edit ≡ edit.now) }
+        ensures accepted { IfOk result (λ prepared. edited self.now edit.now ≡ Ok prepared.new) }
+        ensures prepared { IfOk result IsPrepared }
+        ensures refused { IfErr result (λ fault. fault ≢ Memory → edited self.now edit.now ≡ Err fault) }
+        ensures own { IfSome (own_fault self.now.groups edit.now) (λ fault. result ≡ Err fault) }
+    {
+        if self.epoch == LAST_EPOCH {
+            return Err(EditFault::EpochsSpent);
+        }
+        let declaration = Declaration::of(alloc, &self.groups, &self.index, &self.cuts, group)?;
+        let report = declared_report(alloc, edit, self.groups.as_slice(), self.epoch)?;
+        Ok(PreparedEdit {
+            was: Snapshot::of(self),
+            report,
+            blocks: Vec::new(alloc),
+            work: Work::NewGroup(declaration),
+        })
+    }
+
+    /// The same of an edit that declares none.
+    fn prepare_change(&mut self, alloc: Global, edit: &Edit) -> Result<PreparedEdit, EditFault>
+        requires { declares edit.now ≡ false }
+        ensures made { IfOk result (λ prepared. prepared.old ≡ self.old) }
+        ensures edit { IfOk result (λ prepared. prepared.report.swap.edit ≡ edit.now) }
+        ensures accepted { IfOk result (λ prepared. edited self.old edit.now ≡ Ok prepared.new) }
+        ensures prepared { IfOk result IsPrepared }
+        ensures refused { IfErr result (λ fault. fault ≢ Memory → edited self.old edit.now ≡ Err fault) }
+        ensures own { IfSome (own_fault self.old.groups edit.now) (λ fault. result ≡ Err fault) }
+        ensures unchanged { self.new ≡ self.old }
+    {
         let change = Prepared::of(alloc, self.groups.as_slice(), edit)?;
         let slaves = EditedLineRoom::of(alloc, &change)?;
         let room = EditedLineRoom::of(alloc, &change)?;
@@ -260,12 +325,14 @@ impl Plan {
         drop(edited_line);
         Ok(PreparedEdit {
             was: Snapshot::of(&*self),
-            change,
             report: worked.report,
             blocks: worked.blocks,
-            starts: worked.starts,
-            slaves,
-            rows: worked.room,
+            work: Work::NewLine(LineWork {
+                change,
+                starts: worked.starts,
+                slaves,
+                rows: worked.room,
+            }),
         })
     }
 
@@ -278,21 +345,45 @@ impl Plan {
     {
         let PreparedEdit {
             was: _,
-            change,
             report,
             blocks: _,
+            work,
+        } = prepared;
+        self.carry_work(work, &report);
+        self.epoch = report.epoch;
+        report
+    }
+
+    /// Carries out what was worked out of an edit; the epoch stays.
+    fn carry_work(&mut self, work: Work, report: &Report)
+        requires { CanCarry self.old report.now work }
+        ensures { self.new ≡ record self.old { groups = left_by work self.old.groups } }
+    {
+        match work {
+            Work::NewLine(line) => self.change_line(line, report),
+            Work::NewGroup(declaration) => {
+                declaration.carry_out(&mut self.groups, &mut self.index, &mut self.cuts);
+            }
+        }
+    }
+
+    /// The same of an edit that changes the line.
+    fn change_line(&mut self, work: LineWork, report: &Report)
+        requires { CanCarry self.old report.now (NewLine work) }
+        ensures { self.new ≡ record self.old { groups = changed_groups work.change self.old.groups } }
+    {
+        let LineWork {
+            change,
             starts,
             slaves,
             rows,
-        } = prepared;
+        } = work;
         let edited_line = EditedLine::of(slaves, self.groups.as_slice(), &change);
         turn_on(&mut self.cuts, &edited_line, &starts);
         drop(edited_line);
         change.carry_out(&mut self.groups);
         follow(&mut self.index, self.groups.as_slice(), report.swap.edit());
         self.places.carry_out(&report.swap, rows);
-        self.epoch = report.epoch;
-        report
     }
 
     /// Carries an edit out: the plan is then that of the new line, and the report tells what became

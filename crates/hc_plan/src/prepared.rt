@@ -1,12 +1,13 @@
 //! An edit of a plan that is worked out before anything changes. Whoever keeps more of a line than its plan asks it
 //! for the moved blocks, takes all memory that it needs, and then lets the plan carry the edit out.
+ghost use Rattle.std.specs.Prelude.{◌≡◌};
+ghost use Rattle.hc_plan.specs.Gone.{gone_of};
+
 use crate::plan::Plan;
 use crate::report::Report;
-use hc_changes::edited_line::EditedLineRoom;
+use crate::work::Work;
 use hc_edits::prepared::Prepared;
-use hc_places::room::Room;
 use hc_ranks::blocks::{Gone, RankedBlock};
-use hc_tasks::starts::LineStarts;
 use std::marker::Model;
 use std::snapshot::Snapshot;
 
@@ -17,15 +18,9 @@ use std::snapshot::Snapshot;
 pub struct PreparedEdit {
     // the plan that it was worked out on
     pub(crate) was: Snapshot<Plan>,
-    pub(crate) change: Prepared,
     pub(crate) report: Report,
     pub(crate) blocks: Vec<RankedBlock>,
-    // the boundaries of the new line's tasks
-    pub(crate) starts: LineStarts,
-    // for the areas of the slaves that the edit concerns
-    pub(crate) slaves: EditedLineRoom,
-    // for the new table's rows
-    pub(crate) rows: Room,
+    pub(crate) work: Work,
 }
 
 impl Model for PreparedEdit {
@@ -34,9 +29,25 @@ impl Model for PreparedEdit {
 
     ghost Value = { PreparedEdit };
 
-    ghost view = { λ it. prepared_of it.was.value it.change it.report it.blocks.items };
+    ghost view = { λ it. prepared_of it.was.value it.work it.report it.blocks.items };
 
-    ghost invariant = { λ it. IsPrepared (prepared_of it.was.value it.change it.report it.blocks.items) × IsReady (prepared_of it.was.value it.change it.report it.blocks.items) it.change it.starts it.slaves it.rows };
+    ghost invariant = { λ it. IsPrepared (prepared_of it.was.value it.work it.report it.blocks.items) × IsReady it.was.value it.report it.work };
+}
+
+/// No slave leaves.
+const NONE_GONE: Gone = Gone { rank: 1, slaves: 0 };
+
+/// The slaves that leave the line with a change.
+fn gone_with(change: &Prepared) -> Gone
+    ensures { result ≡ gone_of change.now }
+{
+    match change {
+        Prepared::Presence(change) if !change.present => Gone {
+            rank: change.first,
+            slaves: change.slaves,
+        },
+        _ => NONE_GONE,
+    }
 }
 
 impl PreparedEdit {
@@ -65,12 +76,9 @@ impl PreparedEdit {
         ensures gone { result ≡ self.now.gone }
         ensures prepared { IsPrepared self.now }
     {
-        match &self.change {
-            Prepared::Presence(change) if !change.present => Gone {
-                rank: change.first,
-                slaves: change.slaves,
-            },
-            _ => Gone { rank: 1, slaves: 0 },
+        match &self.work {
+            Work::NewLine(line) => gone_with(&line.change),
+            Work::NewGroup(_) => NONE_GONE,
         }
     }
 }

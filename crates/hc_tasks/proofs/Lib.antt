@@ -5,4 +5,5 @@ pub mod Setting
 pub mod Taking
 pub mod Turned
 pub mod Turns
+pub mod Wider
 pub mod lemmas

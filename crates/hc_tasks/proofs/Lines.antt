@@ -41,7 +41,7 @@ copied-starts task line kept starts low is copied =
 
 -- a line none of whose slaves is present
 
-absent-list : (task : ℕ) (dir : Dir) (rank count : ℕ) → rank_list task dir rank (replicate count []) ≡ []
+pub absent-list : (task : ℕ) (dir : Dir) (rank count : ℕ) → rank_list task dir rank (replicate count []) ≡ []
 absent-list task dir rank zero = refl
 absent-list task dir rank (suc count) = absent-list task dir (rank + 1) count
 
@@ -55,7 +55,7 @@ length-absent (suc count) = ap suc (length-absent count)
 empty-list : IsTaskList []
 empty-list = grind (arith, AllPairs-nil)
 
-absent-kept : (count : ℕ) → All AreKept (replicate count [])
+pub absent-kept : (count : ℕ) → All AreKept (replicate count [])
 absent-kept zero = All-nil AreKept
 absent-kept (suc count) =
     All-cons AreKept [] (replicate count []) (record { few = omega arith; narrow = λ k d within. absurd (omega arith) }) (absent-kept count)

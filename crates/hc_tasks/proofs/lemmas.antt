@@ -1,4 +1,5 @@
 -- What the crates above cite, a file a subject.
+pub mod Absent
 pub mod Named
 pub mod Projects
 pub mod Told

@@ -9,4 +9,5 @@ pub mod starts;
 pub mod tasks;
 pub mod touched;
 mod turning;
+mod widening;
 mod widths;

@@ -4,6 +4,7 @@ ghost use Rattle.std.specs.Prelude.{◌≡◌, [], IfOk, replicate};
 use crate::areas::SlaveAreas;
 use crate::starts::LineStarts;
 use crate::turning::{put_tasks, turn_tasks};
+use crate::widening::{admit_all, all_widened};
 use hc_bitsum::steps::Steps;
 use hc_cuts::cursor::Cursor;
 use hc_cuts::cuts::Cuts;
@@ -53,12 +54,13 @@ fn absent_slaves<'a>(alloc: Global, slaves: usize) -> Result<Vec<SlaveAreas<'a>>
 
 impl LineCuts {
     ghost use Rattle.hc_records.specs.declared.records.Area.{Area};
-    ghost use Rattle.std.specs.Prelude.{◌≡◌, ◌≢◌, ◌+◌, ◌*◌, ◌<◌, ◌≤◌, List, [], IfErr, IfOk, None, OnErr, OnOk, Some, length, map, option_map, replicate};
+    ghost use Rattle.std.specs.Prelude.{◌≡◌, ◌≢◌, ◌↔◌, ℕ, ◌+◌, ◌*◌, ◌<◌, ◌≤◌, List, [], IfErr, IfOk, IsTrue, None, OnErr, OnOk, Some, length, map, option_map, replicate};
     ghost use Rattle.hc_records.specs.Boundaries.{width_in};
     ghost use Rattle.hc_records.specs.Image.{inside};
     ghost use Rattle.hc_records.specs.Packing.{opening, packed};
     ghost use Rattle.hc_records.specs.declared.faults.EditFault.TheVariants.{Memory, TooManyDatagrams};
     ghost use Rattle.hc_records.specs.declared.limits.TheConstants.{MOST_DATAGRAMS, MOST_SLAVES, TASKS};
+    ghost use Rattle.hc_bitsum.specs.Tree.{HasRoom};
     ghost use Rattle.hc_cuts.specs.Inputs.{has_inputs};
     ghost use Rattle.hc_cuts.specs.Place.{place_of};
     ghost use Rattle.hc_cuts.specs.Starts.{most_read};
@@ -66,6 +68,7 @@ impl LineCuts {
     ghost use Rattle.hc_tasks.specs.Cursors.{StandInTasks};
     ghost use Rattle.hc_tasks.specs.Kept.{IsLine, crowded_from, line_kept, starts_by};
     ghost use Rattle.hc_tasks.specs.Recut.{recut_from, touched_from};
+    ghost use Rattle.hc_tasks.specs.Room.{AreOfFewer, CanAdmit, with_absent};
     ghost use Rattle.hc_tasks.specs.Turn.{AreStartsOf, HasPut, HasTurn, IsPut, IsTurn};
 
     /// The tasks of a line of so many declared slaves, at most 2,048, none of which is present.
@@ -136,6 +139,36 @@ impl LineCuts {
             Ok(_) => Ok(cuts),
             Err(task) => Err(EditFault::TooManyDatagrams(task)),
         }
+    }
+
+    /// Whether the line's trees have room for so many slaves (`SumTree::has_room`): whether `admit` may be called.
+    /// It takes no memory.
+    pub fn has_room(&self, slaves: u16) -> bool
+        ensures { (line : List (List Area)) → self.now ≡ line_kept line → IsTrue result ↔ HasRoom (length line) slaves }
+    {
+        self.tasks[0].has_room(slaves)
+    }
+
+    /// From now on the line has so many slaves, for whom its trees have room: those behind its own have no areas,
+    /// as those of a group that isn't present. All areas and boundaries stay. It takes no memory.
+    pub fn admit(&mut self, slaves: u16)
+        requires { CanAdmit self.old slaves }
+        ensures { (line : List (List Area)) (count : ℕ) → self.old ≡ line_kept line → slaves ≡ length line + count → self.new ≡ line_kept (with_absent count line) }
+    {
+        admit_all(self.tasks.as_mut_slice(), slaves);
+    }
+
+    /// The tasks of the line with so many slaves, at most 2,048, in trees of their own: those behind its own have
+    /// no areas, as those of a group that isn't present. The areas of the line are gone over, and no boundary is
+    /// searched. Where `has_room` is false the trees are at least twice as wide as the line's own, so the tasks of
+    /// a line that grows slave by slave are seldom made anew. `AllocError` where a growth was refused.
+    pub fn widened(&self, alloc: Global, slaves: u16) -> Result<LineCuts, AllocError>
+        requires fewer { AreOfFewer self.now slaves }
+        requires most { slaves ≤ MOST_SLAVES }
+        ensures { IfOk result (λ cuts. (line : List (List Area)) (count : ℕ) → self.now ≡ line_kept line → slaves ≡ length line + count → cuts ≡ line_kept (with_absent count line)) }
+    {
+        let tasks = all_widened(alloc, self.tasks.as_slice(), slaves)?;
+        Ok(LineCuts { tasks })
     }
 
     /// The boundaries of a task, 0 to 7, but the last one, `Key::END`: `Key::START`, at which the first

@@ -1,13 +1,13 @@
--- What no edit changes of a slave: its station address, and of each area all but its assigned PDOs and its task.
+-- What no edit of the declared groups changes of a slave: its station address, and of each area all but its assigned PDOs and its task.
 use Rattle.std.proofs.Common.{◌≡◌, ℕ, ◌==◌, zero, suc, Bool, true, false, cond, List, [], ◌∷◌, refl, ap, rules}
 use Rattle.std.specs.Prelude.{map}
 use Rattle.std.proofs.lemmas.List.{map-append}
 use Rattle.hc_records.specs.declared.edit.Edit.{Edit}
-use Rattle.hc_records.specs.declared.edit.Edit.TheVariants.{Connect, Disconnect, Remap, Move}
+use Rattle.hc_records.specs.declared.edit.Edit.TheVariants.{Connect, Disconnect, Remap, Move, Declare}
 use Rattle.hc_records.specs.declared.records.Area.{Area}
 use Rattle.hc_records.specs.declared.records.Declared.{Declared}
 use Rattle.hc_records.specs.declared.records.Slave.{Slave}
-use Rattle.hc_records.specs.Edits.{groups_after, with_area, with_presence}
+use Rattle.hc_records.specs.Edits.{declares, groups_after, with_area, with_presence}
 use Rattle.hc_records.specs.Lists.{changed_at}
 use Rattle.hc_records.proofs.lemmas.Lines.{declared_slaves}
 
@@ -46,8 +46,9 @@ groups-kept : (change : Declared → Declared) → KeepsBare change → (groups 
 groups-kept change keeps [] = refl
 groups-kept change keeps (declared ∷ groups) = search (rules, map-append, groups-kept change keeps groups)
 
-pub edit-keeps : (groups : List Declared) (edit : Edit) → map bare_slave (declared_slaves (groups_after groups edit)) ≡ map bare_slave (declared_slaves groups)
-edit-keeps groups (Connect alias) = groups-kept (with_presence alias true) (λ declared. presence-by (declared.group.alias == alias) declared true) groups
-edit-keeps groups (Disconnect alias) = groups-kept (with_presence alias false) (λ declared. presence-by (declared.group.alias == alias) declared false) groups
-edit-keeps groups (Remap station area pdos) = search (rules, groups-kept, slaves-kept, slave-kept)
-edit-keeps groups (Move station area task) = search (rules, groups-kept, slaves-kept, slave-kept)
+pub edit-keeps : (groups : List Declared) (edit : Edit) → declares edit ≡ false → map bare_slave (declared_slaves (groups_after groups edit)) ≡ map bare_slave (declared_slaves groups)
+edit-keeps groups (Connect alias) changes = groups-kept (with_presence alias true) (λ declared. presence-by (declared.group.alias == alias) declared true) groups
+edit-keeps groups (Disconnect alias) changes = groups-kept (with_presence alias false) (λ declared. presence-by (declared.group.alias == alias) declared false) groups
+edit-keeps groups (Remap station area pdos) changes = search (rules, groups-kept, slaves-kept, slave-kept)
+edit-keeps groups (Move station area task) changes = search (rules, groups-kept, slaves-kept, slave-kept)
+edit-keeps groups (Declare group) changes = cc

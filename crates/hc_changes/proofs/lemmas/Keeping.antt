@@ -1,11 +1,11 @@
--- An edit leaves each declared slave the variables that it offers.
-use Rattle.std.proofs.Common.{◌≡◌, ℕ, zero, suc, Bool, List, [], ◌∷◌, ◌++◌, refl, ap, if◌then◌else◌, rules}
+-- An edit that declares no group leaves each declared slave the variables that it offers.
+use Rattle.std.proofs.Common.{◌≡◌, ℕ, zero, suc, Bool, false, List, [], ◌∷◌, ◌++◌, refl, ap, if◌then◌else◌, rules}
 use Rattle.std.specs.Prelude.{map}
 use Rattle.hc_records.specs.declared.edit.Edit.{Edit}
 use Rattle.hc_records.specs.declared.records.Area.{Area}
 use Rattle.hc_records.specs.declared.records.Declared.{Declared}
 use Rattle.hc_records.specs.declared.records.Slave.{Slave}
-use Rattle.hc_records.specs.Edits.{groups_after, with_area, with_slaves}
+use Rattle.hc_records.specs.Edits.{declares, groups_after, with_area, with_slaves}
 use Rattle.hc_records.specs.Lists.{changed_at}
 use Rattle.hc_records.specs.Project.{area_names, pdo_names}
 use Rattle.hc_changes.specs.Rows.{variables_by_rank}
@@ -42,5 +42,5 @@ area-keeps : (station index : ℕ) (change : Area → Area) → ((area : Area) �
     → variables_by_rank (map (with_slaves (with_area station index change)) groups) ≡ variables_by_rank groups
 area-keeps station index change same = search (rules, groups-same, slaves-same, slave-by, areas-same)
 
-pub edit-keeps : (groups : List Declared) (edit : Edit) → variables_by_rank (groups_after groups edit) ≡ variables_by_rank groups
-edit-keeps groups edit = search (rules, groups-same, presence-by, area-keeps)
+pub edit-keeps : (groups : List Declared) (edit : Edit) → declares edit ≡ false → variables_by_rank (groups_after groups edit) ≡ variables_by_rank groups
+edit-keeps groups edit changes = search (rules, groups-same, presence-by, area-keeps)

@@ -82,7 +82,7 @@ same_bytes-refl block = search (rules, and_from, eq-eqb, bytes_eq-Decides)
 same_block-refl : (block : LineBlock) → same_block block block ≡ true
 same_block-refl found = search (rules, and_from, eq-eqb, same_bytes-refl)
 
-had : (blocks : List LineBlock) (block : LineBlock) → Contains blocks block → list_any (same_block block) blocks ≡ true
+pub had : (blocks : List LineBlock) (block : LineBlock) → Contains blocks block → list_any (same_block block) blocks ≡ true
 had blocks block at = search (rules, list_any_at, same_block-refl)
 
 pub none-kept : {X : Type 0} (test : X → Bool) (xs : List X) → All (λ x. test x ≡ false) xs → filter test xs ≡ []

@@ -1,17 +1,19 @@
 -- The lines before and after an edit are of one project: a slave keeps its rank, and the areas of its record what no edit changes.
-use Rattle.std.proofs.Common.{◌≡◌, ℕ, ◌+◌, ◌-◌, ◌<◌, zero, suc, Bool, List, [], ◌∷◌, length, Contains, Some, None, sym, ap, subst, ◌∙◌, ⊎_elim, inl, inr, arith, if◌then◌else◌, rules}
+use Rattle.std.proofs.Common.{◌≡◌, ℕ, ◌+◌, ◌-◌, ◌<◌, zero, suc, Bool, false, List, [], ◌∷◌, length, Contains, Some, None, sym, ap, subst, ◌∙◌, ⊎_elim, inl, inr, arith, refl, if◌then◌else◌, rules}
 use Rattle.std.specs.Prelude.{◌≢◌, AllPairs, map, option_map, slice_get}
 use Rattle.std.specs.List.{enumerate_from}
 use Rattle.std.proofs.lemmas.Bool.{cases_order}
 use Rattle.std.proofs.lemmas.List.Elements.{Contains-append_cases}
 use Rattle.std.proofs.lemmas.Option.{get_or_from_slice_get, slice_get-map, slice_get_within}
 use Rattle.hc_records.specs.declared.edit.Edit.{Edit}
+use Rattle.hc_records.specs.declared.edit.Edit.TheVariants.{Connect, Disconnect, Remap, Move, Declare}
 use Rattle.hc_records.specs.declared.records.Area.{Area}
 use Rattle.hc_records.specs.declared.records.Declared.{Declared}
 use Rattle.hc_records.specs.declared.records.Slave.{Slave}
-use Rattle.hc_records.specs.Edits.{groups_after}
+use Rattle.hc_records.specs.Edits.{declares, groups_after}
 use Rattle.hc_records.specs.Line.{Member, groups_of, line_from, members_from}
 use Rattle.hc_records.specs.Project.{lowest_fault}
+use Rattle.hc_records.proofs.lemmas.Declaring.{line-absent}
 use Rattle.hc_records.proofs.lemmas.Finds.{mapped-some}
 use Rattle.hc_records.proofs.lemmas.Limits.{project-inside}
 use Rattle.hc_records.proofs.lemmas.Lines.{declared_slaves}
@@ -108,23 +110,33 @@ kept-at olds news i slave same at =
     mapped-some bare_slave (slice_get olds i) (bare_slave slave)
     (sym (slice_get-map bare_slave olds i) ∙ ap (λ (l : List (ℕ × List Area)). slice_get l i) (sym same) ∙ slice_get-map bare_slave news i ∙ ap (option_map bare_slave) at)
 
-pub edit-one-project : (groups : List Declared) (edit : Edit) → lowest_fault (groups_of groups) ≡ None → AreOfOneProject (line_from 1 groups) (line_from 1 (groups_after groups edit))
-edit-one-project groups edit none =
+same-one-project : (groups news : List Declared) → map bare_slave (declared_slaves news) ≡ map bare_slave (declared_slaves groups) → lowest_fault (groups_of groups) ≡ None
+    → AreOfOneProject (line_from 1 groups) (line_from 1 news)
+same-one-project groups after same none =
     let olds = declared_slaves groups in
-    let news = declared_slaves (groups_after groups edit) in
+    let news = declared_slaves after in
     record {
-      alike = λ a b at at' same.
+      alike = λ a b at at' alike.
           let first = line-declared 1 groups a at in
-          let second = line-declared 1 (groups_after groups edit) b at' in
-          let before = kept-at olds news second.index b.slave (edit-keeps groups edit) second.stands in
+          let second = line-declared 1 after b at' in
+          let before = kept-at olds news second.index b.slave same second.stands in
           let index : first.index ≡ second.index = (let one = first.rank in let two = second.rank in omega arith) in
           let here : a.slave ≡ before.0 = cc in
           ap bare_slave here ∙ before.2;
-      ranks = λ a b at at' same.
+      ranks = λ a b at at' alike.
           let first = line-declared 1 groups a at in
-          let second = line-declared 1 (groups_after groups edit) b at' in
-          let before = kept-at olds news second.index b.slave (edit-keeps groups edit) second.stands in
-          let station : a.slave.station ≡ before.0.station = same ∙ sym (ap (λ (p : ℕ × List Area). p.0) before.2) in
+          let second = line-declared 1 after b at' in
+          let before = kept-at olds news second.index b.slave same second.stands in
+          let station : a.slave.station ≡ before.0.station = alike ∙ sym (ap (λ (p : ℕ × List Area). p.0) before.2) in
           let index = one-index (λ (slave : Slave). slave.station) olds first.index second.index a.slave before.0 (project-inside (groups_of groups) none).stations first.stands before.1 station in
           first.rank ∙ ap (λ (i : ℕ). 1 + i) index ∙ sym second.rank;
     }
+
+-- a declared group leaves the line as it was
+pub edit-one-project : (groups : List Declared) (edit : Edit) → lowest_fault (groups_of groups) ≡ None → AreOfOneProject (line_from 1 groups) (line_from 1 (groups_after groups edit))
+edit-one-project groups (Connect alias) none = same-one-project groups (groups_after groups (Connect alias)) (edit-keeps groups (Connect alias) refl) none
+edit-one-project groups (Disconnect alias) none = same-one-project groups (groups_after groups (Disconnect alias)) (edit-keeps groups (Disconnect alias) refl) none
+edit-one-project groups (Remap station area pdos) none = same-one-project groups (groups_after groups (Remap station area pdos)) (edit-keeps groups (Remap station area pdos) refl) none
+edit-one-project groups (Move station area task) none = same-one-project groups (groups_after groups (Move station area task)) (edit-keeps groups (Move station area task) refl) none
+edit-one-project groups (Declare group) none =
+    subst (AreOfOneProject (line_from 1 groups)) (sym (line-absent 1 groups group)) (same-one-project groups groups refl none)

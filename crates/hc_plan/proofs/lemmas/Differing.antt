@@ -11,7 +11,8 @@ use Rattle.hc_records.specs.declared.records.Area.{Area}
 use Rattle.hc_records.specs.declared.records.Declared.{Declared}
 use Rattle.hc_records.specs.declared.records.Slave.{Slave}
 use Rattle.hc_records.specs.declared.edit.Edit.{Edit}
-use Rattle.hc_records.specs.Edits.{edited}
+use Rattle.hc_records.specs.declared.edit.Edit.TheVariants.{Connect, Disconnect, Remap, Move, Declare}
+use Rattle.hc_records.specs.Edits.{declares, edited}
 use Rattle.hc_records.specs.Line.{Member, State, groups_of, line}
 use Rattle.hc_records.specs.Project.{lowest_fault}
 use Rattle.hc_records.proofs.lemmas.Finds.{mapped-some}
@@ -74,10 +75,20 @@ record Leads (old new : State) (change : Prepared) : Type 0 where
   behind : lowest_fault (groups_of new.groups) ≡ None
   one : AreOfOneProject (line old) (line new)
 
+-- it declares no group
+
+changes-no : (groups : List Declared) (edit : Edit) (change : Prepared) → change_by groups edit ≡ Some change → declares edit ≡ false
+changes-no groups (Connect alias) change is = refl
+changes-no groups (Disconnect alias) change is = refl
+changes-no groups (Remap station area pdos) change is = refl
+changes-no groups (Move station area task) change is = refl
+changes-no groups (Declare group) change is = cc
+
 leads : (old new : State) (edit : Edit) (change : Prepared) → lowest_fault (groups_of old.groups) ≡ None → edited old edit ≡ Ok new → change_by old.groups edit ≡ Some change → Leads old new change
 leads old new edit change project accepted changes =
     let groups = accepted-groups old new edit accepted in
-    search (rules, change-of-row, carried-after, edit-keeps, accepted-project, edit-one-project)
+    let same = edit-keeps old.groups edit (changes-no old.groups edit change changes) in
+    search (rules, change-of-row, carried-after, accepted-project, edit-one-project)
 
 -- which slaves leave
 

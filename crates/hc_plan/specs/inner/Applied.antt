@@ -1,8 +1,8 @@
 -- An edit that is worked out on a line, and what is seen of the line that it makes.
-use Rattle.std.specs.Prelude.{◌≡◌, ℕ, ◌<◌, ◌==◌, All, List, None, find, option_map, slice_get}
+use Rattle.std.specs.Prelude.{◌≡◌, ℕ, ◌<◌, ◌==◌, false, All, List, None, find, option_map, slice_get}
 use Rattle.hc_records.specs.declared.edit.Edit.{Edit}
 use Rattle.hc_records.specs.declared.limits.TheConstants.{TASKS}
-use Rattle.hc_records.specs.Edits.{crowded_task, groups_after}
+use Rattle.hc_records.specs.Edits.{crowded_task, declares, groups_after}
 use Rattle.hc_records.specs.Line.{groups_of, line_from}
 use Rattle.hc_records.specs.Project.{lowest_fault}
 use Rattle.hc_records.specs.declared.records.Declared.{Declared}
@@ -13,9 +13,10 @@ use Rattle.hc_places.specs.Table.{Table, table_of}
 use Rattle.hc_changes.specs.Candidates.{Candidate}
 use Rattle.hc_changes.specs.EditedLine.{EditedLine, IsEditedLine, candidates_of}
 
--- an edit without a fault of its own makes this of a line that has a table, and none of whose tasks is crowded
+-- an edit without a fault of its own, one that declares no group, makes this of a line that has a table, and none of whose tasks is crowded
 pub record Makes (edit : Edit) (table : Table) (edited_line : EditedLine) : Type 0 where
   pub is : IsEditedLine edited_line
+  pub changes : declares edit ≡ false
   pub own : own_fault edited_line.old edit ≡ None
   pub leads : edited_line.new ≡ groups_after edited_line.old edit
   pub fits : crowded_task (line_from 1 edited_line.old) ≡ None
@@ -31,9 +32,10 @@ pub record AreSeen (edited_line : EditedLine) (found : List Candidate) (tasks : 
   pub ascends : ChangesAscend tasks
   pub eight : All (λ changed. changed.0 < TASKS) tasks
 
--- an index is that of a project's groups before an edit, which led to these, a project's again
+-- an index is that of a project's groups before an edit that declares none, which led to these, a project's again
 pub record Follows (groups : List Declared) (edit : Edit) (index : Index) : Type 0 where
   pub before : List Declared
   pub was : IsIndexOf before index
+  pub changes : declares edit ≡ false
   pub leads : groups ≡ groups_after before edit
   pub project : lowest_fault (groups_of groups) ≡ None

@@ -1,37 +1,63 @@
 -- What a prepared edit keeps, so that carrying it out takes no memory and can't be refused.
-use Rattle.std.specs.Prelude.{◌≡◌, ℕ, ◌+◌, List, None, Option}
-use Rattle.hc_records.specs.declared.keys.Key.{Key}
-use Rattle.hc_records.specs.Edits.{groups_after}
+use Rattle.std.specs.Prelude.{◌≡◌, ◌+◌, false, [], ◌∷◌, ◌++◌, List, None}
+use Rattle.hc_records.specs.declared.records.Declared.{Declared}
+use Rattle.hc_records.specs.Edits.{absent, declares, groups_after}
 use Rattle.hc_records.specs.Line.{State, groups_of, line}
 use Rattle.hc_records.specs.Project.{lowest_fault}
+use Rattle.hc_ranks.specs.declared.blocks.Gone.{Gone}
 use Rattle.hc_ranks.specs.Blocks.{RankedBlock}
 use Rattle.hc_tasks.specs.Areas.{areas_by_rank}
 use Rattle.hc_tasks.specs.Turn.{AreStartsOf}
-use Rattle.hc_edits.specs.declared.prepared.Prepared.{Prepared}
 use Rattle.hc_edits.specs.Changes.{changed_groups}
 use Rattle.hc_edits.specs.Rows.{ChangesRow}
 use Rattle.hc_places.specs.Room.{IsRoomFor}
 use Rattle.hc_places.specs.Table.{table_of}
-use Rattle.hc_changes.specs.EditedLine.{IsRoomFor as HasRoomFor, Room}
+use Rattle.hc_changes.specs.EditedLine.{IsRoomFor as HasRoomFor}
 use Rattle.hc_plan.specs.declared.report.Report.{Report}
-use Rattle.hc_plan.specs.Gone.{gone_of}
-use Rattle.hc_plan.specs.Prepared.{PreparedEdit}
+use Rattle.hc_plan.specs.declared.work.LineWork.{LineWork}
+use Rattle.hc_plan.specs.declared.work.Work.{Work}
+use Rattle.hc_plan.specs.declared.work.Work.TheVariants.{NewGroup, NewLine}
+use Rattle.hc_plan.specs.Gone.{gone_of, none_gone}
+use Rattle.hc_plan.specs.inner.Declaring.{CanDeclare}
+use Rattle.hc_plan.specs.Prepared.{IsPrepared, PreparedEdit}
 
--- what a change makes of a state, with its report and the blocks that it moves
-abbrev pub prepared_of : State → Prepared → Report → List RankedBlock → PreparedEdit
-prepared_of old change report blocks = record {
+-- the declared groups that an edit leaves, by what was worked out of it
+abbrev pub left_by : Work → List Declared → List Declared
+left_by (NewLine work) groups = changed_groups work.change groups
+left_by (NewGroup declaration) groups = groups ++ absent declaration.group ∷ []
+
+-- the slaves that leave the line with it
+abbrev pub gone_by : Work → Gone
+gone_by (NewLine work) = gone_of work.change
+gone_by (NewGroup declaration) = none_gone
+
+-- what is worked out of an edit of a state, with its report and the blocks that it moves
+abbrev pub prepared_of : State → Work → Report → List RankedBlock → PreparedEdit
+prepared_of old work report blocks = record {
   old = old;
-  new = record { groups = changed_groups change old.groups; epoch = old.epoch + 1 };
+  new = record { groups = left_by work old.groups; epoch = old.epoch + 1 };
   report = report;
-  gone = gone_of change;
+  gone = gone_by work;
   blocks = blocks;
 }
 
--- the change leads to the groups of a project again, the boundaries are those of its line's tasks, and there is memory for the areas of the change's slaves and for the new table's rows
-pub record IsReady (prepared : PreparedEdit) (change : Prepared) (boundaries : List (List Key)) (areas : Room) (table : Option ℕ) : Type 0 where
-  pub leads : prepared.new.groups ≡ groups_after prepared.old.groups prepared.report.swap.edit
-  pub project : lowest_fault (groups_of prepared.new.groups) ≡ None
-  pub row : ChangesRow change prepared.old.groups
-  pub starts : AreStartsOf (areas_by_rank prepared.new.groups) boundaries
-  pub slaves : HasRoomFor change areas
-  pub rows : IsRoomFor prepared.report.swap.change (table_of (line prepared.old)) table
+-- the change leads from a project's groups to those of a project again, the boundaries are those of its line's tasks, and there is memory for the areas of the change's slaves and for the new table's rows
+pub record IsLineReady (old : State) (report : Report) (work : LineWork) : Type 0 where
+  pub changes : declares report.swap.edit ≡ false
+  pub leads : changed_groups work.change old.groups ≡ groups_after old.groups report.swap.edit
+  pub project : lowest_fault (groups_of (changed_groups work.change old.groups)) ≡ None
+  pub row : ChangesRow work.change old.groups
+  pub starts : AreStartsOf (areas_by_rank (changed_groups work.change old.groups)) work.starts
+  pub slaves : HasRoomFor work.change work.slaves
+  pub rows : IsRoomFor report.swap.change (table_of (line old)) work.rows
+
+-- what was worked out can be carried out in the state that it was worked out in
+abbrev pub IsReady : State → Report → Work → Type 0
+IsReady old report (NewLine work) = IsLineReady old report work
+IsReady old report (NewGroup declaration) = CanDeclare old.groups declaration
+
+-- so it is, and a prepared edit tells it
+pub record CanCarry (old : State) (report : Report) (work : Work) : Type 0 where
+  pub ready : IsReady old report work
+  pub blocks : List RankedBlock
+  pub prepared : IsPrepared (prepared_of old work report blocks)

@@ -1,11 +1,12 @@
--- A group that is declared behind those of a project: they are a project's again, condition by condition, and their line is the same.
+-- A group that is declared behind those of a project: they are a project's again, condition by condition, their line is the same, and nothing is cut anew.
 use Rattle.std.proofs.Common.{◌≡◌, ℕ, ◌∙◌, Bool, true, false, not, List, [], ◌∷◌, ◌++◌, Option, Some, None, length, refl, sym, ap, length-append, arith}
-use Rattle.std.specs.Prelude.{◌+◌, ◌==◌, ◌||◌, is_some, map, nat_lt}
+use Rattle.std.specs.Prelude.{◌+◌, ◌==◌, ◌||◌, filter, is_some, map, nat_lt, sum_by}
 use Rattle.std.specs.List.{flat_map, list_any}
 use Rattle.std.proofs.lemmas.Bool.{both_ways, eqb-false, ne_eqb, or_from, or_parts}
 use Rattle.std.proofs.lemmas.Grind.{flat_map-append}
 use Rattle.std.proofs.lemmas.List.{append-nil, length-map, map-append}
 use Rattle.std.proofs.lemmas.List.Folds.{list_any-append}
+use Rattle.std.proofs.lemmas.List.Sums.{sum_by-cons}
 use Rattle.hc_records.specs.declared.limits.TheConstants.{MOST_GROUPS, MOST_SLAVES}
 use Rattle.hc_records.specs.declared.records.Slave.{Slave}
 use Rattle.hc_records.specs.declared.records.Group.{Group}
@@ -13,10 +14,14 @@ use Rattle.hc_records.specs.declared.records.Declared.{Declared}
 use Rattle.hc_records.specs.declared.faults.ProjectFault.{ProjectFault}
 use Rattle.hc_records.specs.declared.faults.ProjectFault.TheVariants.{OutOfRange, RepeatedAlias, RepeatedStation, RepeatedSyncManager, OverlappingAreas, RepeatedVariable, UnknownPdo, AreaTooBig}
 use Rattle.hc_records.specs.declared.faults.EditFault.TheVariants.{EpochsSpent}
+use Rattle.hc_records.specs.Boundaries.{is_touched_task, recut, unsettled_spans}
+use Rattle.hc_records.specs.Image.{tasks}
+use Rattle.hc_records.specs.TaskList.{task_list}
 use Rattle.hc_records.specs.Edits.{absent, alone, declaring_faults, has_station, is_declared_variable}
 use Rattle.hc_records.specs.Line.{Member, groups_of, line_from, members_from, present_slaves}
 use Rattle.hc_records.specs.Lists.{has_repeat, lowest}
 use Rattle.hc_records.specs.Project.{area_names, has_outside, has_overlap, has_repeated_alias, has_repeated_station, has_repeated_variable, has_unknown_pdo, is_bare, is_misplaced, is_wide, lowest_fault, project_faults, repeats_sync_manager, slave_names, slave_outside, slaves_of, some_area, some_slave}
+use Rattle.hc_records.proofs.Settled.{untouched-spans}
 use Rattle.hc_records.proofs.lemmas.Lists.{none-holds}
 
 -- numbers behind others, of which none is among these
@@ -53,7 +58,7 @@ any-map : {X Y : Type 0} (test : Y → Bool) (key : X → Y) (xs : List X) → l
 any-map test key [] = refl
 any-map test key (x ∷ xs) = ap (λ (b : Bool). test (key x) || b) (any-map test key xs)
 
-any-flat : {X Y : Type 0} (test : Y → Bool) (pieces : X → List Y) (xs : List X) → list_any test (flat_map pieces xs) ≡ list_any (λ x. list_any test (pieces x)) xs
+pub any-flat : {X Y : Type 0} (test : Y → Bool) (pieces : X → List Y) (xs : List X) → list_any test (flat_map pieces xs) ≡ list_any (λ x. list_any test (pieces x)) xs
 any-flat test pieces [] = refl
 any-flat test pieces (x ∷ xs) = list_any-append test (pieces x) (flat_map pieces xs) ∙ ap (λ (b : Bool). list_any test (pieces x) || b) (any-flat test pieces xs)
 
@@ -197,3 +202,12 @@ pub line-absent : (rank : ℕ) (groups : List Declared) (group : Group) → line
 line-absent rank [] group = refl
 line-absent rank (declared ∷ groups) group =
     ap (λ (behind : List Member). members_from rank (present_slaves declared) ++ behind) (line-absent (rank + length declared.group.slaves) groups group)
+
+-- so nothing is cut anew
+
+sum-none : {X : Type 0} (f : X → ℕ) → ((x : X) → f x ≡ 0) → (xs : List X) → sum_by f xs ≡ 0
+sum-none f none [] = refl
+sum-none f none (x ∷ xs) = let here = none x in let rest = sum-none f none xs in let sum = sum_by-cons f x xs in omega (arith, here, rest, sum)
+
+pub same-recut : (line : List Member) → recut line line ≡ 0
+same-recut line = sum-none (λ task. unsettled_spans (task_list task line) (task_list task line)) (λ task. untouched-spans (task_list task line)) (filter (is_touched_task line line) tasks)

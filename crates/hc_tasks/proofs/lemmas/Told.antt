@@ -60,7 +60,7 @@ group-listed : (present : Bool) (task : ℕ) (dir : Dir) (rank : ℕ) (slaves : 
 group-listed true task dir rank slaves = members-listed task dir rank slaves
 group-listed false task dir rank slaves = absent-listed task dir rank slaves
 
-rank_list-append : (task : ℕ) (dir : Dir) (rank : ℕ) (xs ys : List (List Area))
+pub rank_list-append : (task : ℕ) (dir : Dir) (rank : ℕ) (xs ys : List (List Area))
     → rank_list task dir rank (xs ++ ys) ≡ rank_list task dir rank xs ++ rank_list task dir (rank + length xs) ys
 rank_list-append task dir rank [] ys = ap (λ (n : ℕ). rank_list task dir n ys) (omega arith)
 rank_list-append task dir rank (x ∷ xs) ys =

@@ -57,7 +57,7 @@ returns-clause-report g c =
 pub returns-clause-accepted : goal.returns-clause-accepted
 returns-clause-accepted g c =
     let it = c.args.edited_line.now in
-    made-accepted it.old it.new c.args.epoch c.args.edit.now c.requires.edit.own c.requires.edit.leads c.in-Ok.ensures.accepted (ne_eqb c.args.epoch LAST_EPOCH c.if-epoch-eq-LAST_EPOCH.false)
+    made-accepted it.old it.new c.args.epoch c.args.edit.now c.requires.edit.changes c.requires.edit.own c.requires.edit.leads c.in-Ok.ensures.accepted (ne_eqb c.args.epoch LAST_EPOCH c.if-epoch-eq-LAST_EPOCH.false)
 
 -- that trees are those of a line is handed on as it was told: a tactic would open the eight tasks of both lines
 

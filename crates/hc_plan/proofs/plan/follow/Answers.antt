@@ -18,7 +18,7 @@ pub follow-requires : goal.follow-requires
 follow-requires c =
     let it = c.requires in
     subst (λ (g : List Declared). IsIndexOfDeclared g c.args.index.now) (sym it.leads)
-    (kept-declared it.before c.args.index.now c.args.edit.now it.was.declared (led c.args.groups.now c.args.edit.now c.args.index.now it))
+    (kept-declared it.before c.args.index.now c.args.edit.now it.changes it.was.declared (led c.args.groups.now c.args.edit.now c.args.index.now it))
 
 -- where areas get other PDOs or another task, the index stays
 kept : (groups : List Declared) (edit : Edit) (index : Index) → Follows groups edit index

@@ -5,10 +5,11 @@ use Rattle.hc_bitsum.specs.Branch.{slots_of}
 use Rattle.hc_bitsum.specs.Filling.{areas_between}
 use Rattle.hc_bitsum.specs.Tree.{Tree, has_width}
 use Rattle.hc_bitsum.proofs.Between.{both-between}
+use Rattle.hc_bitsum.proofs.Kept.{holds-list}
 use Rattle.hc_bitsum.proofs.tree.SumTree.areas_between.Goals as goal
 
-pub returns : goal.returns
-returns c =
+pub returns-clause-areas : goal.returns-clause-areas
+returns-clause-areas c =
     let outputs = (slots_of c.self.inside.outputs).areas in
     let inputs = (slots_of c.self.inside.inputs).areas in
     let from = c.args.from in
@@ -18,3 +19,7 @@ returns c =
     (c.in_ok-add_between.ensures ∙ ap (λ (xs : List Keyed). xs ++ filter has_width (areas_between from until outputs)) c.new-areas.ensures.items)
     ∙ both-between from until outputs inputs
     ∙ ap (λ (tree : Tree). areas_between from until tree.list) c.self.view_is
+
+pub returns-clause-holds : goal.returns-clause-holds
+returns-clause-holds c =
+    rw (← c.self.view_is) (holds-list c.self.inside.slaves (slots_of c.self.inside.outputs) (slots_of c.self.inside.inputs) c.self.invariant.outs c.self.invariant.ins)

@@ -13,11 +13,13 @@ use Rattle.hc_edits.specs.Edits.{own_fault}
 use Rattle.hc_edits.specs.Rows.{ChangesRow}
 use Rattle.hc_edits.proofs.lemmas.Refusals.{own-refuses}
 use Rattle.hc_changes.specs.EditedLine.{IsEditedLine, edited_line_of}
+use Rattle.hc_plan.specs.declared.work.LineWork.{LineWork}
+use Rattle.hc_plan.specs.declared.work.Work.TheVariants.{NewLine}
 use Rattle.hc_plan.specs.inner.Prepared.{IsReady, prepared_of}
 use Rattle.hc_plan.specs.Prepared.{IsPrepared}
 use Rattle.hc_plan.proofs.Editing.{judged, old-groups}
 use Rattle.hc_plan.proofs.Preparing.{is-prepared, is-ready, makes}
-use Rattle.hc_plan.proofs.plan.Plan.prepare.Goals as goal
+use Rattle.hc_plan.proofs.plan.Plan.prepare_change.Goals as goal
 
 pub returns-in_err-change-clause-refused : goal.returns-in_err-change-clause-refused
 returns-in_err-change-clause-refused c =
@@ -56,7 +58,7 @@ pub work_out-requires-clause-edit : goal.work_out-requires-clause-edit
 work_out-requires-clause-edit c =
     let edit = c.args.edit.now in
     let change = c.in_ok-change.change in
-    makes c.of-edited_line.result change edit c.self.inside.places c.self.inside.groups
+    makes c.of-edited_line.result change edit c.self.inside.places c.self.inside.groups c.requires
     (subst IsEditedLine c.edited_line.view_is c.edited_line.invariant)
     (c.of-edited_line.ensures ∙ ap (edited_line_of change) c.as_slice-2.ensures)
     (subst (λ (g : List Declared). own_fault g edit ≡ None) c.as_slice.ensures c.in_ok-change.ensures.accepted)
@@ -70,15 +72,15 @@ invariant_of-result c =
     let change = c.in_ok-change.change in
     let worked = c.in_ok-worked.worked in
     let told = c.in_ok-worked.ensures in
+    let work : LineWork = record { change = change; starts = worked.starts; slaves = c.in_ok-slaves.slaves; rows = worked.room } in
     let edited_line = c.of-edited_line.ensures ∙ ap (edited_line_of change) c.as_slice-2.ensures in
     let slice = c.as_slice.ensures in
     subst
-    (λ (s : State). IsPrepared (prepared_of s change worked.report worked.blocks.items)
-    × IsReady (prepared_of s change worked.report worked.blocks.items) change worked.starts c.in_ok-slaves.slaves worked.room)
+    (λ (s : State). IsPrepared (prepared_of s (NewLine work) worked.report worked.blocks.items) × IsReady s worked.report (NewLine work))
     (sym c.of-4.ensures) (
-      is-prepared old change c.of-edited_line.result edit worked.report worked.blocks.items c.self.invariant.0 c.self.invariant.1
+      is-prepared old work c.of-edited_line.result edit worked.report worked.blocks.items c.self.invariant.0 c.self.invariant.1
           (subst (λ (g : List Declared). change_by g edit ≡ Some change) slice c.in_ok-change.ensures.change) edited_line told.report told.accepted told.fits told.blocks,
-      is-ready old change c.of-edited_line.result edit worked.report worked.blocks.items worked.starts c.in_ok-slaves.slaves c.self.inside.places worked.room told.report.named
+      is-ready old work c.of-edited_line.result edit worked.report c.self.inside.places told.report.named c.requires
           (subst (λ (g : List Declared). changed_groups change g ≡ groups_after g edit) slice c.in_ok-change.ensures.groups)
           (subst (λ (g : List Declared). lowest_fault (groups_of (changed_groups change g)) ≡ None) slice c.in_ok-change.ensures.kept)
           (subst (ChangesRow change) slice c.in_ok-change.ensures.row)
@@ -90,7 +92,7 @@ returns-clause-prepared c = (invariant_of-result c).0
 
 pub of-edited_line-requires-clause-edited : goal.of-edited_line-requires-clause-edited
 of-edited_line-requires-clause-edited c =
-    record { edit = c.args.edit.now; leads = subst (λ (g : List Declared). changed_groups c.in_ok-change.change g ≡ groups_after g c.args.edit.now) (c.as_slice.ensures ∙ sym c.as_slice-2.ensures) c.in_ok-change.ensures.groups }
+    record { edit = c.args.edit.now; changes = c.requires; leads = subst (λ (g : List Declared). changed_groups c.in_ok-change.change g ≡ groups_after g c.args.edit.now) (c.as_slice.ensures ∙ sym c.as_slice-2.ensures) c.in_ok-change.ensures.groups }
 
 pub of-edited_line-requires-clause-was : goal.of-edited_line-requires-clause-was
 of-edited_line-requires-clause-was c = subst (λ (g : List Declared). lowest_fault (groups_of g) ≡ None) (sym c.as_slice-2.ensures) c.self.invariant.0

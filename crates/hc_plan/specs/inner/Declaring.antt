@@ -1,0 +1,71 @@
+-- What declaring a group behind those of a plan takes.
+use Rattle.std.specs.Prelude.{◌≡◌, ℕ, ◌+◌, ◌==◌, ◌≤◌, nat_lt, Bool, false, List, [], ◌∷◌, None, Option, Some, length}
+use Rattle.std.specs.List.{list_any}
+use Rattle.std.specs.Option.{option_map_or}
+use Rattle.hc_records.specs.declared.faults.EditFault.{EditFault}
+use Rattle.hc_records.specs.declared.faults.EditFault.TheVariants.{AliasTaken, StationTaken, VariableTaken, TooManyGroups, TooManySlaves}
+use Rattle.hc_records.specs.declared.limits.TheConstants.{MOST_GROUPS, MOST_SLAVES}
+use Rattle.hc_records.specs.declared.records.Area.{Area}
+use Rattle.hc_records.specs.declared.records.Declared.{Declared}
+use Rattle.hc_records.specs.declared.records.Group.{Group}
+use Rattle.hc_records.specs.declared.records.Pdo.{Pdo}
+use Rattle.hc_records.specs.Area.{Entry}
+use Rattle.hc_records.specs.Edits.{declaring_faults, has_station, is_declared_variable}
+use Rattle.hc_records.specs.declared.edit.Edit.{Edit}
+use Rattle.hc_records.specs.Line.{State, groups_of, line}
+use Rattle.hc_records.specs.Lists.{lowest}
+use Rattle.hc_records.specs.Project.{lowest_fault, slave_names}
+use Rattle.hc_bitsum.specs.Tree.{HasRoom}
+use Rattle.hc_cuts.specs.Starts.{Kept}
+use Rattle.hc_index.specs.Room.{IsRoomFor}
+use Rattle.hc_tasks.specs.Areas.{areas_by_rank}
+use Rattle.hc_tasks.specs.Kept.{line_kept}
+use Rattle.hc_tasks.specs.Room.{AreOfFewer, with_absent}
+use Rattle.hc_plan.specs.declared.declaring.Declaration.{Declaration}
+use Rattle.hc_plan.specs.declared.report.Report.{Report}
+use Rattle.hc_plan.specs.Reports.{Tells}
+
+-- the variable that an entry names, if it names one, is declared already
+abbrev pub names_taken : List Declared → Entry → Bool
+names_taken groups entry = option_map_or (is_declared_variable groups) entry.0 false
+
+-- an entry of a PDO names such a variable
+abbrev pub pdos_take : List Declared → List Pdo → Bool
+pdos_take groups pdos = list_any (λ pdo. list_any (names_taken groups) pdo.entries) pdos
+
+-- an entry of a PDO that an area offers does
+abbrev pub areas_take : List Declared → List Area → Bool
+areas_take groups areas = list_any (λ area. pdos_take groups area.offered) areas
+
+-- the faults of a declared group by what is taken already, and those by the limits: the last ones of `declaring_faults`, in its order
+
+abbrev pub taken_faults : List Declared → Group → List (Bool × EditFault)
+taken_faults groups group =
+    (list_any (λ declared. declared.group.alias == group.alias) groups, AliasTaken)
+    ∷ (list_any (λ slave. list_any (λ declared. has_station slave.station declared.group.slaves) groups) group.slaves, StationTaken)
+    ∷ (list_any (is_declared_variable groups) (slave_names group.slaves), VariableTaken)
+    ∷ []
+
+-- the faults by the limits, where so many groups and slaves are declared already
+abbrev pub limit_faults : ℕ → ℕ → Group → List (Bool × EditFault)
+limit_faults groups slaves group =
+    (nat_lt MOST_GROUPS (groups + 1), TooManyGroups) ∷ (nat_lt MOST_SLAVES (slaves + length group.slaves), TooManySlaves) ∷ []
+
+-- trees for so many slaves, of whom tasks have the first ones: their own, which have room, or wider ones
+abbrev pub AreTrees : List Kept → ℕ → Option (List Kept) → Type 0
+AreTrees tasks slaves None = (line : List (List Area)) → tasks ≡ line_kept line → HasRoom (length line) slaves
+AreTrees tasks slaves (Some wider) =
+    (line : List (List Area)) (count : ℕ) → tasks ≡ line_kept line → slaves ≡ length line + count → wider ≡ line_kept (with_absent count line)
+
+-- the group may be declared behind those of a project, and there is memory for it in their list, in their index and in the trees of their line's tasks
+pub record CanDeclare (groups : List Declared) (declaration : Declaration) : Type 0 where
+  pub project : lowest_fault (groups_of groups) ≡ None
+  pub free : lowest (declaring_faults groups declaration.group) ≡ None
+  pub slaves : declaration.slaves ≡ length (areas_by_rank groups) + length declaration.group.slaves
+  pub list : length groups + 1 ≤ declaration.groups
+  pub index : IsRoomFor groups declaration.group declaration.index
+  pub trees : AreTrees (line_kept (areas_by_rank groups)) declaration.slaves declaration.wider
+
+-- a report of an edit that leaves the line as it was: it tells of any state behind it with the same line
+abbrev pub TellsNothing : State → Edit → Report → Type 0
+TellsNothing old edit report = (new : State) → line new ≡ line old → new.epoch ≡ old.epoch + 1 → Tells old edit new report

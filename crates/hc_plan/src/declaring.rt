@@ -1,0 +1,284 @@
+//! A group that is declared behind those of a plan: whether it may be, and the memory for it, which is taken
+//! before anything changes.
+ghost use Rattle.std.specs.Prelude.{◌≡◌, ◌≢◌, ◌+◌, ◌<◌, ◌≤◌, ◌==◌, ℕ, IfErr, IfOk, List, None, OnOk, Some, length};
+ghost use Rattle.std.specs.List.{list_any};
+ghost use Rattle.hc_records.specs.declared.faults.EditFault.TheVariants.{Memory};
+ghost use Rattle.hc_records.specs.declared.limits.TheConstants.{LAST_EPOCH, MOST_SLAVES};
+ghost use Rattle.hc_records.specs.Edits.{declaring_faults, has_station, is_declared_variable};
+ghost use Rattle.hc_records.specs.declared.records.Area.{Area};
+ghost use Rattle.hc_records.specs.Line.{groups_of};
+ghost use Rattle.hc_records.specs.Lists.{lowest};
+ghost use Rattle.hc_records.specs.Project.{lowest_fault, slave_names};
+ghost use Rattle.hc_tasks.specs.Kept.{line_kept};
+ghost use Rattle.hc_tasks.specs.Room.{AreOfFewer, with_absent};
+ghost use Rattle.hc_plan.specs.inner.Declaring.{AreTrees, TellsNothing, areas_take, limit_faults, names_taken, pdos_take, taken_faults};
+
+use crate::report::Report;
+use hc_index::index::{Index, Indexed};
+use hc_index::room::IndexRoom;
+use hc_places::swap::Swap;
+use hc_records::edit::Edit;
+use hc_records::faults::{EditFault, ProjectFault};
+use hc_records::items::Items;
+use hc_records::limits::{MOST_GROUPS, MOST_SLAVES};
+use hc_records::records::{Area, Declared, Entry, Group, Pdo, Slave};
+use hc_records::room::Room;
+use hc_tasks::tasks::LineCuts;
+use std::alloc::{AllocError, Global};
+
+/// A group that may be declared behind those of a plan, and memory for it in what the plan keeps.
+#[derive(Drop)]
+pub(crate) struct Declaration {
+    pub(crate) group: Group,
+    // how many slaves are declared with it
+    slaves: u16,
+    // for the declared groups with it
+    groups: Room<Declared>,
+    // for their index
+    index: IndexRoom,
+    // the tasks of the line in trees with room for its slaves, where the plan's own have none
+    wider: Option<LineCuts>,
+}
+
+/// Whether the variable that an entry names, if it names one, is declared already.
+fn names_taken(groups: &Indexed<'_>, entry: Entry) -> bool
+    ensures { result ≡ names_taken groups.now entry }
+{
+    match entry.0 {
+        Some(variable) => groups.is_declared_variable(variable),
+        None => false,
+    }
+}
+
+/// Whether one of these entries names such a variable.
+fn entries_take(groups: &Indexed<'_>, entries: &[Entry]) -> bool
+    ensures { result ≡ list_any (names_taken groups.now) entries.now }
+{
+    entries.iter().any(|entry| names_taken(groups, *entry))
+}
+
+/// Whether an entry of one of these PDOs does.
+fn pdos_take(groups: &Indexed<'_>, pdos: &[Pdo]) -> bool
+    ensures { result ≡ pdos_take groups.now pdos.now }
+{
+    pdos.iter()
+        .any(|pdo| entries_take(groups, pdo.entries.as_slice()))
+}
+
+/// Whether an entry of a PDO that one of these areas offers does.
+fn areas_take(groups: &Indexed<'_>, areas: &[Area]) -> bool
+    ensures { result ≡ areas_take groups.now areas.now }
+{
+    areas
+        .iter()
+        .any(|area| pdos_take(groups, area.offered.as_slice()))
+}
+
+/// Whether an entry of a PDO that an area of one of these slaves offers does.
+fn slaves_take(groups: &Indexed<'_>, slaves: &[Slave]) -> bool
+    ensures { result ≡ list_any (λ slave. areas_take groups.now slave.areas) slaves.now }
+{
+    slaves
+        .iter()
+        .any(|slave| areas_take(groups, slave.areas.as_slice()))
+}
+
+/// Whether one of the variables that slaves offer is declared already.
+fn variables_taken(groups: &Indexed<'_>, slaves: &[Slave]) -> bool
+    ensures { result ≡ list_any (is_declared_variable groups.now) (slave_names slaves.now) }
+{
+    slaves_take(groups, slaves)
+}
+
+/// Whether an alias is declared already.
+fn alias_taken(groups: &Indexed<'_>, alias: u16) -> bool
+    ensures { result ≡ list_any (λ declared. declared.group.alias == alias) groups.now }
+{
+    groups.group(alias).is_some()
+}
+
+/// Whether one of the station addresses of slaves is.
+fn stations_taken(groups: &Indexed<'_>, slaves: &[Slave]) -> bool
+    ensures { result ≡ list_any (λ slave. list_any (λ declared. has_station slave.station declared.group.slaves) groups.now) slaves.now }
+{
+    slaves
+        .iter()
+        .any(|slave| groups.is_declared_station(slave.station))
+}
+
+/// The lowest fault of a group that is declared behind others by what these have already, none where it has
+/// none. It takes no memory.
+fn taken_fault(groups: &Indexed<'_>, group: &Group) -> Option<EditFault>
+    ensures { result ≡ lowest (taken_faults groups.now group.now) }
+{
+    let slaves = group.slaves.as_slice();
+    if alias_taken(groups, group.alias) {
+        return Some(EditFault::AliasTaken);
+    }
+    if stations_taken(groups, slaves) {
+        return Some(EditFault::StationTaken);
+    }
+    if variables_taken(groups, slaves) {
+        return Some(EditFault::VariableTaken);
+    }
+    None
+}
+
+/// The lowest fault of a group by the limits of a project of so many groups and slaves, none where it has none.
+fn limit_fault(groups: usize, slaves: usize, group: &Group) -> Option<EditFault>
+    ensures { result ≡ lowest (limit_faults groups slaves group.now) }
+{
+    if MOST_GROUPS <= groups {
+        return Some(EditFault::TooManyGroups);
+    }
+    if MOST_SLAVES.saturating_sub(slaves) < group.slaves.len() || MOST_SLAVES < slaves {
+        return Some(EditFault::TooManySlaves);
+    }
+    None
+}
+
+/// A copy of a group that may be declared behind others. Otherwise the lowest of its faults, 30 to 35, or
+/// `Memory` where a growth was refused.
+fn free_group(
+    alloc: Global,
+    count: usize,
+    groups: &Indexed<'_>,
+    group: &Group,
+) -> Result<Group, EditFault>
+    requires { count ≡ length groups.now }
+    ensures copy { IfOk result (λ copy. copy ≡ group.now) }
+    ensures free { OnOk result (lowest (declaring_faults groups.now group.now) ≡ None) }
+    ensures refused { IfErr result (λ fault. fault ≢ Memory → lowest (declaring_faults groups.now group.now) ≡ Some fault) }
+{
+    let copy = match group.checked(alloc) {
+        Ok(copy) => copy,
+        Err(ProjectFault::Memory) => return Err(EditFault::Memory),
+        Err(fault) => return Err(EditFault::BadGroup(fault)),
+    };
+    if let Some(fault) = taken_fault(groups, group) {
+        return Err(fault);
+    }
+    if let Some(fault) = limit_fault(count, groups.declared(), group) {
+        return Err(fault);
+    }
+    Ok(copy)
+}
+
+/// The tasks of a line in trees with room for so many slaves, none where its own trees have it. `AllocError`
+/// where a growth was refused.
+fn widened(alloc: Global, cuts: &LineCuts, slaves: u16) -> Result<Option<LineCuts>, AllocError>
+    requires fewer { AreOfFewer cuts.now slaves }
+    requires most { slaves ≤ MOST_SLAVES }
+    ensures { IfOk result (AreTrees cuts.now slaves) }
+{
+    if cuts.has_room(slaves) {
+        return Ok(None);
+    }
+    Ok(Some(cuts.widened(alloc, slaves)?))
+}
+
+impl Declaration {
+    ghost use Rattle.std.specs.Prelude.{◌≡◌, ◌≢◌, ◌++◌, ◌∷◌, [], IfErr, IfOk, None, OnOk, Some};
+    ghost use Rattle.hc_records.specs.declared.faults.EditFault.TheVariants.{Memory};
+    ghost use Rattle.hc_records.specs.Edits.{absent, declaring_faults};
+    ghost use Rattle.hc_records.specs.Line.{groups_of};
+    ghost use Rattle.hc_records.specs.Lists.{lowest};
+    ghost use Rattle.hc_records.specs.Project.{lowest_fault};
+    ghost use Rattle.hc_tasks.specs.Areas.{areas_by_rank};
+    ghost use Rattle.hc_tasks.specs.Kept.{line_kept};
+    ghost use Rattle.hc_index.specs.Index.{IsIndexOf};
+    ghost use Rattle.hc_plan.specs.inner.Declaring.{CanDeclare};
+
+    /// What declaring a group behind those of a project takes, all of it beside them. Otherwise the lowest of the
+    /// group's faults, 30 to 35, or `Memory` where a growth was refused.
+    pub(crate) fn of(
+        alloc: Global,
+        groups: &Items<Declared>,
+        index: &Index,
+        cuts: &LineCuts,
+        group: &Group,
+    ) -> Result<Declaration, EditFault>
+        requires index { IsIndexOf groups.now index.now }
+        requires cuts { cuts.now ≡ line_kept (areas_by_rank groups.now) }
+        ensures group { IfOk result (λ declaration. declaration.group ≡ group.now) }
+        ensures ready { IfOk result (CanDeclare groups.now) }
+        ensures refused { IfErr result (λ fault. fault ≢ Memory → lowest (declaring_faults groups.now group.now) ≡ Some fault) }
+    {
+        let indexed = index.of(groups.as_slice());
+        let group = free_group(alloc, groups.len(), &indexed, group)?;
+        let slaves = (indexed.declared() + group.slaves.len()) as u16;
+        Ok(Declaration {
+            slaves,
+            groups: groups.room_for(alloc, 1)?,
+            index: index.room_for(alloc, &group)?,
+            wider: widened(alloc, cuts, slaves)?,
+            group,
+        })
+    }
+
+    /// Declares the group behind those that it was made for: it is absent. Nothing can be refused.
+    pub(crate) fn carry_out(
+        self,
+        groups: &mut Items<Declared>,
+        index: &mut Index,
+        cuts: &mut LineCuts,
+    )
+        requires ready { CanDeclare groups.old self }
+        requires index { IsIndexOf groups.old index.old }
+        requires cuts { cuts.old ≡ line_kept (areas_by_rank groups.old) }
+        ensures groups { groups.new ≡ groups.old ++ absent self.group ∷ [] }
+        ensures index { IsIndexOf groups.new index.new }
+        ensures cuts { cuts.new ≡ line_kept (areas_by_rank groups.new) }
+    {
+        let Declaration {
+            group,
+            slaves,
+            groups: room,
+            index: index_room,
+            wider,
+        } = self;
+        index.admit(&group, index_room);
+        put_trees(cuts, slaves, wider);
+        groups.push_into(
+            room,
+            Declared {
+                group,
+                present: false,
+            },
+        );
+    }
+}
+
+/// Puts the tasks of a line into wider trees, or takes as many slaves into its own.
+fn put_trees(cuts: &mut LineCuts, slaves: u16, wider: Option<LineCuts>)
+    requires fewer { AreOfFewer cuts.old slaves }
+    requires trees { AreTrees cuts.old slaves wider }
+    ensures { (line : List (List Area)) (count : ℕ) → cuts.old ≡ line_kept line → slaves ≡ length line + count → cuts.new ≡ line_kept (with_absent count line) }
+{
+    match wider {
+        Some(trees) => *cuts = trees,
+        None => cuts.admit(slaves),
+    }
+}
+
+/// What is told of a declared group: the epoch that begins with it, and nothing that becomes different. `AllocError`
+/// where a growth was refused.
+pub(crate) fn declared_report(
+    alloc: Global,
+    edit: &Edit,
+    groups: &[Declared],
+    epoch: u32,
+) -> Result<Report, AllocError>
+    requires project { lowest_fault (groups_of groups.now) ≡ None }
+    requires epoch { epoch < LAST_EPOCH }
+    ensures { IfOk result (TellsNothing (record { groups = groups.now; epoch = epoch }) edit.now) }
+{
+    let swap = Swap::of(alloc, edit, Vec::new(alloc), Vec::new(alloc))?;
+    Ok(Report {
+        epoch: epoch + 1,
+        recut: 0,
+        moved: 0,
+        swap,
+        blocks: Items::new(alloc),
+    })
+}

@@ -1,0 +1,28 @@
+//! What is worked out of an edit before anything changes, so that carrying it out takes no memory and can't be
+//! refused.
+use crate::declaring::Declaration;
+use hc_changes::edited_line::EditedLineRoom;
+use hc_edits::prepared::Prepared;
+use hc_places::room::Room;
+use hc_tasks::starts::LineStarts;
+
+/// What a change of a line takes: a group comes or goes, or a slave gets other areas.
+#[derive(Drop)]
+pub(crate) struct LineWork {
+    pub(crate) change: Prepared,
+    // the boundaries of the new line's tasks
+    pub(crate) starts: LineStarts,
+    // for the areas of the slaves that the edit concerns
+    pub(crate) slaves: EditedLineRoom,
+    // for the new table's rows
+    pub(crate) rows: Room,
+}
+
+/// What an accepted edit takes.
+#[derive(Drop)]
+pub(crate) enum Work {
+    /// The line changes.
+    NewLine(LineWork),
+    /// A group is declared, and the line stays.
+    NewGroup(Declaration),
+}
