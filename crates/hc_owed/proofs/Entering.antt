@@ -1,15 +1,14 @@
 -- Behind a declaration what is kept is right: the group's slaves have empty places behind the others, and of the others all is as it was.
-use Rattle.std.proofs.Common.{◌≡◌, ℕ, zero, suc, ◌+◌, ◌*◌, ◌<◌, ◌≤◌, Bool, true, false, List, [], ◌∷◌, ◌++◌, length, map, refl, sym, ap, subst, ◌∙◌, arith, if◌then◌else◌, length-append, rules}
-use Rattle.std.specs.Prelude.{None, Some, Option, is_some, option_map, replicate, slice_get}
+use Rattle.std.proofs.Common.{◌≡◌, ℕ, zero, suc, ◌+◌, ◌*◌, ◌<◌, ◌≤◌, Bool, false, List, [], ◌∷◌, ◌++◌, length, map, refl, sym, ap, ◌∙◌, arith, if◌then◌else◌, length-append, rules}
+use Rattle.std.specs.Prelude.{None, Some, Option, option_map, replicate, slice_get}
 use Rattle.std.proofs.lemmas.List.{length-map, map-append}
 use Rattle.std.proofs.lemmas.Option.{slice_get-map}
 use Rattle.hc_records.specs.declared.edit.Edit.TheVariants.{Declare}
-use Rattle.hc_records.specs.declared.records.Declared.{Declared}
 use Rattle.hc_records.specs.declared.records.Group.{Group}
 use Rattle.hc_records.specs.declared.records.Slave.{Slave}
-use Rattle.hc_records.specs.Edits.{absent, changed, slave_at}
+use Rattle.hc_records.specs.Edits.{absent, changed}
 use Rattle.hc_records.specs.Line.{State, groups_of}
-use Rattle.hc_records.specs.Project.{lowest_fault, slaves_of}
+use Rattle.hc_records.specs.Project.{slaves_of}
 use Rattle.hc_records.proofs.lemmas.Projects.{project-few}
 use Rattle.hc_registers.specs.Blocks.{LineBlock}
 use Rattle.hc_ranks.specs.Places.{places, stations}
@@ -17,7 +16,7 @@ use Rattle.hc_ranks.proofs.lemmas.Declared.{declared-places, declared-stations}
 use Rattle.hc_plan.proofs.lemmas.PlaceNames.{stands-on}
 use Rattle.hc_owed.specs.Board.{Board, Knowledge, kept_of, known_in, owed_in}
 use Rattle.hc_owed.specs.Laws.{known_over}
-use Rattle.hc_owed.specs.Room.{CanAdmit, IsRoomFor, OwedRoom, widened}
+use Rattle.hc_owed.specs.Room.{CanAdmit, OwedRoom, widened}
 use Rattle.hc_owed.proofs.Lists.{is-map}
 use Rattle.hc_owed.proofs.Opened.{board_of}
 

@@ -2,7 +2,6 @@ use Rattle.std.proofs.Common.{◌≡◌, ℕ, ◌*◌, ◌++◌, List, Bool, fal
 use Rattle.std.specs.Prelude.{None, Option, option_map, replicate}
 use Rattle.std.proofs.lemmas.List.{map-append}
 use Rattle.hc_registers.specs.Blocks.{RegisterBlock}
-use Rattle.hc_owed.specs.Board.{Board}
 use Rattle.hc_owed.specs.Room.{OwedRoom, widened}
 use Rattle.hc_owed.proofs.Opened.{board_of, none-bytes}
 use Rattle.hc_owed.proofs.owed.Owed.widen.Goals as goal
