@@ -6,9 +6,11 @@
 //! the same round, medians over all rounds, and to plain Rust, medians over the turns of the ratios of medians; and how
 //! often memory grew.
 //!
-//! Words after the program's name: `few` for a short run, any other one for the edits whose names have it.
+//! Words after the program's name: `few` for a short run, `declare` for declared groups alone, any other one for the edits
+//! whose names have it.
 
 mod asked;
+mod declaring;
 mod drawn;
 #[allow(dead_code)]
 #[path = "../../compare/shared/draws.rs"]
@@ -202,6 +204,9 @@ fn tell_nanoseconds(name: &str, slaves: usize, times: &Times, edits: &[usize]) {
 fn main() {
     let words: Vec<String> = std::env::args().skip(1).collect();
     let few = words.iter().any(|word| word == "few");
+    if words.iter().any(|word| word == "declare") {
+        return declaring::tell(if few { 1 } else { 9 });
+    }
     let is_wanted = |name: &str| words.iter().all(|word| word == "few" || name.contains(word.as_str()));
     compare_drawn(if few { 200 } else { 2000 });
     println!(

@@ -46,7 +46,7 @@ use hc_project::read_project;
 use hc_records::edit::Edit;
 use hc_records::faults::EditFault;
 use hc_records::items::Items;
-use hc_records::records::Dir;
+use hc_records::records::{Area, Dir, Group, Pdo, Slave, VarId};
 use hc_registers::blocks::Block;
 use std::alloc::{AllocError, Global};
 use std::marker::Brand;
@@ -305,6 +305,77 @@ pub extern "C" fn edits_timed(
     for one in asked {
         if count < times.len() {
             times[count] = played_in(alloc, &mut plan, one);
+            count += 1;
+        }
+    }
+    count
+}
+
+/// A group that is declared: its alias, the station address of its slave, and the first of the eight variables of that.
+#[repr(C)]
+pub struct Coming {
+    pub alias: u16,
+    pub station: u16,
+    pub variable: u32,
+}
+
+/// An area of 8 bits of outputs, of one variable.
+fn area_of(alloc: Global, number: u8, variable: u32) -> Result<Area, AllocError> {
+    let mut entries = Items::new(alloc);
+    entries.push((VarId::new(variable), 8))?;
+    let mut offered = Items::new(alloc);
+    offered.push(Pdo { index: 1, entries })?;
+    Ok(Area {
+        sm: number,
+        dir: Dir::Out,
+        phys: 0x1000 + 64 * u16::from(number % 8),
+        offered,
+        assigned: Items::of(Vec::from_slice(alloc, &[1])?),
+        task: number % 8,
+    })
+}
+
+/// A group of one slave with eight areas.
+fn group_of(alloc: Global, coming: &Coming) -> Result<Group, AllocError> {
+    let mut areas = Items::new(alloc);
+    for number in 0..8 {
+        let variable = coming.variable.wrapping_add(u32::from(number));
+        areas.push(area_of(alloc, number, variable)?)?;
+    }
+    let mut slaves = Items::new(alloc);
+    slaves.push(Slave {
+        station: coming.station,
+        areas,
+    })?;
+    Ok(Group {
+        alias: coming.alias,
+        slaves,
+    })
+}
+
+/// The nanoseconds in which a group is declared; the most where it was refused.
+fn declared_in(alloc: Global, plan: &mut Plan, coming: &Coming) -> u64 {
+    match group_of(alloc, coming) {
+        Ok(group) => applied_in(alloc, plan, &Edit::Declare(group)),
+        Err(_) => u64::MAX,
+    }
+}
+
+/// Declares groups on a project's plan, and tells the nanoseconds of each. How many were declared.
+#[unsafe(no_mangle)]
+pub extern "C" fn groups_declared(
+    alloc: Global,
+    text: &[u8],
+    groups: &[Coming],
+    times: &mut [u64],
+) -> usize {
+    let Some(mut plan) = opened(alloc, text) else {
+        return 0;
+    };
+    let mut count = 0;
+    for coming in groups {
+        if count < times.len() {
+            times[count] = declared_in(alloc, &mut plan, coming);
             count += 1;
         }
     }

@@ -1,25 +1,25 @@
 -- A group that is declared behind others, absent, and what an index has of it.
-use Rattle.std.proofs.Common.{◌≡◌, ℕ, zero, suc, ◌+◌, ◌-◌, ◌<◌, ◌≤◌, List, [], ◌∷◌, ◌++◌, length, get_or, take, refl, sym, ap, subst, ◌∙◌, append_assoc, arith, length-append, rules}
-use Rattle.std.specs.Prelude.{All, None, map, replicate, slice_index, sum_by}
+use Rattle.std.proofs.Common.{◌≡◌, ℕ, ◌+◌, ◌-◌, ◌<◌, ◌≤◌, List, [], ◌∷◌, ◌++◌, length, get_or, refl, sym, ap, subst, ◌∙◌, append_assoc, arith}
+use Rattle.std.specs.Prelude.{All, map, replicate, slice_index, sum_by}
 use Rattle.std.specs.List.{enumerate_from}
 use Rattle.std.specs.List.Sorted.{IsPermutation}
 use Rattle.std.proofs.lemmas.List.{append-nil, length-map, map-append, take_all}
 use Rattle.std.proofs.lemmas.List.Elements.{All-cons, All-head, All-nil}
-use Rattle.std.proofs.lemmas.List.Sorted.{IsPermutation-append, IsPermutation-append_left, IsPermutation-cons, IsPermutation-to_front, IsPermutation-trans, length_permutation}
+use Rattle.std.proofs.lemmas.List.Sorted.{IsPermutation-append, IsPermutation-cons, IsPermutation-to_front, IsPermutation-trans, length_permutation}
 use Rattle.std.proofs.lemmas.List.Sums.{sum_by-append, sum_by-cons}
 use Rattle.hc_records.specs.declared.records.Declared.{Declared}
 use Rattle.hc_records.specs.declared.records.Group.{Group}
 use Rattle.hc_records.specs.declared.records.Slave.{Slave}
 use Rattle.hc_records.specs.Edits.{absent}
 use Rattle.hc_records.specs.Line.{groups_of}
-use Rattle.hc_records.specs.Project.{lowest_fault, slave_names}
+use Rattle.hc_records.specs.Project.{slave_names}
 use Rattle.hc_records.proofs.lemmas.Limits.{project-inside}
 use Rattle.hc_records.proofs.lemmas.Lists.{All-append_right}
 use Rattle.hc_records.proofs.lemmas.Slaves.{project-counted}
 use Rattle.hc_records.proofs.lemmas.Walks.{length-line}
 use Rattle.hc_index.specs.declared.addresses.Address.{Address}
 use Rattle.hc_index.specs.declared.aliases.Alias.{Alias}
-use Rattle.hc_index.specs.Index.{AreRanks, Index, IsIndexOf, IsIndexOfDeclared, addresses, alias_of, aliases, block_sum, block_sums, declared_count, own_sum, owners_from, present_count, sums_from, variables}
+use Rattle.hc_index.specs.Index.{AreRanks, Index, IsIndexOf, addresses, alias_of, aliases, block_sum, block_sums, declared_count, own_sum, owners_from, present_count, sums_from, variables}
 use Rattle.hc_index.specs.Room.{CanAdmit, CanEnter, IndexRoom}
 use Rattle.hc_index.proofs.Aliased.{aliases-length}
 use Rattle.hc_index.proofs.Declaring.{addresses-group, addresses_from, own_addresses}

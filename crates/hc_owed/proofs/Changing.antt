@@ -5,11 +5,14 @@ use Rattle.std.proofs.lemmas.Bool.{eqb-false, eqb-true}
 use Rattle.std.proofs.lemmas.List.{length-map}
 use Rattle.std.proofs.lemmas.List.Elements.{All-cons, All-head, All-nil, All-tail, All-weaker}
 use Rattle.std.proofs.lemmas.Option.{same_Some, slice_get-get_or, slice_get-map, slice_get_within}
+use Rattle.hc_records.specs.declared.records.Slave.{Slave}
+use Rattle.hc_records.proofs.lemmas.Lines.{declared_slaves}
 use Rattle.hc_registers.specs.Blocks.{LineBlock}
 use Rattle.hc_ranks.specs.declared.blocks.Gone.{Gone}
 use Rattle.hc_ranks.specs.Blocks.{RankedBlock}
 use Rattle.hc_ranks.specs.Differences.{IsGone, StandsIn, block_place, first_gone}
 use Rattle.hc_ranks.specs.Places.{places}
+use Rattle.hc_ranks.proofs.lemmas.Standing.{length-places}
 use Rattle.hc_plan.proofs.lemmas.PlaceNames.{came, same-name, same-stations, stands-on}
 use Rattle.hc_owed.specs.Board.{Board, Knowledge, differs, kept_of, known_in, owed_in}
 use Rattle.hc_owed.specs.Laws.{IsEdited, known_over}
@@ -83,6 +86,17 @@ module _ (board : Board) (gone : Gone) (moved : List RankedBlock) (is : IsEdited
   abbrev pub count : ℕ
   count = 16 * gone.slaves
 
+  -- both lines have the same places
+  same-size : length olds ≡ length news
+  same-size =
+      let station : Slave → ℕ = λ slave. slave.station in
+      let stood = length-map (declared_slaves is.old.groups) station in
+      let stand = length-map (declared_slaves is.new.groups) station in
+      let same = ap length (same-stations is.old is.new is.edit is.same is.accepted) in
+      let first = length-places is.old in
+      let second = length-places is.new in
+      omega (arith, stood, stand, same, first, second)
+
   -- a block that stayed has its name, and its slave was known
   stayed-known : (n : ℕ) (before block : LineBlock) → slice_get olds n ≡ Some (Some before) → slice_get news n ≡ Some (Some block) → is.known before.station before.number ≡ over block.station block.number
   stayed-known n before block stood at =
@@ -111,7 +125,7 @@ module _ (board : Board) (gone : Gone) (moved : List RankedBlock) (is : IsEdited
   step {Y} f g none n z empty at stays = by (in-or-out from count n)
     where
       low : n < length olds
-      low = let within = slice_get_within news n z at in let size = is.differ.size in omega (arith, within, size)
+      low = let within = slice_get_within news n z at in omega (arith, within, same-size)
 
       by : (IsGone gone n ⊎ (IsGone gone n → ⊥)) → slice_get (filled from count none (map f olds)) n ≡ Some (g z)
       by (inl inside) =
@@ -126,14 +140,14 @@ module _ (board : Board) (gone : Gone) (moved : List RankedBlock) (is : IsEdited
   cleared-known : filled from count None (map (known_in is.known) olds) ≡ map (known_in over) news
   cleared-known =
       is-map (filled from count None (map (known_in is.known) olds)) (known_in over) news
-      (length-filled from count None (map (known_in is.known) olds) ∙ length-map olds (known_in is.known) ∙ is.differ.size)
+      (length-filled from count None (map (known_in is.known) olds) ∙ length-map olds (known_in is.known) ∙ same-size)
       (λ n z at. step (known_in is.known) (known_in over) None n z refl at (λ w stood out. known-stays n w z stood at out))
 
   cleared-owed : RightUnless over news moved (filled from count false (map (owed_in is.known) olds))
   cleared-owed n z at others = step (owed_in is.known) (owed_in over) false n z refl at (λ w stood out. owed-stays n w z stood at out others)
 
   owed-size : length (filled from count false (map (owed_in is.known) olds)) ≡ length news
-  owed-size = length-filled from count false (map (owed_in is.known) olds) ∙ length-map olds (owed_in is.known) ∙ is.differ.size
+  owed-size = length-filled from count false (map (owed_in is.known) olds) ∙ length-map olds (owed_in is.known) ∙ same-size
 
   pub change-right : compared_all moved (cleared gone (kept_of is.known is.old)) ≡ kept_of over is.new
   change-right =
@@ -145,7 +159,7 @@ module _ (board : Board) (gone : Gone) (moved : List RankedBlock) (is : IsEdited
 
   -- the places of the moved blocks, and of the slaves that left, are places
   pub known-size : length board.known ≡ length news
-  known-size = ap (λ (b : Board). length b.known) is.right ∙ length-map olds (known_in is.known) ∙ is.differ.size
+  known-size = ap (λ (b : Board). length b.known) is.right ∙ length-map olds (known_in is.known) ∙ same-size
 
   pub moved-inside : All (λ m. block_place m < length board.known) moved
   moved-inside = search (rules, All-weaker, slice_get_within, known-size)

@@ -1,7 +1,7 @@
 -- Flags in words.
 use Rattle.std.proofs.Common.{◌≡◌, ℕ, zero, suc, ◌+◌, ◌*◌, ◌<◌, ◌≤◌, ◌==◌, Bool, true, false, cond, List, [], ◌∷◌, ◌++◌, length, take, drop, ◌⊎◌, inl, inr, refl, sym, ap, ◌∙◌, arith, rules}
 use Rattle.std.proofs.lemmas.Bool.{cases_lt}
-use Rattle.std.proofs.lemmas.List.{take-append-le}
+use Rattle.std.proofs.lemmas.List.{get_or_append_left, take-append-le}
 use Rattle.std.proofs.lemmas.Iterator.Adapters.{position_from-zero}
 use Rattle.std.proofs.lemmas.Nat.Bits.{bit_at-zero}
 use Rattle.std.proofs.Math.Seq.{take-length}
@@ -61,6 +61,14 @@ flags-get-from words first (suc count) (suc n) low = flags-get-from words (first
 
 pub flags-get : (words : List ℕ) (count n : ℕ) → n < count → slice_get (flags_from words count 0) n ≡ Some (flag words n)
 flags-get words count n low = flags-get-from words 0 count n low ∙ ap (λ (i : ℕ). Some (flag words i)) (omega arith)
+
+-- words behind those that hold the flags change none of them
+
+longer-flag : (words more : List ℕ) (n : ℕ) → n < 64 * length words → flag (words ++ more) n ≡ flag words n
+longer-flag words more n low = ap (λ (word : ℕ). bit_at word (n % 64) == 1) (get_or_append_left words more 0 (n / 64) (omega arith))
+
+pub flags-longer : (words more : List ℕ) (count : ℕ) → count ≤ 64 * length words → flags_from (words ++ more) count 0 ≡ flags_from words count 0
+flags-longer words more count low = flags-same words (words ++ more) 0 count (λ i first below. longer-flag words more i (omega (arith, below, low)))
 
 -- the first flag that is set, by its number
 abbrev from_list : ℕ → List Bool → Option ℕ

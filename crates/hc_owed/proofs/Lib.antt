@@ -1,4 +1,5 @@
 mod Changing
+mod Entering
 mod FlagLists
 mod Lists
 mod Opened

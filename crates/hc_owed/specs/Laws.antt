@@ -1,7 +1,7 @@
 -- What is kept is right for what the slaves are known to have: what it tells, and what writes and edits make of it.
-use Rattle.std.specs.Prelude.{◌≡◌, ℕ, ◌==◌, ◌&&◌, Bool, if◌then◌else◌, is_some, List, ◌∷◌, filter, slice_get, Option, Some, None, Ok}
+use Rattle.std.specs.Prelude.{◌≡◌, ℕ, ◌==◌, ◌&&◌, Bool, false, if◌then◌else◌, is_some, List, ◌∷◌, filter, slice_get, Option, Some, None, Ok}
 use Rattle.hc_records.specs.declared.edit.Edit.{Edit}
-use Rattle.hc_records.specs.Edits.{edited, slave_at}
+use Rattle.hc_records.specs.Edits.{declares, edited, slave_at}
 use Rattle.hc_records.specs.Line.{State, groups_of, line}
 use Rattle.hc_records.specs.Project.{lowest_fault}
 use Rattle.hc_registers.specs.Blocks.{LineBlock, line_blocks}
@@ -43,7 +43,8 @@ pub record IsKeptAt (board : Board) (n : ℕ) (known : Knowledge) (state : State
 abbrev pub known_over : State → Knowledge → Knowledge
 known_over old known station number = if is_some (slave_at old station) then known station number else None
 
--- what is kept is right for a project's state, in which an edit was accepted; the lines differ by the slaves that left and the moved blocks
+-- what is kept is right for a project's state, in which an edit that declares nothing was accepted; the lines differ by the slaves that left and the moved
+-- blocks
 pub record IsEdited (board : Board) (gone : Gone) (moved : List RankedBlock) : Type 0 where
   pub known : Knowledge
   pub old : State
@@ -52,4 +53,5 @@ pub record IsEdited (board : Board) (gone : Gone) (moved : List RankedBlock) : T
   pub right : board ≡ kept_of known old
   pub project : lowest_fault (groups_of old.groups) ≡ None
   pub accepted : edited old edit ≡ Ok new
+  pub same : declares edit ≡ false
   pub differ : Differ (places old) (places new) gone moved

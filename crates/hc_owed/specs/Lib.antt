@@ -3,3 +3,4 @@ pub mod Laws
 pub mod Flags
 pub mod Steps
 pub mod Opening
+pub mod Room

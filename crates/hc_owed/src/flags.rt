@@ -1,8 +1,9 @@
 //! A list of bits in words of 64, whose first set one is found by words, and which are counted.
-ghost use Rattle.std.specs.Prelude.{◌≡◌, ℕ, ◌*◌, ◌<◌, ◌==◌, ◌≢◌, length, MatchOption};
+ghost use Rattle.std.specs.Prelude.{◌≡◌, ℕ, ◌+◌, ◌-◌, ◌*◌, ◌/◌, ◌^◌, ◌<◌, ◌≤◌, ◌==◌, ◌≢◌, ◌++◌, length, replicate, MatchOption};
 ghost use Rattle.std.specs.Int.{bit_at};
 ghost use Rattle.hc_owed.specs.Flags.{IsLowestIn, SetsFlag, one};
 
+use hc_records::room::Room;
 use std::alloc::{AllocError, Global};
 use std::marker::Model;
 
@@ -45,6 +46,28 @@ fn lowest_place(word: u64) -> Option<usize>
     Some(word.trailing_zeros() as usize)
 }
 
+/// Makes a list of words so long, where it is shorter, with the help of memory that was taken before: the words
+/// that come are 0.
+fn lengthen(words: &mut Vec<u64>, room: Room<u64>, count: usize)
+    requires { count ≤ room }
+    ensures { words.new.items ≡ words.old.items ++ replicate (count - length words.old.items) 0 }
+{
+    let old = words.len();
+    if count <= old {
+        return;
+    }
+    room.widen(words, count - old);
+    let _longer = words.resize(count, 0);
+}
+
+/// The words that hold so many bits.
+fn word_count(bits: usize) -> usize
+    requires { bits < 2 ^ 32 }
+    ensures { result ≡ (bits + 63) / 64 }
+{
+    (bits + WORD_BITS - 1) / WORD_BITS
+}
+
 /// A list of flags, each a bit. It never grows over its room.
 #[derive(Debug, Drop)]
 pub(crate) struct Flags {
@@ -66,7 +89,7 @@ impl Model for Flags {
 }
 
 impl Flags {
-    ghost use Rattle.std.specs.Prelude.{◌≡◌, ◌≤◌, ◌<◌, ◌^◌, [], ◌∷◌, ◌++◌, length, position, slice_get, IfOk, IfSome, Some};
+    ghost use Rattle.std.specs.Prelude.{◌≡◌, ◌+◌, ◌*◌, ◌≤◌, ◌<◌, ◌^◌, [], ◌∷◌, ◌++◌, false, length, position, replicate, slice_get, IfOk, IfSome, Some};
     ghost use Rattle.hc_records.specs.Lists.{changed_at};
     ghost use Rattle.hc_owed.specs.Flags.{set_count};
 
@@ -76,7 +99,7 @@ impl Flags {
         ensures empty { IfOk result (λ flags. flags.list ≡ []) }
         ensures room { IfOk result (λ flags. room ≤ flags.room) }
     {
-        let count = (room + WORD_BITS - 1) / WORD_BITS;
+        let count = word_count(room);
         let mut words = Vec::with_capacity(alloc, count)?;
         for _ in 0..count {
             words.push(0)?;
@@ -86,6 +109,38 @@ impl Flags {
             len: 0,
             count: 0,
         })
+    }
+
+    /// Memory for so many more flags, for `add_cleared`. `AllocError` where a growth was refused.
+    pub(crate) fn room_for(&self, alloc: Global, more: usize) -> Result<Room<u64>, AllocError>
+        requires { length self.now.list + more < 2 ^ 32 }
+        ensures { IfOk result (λ room. length self.now.list + more ≤ 64 * room) }
+    {
+        let longer = word_count(self.len + more).saturating_sub(self.words.len());
+        Room::for_more(alloc, &self.words, longer)
+    }
+
+    /// Makes room for so many more flags, with the help of memory that was taken before.
+    fn widen(&mut self, room: Room<u64>, more: usize)
+        requires few { length self.old.list + more < 2 ^ 32 }
+        requires room { length self.old.list + more ≤ 64 * room }
+        ensures list { self.new.list ≡ self.old.list }
+        ensures room { length self.new.list + more ≤ self.new.room }
+    {
+        let count = word_count(self.len + more);
+        lengthen(&mut self.words, room, count);
+    }
+
+    /// Adds so many flags that aren't set, with the help of memory that was taken before. Nothing can be refused.
+    pub(crate) fn add_cleared(&mut self, room: Room<u64>, more: usize)
+        requires few { length self.old.list + more < 2 ^ 32 }
+        requires room { length self.old.list + more ≤ 64 * room }
+        ensures { self.new.list ≡ self.old.list ++ replicate more false }
+    {
+        self.widen(room, more);
+        for _ in 0..more {
+            self.push(false);
+        }
     }
 
     /// How many flags are set.

@@ -10,7 +10,7 @@ use hc_registers::blocks::Block;
 use std::alloc::{AllocError, Global};
 
 /// Adds the station addresses of slaves. `AllocError` where a growth was refused.
-fn push_stations(stations: &mut Vec<u16>, slaves: &[Slave]) -> Result<(), AllocError>
+pub(crate) fn push_stations(stations: &mut Vec<u16>, slaves: &[Slave]) -> Result<(), AllocError>
     ensures { OnOk result (stations.new.items ≡ stations.old.items ++ map (λ slave. slave.station) slaves.now) }
 {
     for slave in slaves {

@@ -35,10 +35,10 @@ fn differs(known: &Option<Block>, block: &Block) -> bool
 /// whether the line's block is owed. Contracts see it as a `Board`, which also has the station addresses.
 #[derive(Debug, Drop)]
 pub struct Owed {
-    known: Vec<Option<Block>>,
-    owed: Flags,
+    pub(crate) known: Vec<Option<Block>>,
+    pub(crate) owed: Flags,
     // the station addresses of the declared slaves, by rank
-    stations: Vec<u16>,
+    pub(crate) stations: Vec<u16>,
 }
 
 impl Model for Owed {
@@ -64,7 +64,7 @@ impl Owed {
     ghost use Rattle.hc_owed.specs.Steps.{cleared, compared, compared_all, emptied, judged, learnt};
 
     /// What is kept of a line whose slaves were just connected: nothing is known of any block, and every block is
-    /// owed. `AllocError` where a growth was refused; later calls take no memory.
+    /// owed. `AllocError` where a growth was refused; of the later calls `room_for` alone takes memory.
     pub fn new(alloc: Global, plan: &Plan) -> Result<Owed, AllocError>
         ensures { IfOk result (λ owed. owed ≡ kept_of nothing_known plan.now) }
     {
@@ -168,7 +168,7 @@ impl Owed {
         }
     }
 
-    /// An edit was accepted: these slaves left the line, and these are its moved blocks, as the line now configures
+    /// An edit that declares nothing was accepted: these slaves left the line, and these are its moved blocks, as the line now configures
     /// them. Of the blocks of slaves that left nothing is kept; of those that came nothing is known, and they are
     /// owed; of the others the known bytes stay, and the moved ones are compared with them. It takes the time of
     /// the blocks that left and moved.

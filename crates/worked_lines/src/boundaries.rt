@@ -1,6 +1,6 @@
-//! Two thousand edits that are drawn from a fixed seed on a plan of 64 slaves: behind each of them the boundaries of
-//! its tasks equal those of the plain fold over the tasks' lists.
-ghost use Rattle.std.specs.Prelude.{◌<◌, All, IfOk};
+//! Two thousand edits that are drawn from a fixed seed on a plan of 16 slaves, of which 48 more are declared among them:
+//! behind each of them the boundaries of its tasks equal those of the plain fold over the tasks' lists.
+ghost use Rattle.std.specs.Prelude.{◌<◌, All, IfOk, IsTrue};
 ghost use Rattle.hc_records.specs.Laws.{IsPackable};
 ghost use Rattle.hc_bitsum.specs.Tree.{HasPlace};
 
@@ -39,9 +39,11 @@ struct Line {
     tasks: [u8; AREAS],
     /// Whether each group of four slaves is present.
     present: [bool; 16],
+    /// How many groups are declared.
+    declared: u16,
 }
 
-/// The opening: the mandatory group alone is present, and nothing is assigned.
+/// The opening: the mandatory group alone is present, three others are declared, and nothing is assigned.
 const OPENING: Line = Line {
     bits: [0; AREAS],
     tasks: [0; AREAS],
@@ -49,6 +51,7 @@ const OPENING: Line = Line {
         true, false, false, false, false, false, false, false, false, false, false, false, false,
         false, false, false,
     ],
+    declared: 4,
 };
 
 /// The next number of a linear congruence.
@@ -60,12 +63,21 @@ fn drawn(state: &mut u64) -> usize {
 }
 
 impl Line {
-    /// The line behind the edit that a number draws: a group comes or goes, an area gets other bits, or it moves.
+    /// Whether the edit that a number draws declares a group: there are 16 at most.
+    fn declares(&self, number: usize) -> bool
+        ensures { IsTrue result → self.now.declared < 16 }
+    {
+        self.declared < 16 && number / 1024 % 4 == 0 && number / 128 % 8 == 5
+    }
+
+    /// The line behind the edit that a number draws: a group is declared, comes or goes, an area gets other bits, or it
+    /// moves.
     fn edited(&self, number: usize) -> Line {
         let mut next = *self;
         let area = number % 128;
         let choice = number / 128 % 8;
         match number / 1024 % 4 {
+            0 if self.declares(number) => next.declared += 1,
             0 => next.present[area / 8] = area < 8 || choice < 6,
             1 => next.tasks[area] = TASKS[choice],
             _ => next.bits[area] = BITS[choice],
@@ -188,7 +200,7 @@ fn group(alloc: Global, number: u16) -> Result<Group, AllocError>
 /// The groups of the project.
 fn groups(alloc: Global) -> Result<Items<Group>, AllocError> {
     let mut groups = Items::new(alloc);
-    for number in 0..16 {
+    for number in 0..4 {
         groups.push(group(alloc, number)?)?;
     }
     Ok(groups)
@@ -203,12 +215,13 @@ fn plan(alloc: Global) -> Result<Plan, Refused> {
 }
 
 /// The edit that a number draws.
-fn edit(alloc: Global, number: usize) -> Result<Edit, AllocError> {
+fn edit(alloc: Global, line: &Line, number: usize) -> Result<Edit, AllocError> {
     let place = number % 128;
     let choice = number / 128 % 8;
     let station = (place % 64) as u16 + 1;
     let area = (place / 64) as u8;
     match number / 1024 % 4 {
+        0 if line.declares(number) => Ok(Edit::Declare(group(alloc, line.declared)?)),
         0 if place < 8 || choice < 6 => Ok(Edit::Connect((place / 8) as u16)),
         0 => Ok(Edit::Disconnect((place / 8) as u16)),
         1 => Ok(Edit::Move {
@@ -243,7 +256,7 @@ fn accepted(plan: &mut Plan, alloc: Global) -> Result<Option<usize>, AllocError>
     for _ in 0..2000 {
         let number = drawn(&mut state);
         let next = line.edited(number);
-        match plan.apply(alloc, &edit(alloc, number)?) {
+        match plan.apply(alloc, &edit(alloc, &line, number)?) {
             Ok(_) => {
                 line = next;
                 count = count.saturating_add(1);
@@ -263,5 +276,6 @@ fn boundaries_are_those_of_the_fold(rt: HostRuntime) -> Result<(), Fail> {
     let mut plan = plan(rt.alloc())?;
     let count = accepted(&mut plan, rt.alloc())?;
     assert!(rt; count > Some(800));
+    assert_eq!(rt; plan.groups().len(), 16);
     Ok(())
 }

@@ -5,6 +5,8 @@
 #[cfg(test)]
 mod boundaries;
 #[cfg(test)]
+mod declared;
+#[cfg(test)]
 mod found;
 #[cfg(test)]
 mod lines;

@@ -1,8 +1,9 @@
-//! Plans at the opening of their projects.
+//! Plans at the opening of their projects, and groups to declare.
 use hc_plan::plan::Plan;
-use hc_project::read_project;
+use hc_project::{read_group, read_project};
 use hc_records::faults::{EditFault, ProjectFault};
 use hc_records::project::Project;
+use hc_records::records::Group;
 use std::alloc::Global;
 use thiserror::Error;
 
@@ -32,4 +33,12 @@ pub fn opened(alloc: Global, project: Result<Project, ProjectFault>) -> Result<P
 /// The plan of a project text.
 pub fn plan_of(alloc: Global, text: &str) -> Result<Plan, Refused> {
     opened(alloc, read_project(alloc, text.as_bytes()))
+}
+
+/// The group of a text.
+pub fn group_of(alloc: Global, text: &str) -> Result<Group, Refused> {
+    match read_group(alloc, text.as_bytes()) {
+        Ok(group) => Ok(group),
+        Err(fault) => Err(Refused::Project(fault)),
+    }
 }

@@ -1,5 +1,5 @@
 //! What a line's plan is asked, step by step, with what it is to answer.
-use crate::opened::plan_of;
+use crate::opened::{group_of, plan_of};
 use hc_places::table::{Datagram, Places};
 use hc_plan::plan::Plan;
 use hc_plan::report::Report;
@@ -32,6 +32,8 @@ pub enum Step {
     Remap(u16, u8, &'static [u16], Answer),
     /// An area of a slave moves to a task.
     Move(u16, u8, u8, Answer),
+    /// The group of a text is declared.
+    Declare(&'static str, Answer),
     /// The datagrams of a task.
     Datagrams(u8, &'static [Wanted]),
     /// The bytes of outputs and of inputs of a task.
@@ -177,6 +179,10 @@ fn holds(plan: &mut Plan, alloc: Global, step: Step) -> Result<bool, Fail> {
                 area,
                 task,
             };
+            is_answered(plan, alloc, &edit, &answer)
+        }
+        Step::Declare(text, answer) => {
+            let edit = Edit::Declare(group_of(alloc, text)?);
             is_answered(plan, alloc, &edit, &answer)
         }
         Step::Datagrams(task, datagrams) => Ok(has_datagrams(plan, task, datagrams)),

@@ -1,8 +1,7 @@
 -- A group that is declared behind the others, absent: its slaves' places are empty, and stand behind those of the others; nothing else of the line differs.
-use Rattle.std.proofs.Common.{◌≡◌, ℕ, zero, suc, ◌+◌, ◌-◌, ◌*◌, ◌<◌, ◌≤◌, Bool, true, false, cond, List, [], ◌∷◌, ◌++◌, length, map, ◌⊎◌, inl, inr, refl, sym, ap, subst, ◌∙◌, append_assoc, arith, length-append, rules}
-use Rattle.std.specs.Prelude.{All, Some, None, Option, filter, not, replicate, slice_get}
-use Rattle.std.specs.List.{flat_map, list_any, range_with_len}
-use Rattle.std.proofs.lemmas.Grind.{flat_map-append}
+use Rattle.std.proofs.Common.{◌≡◌, ℕ, zero, suc, ◌+◌, ◌*◌, ◌≤◌, false, List, [], ◌∷◌, ◌++◌, length, map, refl, sym, ap, ◌∙◌, append_assoc, arith, length-append}
+use Rattle.std.specs.Prelude.{Some, None, Option, replicate, slice_get}
+use Rattle.std.specs.List.{flat_map}
 use Rattle.std.proofs.lemmas.List.{append-nil, map-append}
 use Rattle.std.proofs.lemmas.List.Elements.{All-nil}
 use Rattle.std.proofs.lemmas.Option.{same_Some, slice_get_within}
@@ -11,16 +10,13 @@ use Rattle.hc_records.specs.declared.records.Declared.{Declared}
 use Rattle.hc_records.specs.declared.records.Group.{Group}
 use Rattle.hc_records.specs.declared.records.Slave.{Slave}
 use Rattle.hc_records.specs.Edits.{absent, changed}
-use Rattle.hc_records.specs.Line.{Member, State, groups_of, line, line_from, members_from}
+use Rattle.hc_records.specs.Line.{Member, State, groups_of, line, members_from}
 use Rattle.hc_records.specs.Project.{slaves_of}
 use Rattle.hc_records.proofs.lemmas.Declaring.{line-absent}
-use Rattle.hc_records.proofs.lemmas.Lists.{get-back, get-front}
-use Rattle.hc_registers.specs.Blocks.{LineBlock, member_blocks}
-use Rattle.hc_ranks.specs.declared.blocks.Gone.{Gone}
-use Rattle.hc_ranks.specs.Blocks.{RankedBlock}
+use Rattle.hc_records.proofs.lemmas.Lists.{get-front}
+use Rattle.hc_registers.specs.Blocks.{LineBlock}
 use Rattle.hc_ranks.specs.Differences.{Differ, StandsIn}
 use Rattle.hc_ranks.specs.Places.{numbers, places, places_from, slave_places, stations}
-use Rattle.hc_ranks.proofs.lemmas.Standing.{length-slave}
 
 abbrev Places : Type 0
 Places = List (Option LineBlock)

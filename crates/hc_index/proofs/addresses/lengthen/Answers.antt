@@ -1,4 +1,4 @@
-use Rattle.std.proofs.Common.{◌-◌, ℕ, List, subst, sym}
+use Rattle.std.proofs.Common.{◌-◌, subst, sym}
 use Rattle.hc_index.specs.Index.{AreRanks}
 use Rattle.hc_index.proofs.Stations.{ranks-longer}
 use Rattle.hc_index.proofs.addresses.lengthen.Goals as goal

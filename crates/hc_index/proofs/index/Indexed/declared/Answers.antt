@@ -1,7 +1,4 @@
-use Rattle.std.proofs.Common.{◌∙◌, List, ap, length, sym}
-use Rattle.hc_records.specs.declared.records.Declared.{Declared}
-use Rattle.hc_records.specs.Line.{groups_of}
-use Rattle.hc_records.specs.Project.{slaves_of}
+use Rattle.std.proofs.Common.{◌∙◌, ap, length, sym}
 use Rattle.hc_records.proofs.lemmas.Slaves.{length-slaves}
 use Rattle.hc_index.proofs.Indexes.{seen}
 use Rattle.hc_index.proofs.Owned.{owners-length}

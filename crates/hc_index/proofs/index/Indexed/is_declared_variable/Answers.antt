@@ -1,4 +1,4 @@
-use Rattle.std.proofs.Common.{◌≡◌, ◌∙◌, ap, ℕ}
+use Rattle.std.proofs.Common.{◌∙◌, ap, ℕ}
 use Rattle.std.specs.Prelude.{◌==◌}
 use Rattle.std.specs.List.{list_any}
 use Rattle.hc_index.proofs.Indexes.{seen}

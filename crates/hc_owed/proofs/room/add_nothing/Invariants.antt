@@ -1,0 +1,10 @@
+use Rattle.std.proofs.Common.{◌≡◌, ◌+◌, ◌≤◌, ◌++◌, None, length, replicate}
+use Rattle.std.specs.Prelude.{vec_capacity}
+use Rattle.hc_owed.proofs.room.add_nothing.Given as goal
+
+-- so many are added, and there is room for the others
+abbrev pub invariant-loop : goal.invariant-loop
+invariant-loop l = record {
+  known : l.known.items ≡ l.fn.known.items ++ replicate l.counter None;
+  room : length l.fn.known.items + l.places ≤ vec_capacity l.known;
+}
