@@ -1,7 +1,7 @@
 -- The numbers of refused edits.
 use Rattle.std.proofs.Common.{◌≡◌, ◌≢◌, ap, Result, Ok, Err}
 use Rattle.hc_records.specs.declared.faults.EditFault.{EditFault}
-use Rattle.hc_records.specs.declared.faults.EditFault.TheVariants.{UnknownAlias, AlreadyPresent, NotPresent, Mandatory, UnknownStation, Absent, NoSuchArea, NoSuchTask, UnknownPdo, RepeatedPdo, AreaTooBig, TooManyDatagrams, EpochsSpent, Memory}
+use Rattle.hc_records.specs.declared.faults.EditFault.TheVariants.{UnknownAlias, AlreadyPresent, NotPresent, Mandatory, UnknownStation, Absent, NoSuchArea, NoSuchTask, UnknownPdo, RepeatedPdo, AreaTooBig, TooManyDatagrams, EpochsSpent, Memory, BadGroup, AliasTaken, StationTaken, VariableTaken, TooManyGroups, TooManySlaves}
 use Rattle.hc_records.specs.Line.{State}
 use Rattle.hc_events.specs.Faults.{core_fault_number, edit_refusal}
 
@@ -25,6 +25,12 @@ not_done AreaTooBig e = cc
 not_done (TooManyDatagrams task) e = cc
 not_done EpochsSpent e = cc
 not_done Memory e = cc
+not_done (BadGroup bad) e = cc
+not_done AliasTaken e = cc
+not_done StationTaken e = cc
+not_done VariableTaken e = cc
+not_done TooManyGroups e = cc
+not_done TooManySlaves e = cc
 
 -- an edit is accepted or refused, and refused for one fault
 pub not_accepted : {state : State} {fault : EditFault} → ◌≡◌ {A = Result State EditFault} (Ok state) (Err fault) → ⊥

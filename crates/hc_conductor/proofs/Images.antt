@@ -6,7 +6,7 @@ use Rattle.hc_records.specs.declared.faults.EditFault.{EditFault}
 use Rattle.hc_records.specs.declared.faults.EditFault.TheVariants.{EpochsSpent, TooManyDatagrams}
 use Rattle.hc_records.specs.declared.limits.TheConstants.{LAST_EPOCH, TASKS}
 use Rattle.hc_records.specs.declared.records.Group.{Group}
-use Rattle.hc_records.specs.Edits.{changed, crowded_task, edit_faults, edited, own_faults, refused_by, state_after}
+use Rattle.hc_records.specs.Edits.{changed, crowded_task, edit_faults, edited, late_faults, own_faults, refused_by, state_after}
 use Rattle.hc_records.specs.Image.{output_length, task_places}
 use Rattle.hc_records.specs.Line.{Member, State, groups_of, line, opened}
 use Rattle.hc_records.specs.Lists.{lowest}
@@ -51,7 +51,7 @@ none (Some task) e = cc
 fit_after : (state : State) (edit : Edit) → IsFit state → IsOk (edited state edit) → IsFit (state_after state edit)
 fit_after state edit fit ok =
     let crowded = crowded_task (line (changed state edit)) in
-    let last : List (Bool × EditFault) = (state.epoch == LAST_EPOCH, EpochsSpent) ∷ [] in
+    let last : List (Bool × EditFault) = (state.epoch == LAST_EPOCH, EpochsSpent) ∷ late_faults state edit in
     let free = no_fault (lowest (edit_faults state edit)) (changed state edit) ok in
     let behind = none_behind (own_faults state edit) ((is_some crowded, TooManyDatagrams (unwrap_or crowded 0)) ∷ last) free in
     let next : IsFit (changed state edit) = record {

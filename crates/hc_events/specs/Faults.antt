@@ -5,7 +5,7 @@ use Rattle.hc_records.specs.declared.faults.EditFault.TheVariants as edit
 use Rattle.hc_frames.specs.declared.reading.faults.FrameFault.{FrameFault}
 use Rattle.hc_frames.specs.declared.reading.faults.FrameFault.TheVariants as frame
 use Rattle.hc_events.specs.declared.faults.CoreFault.{CoreFault}
-use Rattle.hc_events.specs.declared.faults.CoreFault.TheVariants.{UnknownAlias, AlreadyPresent, NotPresent, Mandatory, UnknownStation, Absent, NoSuchArea, NoSuchTask, UnknownPdo, RepeatedPdo, AreaTooBig, TooManyDatagrams, EpochsSpent, StalePost, PostLength, Unprogrammed, NothingOwed, SerialsSpent, Short, NotEtherCat, BadType, BadLength, Circulating, MoreFollows, UnknownCommand, IndexMismatch, Memory, Room}
+use Rattle.hc_events.specs.declared.faults.CoreFault.TheVariants.{UnknownAlias, AlreadyPresent, NotPresent, Mandatory, UnknownStation, Absent, NoSuchArea, NoSuchTask, UnknownPdo, RepeatedPdo, AreaTooBig, TooManyDatagrams, EpochsSpent, StalePost, PostLength, Unprogrammed, NothingOwed, SerialsSpent, Short, NotEtherCat, BadType, BadLength, Circulating, MoreFollows, UnknownCommand, IndexMismatch, Memory, Room, BadGroup, AliasTaken, StationTaken, VariableTaken, TooManyGroups, TooManySlaves}
 
 -- 14 is the number of no fault: want of memory has its own here
 abbrev pub core_fault_number : CoreFault → ℕ
@@ -37,6 +37,12 @@ core_fault_number UnknownCommand = 26
 core_fault_number IndexMismatch = 27
 core_fault_number Memory = 28
 core_fault_number (Room needed) = 29
+core_fault_number (BadGroup fault) = 30
+core_fault_number AliasTaken = 31
+core_fault_number StationTaken = 32
+core_fault_number VariableTaken = 33
+core_fault_number TooManyGroups = 34
+core_fault_number TooManySlaves = 35
 
 -- a refused edit is refused by the fault of the same name
 abbrev pub edit_refusal : EditFault → CoreFault
@@ -54,6 +60,12 @@ edit_refusal edit.AreaTooBig = AreaTooBig
 edit_refusal (edit.TooManyDatagrams task) = TooManyDatagrams task
 edit_refusal edit.EpochsSpent = EpochsSpent
 edit_refusal edit.Memory = Memory
+edit_refusal (edit.BadGroup fault) = BadGroup fault
+edit_refusal edit.AliasTaken = AliasTaken
+edit_refusal edit.StationTaken = StationTaken
+edit_refusal edit.VariableTaken = VariableTaken
+edit_refusal edit.TooManyGroups = TooManyGroups
+edit_refusal edit.TooManySlaves = TooManySlaves
 
 -- and so is a frame that can't be read
 abbrev pub frame_refusal : FrameFault → CoreFault

@@ -5,7 +5,7 @@ ghost use Rattle.hc_events.specs.Faults.{core_fault_number};
 
 use hc_frames::building::Room;
 use hc_frames::reading::FrameFault;
-use hc_records::faults::EditFault;
+use hc_records::faults::{EditFault, ProjectFault};
 use std::alloc::AllocError;
 use thiserror::Error;
 
@@ -96,10 +96,28 @@ pub enum CoreFault {
     /// The slice is shorter than the frame, which needs this many bytes.
     #[error("{0} bytes are needed")]
     Room(usize),
+    /// The declared group is none by itself: the fault of the project of it and an empty mandatory group.
+    #[error("the group is no group: {0}")]
+    BadGroup(ProjectFault),
+    /// A declared group has the alias.
+    #[error("a declared group has the alias")]
+    AliasTaken,
+    /// A declared slave has one of the station addresses.
+    #[error("a declared slave has the station address")]
+    StationTaken,
+    /// A declared slave offers one of the variables.
+    #[error("a declared slave offers the variable")]
+    VariableTaken,
+    /// More than 512 groups would be declared.
+    #[error("too many groups would be declared")]
+    TooManyGroups,
+    /// More than 2,048 slaves would be declared.
+    #[error("too many slaves would be declared")]
+    TooManySlaves,
 }
 
 impl CoreFault {
-    /// The fault's number, 1 to 29; 14 is no fault's number.
+    /// The fault's number, 1 to 29 or 30 to 35; 14 is no fault's number.
     pub fn number(self) -> u8
         ensures { result ≡ core_fault_number self }
     {
@@ -132,6 +150,12 @@ impl CoreFault {
             CoreFault::IndexMismatch => 27,
             CoreFault::Memory => 28,
             CoreFault::Room(_) => 29,
+            CoreFault::BadGroup(_) => 30,
+            CoreFault::AliasTaken => 31,
+            CoreFault::StationTaken => 32,
+            CoreFault::VariableTaken => 33,
+            CoreFault::TooManyGroups => 34,
+            CoreFault::TooManySlaves => 35,
         }
     }
 }
@@ -158,6 +182,12 @@ impl From<EditFault> for CoreFault {
             EditFault::TooManyDatagrams(task) => CoreFault::TooManyDatagrams(task),
             EditFault::EpochsSpent => CoreFault::EpochsSpent,
             EditFault::Memory => CoreFault::Memory,
+            EditFault::BadGroup(fault) => CoreFault::BadGroup(fault),
+            EditFault::AliasTaken => CoreFault::AliasTaken,
+            EditFault::StationTaken => CoreFault::StationTaken,
+            EditFault::VariableTaken => CoreFault::VariableTaken,
+            EditFault::TooManyGroups => CoreFault::TooManyGroups,
+            EditFault::TooManySlaves => CoreFault::TooManySlaves,
         }
     }
 }

@@ -21,6 +21,7 @@ project_fault_name project.RepeatedVariable = codes "RepeatedVariable"
 project_fault_name project.UnknownPdo = codes "UnknownPdo"
 project_fault_name project.AreaTooBig = codes "AreaTooBig"
 project_fault_name project.Memory = codes "Memory"
+project_fault_name project.NotOneGroup = codes "NotOneGroup"
 
 -- the number and the name of a project's fault, with a space between them, and a line feed
 unfoldable pub project_fault_words : ProjectFault → List ℕ
@@ -60,6 +61,12 @@ core_fault_name core.UnknownCommand = codes "UnknownCommand"
 core_fault_name core.IndexMismatch = codes "IndexMismatch"
 core_fault_name core.Memory = codes "Memory"
 core_fault_name (core.Room needed) = codes "Room " ++ decimal needed
+core_fault_name (core.BadGroup fault) = codes "BadGroup " ++ decimal (project_fault_number fault)
+core_fault_name core.AliasTaken = codes "AliasTaken"
+core_fault_name core.StationTaken = codes "StationTaken"
+core_fault_name core.VariableTaken = codes "VariableTaken"
+core_fault_name core.TooManyGroups = codes "TooManyGroups"
+core_fault_name core.TooManySlaves = codes "TooManySlaves"
 
 -- what a refused command prints
 unfoldable pub refusal_text : CoreFault → List ℕ

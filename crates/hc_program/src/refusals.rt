@@ -1,6 +1,6 @@
 //! Faults as they are printed.
 ghost use Rattle.std.specs.Prelude.{◌≡◌, ◌≢◌, ◌++◌, OnOk, string_bytes};
-ghost use Rattle.hc_events.specs.declared.faults.CoreFault.TheVariants.{Memory};
+ghost use Rattle.hc_events.specs.declared.faults.CoreFault.TheVariants.{BadGroup, Memory};
 ghost use Rattle.hc_program.specs.Refusals.{bad_command_text, core_fault_name, project_fault_name, project_fault_text, project_fault_words, refusal_text};
 
 use hc_events::faults::CoreFault;
@@ -22,6 +22,7 @@ fn push_project_fault_name(fault: ProjectFault, out: &mut String) -> Result<(), 
         ProjectFault::UnknownPdo => out.push_str("UnknownPdo"),
         ProjectFault::AreaTooBig => out.push_str("AreaTooBig"),
         ProjectFault::Memory => out.push_str("Memory"),
+        ProjectFault::NotOneGroup => out.push_str("NotOneGroup"),
     }
 }
 
@@ -43,6 +44,14 @@ fn push_project_fault_words(fault: ProjectFault, out: &mut String) -> Result<(),
     write!(out, "{number} ")?;
     push_project_fault_name(fault, out)?;
     out.push_str("\n")
+}
+
+/// Adds the name of the fault of a group that is none by itself, and the number of that fault.
+fn push_bad_group(fault: ProjectFault, out: &mut String) -> Result<(), AllocError>
+    ensures { OnOk result (string_bytes out.new ≡ string_bytes out.old ++ core_fault_name (BadGroup fault)) }
+{
+    let number = fault.number();
+    write!(out, "BadGroup {number}")
 }
 
 fn push_core_fault_name(fault: CoreFault, out: &mut String) -> Result<(), AllocError>
@@ -77,6 +86,12 @@ fn push_core_fault_name(fault: CoreFault, out: &mut String) -> Result<(), AllocE
         CoreFault::IndexMismatch => out.push_str("IndexMismatch"),
         CoreFault::Memory => out.push_str("Memory"),
         CoreFault::Room(needed) => write!(out, "Room {needed}"),
+        CoreFault::BadGroup(fault) => push_bad_group(fault, out),
+        CoreFault::AliasTaken => out.push_str("AliasTaken"),
+        CoreFault::StationTaken => out.push_str("StationTaken"),
+        CoreFault::VariableTaken => out.push_str("VariableTaken"),
+        CoreFault::TooManyGroups => out.push_str("TooManyGroups"),
+        CoreFault::TooManySlaves => out.push_str("TooManySlaves"),
     }
 }
 

@@ -12,7 +12,7 @@ use Rattle.hc_records.specs.declared.records.Group.{Group}
 use Rattle.hc_records.specs.Lists.{lowest}
 use Rattle.hc_records.specs.Line.{Member, State, line, opened}
 use Rattle.hc_records.specs.Image.{datagram_count, task_places}
-use Rattle.hc_records.specs.Edits.{changed, crowded_task, edit_faults, edited, own_faults, refused_by, state_after}
+use Rattle.hc_records.specs.Edits.{changed, crowded_task, edit_faults, edited, late_faults, own_faults, refused_by, state_after}
 use Rattle.hc_places.specs.Table.{Table, datagram_of, datagrams_in, table_of}
 use Rattle.hc_events.specs.declared.answer.Answer.TheVariants as answer
 use Rattle.hc_events.specs.declared.change.Change.{Change}
@@ -93,10 +93,10 @@ left_one epoch low more = grind (arith, nat_tests)
 more_left : (state : State) (edit : Edit) → IsOk (edited state edit) → (state.epoch == LAST_EPOCH) ≡ false
 more_left state edit ok =
     let crowded = crowded_task (line (changed state edit)) in
-    let last : List (Bool × EditFault) = (state.epoch == LAST_EPOCH, EpochsSpent) ∷ [] in
+    let last : List (Bool × EditFault) = (state.epoch == LAST_EPOCH, EpochsSpent) ∷ late_faults state edit in
     let none = no_fault (lowest (edit_faults state edit)) (changed state edit) ok in
     let behind = none_behind (own_faults state edit) ((is_some crowded, TooManyDatagrams (unwrap_or crowded 0)) ∷ last) none in
-    (passed (state.epoch == LAST_EPOCH) EpochsSpent [] (passed (is_some crowded) (TooManyDatagrams (unwrap_or crowded 0)) last behind).1).0
+    (passed (state.epoch == LAST_EPOCH) EpochsSpent (late_faults state edit) (passed (is_some crowded) (TooManyDatagrams (unwrap_or crowded 0)) last behind).1).0
 
 next_fits : (state : State) (edit : Edit) → state.epoch ≤ LAST_EPOCH → IsOk (edited state edit) → (state_after state edit).epoch ≤ LAST_EPOCH
 next_fits state edit low ok =
