@@ -1,5 +1,6 @@
--- Over an edit each variable keeps its bits and its direction: it stands in one declared entry, and edits leave what is declared.
-use Rattle.std.proofs.Common.{◌≡◌, ◌≢◌, ℕ, zero, suc, ◌+◌, ◌==◌, Bool, true, cond, List, [], ◌∷◌, ◌++◌, map, refl, sym, ap, ap₂, ◌∙◌, subst, Option, Some, None, rules}
+-- Over an edit each variable keeps its bits and its direction: it stands in one declared entry, and edits leave what is declared. Beside it they may declare more,
+-- which isn't in the line.
+use Rattle.std.proofs.Common.{◌≡◌, ◌≢◌, ℕ, zero, suc, ◌+◌, ◌==◌, Bool, true, false, cond, List, [], ◌∷◌, ◌++◌, map, refl, sym, ap, ap₂, ◌∙◌, subst, Option, Some, None, rules}
 use Rattle.std.specs.Prelude.{All, find}
 use Rattle.std.specs.Option.{option_map_or}
 use Rattle.std.specs.Result.{result_unwrap_or}
@@ -14,22 +15,24 @@ use Rattle.hc_records.specs.declared.records.Area.{Area}
 use Rattle.hc_records.specs.declared.records.Slave.{Slave}
 use Rattle.hc_records.specs.declared.records.Declared.{Declared}
 use Rattle.hc_records.specs.declared.edit.Edit.{Edit}
+use Rattle.hc_records.specs.declared.edit.Edit.TheVariants.{Connect, Disconnect, Remap, Move, Declare}
 use Rattle.hc_records.specs.declared.faults.EditFault.{EditFault}
 use Rattle.hc_records.specs.Area.{Entry, assigned_entries}
 use Rattle.hc_records.specs.Lists.{changed_at, has_repeat, lowest}
 use Rattle.hc_records.specs.Line.{Member, State, groups_of, line, line_from}
-use Rattle.hc_records.specs.Edits.{changed, edit_faults, groups_after, refused_by, state_after, with_area, with_slaves}
+use Rattle.hc_records.specs.Edits.{changed, declares, edit_faults, groups_after, refused_by, state_after, with_area, with_slaves}
 use Rattle.hc_records.specs.Image.{VariablePlace, area_variables, task_places, task_variables, tasks, variable_place, variables_from}
 use Rattle.hc_records.specs.Packing.{Placed}
 use Rattle.hc_records.specs.Project.{entry_names, lowest_fault, slave_names, slaves_of}
 use Rattle.hc_records.specs.TaskList.{Listed, belongs, task_areas}
+use Rattle.hc_records.proofs.lemmas.Declaring.{line-absent}
 use Rattle.hc_records.proofs.lemmas.Entries.{assigned-all, task-areas-all}
 use Rattle.hc_records.proofs.lemmas.Finds.{all-tasks, mapped-some}
 use Rattle.hc_records.proofs.lemmas.Lines.{line-slaves}
 use Rattle.hc_records.proofs.lemmas.Lists.{All-append_left, All-append_right, All-enumerate_from, All-flat_map, AllPairs-from_once, AllPairs-unmap}
 use Rattle.hc_records.proofs.lemmas.Projects.{project-names}
 use Rattle.hc_records.proofs.lemmas.Variables.{place_of, task_pairs, zip-left}
-use Rattle.hc_places.specs.Table.{Row, table_of}
+use Rattle.hc_places.specs.Table.{Row, place_in, table_of}
 use Rattle.hc_places.proofs.lemmas.Found.{find-holds}
 use Rattle.hc_outputs.specs.Values.{KeepEntries, KeepsItsEntry}
 use Rattle.hc_outputs.proofs.Numbered.{IsFoundIn, each-found}
@@ -80,15 +83,19 @@ area_kept : (station index : ℕ) (change : Area → Area) (groups : List Declar
     → named_in (map (with_slaves (with_area station index change)) groups) ≡ named_in groups
 area_kept station index change groups same = search (rules, flat_same, area_by)
 
-named_after : (groups : List Declared) (edit : Edit) → named_in (groups_after groups edit) ≡ named_in groups
-named_after groups edit = search (rules, flat_same, presence_by, area_kept)
+named_after : (groups : List Declared) (edit : Edit) → declares edit ≡ false → named_in (groups_after groups edit) ≡ named_in groups
+named_after groups (Connect alias) none = search (rules, flat_same, presence_by)
+named_after groups (Disconnect alias) none = search (rules, flat_same, presence_by)
+named_after groups (Remap station area pdos) none = search (rules, area_kept)
+named_after groups (Move station area task) none = search (rules, area_kept)
+named_after groups (Declare group) none = cc
 
 either_state : (fault : Option EditFault) (state next : State) → named_in next.groups ≡ named_in state.groups
     → named_in (result_unwrap_or (refused_by fault next) state).groups ≡ named_in state.groups
 either_state fault state next same = search rules
 
-named_kept : (state : State) (edit : Edit) → named_in (state_after state edit).groups ≡ named_in state.groups
-named_kept state edit = either_state (lowest (edit_faults state edit)) state (changed state edit) (named_after state.groups edit)
+named_kept : (state : State) (edit : Edit) → declares edit ≡ false → named_in (state_after state edit).groups ≡ named_in state.groups
+named_kept state edit none = either_state (lowest (edit_faults state edit)) state (changed state edit) (named_after state.groups edit none)
 
 -- no variable is declared twice
 
@@ -187,12 +194,34 @@ same_entry : (found : Option Named) (variable : ℕ) (place another : VariablePl
     → KeepsItsEntry place another
 same_entry found variable place another first second = search (rules, same_named)
 
-pub edit-keeps_entries : (state : State) (edit : Edit) → lowest_fault (groups_of state.groups) ≡ None → KeepEntries (table_of (line state)) (table_of (line (state_after state edit)))
-edit-keeps_entries state edit none variable place another there there' =
+changes_keep : (state : State) (edit : Edit) → declares edit ≡ false → lowest_fault (groups_of state.groups) ≡ None → KeepEntries (table_of (line state)) (table_of (line (state_after state edit)))
+changes_keep state edit changes none variable place another there there' =
     let named = named_in state.groups in
     let next = state_after state edit in
     let all = each_named state.groups none in
-    let all' : All (IsFoundIn named) (named_in next.groups) = subst (All (IsFoundIn named)) (sym (named_kept state edit)) all in
+    let all' : All (IsFoundIn named) (named_in next.groups) = subst (All (IsFoundIn named)) (sym (named_kept state edit changes)) all in
     let first = variable_named named state.groups variable place all (sym (place-of_line (line state) variable) ∙ there) in
     let second = variable_named named next.groups variable another all' (sym (place-of_line (line next) variable) ∙ there') in
     same_entry (find (λ other. other.0 == variable) named) variable place another first second
+
+-- a group that is declared is absent, so the line is the same
+
+either_line : (fault : Option EditFault) (state next : State) → line next ≡ line state → line (result_unwrap_or (refused_by fault next) state) ≡ line state
+either_line None state next same = same
+either_line (Some fault) state next same = refl
+
+same_place : (found : Option VariablePlace) (place another : VariablePlace) → found ≡ Some place → found ≡ Some another → KeepsItsEntry place another
+same_place found place another there there' = let same : Some place ≡ Some another = sym there ∙ there' in let one : place ≡ another = cc in record { bits = ap (λ (p : VariablePlace). p.bits) (sym one); dir = ap (λ (p : VariablePlace). p.dir) (sym one) }
+
+same_keep : (old new : List Member) → new ≡ old → KeepEntries (table_of old) (table_of new)
+same_keep old new same =
+    subst (λ (one : List Member). KeepEntries (table_of old) (table_of one)) (sym same) (λ variable place another there there'. same_place (place_in (table_of old) variable) place another there there')
+
+pub edit-keeps_entries : (state : State) (edit : Edit) → lowest_fault (groups_of state.groups) ≡ None → KeepEntries (table_of (line state)) (table_of (line (state_after state edit)))
+edit-keeps_entries state (Connect alias) none = changes_keep state (Connect alias) refl none
+edit-keeps_entries state (Disconnect alias) none = changes_keep state (Disconnect alias) refl none
+edit-keeps_entries state (Remap station area pdos) none = changes_keep state (Remap station area pdos) refl none
+edit-keeps_entries state (Move station area task) none = changes_keep state (Move station area task) refl none
+edit-keeps_entries state (Declare group) none =
+    same_keep (line state) (line (state_after state (Declare group)))
+    (either_line (lowest (edit_faults state (Declare group))) state (changed state (Declare group)) (line-absent 1 state.groups group))
