@@ -105,11 +105,12 @@ impl Cuts {
     }
 
     /// From now on there are so many slaves, for whom it has room: those behind its own have no areas yet. Its
-    /// areas and boundaries stay. It takes no memory.
+    /// areas and boundaries stay, and its areas are a task's list. It takes no memory.
     pub fn admit(&mut self, slaves: u16)
         requires more { self.old.tree.slaves ≤ slaves }
         requires room { HasRoom self.old.tree.slaves slaves }
-        ensures { self.new ≡ with_slaves slaves self.old }
+        ensures admitted { self.new ≡ with_slaves slaves self.old }
+        ensures holds { HoldsTaskList self.new.tree }
     {
         self.tree.admit(slaves);
     }
@@ -120,7 +121,8 @@ impl Cuts {
     pub fn widened(&self, alloc: Global, slaves: u16) -> Result<Cuts, AllocError>
         requires more { self.now.tree.slaves ≤ slaves }
         requires most { slaves ≤ MOST_SLAVES }
-        ensures { IfOk result (λ cuts. cuts ≡ with_slaves slaves self.now) }
+        ensures widened { IfOk result (λ cuts. cuts ≡ with_slaves slaves self.now) }
+        ensures holds { IfOk result (λ cuts. HoldsTaskList cuts.tree) }
     {
         Ok(Cuts {
             tree: self.tree.widened(alloc, slaves)?,

@@ -5,6 +5,8 @@
 #[cfg(test)]
 mod cuts;
 #[cfg(test)]
+mod growing;
+#[cfg(test)]
 mod project_texts;
 #[cfg(test)]
 mod projects;

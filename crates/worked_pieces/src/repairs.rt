@@ -17,13 +17,13 @@ use std::sync::ledger::{Blank, Ledger};
 use std::test::Fail;
 
 /// A direction, the rank of a slave, and the bits of its first area of that direction.
-type Width = (Dir, u16, u16);
+pub type Width = (Dir, u16, u16);
 
-/// Sets widths of some of 20 slaves, and answers the hulls of their keys.
-fn set_all(cuts: &mut Cuts, areas: &[Width]) -> Hulls
-    requires slaves { cuts.old.tree.slaves ≡ 20 }
+/// Sets widths of some of so many slaves, and answers the hulls of their keys.
+pub fn set_all(cuts: &mut Cuts, slaves: u16, areas: &[Width]) -> Hulls
+    requires slaves { cuts.old.tree.slaves ≡ slaves }
     requires holds { HoldsTaskList cuts.old.tree }
-    ensures slaves { cuts.new.tree.slaves ≡ 20 }
+    ensures slaves { cuts.new.tree.slaves ≡ slaves }
     ensures holds { HoldsTaskList cuts.new.tree }
     ensures starts { cuts.new.starts ≡ cuts.old.starts }
     ensures inside { DifferInside result cuts.old.tree.list cuts.new.tree.list }
@@ -31,7 +31,7 @@ fn set_all(cuts: &mut Cuts, areas: &[Width]) -> Hulls
     let mut hulls = Hulls::none();
     for area in areas {
         let (dir, rank, bits) = *area;
-        if 1 <= rank && rank <= 20 && bits <= 11_888 {
+        if 1 <= rank && rank <= slaves && bits <= 11_888 {
             let key = Key { dir, rank, area: 0 };
             cuts.set(key, bits);
             hulls.add(key);
@@ -53,7 +53,7 @@ fn leaves_counted<L: Ledger>(cuts: &mut Cuts, areas: &[Width], spans: u32, blank
     ensures cut { IsTrue result → cuts.new.starts ++ END ∷ [] ≡ boundaries cuts.new.tree.list }
 {
     let mut steps: Steps<L> = Steps::start(blank);
-    let hulls = set_all(cuts, areas);
+    let hulls = set_all(cuts, 20, areas);
     match cuts.repair(&hulls, &mut steps) {
         Ok(count) => count == spans,
         Err(_) => false,

@@ -6,5 +6,5 @@ use Rattle.hc_tasks.proofs.widening.admit_all.Goals as goal
 pub loop-task-preserved : goal.loop-task-preserved
 loop-task-preserved c =
     let l = c.loop-task in
-    ap (set l.tasks l.task-index) (c.admit.ensures ∙ ap (with_slaves c.args.slaves) (sym c.task-item.is))
+    ap (set l.tasks l.task-index) (c.admit.ensures.admitted ∙ ap (with_slaves c.args.slaves) (sym c.task-item.is))
     ∙ map_over_more (with_slaves c.args.slaves) c.args.tasks.now l.tasks l.task-index c.task-item.result c.loop-task-test.true l.invariant c.task-item.is
