@@ -1,7 +1,7 @@
 use Rattle.std.proofs.Common.{refl}
 use Rattle.hc_cuts.proofs.lemmas.Inside.{inside-begins, inside-differs, set-more, set-same}
 use Rattle.worked_pieces.proofs.repairs.set_all.Goals as goal
-use Rattle.worked_pieces.proofs.repairs.set_all.Goals.{else-rank-ge1, then-rank-ge1+then-rank-le-slaves+then-bits-le11888}
+use Rattle.worked_pieces.proofs.repairs.set_all.Goals.{else-rank-ge1, then-rank-ge1+then-rank-slaves+then-bits-le11888}
 
 pub loop-area-init : goal.loop-area-init
 loop-area-init c = record {
@@ -19,7 +19,7 @@ loop-area-preserved c =
     let first = c.args.cuts.now in
     let so_far = c.loop-area.invariant in
     elim c.if-rank-ge1.branch [
-      | then-rank-ge1+then-rank-le-slaves+then-bits-le11888 w ↦
+      | then-rank-ge1+then-rank-slaves+then-bits-le11888 w ↦
           set-same c.args.slaves first _ _ _ _ w.cuts-is w.hulls-is
           (set-more c.args.slaves first c.loop-area.cuts _ c.loop-area.hulls _ _ _ so_far w.set.ensures.areas w.set.ensures.starts w.set.ensures.holds w.add.ensures)
       | else-rank-ge1 w ↦ set-same c.args.slaves first _ _ _ _ w.cuts-is w.hulls-is so_far
