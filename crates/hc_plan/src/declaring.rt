@@ -26,8 +26,8 @@ use hc_records::room::Room;
 use hc_tasks::tasks::LineCuts;
 use std::alloc::{AllocError, Global};
 
-/// A group that may be declared behind those of a plan, and memory for it in what the plan keeps.
-#[derive(Drop)]
+/// A group that may be declared behind those of a plan, and memory for it in what the plan keeps. Its drop is
+/// written out, so that those who own a prepared edit don't open it wherever they let it go.
 pub(crate) struct Declaration {
     pub(crate) group: Group,
     // how many slaves are declared with it
@@ -38,6 +38,18 @@ pub(crate) struct Declaration {
     index: IndexRoom,
     // the tasks of the line in trees with room for its slaves, where the plan's own have none
     wider: Option<LineCuts>,
+}
+
+impl Drop for Declaration {
+    fn drop(self) {
+        let Declaration {
+            group: _,
+            slaves: _,
+            groups: _,
+            index: _,
+            wider: _,
+        } = self;
+    }
 }
 
 /// Whether the variable that an entry names, if it names one, is declared already.
