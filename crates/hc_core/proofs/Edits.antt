@@ -15,10 +15,6 @@ use Rattle.hc_edits.proofs.lemmas.Accepted.{accepted-project}
 use Rattle.hc_places.specs.declared.swap.Swap.{Swap}
 use Rattle.hc_places.specs.Swap.{swapped}
 use Rattle.hc_places.specs.Table.{Table, table_of}
-use Rattle.hc_ranks.specs.declared.blocks.Gone.{Gone}
-use Rattle.hc_ranks.specs.Blocks.{RankedBlock}
-use Rattle.hc_ranks.specs.Differences.{Differ}
-use Rattle.hc_ranks.specs.Places.{places}
 use Rattle.hc_plan.specs.Prepared.{IsPrepared, PreparedEdit}
 use Rattle.hc_plan.specs.declared.report.Report.{Report}
 use Rattle.hc_plan.specs.Reports.{Tells}
@@ -39,13 +35,14 @@ use Rattle.hc_outputs.specs.Moves.{Moves, table_after}
 use Rattle.hc_outputs.specs.Packed.{Holds, Packed}
 use Rattle.hc_outputs.specs.Values.{kept as kept_over}
 use Rattle.hc_owed.specs.Board.{Board, kept_of}
-use Rattle.hc_owed.specs.Laws.{IsEdited, known_over}
+use Rattle.hc_owed.specs.Laws.{known_over}
+use Rattle.hc_owed.specs.Room.{OwedRoom}
 use Rattle.hc_core.proofs.Awaits.{waits-edited}
 use Rattle.hc_core.proofs.Posts.{values-edited}
 use Rattle.hc_core.proofs.Known.{kept-alike, known-edited}
 use Rattle.hc_core.specs.Agreement.{Agree, CoreParts}
 use Rattle.hc_core.specs.News.{TellNews}
-use Rattle.hc_core.specs.Prepared.{CoreEdit, IsReady}
+use Rattle.hc_core.specs.Prepared.{CanFollow, CoreEdit, IsReady}
 use Rattle.hc_core.specs.State.{CoreState}
 
 -- the state that an accepted edit leads to is that behind it
@@ -133,32 +130,27 @@ agree-edited kept past taken new report inputs outputs owed accepted tell uncrow
 
 -- an edit that is ready for a core, as what the core keeps
 
-pub ready-here : (made own now : CoreState) (ready : CoreEdit) (edit : PreparedEdit) (moves : Moves) (room : List Change) (capacity : ℕ) → IsReady made edit moves room capacity
-    → (let seen : CoreEdit = record { core = made; edit = edit } in seen) ≡ ready → ready.core ≡ now → own ≡ now → IsReady own edit moves room capacity
-ready-here made own now ready edit moves room capacity is view asked sees = search rules
+pub ready-here : (made own now : CoreState) (ready : CoreEdit) (edit : PreparedEdit) (moves : Moves) (slaves : Option OwedRoom) (room : List Change) (capacity : ℕ) → IsReady made edit moves slaves room capacity
+    → (let seen : CoreEdit = record { core = made; edit = edit } in seen) ≡ ready → ready.core ≡ now → own ≡ now → IsReady own edit moves slaves room capacity
+ready-here made own now ready edit moves slaves room capacity is view asked sees = search rules
 
-pub table-leads : (core : CoreState) (edit : PreparedEdit) (moves : Moves) (room : List Change) (capacity : ℕ) → IsReady core edit moves room capacity → IsPrepared edit → table_after moves ≡ table_of (line edit.new)
-table-leads core edit moves room capacity ready prepared = search rules
+pub table-leads : (core : CoreState) (edit : PreparedEdit) (moves : Moves) (slaves : Option OwedRoom) (room : List Change) (capacity : ℕ) → IsReady core edit moves slaves room capacity → IsPrepared edit → table_after moves ≡ table_of (line edit.new)
+table-leads core edit moves slaves room capacity ready prepared = search rules
 
 pub new-project : (edit : PreparedEdit) → IsPrepared edit → lowest_fault (groups_of edit.new.groups) ≡ None
 new-project edit prepared = accepted-project edit.old edit.new edit.report.swap.edit prepared.project prepared.accepted
 
-abbrev pub owed-edited : (kept : CoreParts) (past taken : Record) (edit : PreparedEdit) (gone : Gone) (blocks : List RankedBlock) → edit.old ≡ state_of past → IsPrepared edit → gone ≡ edit.gone → blocks ≡ edit.blocks → Agree kept past taken
-    → IsEdited kept.owed gone blocks
-owed-edited kept past taken edit gone blocks made prepared left moved agree = record {
+abbrev pub can-follow : (kept : CoreParts) (past taken : Record) (edit : PreparedEdit) (moves : Moves) (slaves : Option OwedRoom) (room : List Change) (capacity : ℕ)
+    → IsReady (record { past = past; taken = taken }) edit moves slaves room capacity → Agree kept past taken → CanFollow kept.owed edit slaves
+can-follow kept past taken edit moves slaves room capacity ready agree = record {
   known = known_bytes past;
-  old = edit.old;
-  edit = edit.report.swap.edit;
-  new = edit.new;
-  right = agree.known ∙ ap (kept_of (known_bytes past)) (sym made);
-  project = prepared.project;
-  accepted = prepared.accepted;
-  differ = subst (λ (span : Gone). Differ (places edit.old) (places edit.new) span blocks) (sym left)
-      (subst (λ (list : List RankedBlock). Differ (places edit.old) (places edit.new) edit.gone list) (sym moved) prepared.differ);
+  right = agree.known ∙ ap (kept_of (known_bytes past)) (sym ready.made);
+  prepared = ready.prepared;
+  slaves = ready.slaves;
 }
 
-pub agree-carried : (kept : CoreParts) (past taken : Record) (edit : PreparedEdit) (moves : Moves) (room : List Change) (capacity : ℕ) (inputs : Image) (outputs : Packed) (owed : Board)
-    → IsReady (record { past = past; taken = taken }) edit moves room capacity → IsPrepared edit → HasNone inputs → owed ≡ kept_of (known_over edit.old (known_bytes past)) edit.new
+pub agree-carried : (kept : CoreParts) (past taken : Record) (edit : PreparedEdit) (moves : Moves) (slaves : Option OwedRoom) (room : List Change) (capacity : ℕ) (inputs : Image) (outputs : Packed) (owed : Board)
+    → IsReady (record { past = past; taken = taken }) edit moves slaves room capacity → IsPrepared edit → HasNone inputs → owed ≡ kept_of (known_over edit.old (known_bytes past)) edit.new
     → ((value : ℕ → ℕ → ℕ) → Holds moves.before value kept.outputs → Holds (table_after moves) (kept_over moves.before value) outputs) → Agree kept past taken
     → Agree (record {
       plan = edit.new;
@@ -169,14 +161,14 @@ pub agree-carried : (kept : CoreParts) (past taken : Record) (edit : PreparedEdi
       owed = owed;
       changes = kept.changes ++ change.Swapped edit.report.swap ∷ [];
     }) (Edited edit.report.swap.edit ∷ past) taken
-agree-carried kept past taken edit moves room capacity inputs outputs owed ready prepared none known moves_so agree =
+agree-carried kept past taken edit moves slaves room capacity inputs outputs owed ready prepared none known moves_so agree =
     let asked = edit.report.swap.edit in
     let accepted : edited (state_of past) asked ≡ Ok edit.new = subst (λ (state : State). edited state asked ≡ Ok edit.new) ready.made prepared.accepted in
     let told : Tells (state_of past) asked edit.new edit.report = subst (λ (state : State). Tells state asked edit.new edit.report) ready.made prepared.told in
     let before : Holds moves.before (value_bit past) kept.outputs = subst (λ (table : Table). Holds table (value_bit past) kept.outputs) (sym ready.table) agree.values in
     let carried : Holds (table_of (line edit.new)) (kept_over (table_of (line_of past)) (value_bit past)) outputs =
     subst (λ (table : Table). Holds (table_of (line edit.new)) (kept_over table (value_bit past)) outputs) ready.table
-    (subst (λ (table : Table). Holds table (kept_over moves.before (value_bit past)) outputs) (table-leads (record { past = past; taken = taken }) edit moves room capacity ready prepared) (moves_so (value_bit past) before)) in
+    (subst (λ (table : Table). Holds table (kept_over moves.before (value_bit past)) outputs) (table-leads (record { past = past; taken = taken }) edit moves slaves room capacity ready prepared) (moves_so (value_bit past) before)) in
     agree-edited kept past taken edit.new edit.report inputs outputs owed accepted told prepared.crowds.1 none
     (known ∙ ap (λ (state : State). kept_of (known_over state (known_bytes past)) edit.new) ready.made) carried agree
 

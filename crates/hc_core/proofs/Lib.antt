@@ -2,6 +2,7 @@ pub mod Arrivals
 pub mod Awaits
 pub mod Commits
 pub mod Edits
+pub mod Followed
 pub mod Firsts
 pub mod GoodsSteps
 pub mod Known

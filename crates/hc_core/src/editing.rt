@@ -8,10 +8,10 @@ ghost use Rattle.hc_events.specs.Entries.{Edited};
 ghost use Rattle.hc_events.specs.Points.{state_of};
 ghost use Rattle.hc_events.specs.Steps.{told_of_edit};
 
+use crate::declaring::follow;
 use crate::keeping::Core;
-use crate::prepared::{CoreEdit, add_swap};
+use crate::prepared::{CoreEdit, add_swap, edit_memory};
 use hc_events::answer::Answer;
-use hc_outputs::moves::Moves;
 use hc_plan::report::Report;
 use hc_records::edit::Edit;
 use hc_records::faults::EditFault;
@@ -43,13 +43,20 @@ impl Core {
         ensures own { IfSome (own_fault (state_of self.old.past).groups edit.now) (λ fault. result ≡ Err fault) }
         ensures unchanged { self.new ≡ self.old }
     {
-        let edit = self.plan.prepare(alloc, edit)?;
-        let moves = Moves::of(alloc, self.plan.places(), &edit.report().swap)?;
-        let room = Vec::with_capacity(alloc, self.changes.len() + 1)?;
+        let prepared = self.plan.prepare(alloc, edit)?;
+        let (moves, slaves, room) = edit_memory(
+            alloc,
+            self.plan.places(),
+            &self.owed,
+            &self.changes,
+            edit,
+            &prepared.report().swap,
+        )?;
         let core = Snapshot::of(&*self);
         Ok(CoreEdit {
-            edit,
+            edit: prepared,
             moves,
+            slaves,
             room,
             core,
         })
@@ -57,7 +64,8 @@ impl Core {
 
     /// Carries a prepared edit out: a new epoch begins, in which nothing is awaited and no datagram has data;
     /// output variables that keep a place keep their values, and the value of any other is 0; the blocks that it
-    /// moved are owed unless their slaves are known to have their bytes. The edit was prepared for the core as
+    /// moved are owed unless their slaves are known to have their bytes, and of a declared group's slaves none is
+    /// in the line. The edit was prepared for the core as
     /// it is. Nothing can be refused, and it takes no memory.
     pub fn carry_out(&mut self, ready: CoreEdit) -> Answer
         requires { ready.core ≡ self.old }
@@ -67,12 +75,13 @@ impl Core {
         let CoreEdit {
             edit,
             moves,
+            slaves,
             room,
             core: _,
         } = ready;
         self.awaited.clear();
         self.inputs.clear();
-        self.owed.change(edit.gone(), edit.blocks());
+        follow(&mut self.owed, &edit, slaves);
         self.outputs.change(moves, &edit.report().swap);
         let report = self.plan.carry_out(edit);
         let told = told_of(&report);

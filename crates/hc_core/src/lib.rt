@@ -3,6 +3,7 @@
 #![tactic(auto)]
 
 mod arriving;
+mod declaring;
 mod editing;
 mod filling;
 mod goods;

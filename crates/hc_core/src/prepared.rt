@@ -1,12 +1,21 @@
 //! An edit worked out for a core before anything changes, with the memory for carrying it out.
-ghost use Rattle.std.specs.Prelude.{◌≡◌, ◌<◌, ◌∷◌, ◌++◌, [], length, vec_capacity};
+ghost use Rattle.std.specs.Prelude.{◌≡◌, ◌+◌, ◌<◌, ◌≤◌, ◌∷◌, ◌++◌, [], length, vec_capacity, IfOk};
+ghost use Rattle.hc_records.specs.declared.edit.Edit.TheVariants.{Declare};
+ghost use Rattle.hc_records.specs.declared.records.Group.{Group};
+ghost use Rattle.hc_core.specs.Prepared.{HasSlaveRoom};
 ghost use Rattle.hc_events.specs.declared.change.Change.TheVariants as change;
 
+use crate::declaring::slave_room;
 use crate::keeping::Core;
 use hc_events::change::Change;
 use hc_outputs::moves::Moves;
+use hc_owed::owed::Owed;
+use hc_owed::room::OwedRoom;
+use hc_places::table::Places;
 use hc_places::swap::Swap;
 use hc_plan::prepared::PreparedEdit;
+use hc_records::edit::Edit;
+use std::alloc::{AllocError, Global};
 use std::marker::Model;
 use std::snapshot::Snapshot;
 
@@ -17,6 +26,8 @@ use std::snapshot::Snapshot;
 pub struct CoreEdit {
     pub(crate) edit: PreparedEdit,
     pub(crate) moves: Moves,
+    // for the slaves that the edit declares
+    pub(crate) slaves: Option<OwedRoom>,
     // has room for the changes that nobody took, and for the swap behind them
     pub(crate) room: Vec<Change>,
     pub(crate) core: Snapshot<Core>,
@@ -30,7 +41,7 @@ impl Model for CoreEdit {
 
     ghost view = { λ it. record { core = it.core.value; edit = it.edit } };
 
-    ghost invariant = { λ it. IsReady it.core.value it.edit it.moves it.room.items (vec_capacity it.room) };
+    ghost invariant = { λ it. IsReady it.core.value it.edit it.moves it.slaves it.room.items (vec_capacity it.room) };
 }
 
 impl CoreEdit {
@@ -45,6 +56,28 @@ impl CoreEdit {
     {
         &self.edit
     }
+}
+
+/// The memory that an edit of a line takes beside its plan's: for the output values that move, for the slaves that it
+/// declares, and for changes with one more. `AllocError` where a growth was refused.
+pub(crate) fn edit_memory(
+    alloc: Global,
+    places: &Places,
+    owed: &Owed,
+    changes: &Vec<Change>,
+    edit: &Edit,
+    swap: &Swap,
+) -> Result<(Moves, Option<OwedRoom>, Vec<Change>), AllocError>
+    requires { (group : Group) → edit.now ≡ Declare group → length owed.now.stations + length group.slaves < 65536 }
+    ensures moves { IfOk result (λ memory. memory.0 ≡ record { before = places.now; change = swap.now.change }) }
+    ensures slaves { IfOk result (λ memory. HasSlaveRoom (length owed.now.stations) edit.now memory.1) }
+    ensures empty { IfOk result (λ memory. memory.2.items ≡ []) }
+    ensures room { IfOk result (λ memory. length changes.now.items + 1 ≤ vec_capacity memory.2) }
+{
+    let moves = Moves::of(alloc, places, swap)?;
+    let slaves = slave_room(alloc, owed, edit)?;
+    let room = Vec::with_capacity(alloc, changes.len() + 1)?;
+    Ok((moves, slaves, room))
 }
 
 /// Adds a swap behind changes, in memory that has room for all of them where their own has none.
