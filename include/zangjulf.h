@@ -28,7 +28,7 @@
 extern "C" {
 #endif
 
-/* What calls answer. 1 to 13 and 15 to 29 are the numbers of the faults of edits and events, which never change; 14 is no
+/* What calls answer. 1 to 13 and 15 to 35 are the numbers of the faults of edits and events, which never change; 14 is no
  * fault's. Of several that hold the lowest is answered. `zangjulf_open` answers a project's fault, 1 to 10, instead. */
 enum {
     ZANGJULF_DONE = 0,
@@ -61,11 +61,18 @@ enum {
     ZANGJULF_INDEX_MISMATCH = 27,      /* a datagram's index isn't that of the frame's serial */
     ZANGJULF_MEMORY = 28,              /* a growth of memory was refused */
     ZANGJULF_ROOM = 29,                /* a slice is too short for what is to stand in it */
+    ZANGJULF_BAD_GROUP = 30,           /* the group is none by itself; `zangjulf_declare` answers ZANGJULF_NO_GROUP instead */
+    ZANGJULF_ALIAS_TAKEN = 31,         /* a declared group has the alias */
+    ZANGJULF_STATION_TAKEN = 32,       /* a declared slave has one of the station addresses */
+    ZANGJULF_VARIABLE_TAKEN = 33,      /* a declared slave offers one of the variables */
+    ZANGJULF_TOO_MANY_GROUPS = 34,     /* more than 512 groups would be declared, the mandatory one counted */
+    ZANGJULF_TOO_MANY_SLAVES = 35,     /* more than 2,048 slaves would be declared */
 
     ZANGJULF_NOTHING = 100,            /* there is no such thing */
     ZANGJULF_WRITE_DONE = 101,         /* an arrival answered a register write: the block is known */
     ZANGJULF_WRITE_MISSED = 102,       /* an arrival answered a register write that no slave took: the block stays owed */
     ZANGJULF_STALE = 103,              /* an arrival answered nothing that is awaited */
+    ZANGJULF_NO_GROUP = 104,           /* a text that is to be declared is no group's */
     ZANGJULF_MISUSED = 254,            /* what the call asks of its caller doesn't hold */
     ZANGJULF_CLOSED = 255              /* the handle is closed */
 };
@@ -201,6 +208,13 @@ uint8_t zangjulf_remap(struct zangjulf *handle, uint16_t station, uint8_t area, 
  * ZANGJULF_MEMORY or ZANGJULF_CLOSED. Takes memory. */
 uint8_t zangjulf_move(struct zangjulf *handle, uint16_t station, uint8_t area, uint8_t task, bool asks,
                       struct zangjulf_cost *cost);
+
+/* The group of a text, a project's with exactly one group and no mandatory slave, is declared behind the others. It is absent
+ * until it is connected, and the line stays as it is but for its epoch. ZANGJULF_DONE; 13, 31 to 35; ZANGJULF_NO_GROUP, and
+ * `*fault` is the lowest fault of the text: a project's, or behind these 12 where it is the text of another project;
+ * ZANGJULF_MEMORY or ZANGJULF_CLOSED. Takes memory. */
+uint8_t zangjulf_declare(struct zangjulf *handle, const uint8_t *text, size_t length, bool asks, uint8_t *fault,
+                         struct zangjulf_cost *cost);
 
 /* Register writes. */
 

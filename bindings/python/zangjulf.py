@@ -61,7 +61,9 @@ NAMES = {
     7: "NoSuchArea", 8: "NoSuchTask", 9: "UnknownPdo", 10: "RepeatedPdo", 11: "AreaTooBig", 12: "TooManyDatagrams",
     13: "EpochsSpent", 15: "StalePost", 16: "PostLength", 17: "Unprogrammed", 18: "NothingOwed", 19: "SerialsSpent",
     20: "Short", 21: "NotEtherCat", 22: "BadType", 23: "BadLength", 24: "Circulating", 25: "MoreFollows",
-    26: "UnknownCommand", 27: "IndexMismatch", 28: "Memory", 29: "Room", 254: "Misused", 255: "Closed",
+    26: "UnknownCommand", 27: "IndexMismatch", 28: "Memory", 29: "Room",
+    31: "AliasTaken", 32: "StationTaken", 33: "VariableTaken", 34: "TooManyGroups", 35: "TooManySlaves", 104: "NoGroup",
+    254: "Misused", 255: "Closed",
 }
 FAULTS = {number: type(name, (Fault,), {"number": number, "__module__": __name__}) for number, name in NAMES.items()}
 globals().update({fault.__name__: fault for fault in FAULTS.values()})
@@ -106,6 +108,7 @@ _CALLS = {
     "disconnect": (c_uint16, c_bool, POINTER(_Cost)),
     "remap": (c_uint16, c_uint8, POINTER(c_uint16), c_size_t, c_bool, POINTER(_Cost)),
     "move": (c_uint16, c_uint8, c_uint8, c_bool, POINTER(_Cost)),
+    "declare": (*_SLICE, c_bool, POINTER(c_uint8), POINTER(_Cost)),
 }
 
 
@@ -164,7 +167,7 @@ class Line:
 
     def _done(self, number, detail=None):
         if number:
-            raise FAULTS[number](detail if number in (12, 17, 29) else None)
+            raise FAULTS[number](detail if number in (12, 17, 29, 104) else None)
 
     def _told(self, name, kind):
         value = kind()
@@ -236,6 +239,13 @@ class Line:
     def move(self, station, area, task, asks=False):
         """An area of a present slave moves to a task."""
         return self._edit("move", station, area, task, asks=asks)
+
+    def declare(self, text, asks=False):
+        """The group of a text stands behind the declared ones from now on, absent."""
+        cost, fault = _Cost(), c_uint8()
+        number = self._call("declare", *_slice(text), asks, byref(fault), byref(cost))
+        self._done(number, fault.value if number == 104 else None)
+        return Cost(cost.epoch, cost.recut, cost.moved, cost.places)
 
     def post(self, task, epoch, data):
         """A task posts its outputs, made for an epoch."""

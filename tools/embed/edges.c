@@ -61,6 +61,7 @@ static void closed(void) {
     EXPECT(zangjulf_disconnect(&line, 100, false, &cost) == ZANGJULF_CLOSED);
     EXPECT(zangjulf_remap(&line, 1002, 0, &word, 1, false, &cost) == ZANGJULF_CLOSED);
     EXPECT(zangjulf_move(&line, 1002, 0, 1, false, &cost) == ZANGJULF_CLOSED);
+    EXPECT(zangjulf_declare(&line, &byte, 1, false, &byte, &cost) == ZANGJULF_CLOSED && byte == 7);
     zangjulf_close(&line);
     EXPECT(!line.is_open && !line.at);
 }
@@ -177,6 +178,23 @@ static void edit(struct zangjulf *line) {
     free(none);
 }
 
+/* A group is declared: asked first, then done; it is taken then, and comes when it is connected. A text of no group is told. */
+static void declare(struct zangjulf *line) {
+    static const char group[] = "[[group]]\nalias = 900\n[[group.slave]]\nstation = 9001\n";
+    struct zangjulf_cost cost;
+    uint32_t epoch = 7;
+    uint8_t fault = 7;
+    EXPECT(zangjulf_declare(line, (const uint8_t *)"x", 1, false, &fault, &cost) == ZANGJULF_NO_GROUP && fault == ZANGJULF_PROJECT_NOT_TOML);
+    EXPECT(zangjulf_declare(line, (const uint8_t *)"", 0, false, &fault, &cost) == ZANGJULF_NO_GROUP && fault == 12);
+    EXPECT(zangjulf_declare(line, (const uint8_t *)group, sizeof group - 1, true, &fault, &cost) == ZANGJULF_DONE && cost.epoch == 2);
+    EXPECT(zangjulf_epoch(line, &epoch) == ZANGJULF_DONE && epoch == 1);
+    EXPECT(zangjulf_connect(line, 900, true, &cost) == ZANGJULF_UNKNOWN_ALIAS);
+    EXPECT(zangjulf_declare(line, (const uint8_t *)group, sizeof group - 1, false, &fault, &cost) == ZANGJULF_DONE);
+    EXPECT(cost.epoch == 2 && !cost.recut && !cost.moved && !cost.places);
+    EXPECT(zangjulf_declare(line, (const uint8_t *)group, sizeof group - 1, false, &fault, &cost) == ZANGJULF_ALIAS_TAKEN);
+    EXPECT(zangjulf_connect(line, 900, false, &cost) == ZANGJULF_DONE && cost.epoch == 3 && !cost.moved);
+}
+
 static void line_of_slaves(void) {
     struct zangjulf line = {0};
     uint8_t task;
@@ -185,6 +203,7 @@ static void line_of_slaves(void) {
     write_all(&line);
     exchange(&line);
     edit(&line);
+    declare(&line);
     /* opened anew in its place, and closed twice */
     EXPECT(zangjulf_open(&line, text, length, &task) == ZANGJULF_DONE);
     zangjulf_close(&line);

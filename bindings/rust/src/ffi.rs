@@ -135,6 +135,14 @@ extern "C" {
         asks: bool,
         cost: *mut Cost,
     ) -> u8;
+    pub fn zangjulf_declare(
+        handle: *mut Handle,
+        text: *const u8,
+        length: usize,
+        asks: bool,
+        fault: *mut u8,
+        cost: *mut Cost,
+    ) -> u8;
     pub fn zangjulf_slave_start(memory: *mut u8, size: usize, alias: u16) -> u8;
     pub fn zangjulf_slave_process(memory: *mut u8, size: usize, frame: *mut u8, length: usize) -> u8;
 }

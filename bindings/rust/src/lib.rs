@@ -79,6 +79,18 @@ pub enum Fault {
     Memory,
     /// A slice is too short: so many bytes are needed.
     Room(usize),
+    /// A declared group has the alias.
+    AliasTaken,
+    /// A declared slave has one of the station addresses.
+    StationTaken,
+    /// A declared slave offers one of the variables.
+    VariableTaken,
+    /// More than 512 groups would be declared.
+    TooManyGroups,
+    /// More than 2,048 slaves would be declared.
+    TooManySlaves,
+    /// The text is no group's: the number of its lowest fault, 1 to 10, or 12 of another project's text.
+    NoGroup(u8),
     /// What the call asks of its caller doesn't hold.
     Misused,
 }
@@ -115,11 +127,17 @@ impl Fault {
             27 => Fault::IndexMismatch,
             28 => Fault::Memory,
             29 => Fault::Room(detail),
+            31 => Fault::AliasTaken,
+            32 => Fault::StationTaken,
+            33 => Fault::VariableTaken,
+            34 => Fault::TooManyGroups,
+            35 => Fault::TooManySlaves,
+            104 => Fault::NoGroup(detail as u8),
             _ => Fault::Misused,
         }
     }
 
-    /// Its number, 1 to 29; 254 of a misused call.
+    /// Its number, 1 to 29 or 31 to 35; 104 of a text that is no group's, 254 of a misused call.
     pub fn number(self) -> u8 {
         match self {
             Fault::UnknownAlias => 1,
@@ -150,6 +168,12 @@ impl Fault {
             Fault::IndexMismatch => 27,
             Fault::Memory => 28,
             Fault::Room(_) => 29,
+            Fault::AliasTaken => 31,
+            Fault::StationTaken => 32,
+            Fault::VariableTaken => 33,
+            Fault::TooManyGroups => 34,
+            Fault::TooManySlaves => 35,
+            Fault::NoGroup(_) => 104,
             Fault::Misused => 254,
         }
     }
@@ -161,6 +185,7 @@ impl fmt::Display for Fault {
             Fault::TooManyDatagrams(task) => write!(out, "12 TooManyDatagrams {task}"),
             Fault::Unprogrammed(owed) => write!(out, "17 Unprogrammed {owed}"),
             Fault::Room(needed) => write!(out, "29 Room {needed}"),
+            Fault::NoGroup(fault) => write!(out, "104 NoGroup {fault}"),
             fault => write!(out, "{} {fault:?}", fault.number()),
         }
     }
@@ -288,6 +313,8 @@ pub enum Edit<'a> {
         /// The task, 0 to 7.
         task: u8,
     },
+    /// The group of this text stands behind the declared ones from now on, absent.
+    Declare(&'a [u8]),
 }
 
 /// What an arrival is for a datagram.
@@ -464,7 +491,7 @@ impl Line {
 
     /// Carries an edit out, or with `asks` only tells what it would do.
     fn serve(&mut self, edit: &Edit<'_>, asks: bool) -> Result<Cost, Fault> {
-        let mut cost = Cost::default();
+        let (mut cost, mut fault) = (Cost::default(), 0);
         let handle = &mut self.handle;
         let number = unsafe {
             match *edit {
@@ -476,9 +503,12 @@ impl Line {
                 Edit::Move { station, area, task } => {
                     ffi::zangjulf_move(handle, station, area, task, asks, &mut cost)
                 }
+                Edit::Declare(text) => {
+                    ffi::zangjulf_declare(handle, text.as_ptr(), text.len(), asks, &mut fault, &mut cost)
+                }
             }
         };
-        done(number, usize::from(cost.crowded))?;
+        done(number, usize::from(if number == 104 { fault } else { cost.crowded }))?;
         Ok(cost)
     }
 

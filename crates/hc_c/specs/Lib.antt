@@ -9,3 +9,4 @@ pub mod Sends
 pub mod Arrivals
 pub mod Reads
 pub mod Tellings
+pub mod Groups

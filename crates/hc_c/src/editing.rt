@@ -110,7 +110,13 @@ fn work_out(
 }
 
 /// Serves an edit: `DONE`, or why it is refused.
-fn serve(own: &mut Embedded, alloc: Global, edit: &Edit, asks: bool, cost: &mut Cost) -> u8
+pub(crate) fn serve(
+    own: &mut Embedded,
+    alloc: Global,
+    edit: &Edit,
+    asks: bool,
+    cost: &mut Cost,
+) -> u8
     ensures { Serves own.old own.new edit.now asks result cost.old cost.new }
 {
     match work_out(own, alloc, edit, asks, cost) {

@@ -9,6 +9,7 @@
 mod arena;
 mod arriving;
 mod changing;
+mod declaring;
 mod editing;
 mod embedded;
 mod handle;

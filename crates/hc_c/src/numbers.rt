@@ -1,4 +1,5 @@
-//! The numbers that calls answer. 1 to 29 are those of the faults of edits and events, 14 being none's.
+//! The numbers that calls answer. 1 to 29 and 30 to 35 are those of the faults of edits and events, 14
+//! being none's.
 /// It is done.
 pub const DONE: u8 = 0;
 
@@ -22,6 +23,9 @@ pub const WRITE_MISSED: u8 = 102;
 
 /// An arrival answered nothing that is awaited.
 pub const STALE: u8 = 103;
+
+/// A text that is to be declared is no group's.
+pub const NO_GROUP: u8 = 104;
 
 /// What the call asks of its caller doesn't hold.
 pub const MISUSED: u8 = 254;

@@ -1,0 +1,21 @@
+-- What C is told of a text whose group is to be declared.
+use Rattle.std.specs.Prelude.{◌≡◌, ◌≢◌, ℕ, Bool, Result, Ok, Err}
+use Rattle.hc_records.specs.declared.edit.Edit.TheVariants.{Declare}
+use Rattle.hc_records.specs.declared.faults.ProjectFault.{ProjectFault}
+use Rattle.hc_records.specs.declared.records.Group.{Group}
+use Rattle.hc_records.specs.ProjectFault.{project_fault_number}
+use Rattle.hc_c.specs.declared.editing.Cost.{Cost}
+use Rattle.hc_c.specs.declared.embedded.Embedded.{Embedded}
+use Rattle.hc_c.specs.declared.numbers.TheConstants.{MEMORY, NO_GROUP}
+use Rattle.hc_c.specs.Edits.{Serves}
+
+-- the text is no group's for this fault, which is told, or memory was wanted; nothing changes
+pub record IsNoGroup (fault : ProjectFault) (old new : Embedded) (number told : ℕ) (before after : Cost) : Type 0 where
+  pub told : number ≢ MEMORY → (number ≡ NO_GROUP) × (told ≡ project_fault_number fault)
+  pub kept : new ≡ old
+  pub untold : after ≡ before
+
+-- the group of a text is declared, judged as any edit; where the text is no group's that is told
+abbrev pub Declares : Result Group ProjectFault → Embedded → Embedded → Bool → ℕ → ℕ → Cost → Cost → Type 0
+Declares (Ok group) old new asks number told before after = Serves old new (Declare group) asks number before after
+Declares (Err fault) old new asks number told before after = IsNoGroup fault old new number told before after
