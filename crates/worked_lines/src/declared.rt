@@ -1,8 +1,9 @@
 //! Groups that are declared while the line runs.
+ghost use Rattle.std.specs.Prelude.{◌<◌};
+
 use crate::opened::{group_of, plan_of};
-use crate::steps::Step;
 use crate::steps::Step::{At, Connect, Datagrams, Declare, Disconnect, Part};
-use crate::steps::first_wrong_of;
+use crate::steps::{Step, first_wrong_of};
 use hc_plan::plan::Plan;
 use hc_records::edit::Edit;
 use hc_records::faults::{EditFault, ProjectFault};
@@ -76,10 +77,7 @@ const DECLARED: &[Step] = &[
     Declare(FEEDER, Ok((2, 0, 0, &[]))),
     At(3, None),
     Datagrams(0, &[(0x0100_0000, 3, 3, 0)]),
-    Connect(
-        200,
-        Ok((3, 1, 2, &[(1001, 3), (2001, 0), (2001, 1)])),
-    ),
+    Connect(200, Ok((3, 1, 2, &[(1001, 3), (2001, 0), (2001, 1)]))),
     Datagrams(0, &[(0x0100_0000, 4, 5, 0)]),
     Part(0, (2, 2)),
     At(3, Some((0, 0, 8, 8, Dir::Out))),
@@ -113,7 +111,10 @@ fn bare_groups(alloc: Global, first: u16, last: u16) -> Result<String, AllocErro
     let mut text = String::new(alloc);
     for alias in first..=last {
         let station = 10_000 + alias;
-        write!(text, "[[group]]\nalias = {alias}\n[[group.slave]]\nstation = {station}\n")?;
+        write!(
+            text,
+            "[[group]]\nalias = {alias}\n[[group.slave]]\nstation = {station}\n"
+        )?;
     }
     Ok(text)
 }
@@ -135,7 +136,10 @@ fn as_many_slaves_are_declared_as_a_line_may_have(rt: HostRuntime) -> Result<(),
     assert_eq!(rt; fault_of(&mut plan, alloc, 1)?, None);
     assert!(rt; plan.apply(alloc, &Edit::Connect(1)).is_ok());
     assert_eq!(rt; plan.station(2047), Some(10_001));
-    assert_eq!(rt; fault_of(&mut plan, alloc, 2)?, Some(EditFault::TooManySlaves));
+    assert_eq!(rt;
+        fault_of(&mut plan, alloc, 2)?,
+        Some(EditFault::TooManySlaves)
+    );
     Ok(())
 }
 
@@ -145,7 +149,10 @@ fn as_many_groups_are_declared_as_a_line_may_have(rt: HostRuntime) -> Result<(),
     let alloc = rt.alloc();
     let mut plan = plan_of(alloc, bare_groups(alloc, 1, 510)?.as_str())?;
     assert_eq!(rt; fault_of(&mut plan, alloc, 511)?, None);
-    assert_eq!(rt; fault_of(&mut plan, alloc, 512)?, Some(EditFault::TooManyGroups));
+    assert_eq!(rt;
+        fault_of(&mut plan, alloc, 512)?,
+        Some(EditFault::TooManyGroups)
+    );
     Ok(())
 }
 

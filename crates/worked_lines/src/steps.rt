@@ -86,17 +86,19 @@ fn tells(
     )
 }
 
-/// The answer to an edit. Where a growth is refused it is asked again, if the plan has the epoch and the table that it
-/// had.
+/// The answer to an edit. Where a growth is refused it is asked again, if the plan has the epoch, as many groups and the
+/// table that it had.
 fn applied(
     plan: &mut Plan,
     alloc: Global,
     edit: &Edit,
     table: &Places,
 ) -> Result<Report, EditFault> {
-    let epoch = plan.epoch();
-    match plan.apply(alloc, edit) {
-        Err(EditFault::Memory) if plan.epoch() == epoch && is_same_table(plan.places(), table) => {
+    let had = (plan.epoch(), plan.groups().len());
+    let answer = plan.apply(alloc, edit);
+    let has = (plan.epoch(), plan.groups().len());
+    match answer {
+        Err(EditFault::Memory) if has == had && is_same_table(plan.places(), table) => {
             plan.apply(alloc, edit)
         }
         answer => answer,
