@@ -1,0 +1,4 @@
+pub mod Dealt
+pub mod Written
+pub mod Turning
+pub mod Counted

@@ -1,0 +1,4 @@
+pub mod Machines
+pub mod Changing
+pub mod Prepared
+pub mod Setup
