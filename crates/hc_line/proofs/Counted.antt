@@ -18,7 +18,7 @@ few-if false slaves = omega arith
 pub present-few : (declared : Declared) → length (present_slaves declared) ≤ slaves_in declared
 present-few declared = few-if declared.present declared.group.slaves
 
-present-all : (declared : Declared) → declared.present ≡ true → length (present_slaves declared) ≡ slaves_in declared
+pub present-all : (declared : Declared) → declared.present ≡ true → length (present_slaves declared) ≡ slaves_in declared
 present-all declared present = ap (λ (b : Bool). length (cond b declared.group.slaves [])) present
 
 before-if : (b : Bool) (here before slaves others : ℕ) → here ≤ slaves → before ≤ others → cond b 0 (here + before) ≤ slaves + others

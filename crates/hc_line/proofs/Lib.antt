@@ -2,3 +2,4 @@ pub mod Dealt
 pub mod Written
 pub mod Turning
 pub mod Counted
+pub mod lemmas

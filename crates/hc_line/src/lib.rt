@@ -6,6 +6,7 @@
 
 mod changing;
 mod fresh;
+pub mod laws;
 mod line;
 
 mod rows;
