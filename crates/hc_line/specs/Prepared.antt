@@ -1,5 +1,5 @@
 -- A prepared edit of a line by its fields.
-use Rattle.std.specs.Prelude.{◌≡◌, ℕ, ◌+◌, ◌^◌, ◌<◌, ◌≤◌, length, vec_len, vec_capacity}
+use Rattle.std.specs.Prelude.{◌≡◌, ◌+◌, ◌-◌, ◌^◌, ◌<◌, ◌≤◌, min, vec_len, vec_capacity}
 use Rattle.hc_line.specs.declared.changing.LineEdit.TheInside.{Inside}
 use Rattle.hc_line.specs.Changing.{Prepared}
 
@@ -7,10 +7,9 @@ use Rattle.hc_line.specs.Changing.{Prepared}
 abbrev pub prepared_in : Inside → Prepared
 prepared_in e = record { count = e.count; replacement = record { position = e.position; gone = e.gone; coming = e.coming.items } }
 
--- what goes stands in the line, and there is room for all machines in a row and for those that stay and come in segments
+-- there is room for all machines, old and coming ones, in a row, and for those that stay and come in segments
 pub record IsReady (e : Inside) : Type 0 where
-  pub within : e.position + e.gone ≤ e.count
-  pub few : e.count + vec_len e.coming < 2 ^ 32
+  pub few : e.position + e.gone < 2 ^ 32
   pub empty : vec_len e.all ≡ 0
   pub room : e.count + vec_len e.coming ≤ vec_capacity e.all
-  pub cut : e.count + vec_len e.coming ≤ e.gone + e.cut
+  pub cut : e.count + vec_len e.coming ≤ (min (e.position + e.gone) e.count - min e.position e.count) + e.cut

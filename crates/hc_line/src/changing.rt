@@ -1,5 +1,5 @@
 //! Machines come and go with their group.
-ghost use Rattle.std.specs.Prelude.{◌≡◌, None, ◌+◌, ◌^◌, ◌<◌, ◌≤◌, [], ◌++◌, IfOk, IfSome, find, length, option_and_then, option_map, reverse, sum_by, vec_len, vec_capacity};
+ghost use Rattle.std.specs.Prelude.{◌≡◌, ◌+◌, ◌^◌, ◌<◌, ◌≤◌, [], ◌++◌, IfOk, IfSome, find, length, option_and_then, option_map, reverse, sum_by, vec_len, vec_capacity};
 ghost use Rattle.std.specs.Option.{option_copied};
 ghost use Rattle.hc_records.specs.Line.{IsCounted, groups_of, line_from, present_slaves};
 ghost use Rattle.hc_records.specs.Project.{lowest_fault};
@@ -99,15 +99,17 @@ fn turned(
     gone: usize,
     coming: Vec<SlaveMachine>,
 ) -> Vec<SlaveMachine>
-    requires within { position + gone ≤ vec_len machines }
+    requires few { position + gone < 2 ^ 64 }
     requires room { vec_len machines + vec_len coming ≤ vec_capacity machines }
     ensures { result.items ≡ replaced (record { position = position; gone = gone; coming = coming.items }) machines.items }
 {
     let mut machines = machines;
     let mut coming = coming;
-    let behind = machines.len() - position - gone;
-    machines.rotate_left(position + gone);
-    machines.truncate(behind + position);
+    let front = position.min(machines.len());
+    let back = (position + gone).min(machines.len());
+    let behind = machines.len() - back;
+    machines.rotate_left(back);
+    machines.truncate(behind + front);
     let _moved = machines.append(&mut coming);
     machines.rotate_left(behind);
     machines
@@ -122,13 +124,16 @@ impl LineEdit {
         gone: usize,
         coming: Vec<SlaveMachine>,
     ) -> Result<LineEdit, AllocError>
-        requires within { position + gone ≤ count }
-        requires few { count + vec_len coming < 2 ^ 32 }
+        requires { position + gone < 2 ^ 32 }
         ensures { IfOk result (λ ready. ready ≡ record { count = count; replacement = record { position = position; gone = gone; coming = coming.items } }) }
     {
-        let most = count + coming.len();
+        // no memory has so many machines that their number doesn't fit
+        let Some(most) = count.checked_add(coming.len()) else {
+            return Err(AllocError);
+        };
         let all = Vec::with_capacity(alloc, most)?;
-        let cut = Cut::new(alloc, most - gone)?;
+        let left = (position + gone).min(count) - position.min(count);
+        let cut = Cut::new(alloc, most - left)?;
         Ok(LineEdit {
             count,
             position,
@@ -148,8 +153,7 @@ impl SimulatedLine {
         groups: &[Declared],
         alias: u16,
     ) -> Result<Option<LineEdit>, AllocError>
-        requires project { lowest_fault (groups_of groups.now) ≡ None }
-        requires line { length self.now ≡ length (line_from 1 groups.now) }
+        requires { lowest_fault (groups_of groups.now) ≡ None }
         ensures replacement { IfOk result (λ ready. option_map (λ r. r.replacement) ready ≡ option_and_then (coming_at (slaves_before alias groups.now)) (find (has_alias alias) groups.now)) }
         ensures count { IfOk result (λ ready. IfSome ready (λ r. r.count ≡ length self.now)) }
     {
@@ -173,8 +177,7 @@ impl SimulatedLine {
         groups: &[Declared],
         alias: u16,
     ) -> Result<Option<LineEdit>, AllocError>
-        requires project { lowest_fault (groups_of groups.now) ≡ None }
-        requires line { length self.now ≡ length (line_from 1 groups.now) }
+        requires { lowest_fault (groups_of groups.now) ≡ None }
         ensures replacement { IfOk result (λ ready. option_map (λ r. r.replacement) ready ≡ option_and_then (going_at (slaves_before alias groups.now)) (find (has_alias alias) groups.now)) }
         ensures count { IfOk result (λ ready. IfSome ready (λ r. r.count ≡ length self.now)) }
     {
@@ -199,8 +202,7 @@ impl SimulatedLine {
         groups: &[Declared],
         edit: &Edit,
     ) -> Result<Option<LineEdit>, AllocError>
-        requires project { lowest_fault (groups_of groups.now) ≡ None }
-        requires line { length self.now ≡ length (line_from 1 groups.now) }
+        requires { lowest_fault (groups_of groups.now) ≡ None }
         ensures replacement { IfOk result (λ ready. option_map (λ r. r.replacement) ready ≡ replacement groups.now edit.now) }
         ensures count { IfOk result (λ ready. IfSome ready (λ r. r.count ≡ length self.now)) }
     {

@@ -1,5 +1,5 @@
 -- A line has a machine for each slave, whatever goes through it or is written to it, and behind each edit.
-use Rattle.std.proofs.Common.{◌≡◌, ◌≢◌, ◌≤◌, ◌+◌, ◌-◌, ℕ, zero, suc, Bool, true, false, cond, eqb, All, List, [], ◌∷◌, ◌++◌, length, map, take, drop, min, refl, ap, ap₂, sym, subst, ◌∙◌, arith, Some, None, length-append, length-take, length-drop}
+use Rattle.std.proofs.Common.{◌≡◌, ◌≢◌, ◌≤◌, ◌+◌, ◌-◌, ℕ, zero, suc, Bool, true, false, cond, All, List, [], ◌∷◌, ◌++◌, length, map, take, drop, refl, ap, ap₂, sym, subst, ◌∙◌, arith, Some, None, length-append, length-take, length-drop}
 use Rattle.std.specs.Prelude.{Option, AllPairs, sum_by, find, option_and_then}
 use Rattle.std.specs.Option.{option_map_or}
 use Rattle.std.proofs.lemmas.Bool.{eqb-true, ne_eqb}

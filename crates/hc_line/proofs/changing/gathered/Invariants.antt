@@ -1,4 +1,4 @@
-use Rattle.std.proofs.Common.{◌≡◌, ◌≤◌, ◌++◌, length, reverse, vec_len, vec_capacity}
+use Rattle.std.proofs.Common.{◌≡◌, ◌≤◌, ◌++◌, reverse, vec_len, vec_capacity}
 use Rattle.hc_segment.specs.Line.{all_machines}
 use Rattle.hc_line.proofs.changing.gathered.Given as goal
 

@@ -1,4 +1,4 @@
-use Rattle.std.proofs.Common.{◌≡◌, length, ap, get_or, ◌∙◌, sym, arith, List, ℕ}
+use Rattle.std.proofs.Common.{◌≡◌, length, ap, get_or, ◌∙◌, arith, List, ℕ}
 use Rattle.std.proofs.Math.ListN.{set}
 use Rattle.std.proofs.lemmas.List.{length-set}
 use Rattle.hc_line.specs.Machines.{poked}

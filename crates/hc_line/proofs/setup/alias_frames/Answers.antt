@@ -1,5 +1,4 @@
-use Rattle.std.proofs.Common.{arith, ap, ◌∙◌, sym, List, ℕ, ◌++◌, ◌∷◌, [], map}
-use Rattle.std.specs.List.{range_with_len}
+use Rattle.std.proofs.Common.{arith, ap, ◌∙◌, sym, List, ℕ, ◌++◌, ◌∷◌, []}
 use Rattle.std.proofs.lemmas.List.FromFn.{map-range_with_len_more}
 use Rattle.hc_line.specs.Setup.{alias_frame, alias_frames}
 use Rattle.hc_line.proofs.setup.alias_frames.Goals as goal

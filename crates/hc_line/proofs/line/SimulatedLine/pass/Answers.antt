@@ -1,5 +1,4 @@
-use Rattle.std.proofs.Common.{◌≡◌, length, map, ap, ◌∙◌, List, ℕ}
-use Rattle.hc_segment.specs.Line.{all_machines}
+use Rattle.std.proofs.Common.{length, map, ap, ◌∙◌, List, ℕ}
 use Rattle.hc_line.proofs.Dealt.{lengths-joined}
 use Rattle.hc_line.proofs.Written.{kept-count}
 use Rattle.hc_line.proofs.line.SimulatedLine.pass.Goals as goal

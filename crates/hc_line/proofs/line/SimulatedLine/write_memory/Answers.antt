@@ -1,4 +1,4 @@
-use Rattle.std.proofs.Common.{◌≡◌, length, ap, ◌∙◌, List, ℕ}
+use Rattle.std.proofs.Common.{length, ap, ◌∙◌, List, ℕ}
 use Rattle.hc_segment.specs.Line.{all_machines}
 use Rattle.hc_line.proofs.Written.{kept-count, poked-length}
 use Rattle.hc_line.proofs.line.SimulatedLine.write_memory.Goals as goal

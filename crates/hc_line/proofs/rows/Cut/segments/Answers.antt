@@ -1,4 +1,4 @@
-use Rattle.std.proofs.Common.{◌≡◌, ◌≤◌, ◌+◌, ℕ, List, ◌∷◌, [], ◌++◌, length, take, sym, subst, ap, ◌∙◌, arith, All}
+use Rattle.std.proofs.Common.{◌≤◌, ℕ, List, ◌∷◌, [], ◌++◌, subst, ap, ◌∙◌, arith, All}
 use Rattle.std.proofs.lemmas.List.Elements.{All-tail}
 use Rattle.std.specs.Vec.Iter.{into_iter_items, into_iter_len}
 use Rattle.hc_line.proofs.Dealt.{dealt-more, fewer-left}

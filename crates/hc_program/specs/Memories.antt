@@ -1,0 +1,88 @@
+-- The commands `poke` and `peek`: the memory of a machine of the line.
+use Rattle.std.specs.Prelude.{ℕ, ◌+◌, ◌&&◌, nat_le, nat_lt, Bool, if◌then◌else◌, List, [], ◌∷◌, ◌++◌, length, slice_index_or, slice_range, Option, Some, None, option_and_then, option_map, Result, Ok, Err, codes}
+use Rattle.hc_records.specs.declared.faults.EditFault.{EditFault}
+use Rattle.hc_frames.specs.declared.limits.TheConstants.{MAX_DATA}
+use Rattle.hc_machine.specs.declared.limits.TheConstants.{MEMORY_BYTES}
+use Rattle.hc_plan.specs.Configuration.{position_of}
+use Rattle.hc_events.specs.declared.faults.CoreFault.{CoreFault}
+use Rattle.hc_events.specs.declared.faults.CoreFault.TheVariants.{Absent}
+use Rattle.hc_events.specs.Faults.{edit_refusal}
+use Rattle.hc_events.specs.Points.{state_of}
+use Rattle.hc_text.specs.Numbers.{bytes_in, number_in}
+use Rattle.hc_text.specs.Printing.{hex_register, spaced_bytes}
+use Rattle.hc_line.specs.Machines.{poked}
+use Rattle.hc_program.specs.declared.commands.Command.{Command}
+use Rattle.hc_program.specs.declared.commands.Command.TheVariants as command
+use Rattle.hc_program.specs.MemoryRanges.{Peeking, Poking}
+use Rattle.hc_program.specs.Refusals.{refusal_text}
+use Rattle.hc_program.specs.Standings.{Standing}
+
+-- the range lies in memory
+abbrev pub poke_within : Poking → Option Poking
+poke_within p = if nat_le (p.at + length p.part) MEMORY_BYTES then Some p else None
+
+-- `poke` has a station address, an address and bytes, of which all lie in memory
+abbrev pub poking_in : List (List ℕ) → Option Poking
+poking_in [] = None
+poking_in (station ∷ []) = None
+poking_in (station ∷ address ∷ []) = None
+poking_in (station ∷ address ∷ bytes ∷ []) =
+    option_and_then (λ s. option_and_then (λ a. option_and_then (λ b. poke_within (record { station = s; at = a; part = b })) (bytes_in bytes)) (number_in 65535 address))
+    (number_in 65535 station)
+poking_in (station ∷ address ∷ bytes ∷ other ∷ words) = None
+
+abbrev pub poke_in : List (List ℕ) → Option Command
+poke_in arguments = option_map command.Poke (poking_in arguments)
+
+-- 1 to 1,486 bytes, of which all lie in memory
+abbrev pub peek_within : Peeking → Option Peeking
+peek_within p = if nat_le 1 p.count && nat_le p.count MAX_DATA && nat_le (p.at + p.count) MEMORY_BYTES then Some p else None
+
+-- `peek` has a station address, an address and how many bytes
+abbrev pub peeking_in : List (List ℕ) → Option Peeking
+peeking_in [] = None
+peeking_in (station ∷ []) = None
+peeking_in (station ∷ address ∷ []) = None
+peeking_in (station ∷ address ∷ count ∷ []) =
+    option_and_then (λ s. option_and_then (λ a. option_and_then (λ n. peek_within (record { station = s; at = a; count = n })) (number_in 65535 count)) (number_in 65535 address))
+    (number_in 65535 station)
+peeking_in (station ∷ address ∷ count ∷ other ∷ words) = None
+
+abbrev pub peek_in : List (List ℕ) → Option Command
+peek_in arguments = option_map command.Peek (peeking_in arguments)
+
+-- the position of the slave's machine, where the line has one there
+abbrev pub machine_within : ℕ → Result ℕ EditFault → Result ℕ CoreFault
+machine_within count (Ok position) = if nat_lt position count then Ok position else Err Absent
+machine_within count (Err fault) = Err (edit_refusal fault)
+
+-- the position of the machine of the slave with a station address, or why there is none
+unfoldable pub machine_at : Standing → ℕ → Result ℕ CoreFault
+machine_at s station = machine_within (length s.machines) (position_of (state_of s.past) station)
+
+-- what a poke prints, and the machines behind it
+abbrev pub poke_told : Result ℕ CoreFault → List ℕ
+poke_told (Ok position) = codes "poked\n"
+poke_told (Err fault) = refusal_text fault
+
+abbrev pub poked_at : Result ℕ CoreFault → Poking → List (List ℕ) → List (List ℕ)
+poked_at (Ok position) p machines = poked position p.at p.part machines
+poked_at (Err fault) p machines = machines
+
+abbrev pub poke_text : Standing → Poking → List ℕ
+poke_text s p = poke_told (machine_at s p.station)
+
+abbrev pub poked_standing : Standing → Poking → Standing
+poked_standing s p = record { past = s.past; machines = poked_at (machine_at s p.station) p s.machines }
+
+-- the line `mem A: bytes`
+unfoldable pub memory_text : ℕ → List ℕ → List ℕ
+memory_text at bytes = codes "mem " ++ hex_register at ++ codes ":" ++ spaced_bytes bytes ++ codes "\n"
+
+-- what a peek prints
+abbrev pub peek_told : Result ℕ CoreFault → Peeking → List (List ℕ) → List ℕ
+peek_told (Ok position) p machines = memory_text p.at (slice_range (slice_index_or machines position []) p.at (p.at + p.count))
+peek_told (Err fault) p machines = refusal_text fault
+
+abbrev pub peek_text : Standing → Peeking → List ℕ
+peek_text s p = peek_told (machine_at s p.station) p s.machines

@@ -1,0 +1,42 @@
+-- The commands `scan` and `name`.
+use Rattle.std.specs.Prelude.{ℕ, ◌+◌, List, [], ◌∷◌, ◌++◌, Option, Some, None, codes}
+use Rattle.std.specs.Fmt.{decimal}
+use Rattle.hc_events.specs.Points.{line_of}
+use Rattle.hc_line.specs.Setup.{aliases_read, machines_named, machines_scanned, named_count}
+use Rattle.hc_program.specs.declared.commands.Command.{Command}
+use Rattle.hc_program.specs.declared.commands.Command.TheVariants as command
+use Rattle.hc_program.specs.Standings.{Standing}
+
+-- neither has an argument
+abbrev pub scan_in : List (List ℕ) → Option Command
+scan_in [] = Some command.Scan
+scan_in (word ∷ words) = None
+
+abbrev pub name_in : List (List ℕ) → Option Command
+name_in [] = Some command.Name
+name_in (word ∷ words) = None
+
+-- the line `slot N alias A` of the slave at a position, and those of slaves in a row, the first of which stands there
+unfoldable pub alias_text : ℕ → ℕ → List ℕ
+alias_text position alias = codes "slot " ++ decimal position ++ codes " alias " ++ decimal alias ++ codes "\n"
+
+abbrev pub aliases_text : ℕ → List ℕ → List ℕ
+aliases_text position [] = []
+aliases_text position (alias ∷ aliases) = alias_text position alias ++ aliases_text (position + 1) aliases
+
+-- what a scan prints, position by position, and where it leaves the run
+unfoldable pub scan_text : Standing → List ℕ
+scan_text s = aliases_text 0 (aliases_read s.machines)
+
+abbrev pub scanned : Standing → Standing
+scanned s = record { past = s.past; machines = machines_scanned s.machines }
+
+-- the line `named N`: how many station writes came back with the working counter 1
+abbrev pub named_text : ℕ → List ℕ
+named_text count = codes "named " ++ decimal count ++ codes "\n"
+
+unfoldable pub name_text : Standing → List ℕ
+name_text s = named_text (named_count s.machines (line_of s.past))
+
+abbrev pub named : Standing → Standing
+named s = record { past = s.past; machines = machines_named s.machines (line_of s.past) }
