@@ -1,5 +1,5 @@
 //! The line, and what goes through it.
-ghost use Rattle.std.specs.Prelude.{◌≡◌, ◌≤◌, ◌+◌, ◌<◌, IfOk, OnErr, OnOk, length, slice_get};
+ghost use Rattle.std.specs.Prelude.{◌≡◌, ◌≤◌, ◌+◌, ◌<◌, IfOk, IfSome, OnErr, OnOk, length, slice_get};
 ghost use Rattle.std.specs.Option.{option_copied};
 ghost use Rattle.hc_machine.specs.declared.limits.TheConstants.{MEMORY_BYTES};
 ghost use Rattle.hc_segment.specs.Line.{all_machines, frames_through, machines_after};
@@ -43,7 +43,8 @@ impl Gate for Open {
 
 /// The memory of a machine of these segments, counted from 0.
 fn memory_in(segments: &[Segment], number: usize) -> Option<&[u8]>
-    ensures { option_copied result ≡ slice_get (all_machines segments.now) number }
+    ensures bytes { option_copied result ≡ slice_get (all_machines segments.now) number }
+    ensures size { IfSome result (λ memory. length memory.now ≡ MEMORY_BYTES) }
 {
     let (first, others) = segments.split_first()?;
     let machines = first.machines();
@@ -103,7 +104,8 @@ impl SimulatedLine {
     /// The memory of the machine at a position of the line, counted from 0: 12,288 bytes; none where there is no such
     /// machine.
     pub fn memory(&self, position: usize) -> Option<&[u8]>
-        ensures { option_copied result ≡ slice_get self.now position }
+        ensures bytes { option_copied result ≡ slice_get self.now position }
+        ensures size { IfSome result (λ memory. length memory.now ≡ MEMORY_BYTES) }
     {
         memory_in(&self.segments, position)
     }

@@ -1,5 +1,5 @@
 //! Aliases are read, and slaves are given their station addresses, each by its position.
-ghost use Rattle.std.specs.Prelude.{◌≡◌, ◌+◌, ◌<◌, ◌≤◌, IfOk, OnErr, OnOk, filter, length, map, slice_index};
+ghost use Rattle.std.specs.Prelude.{◌≡◌, ◌⊎◌, ◌+◌, ◌<◌, ◌≤◌, IfOk, OnErr, OnOk, filter, length, map, slice_index};
 ghost use Rattle.hc_records.specs.Line.{IsCounted, line_from};
 ghost use Rattle.hc_frames.specs.Arrived.{word_at};
 ghost use Rattle.hc_line.specs.Setup.{alias_frame, alias_frames, aliases_read, data_in, is_taken_once, machines_named, machines_scanned, named_count, station_frame, station_frames};
@@ -115,6 +115,7 @@ impl SimulatedLine {
     ) -> Result<Vec<u16>, ChainFault>
         ensures aliases { IfOk result (λ aliases. aliases.items ≡ aliases_read self.old) }
         ensures machines { OnOk result (self.new ≡ machines_scanned self.old) }
+        ensures stops { OnErr result ((self.new ≡ self.old) ⊎ (self.new ≡ machines_scanned self.old)) }
     {
         let frames = alias_frames(alloc, self.len())?;
         let frames = self.pass(rt, alloc, frames)?;

@@ -1,27 +1,42 @@
--- The commands: the words that spell each, what it prints, and the record that it leaves.
+-- The commands: the words that spell each, what it prints, and where it leaves the run.
 use Rattle.std.specs.Prelude.{ℕ, if◌then◌else◌, List, Option, option_map, codes}
 use Rattle.std.specs.Str.{bytes_eq}
-use Rattle.hc_events.specs.Entries.{Record}
 use Rattle.hc_events.specs.Points.{state_of}
-use Rattle.hc_events.specs.Steps.{Arrives, Edits, Reads, SendsTasks, SendsWrite, entries_after}
+use Rattle.hc_events.specs.Steps.{Arrives, Edits, Reads, SendsTasks, SendsWrite}
 use Rattle.hc_program.specs.declared.commands.Command.{Command}
 use Rattle.hc_program.specs.declared.commands.Command.TheVariants as command
 use Rattle.hc_program.specs.Answers.{told}
+use Rattle.hc_program.specs.Cycles.{cycle_in, cycle_text, cycled}
 use Rattle.hc_program.specs.EditWords.{edit_in}
 use Rattle.hc_program.specs.EventWords.{arrive_in, read_in, send_in, write_in}
 use Rattle.hc_program.specs.Layout.{layout_in, layout_text}
+use Rattle.hc_program.specs.Memories.{peek_in, peek_text, poke_in, poke_text, poked_standing}
 use Rattle.hc_program.specs.Place.{place_in, place_text}
+use Rattle.hc_program.specs.Programs.{program_in, program_text, programmed}
 use Rattle.hc_program.specs.Regs.{regs_in, regs_text}
+use Rattle.hc_program.specs.Setups.{name_in, name_text, named, scan_in, scan_text, scanned}
 use Rattle.hc_program.specs.Show.{show_in, show_text}
+use Rattle.hc_program.specs.Standings.{Standing, edited, stepped}
 
--- the command that a name and its arguments spell: those that edit, send, take what arrives, and read
+-- the command that a name and its arguments spell: those of the simulated line, and the edits
+abbrev pub line_command_in : List ℕ → List (List ℕ) → Option Command
+line_command_in name arguments =
+    if bytes_eq name (codes "scan") then scan_in arguments
+    else (if bytes_eq name (codes "name") then name_in arguments
+    else (if bytes_eq name (codes "program") then program_in arguments
+    else (if bytes_eq name (codes "cycle") then cycle_in arguments
+    else (if bytes_eq name (codes "poke") then poke_in arguments
+    else (if bytes_eq name (codes "peek") then peek_in arguments
+    else option_map command.Edit (edit_in name arguments))))))
+
+-- those that send, take what arrives, and read
 abbrev pub event_in : List ℕ → List (List ℕ) → Option Command
 event_in name arguments =
     if bytes_eq name (codes "send") then send_in arguments
     else (if bytes_eq name (codes "write") then write_in arguments
     else (if bytes_eq name (codes "arrive") then arrive_in arguments
     else (if bytes_eq name (codes "read") then read_in arguments
-    else option_map command.Edit (edit_in name arguments))))
+    else line_command_in name arguments)))
 
 -- and those that only look
 abbrev pub command_in : List ℕ → List (List ℕ) → Option Command
@@ -33,25 +48,37 @@ command_in name arguments =
     else event_in name arguments)))
 
 -- what a command prints
-abbrev pub printed : Record → Command → List ℕ
-printed past command.Layout = layout_text (state_of past)
-printed past (command.Regs station) = regs_text (state_of past) station
-printed past (command.Show task datagram) = show_text past task datagram
-printed past (command.Place variable) = place_text (state_of past) variable
-printed past (command.Edit edit) = told past (Edits edit)
-printed past (command.Send tasks) = told past (SendsTasks tasks)
-printed past command.Write = told past SendsWrite
-printed past (command.Arrive bytes) = told past (Arrives bytes)
-printed past (command.Read task) = told past (Reads task)
+abbrev pub printed : Standing → Command → List ℕ
+printed s command.Layout = layout_text (state_of s.past)
+printed s (command.Regs station) = regs_text (state_of s.past) station
+printed s (command.Show task datagram) = show_text s.past task datagram
+printed s (command.Place variable) = place_text (state_of s.past) variable
+printed s (command.Edit edit) = told s.past (Edits edit)
+printed s (command.Send tasks) = told s.past (SendsTasks tasks)
+printed s command.Write = told s.past SendsWrite
+printed s (command.Arrive bytes) = told s.past (Arrives bytes)
+printed s (command.Read task) = told s.past (Reads task)
+printed s command.Scan = scan_text s
+printed s command.Name = name_text s
+printed s command.Program = program_text s
+printed s (command.Cycle tasks) = cycle_text s tasks
+printed s (command.Poke poke) = poke_text s poke
+printed s (command.Peek peek) = peek_text s peek
 
--- the record that it leaves: with what it made the core accept
-abbrev pub left_by : Record → Command → Record
-left_by past command.Layout = past
-left_by past (command.Regs station) = past
-left_by past (command.Show task datagram) = past
-left_by past (command.Place variable) = past
-left_by past (command.Edit edit) = entries_after past (Edits edit)
-left_by past (command.Send tasks) = entries_after past (SendsTasks tasks)
-left_by past command.Write = entries_after past SendsWrite
-left_by past (command.Arrive bytes) = entries_after past (Arrives bytes)
-left_by past (command.Read task) = past
+-- where it leaves the run: the record with what the core accepted, and the machines behind what met them
+abbrev pub left_by : Standing → Command → Standing
+left_by s command.Layout = s
+left_by s (command.Regs station) = s
+left_by s (command.Show task datagram) = s
+left_by s (command.Place variable) = s
+left_by s (command.Edit edit) = edited s edit
+left_by s (command.Send tasks) = stepped s (SendsTasks tasks)
+left_by s command.Write = stepped s SendsWrite
+left_by s (command.Arrive bytes) = stepped s (Arrives bytes)
+left_by s (command.Read task) = s
+left_by s command.Scan = scanned s
+left_by s command.Name = named s
+left_by s command.Program = (programmed s).standing
+left_by s (command.Cycle tasks) = cycled s tasks
+left_by s (command.Poke poke) = poked_standing s poke
+left_by s (command.Peek peek) = s

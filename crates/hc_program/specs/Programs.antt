@@ -1,5 +1,5 @@
 -- The command `program`: owed register blocks are written along the line, one after another.
-use Rattle.std.specs.Prelude.{ℕ, zero, suc, ◌+◌, ◌-◌, Bool, true, false, if◌then◌else◌, List, [], ◌∷◌, ◌++◌, length, Option, Some, None, is_none, codes}
+use Rattle.std.specs.Prelude.{◌≡◌, ◌⊎◌, ℕ, zero, suc, ◌+◌, ◌-◌, Bool, true, false, if◌then◌else◌, List, [], ◌∷◌, ◌++◌, length, Option, Some, None, is_none, codes}
 use Rattle.std.specs.Fmt.{decimal}
 use Rattle.hc_frames.specs.declared.limits.TheConstants.{SETUP_SERIAL}
 use Rattle.hc_records.specs.Lists.{lowest}
@@ -53,6 +53,11 @@ says_done other = false
 
 unfoldable pub is_done : Standing → Bool
 is_done s = says_done (answer_to (write_sent s).past (Arrives (write_back s)))
+
+-- one write: it is sent and done, or nothing is sent, or it isn't done
+abbrev pub WritesOnce : Standing → Bool → Standing → Type 0
+WritesOnce s true next = (can_write s.past ≡ true) × (is_done s ≡ true) × (next ≡ written s)
+WritesOnce s false next = ((can_write s.past ≡ false) × (next ≡ s)) ⊎ ((can_write s.past ≡ true) × (is_done s ≡ false) × (next ≡ written s))
 
 -- what programming comes to: where the run stands, and how many blocks were written
 pub record Programmed : Type 0 where

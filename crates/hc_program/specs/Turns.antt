@@ -1,15 +1,13 @@
 -- One turn of a run: a line is answered, and its reply is written.
 use Rattle.std.specs.Prelude.{◌≡◌, ◌≢◌, ℕ, true, false, List, ◌++◌, take, Option, Some, None}
 use Rattle.std.specs.Io.KnownBytes.{Appends}
-use Rattle.hc_events.specs.declared.faults.CoreFault.TheVariants.{Memory}
-use Rattle.hc_events.specs.Entries.{Record}
-use Rattle.hc_program.specs.Refusals.{refusal_text}
 use Rattle.hc_program.specs.Runs.{Outcome, Reply}
+use Rattle.hc_program.specs.Standings.{Standing}
 
--- the run goes on behind the reply, with the record that it leaves
-pub record GoesOn (old new : Option (List ℕ)) (past : Record) (reply : Reply) : Type 0 where
+-- the run goes on behind the reply, from where that leaves it
+pub record GoesOn (old new : Option (List ℕ)) (next : Standing) (reply : Reply) : Type 0 where
   pub written : Appends old new reply.text
-  pub past_kept : past ≡ reply.past
+  pub kept : next ≡ reply.standing
   pub on : reply.goes_on ≡ true
 
 -- the run ends here: behind the whole reply, which ends it, or with status 4 behind a front of the reply
@@ -18,14 +16,9 @@ pub record Ends (old new : Option (List ℕ)) (status : ℕ) (reply : Reply) : T
   pub front : (n : ℕ) × Appends old new (take n reply.text)
 
 -- a line was answered: where no exit status is given the run goes on (`GoesOn`), else it ends there with that status (`Ends`)
-abbrev pub Takes : Option (List ℕ) → Option (List ℕ) → Record → Option ℕ → Reply → Type 0
-Takes old new past None reply = GoesOn old new past reply
-Takes old new past (Some status) reply = Ends old new status reply
-
--- a growth was refused for the line: its refusal is written and the run goes on, or the run ends with status 4 behind a front of the refusal
-abbrev pub Starves : Option (List ℕ) → Option (List ℕ) → Option ℕ → Type 0
-Starves old new None = Appends old new (refusal_text Memory)
-Starves old new (Some status) = (status ≡ 4) × (n : ℕ) × Appends old new (take n (refusal_text Memory))
+abbrev pub Takes : Option (List ℕ) → Option (List ℕ) → Standing → Option ℕ → Reply → Type 0
+Takes old new next None reply = GoesOn old new next reply
+Takes old new next (Some status) reply = Ends old new status reply
 
 -- some bytes were written, and with those that are left to write they are all
 pub record Writes (old new : Option (List ℕ)) (left all : List ℕ) : Type 0 where

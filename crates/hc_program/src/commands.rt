@@ -1,23 +1,34 @@
 //! The commands: the words that spell each, and what it answers. Each has a file of its own with its
 //! `parse`, from the words behind its name, and its `reply`.
-ghost use Rattle.std.specs.Prelude.{◌≡◌, ◌++◌, map, IfOk, OnErr, OnOk, string_bytes};
-ghost use Rattle.hc_program.specs.Commands.{command_in, event_in, left_by, printed};
+ghost use Rattle.std.specs.Prelude.{◌≡◌, ◌++◌, map, IfErr, IfOk, OnOk, string_bytes};
+ghost use Rattle.hc_program.specs.Commands.{command_in, event_in, left_by, line_command_in, printed};
+ghost use Rattle.hc_program.specs.Sessions.{standing_of};
+ghost use Rattle.hc_program.specs.Stops.{StopsIn};
 
 mod arrive;
+mod cycle;
 mod edits;
 mod layout;
+mod memory;
+mod name;
 mod place;
+mod program;
 mod read;
 mod regs;
+mod scan;
 mod send;
 mod show;
 mod write;
 
-use hc_core::keeping::Core;
+use crate::session::Session;
+use crate::stops::Stop;
 use hc_records::edit::Edit;
 use hc_records::items::Items;
+pub use memory::{Peek, Poke};
 pub use send::Together;
 use std::alloc::{AllocError, Global};
+use std::sync::Wait;
+use std::thread::Threads;
 
 /// A command.
 #[derive(Debug, Drop)]
@@ -54,6 +65,18 @@ pub enum Command {
         /// The task; over 7 the command is refused.
         task: u8,
     },
+    /// `scan`: the alias of each slave along the line.
+    Scan,
+    /// `name`: each slave is given its station address along the line.
+    Name,
+    /// `program`: owed register blocks are written along the line.
+    Program,
+    /// `cycle T..`: the process data of tasks go along the line.
+    Cycle(Together),
+    /// `poke S A HEX`: bytes are written to a machine's memory.
+    Poke(Poke),
+    /// `peek S A N`: bytes of a machine's memory.
+    Peek(Peek),
 }
 
 /// The command that a name and its arguments spell; none where the name is unknown, the number of
@@ -79,7 +102,7 @@ pub fn command_in(
     }
 }
 
-/// The same of the commands that send, take what arrives, read or edit.
+/// The same of the commands that send, take what arrives, or read, and of those of the line.
 fn event_in(alloc: Global, name: &[u8], arguments: &[&[u8]]) -> Result<Option<Command>, AllocError>
     ensures { IfOk result (λ command. command ≡ event_in name.now (map (λ word. word.now) arguments.now)) }
 {
@@ -92,31 +115,66 @@ fn event_in(alloc: Global, name: &[u8], arguments: &[&[u8]]) -> Result<Option<Co
     } else if name == b"read".as_slice() {
         Ok(read::parse(arguments))
     } else {
+        line_command_in(alloc, name, arguments)
+    }
+}
+
+/// The same of the commands of the simulated line, and of the edits.
+fn line_command_in(
+    alloc: Global,
+    name: &[u8],
+    arguments: &[&[u8]],
+) -> Result<Option<Command>, AllocError>
+    ensures { IfOk result (λ command. command ≡ line_command_in name.now (map (λ word. word.now) arguments.now)) }
+{
+    if name == b"scan".as_slice() {
+        Ok(scan::parse(arguments))
+    } else if name == b"name".as_slice() {
+        Ok(name::parse(arguments))
+    } else if name == b"program".as_slice() {
+        Ok(program::parse(arguments))
+    } else if name == b"cycle".as_slice() {
+        Ok(cycle::parse(arguments))
+    } else if name == b"poke".as_slice() {
+        memory::parse_poke(alloc, arguments)
+    } else if name == b"peek".as_slice() {
+        Ok(memory::parse_peek(arguments))
+    } else {
         edits::parse(alloc, name, arguments)
     }
 }
 
-/// Carries a command out and adds what it prints. `AllocError` where a growth was refused; nothing was
-/// then accepted, and `out` may have a front of what would have been printed.
-pub fn obey(
+/// Carries a command out and adds what it prints. A `Stop` where a growth was refused: in a command of one call nothing was
+/// then accepted, in the others what was done stands (`StopsIn`), and `out` may have a front of what would have been
+/// printed.
+pub fn obey<R: Threads + Wait + Sync>(
+    rt: &R,
     alloc: Global,
     command: &Command,
-    core: &mut Core,
+    session: &mut Session,
     out: &mut String,
-) -> Result<(), AllocError>
-    ensures text { OnOk result (string_bytes out.new ≡ string_bytes out.old ++ printed core.old.past command.now) }
-    ensures past { OnOk result (core.new.past ≡ left_by core.old.past command.now) }
-    ensures unchanged { OnErr result (core.new.past ≡ core.old.past) }
+) -> Result<(), Stop>
+    ensures text { OnOk result (string_bytes out.new ≡ string_bytes out.old ++ printed (standing_of session.old) command.now) }
+    ensures next { OnOk result (standing_of session.new ≡ left_by (standing_of session.old) command.now) }
+    ensures stops { IfErr result (λ stop. StopsIn (standing_of session.old) command.now stop (standing_of session.new)) }
 {
     match command {
-        Command::Layout => layout::reply(core.plan(), out),
-        Command::Regs { station } => regs::reply(core.plan(), *station, out),
-        Command::Show { task, datagram } => show::reply(core, *task, *datagram, out),
-        Command::Place { variable } => place::reply(core.plan(), *variable, out),
-        Command::Edit(edit) => edits::reply(alloc, edit, core, out),
-        Command::Send(tasks) => send::reply(alloc, tasks, core, out),
-        Command::Write => write::reply(core, out),
-        Command::Arrive(bytes) => arrive::reply(alloc, bytes.as_slice(), core, out),
-        Command::Read { task } => read::reply(alloc, *task, core, out),
+        Command::Scan => scan::reply(rt, alloc, session, out),
+        Command::Name => name::reply(rt, alloc, session, out),
+        Command::Program => program::reply(rt, alloc, session, out),
+        Command::Cycle(tasks) => cycle::reply(rt, alloc, tasks, session, out),
+        Command::Poke(poke) => Ok(memory::reply_poke(poke, session, out)?),
+        Command::Peek(peek) => Ok(memory::reply_peek(peek, session, out)?),
+        Command::Edit(edit) => Ok(edits::reply(alloc, edit, session, out)?),
+        Command::Layout => Ok(layout::reply(session.core.plan(), out)?),
+        Command::Regs { station } => Ok(regs::reply(session.core.plan(), *station, out)?),
+        Command::Show { task, datagram } => Ok(show::reply(&session.core, *task, *datagram, out)?),
+        Command::Place { variable } => Ok(place::reply(session.core.plan(), *variable, out)?),
+        Command::Send(tasks) => Ok(send::reply(alloc, tasks, &mut session.core, out)?),
+        Command::Write => Ok(write::reply(&mut session.core, out)?),
+        Command::Arrive(bytes) => {
+            Ok(arrive::reply(alloc, bytes.as_slice(), &mut session.core, out)?)
+        }
+        Command::Read { task } => Ok(read::reply(alloc, *task, &session.core, out)?),
     }
 }

@@ -4,21 +4,25 @@ ghost use Rattle.std.specs.Prelude.{◌≡◌, ◌≤◌, ◌+◌, false, true, 
 ghost use Rattle.std.specs.Option.{option_copied};
 ghost use Rattle.hc_text.specs.Cutting.{left_in, lines_after};
 ghost use Rattle.hc_program.specs.Opening.{in_want, is_memory};
-ghost use Rattle.hc_program.specs.Runs.{reply_to, run};
-ghost use Rattle.hc_program.specs.Starved.{EndsAsOne, StarvedOutcome, StarvedRun};
+ghost use Rattle.hc_program.specs.Runs.{Reply, reply_to, run};
+ghost use Rattle.hc_program.specs.Sessions.{standing_of};
+ghost use Rattle.hc_program.specs.Standings.{Standing};
+ghost use Rattle.hc_program.specs.Starved.{EndsAsOne, StarvedOutcome, StarvedRun, Stops};
 ghost use Rattle.hc_program.specs.Text.{EndsAs, outcome_of, unopened};
-ghost use Rattle.hc_program.specs.Turns.{Starves, Takes};
+ghost use Rattle.hc_program.specs.Turns.{Takes};
 ghost use Rattle.hc_text.specs.declared.input.TheConstants.{MOST_INPUT};
 
-use crate::opening::{Unopened, memory_text, open_core, push_unopened};
-use crate::refusals::memory_refusal;
+use crate::opening::{Unopened, memory_text, open_session, push_unopened};
 use crate::replies::answer;
-use hc_core::keeping::Core;
+use crate::session::Session;
+use crate::stops::stop_line;
 use hc_text::input::{Unread, read_all};
 use hc_text::lines::{split_line, split_sections};
 use hc_text::output::write_text;
 use std::alloc::Global;
 use std::io::{Read, Write};
+use std::sync::Wait;
+use std::thread::Threads;
 
 /// The exit status of a run whose last line was reached.
 pub(crate) const DONE: u8 = 0;
@@ -51,68 +55,71 @@ struct Turn {
     starved: bool,
 }
 
-/// Answers a line and writes its reply, or the refusal `Memory` where a growth was refused. The changes that
+/// Writes a reply that ends the run, or behind which it goes on.
+fn write_reply<W: Write>(text: &[u8], goes_on: bool, starved: bool, output: &mut W) -> Turn
+    ensures takes { (next : Standing) → Takes (W.contents output.old) (W.contents output.new) next result.end (record { text = text.now; standing = next; goes_on = goes_on }) }
+    ensures starved { result.starved ≡ starved }
+{
+    if write_text(output, text).is_err() {
+        return Turn {
+            end: Some(BROKEN),
+            starved,
+        };
+    }
+    if !goes_on {
+        return Turn {
+            end: Some(BAD_COMMAND),
+            starved,
+        };
+    }
+    Turn { end: None, starved }
+}
+
+/// Answers a line and writes its reply, or why its command was stopped where a growth was refused. The changes that
 /// the line made of what tasks read are dropped: nobody follows them here.
-fn take_turn<W: Write>(
+fn take_turn<Rt: Threads + Wait + Sync, W: Write>(
+    rt: &Rt,
     alloc: Global,
     line: &[u8],
     number: u32,
-    core: &mut Core,
+    session: &mut Session,
     output: &mut W,
 ) -> Turn
     ensures answered { result.starved ≡ false
-        → Takes (W.contents output.old) (W.contents output.new) core.new.past result.end (reply_to core.old.past number line.now) }
-    ensures refused { result.starved ≡ true → Starves (W.contents output.old) (W.contents output.new) result.end }
-    ensures unchanged { result.starved ≡ true → core.new.past ≡ core.old.past }
+        → Takes (W.contents output.old) (W.contents output.new) (standing_of session.new) result.end (reply_to (standing_of session.old) number line.now) }
+    ensures stopped { result.starved ≡ true
+        → (reply : Reply) × Stops (standing_of session.old) line.now reply × Takes (W.contents output.old) (W.contents output.new) (standing_of session.new) result.end reply }
 {
-    let answered = answer(alloc, line, number, core);
-    drop(core.take_changes(alloc));
-    let Ok(reply) = answered else {
-        let end = match write_text(output, memory_refusal()) {
-            Ok(()) => None,
-            Err(_) => Some(BROKEN),
-        };
-        return Turn { end, starved: true };
-    };
-    if write_text(output, reply.text.as_bytes()).is_err() {
-        return Turn {
-            end: Some(BROKEN),
-            starved: false,
-        };
-    }
-    if !reply.goes_on {
-        return Turn {
-            end: Some(BAD_COMMAND),
-            starved: false,
-        };
-    }
-    Turn {
-        end: None,
-        starved: false,
+    let answered = answer(rt, alloc, line, number, session);
+    drop(session.core.take_changes(alloc));
+    match answered {
+        Ok(reply) => write_reply(reply.text.as_bytes(), reply.goes_on, false, output),
+        Err(stop) => write_reply(stop_line(stop), true, true, output),
     }
 }
 
 /// Runs the command lines that follow, the first of which has a number.
-fn run_commands<W: Write>(
+fn run_commands<Rt: Threads + Wait + Sync, W: Write>(
+    rt: &Rt,
     alloc: Global,
-    opened: Core,
+    opened: Session,
     lines: Option<&[u8]>,
     first: u32,
     output: &mut W,
 ) -> RunEnd
     requires { first + left_in (option_copied lines) ≤ MOST_INPUT + 2 }
     ensures unstarved { result.starved ≡ false
-        → EndsAs (W.contents output.old) (W.contents output.new) result.status (run opened.past (lines_after first (option_copied lines.entry))) }
+        → EndsAs (W.contents output.old) (W.contents output.new) result.status (run (standing_of opened) (lines_after first (option_copied lines.entry))) }
     ensures starved { result.starved ≡ true
-        → EndsAsOne (W.contents output.old) (W.contents output.new) result.status (StarvedRun opened.past (lines_after first (option_copied lines.entry))) }
+        → EndsAsOne (W.contents output.old) (W.contents output.new) result.status (StarvedRun (standing_of opened) (lines_after first (option_copied lines.entry))) }
 {
-    let mut core = opened;
+    let mut session = opened;
     let mut starved = false;
     let mut number = first;
     let mut rest = lines;
     while let Some(text) = rest {
         let (line, more) = split_line(text);
-        let turn = take_turn(alloc, line, number, &mut core, output);
+        let turn = take_turn(rt, alloc, line, number, &mut session, output);
         starved |= turn.starved;
         if let Some(status) = turn.end {
             return RunEnd { status, starved };
@@ -155,7 +162,12 @@ fn end_unopened<W: Write>(alloc: Global, fault: Unopened, output: &mut W) -> Run
 }
 
 /// Runs an input that is read.
-fn run_input<W: Write>(alloc: Global, input: &[u8], output: &mut W) -> RunEnd
+fn run_input<Rt: Threads + Wait + Sync, W: Write>(
+    rt: &Rt,
+    alloc: Global,
+    input: &[u8],
+    output: &mut W,
+) -> RunEnd
     requires { length input.now ≤ MOST_INPUT }
     ensures unstarved { result.starved ≡ false
         → EndsAs (W.contents output.old) (W.contents output.new) result.status (outcome_of input.now) }
@@ -163,8 +175,15 @@ fn run_input<W: Write>(alloc: Global, input: &[u8], output: &mut W) -> RunEnd
         → EndsAsOne (W.contents output.old) (W.contents output.new) result.status (StarvedOutcome input.now) }
 {
     let sections = split_sections(input);
-    match open_core(alloc, sections.project) {
-        Ok(core) => run_commands(alloc, core, sections.commands, sections.first, output),
+    match open_session(alloc, sections.project) {
+        Ok(session) => run_commands(
+            rt,
+            alloc,
+            session,
+            sections.commands,
+            sections.first,
+            output,
+        ),
         Err(fault) => end_unopened(alloc, fault, output),
     }
 }
@@ -175,20 +194,27 @@ fn run_input<W: Write>(alloc: Global, input: &[u8], output: &mut W) -> RunEnd
 ///
 /// The same holds of a starved end and one of the texts that a refused growth allows: nothing and status 4
 /// where the input isn't read, `project fault 11 Memory` or `open fault 2 Memory` and status 3 where the
-/// project isn't opened, else the text of the commands, one or more of which gave `refused 28 Memory` and
-/// changed nothing.
+/// project isn't opened, else the text of the commands, one or more of which gave `refused 28 Memory` or, where
+/// frames didn't go along the line, `chain fault 1 Memory`. Such a command changed nothing, but in `scan`,
+/// `program` and `cycle` what was done before stands.
 ///
 /// Faults are found in the order input, project, opening, commands. Status 4 comes where the input is
 /// longer than 4,194,304 bytes, where reading fails or doesn't end within 4,194,305 turns, and where a
-/// write fails, takes nothing, or is interrupted over 4,194,305 times in one reply.
-pub fn run_hotline<R: Read, W: Write>(alloc: Global, input: &mut R, output: &mut W) -> RunEnd
+/// write fails, takes nothing, or is interrupted over 4,194,305 times in one reply. Frames go along the line
+/// in threads of its segments, for which the run waits.
+pub fn run_hotline<Rt: Threads + Wait + Sync, R: Read, W: Write>(
+    rt: &Rt,
+    alloc: Global,
+    input: &mut R,
+    output: &mut W,
+) -> RunEnd
     ensures unstarved { result.starved ≡ false → IfSome (R.remaining input.old)
         (λ bytes. EndsAs (W.contents output.old) (W.contents output.new) result.status (outcome_of bytes)) }
     ensures starved { result.starved ≡ true → IfSome (R.remaining input.old)
         (λ bytes. EndsAsOne (W.contents output.old) (W.contents output.new) result.status (StarvedOutcome bytes)) }
 {
     match read_all(alloc, input) {
-        Ok(bytes) => run_input(alloc, &bytes, output),
+        Ok(bytes) => run_input(rt, alloc, &bytes, output),
         Err(fault) => RunEnd {
             status: BROKEN,
             starved: fault == Unread::Memory,

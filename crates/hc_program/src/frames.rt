@@ -10,7 +10,7 @@ use hc_text::printing::push_bytes;
 use std::alloc::AllocError;
 
 /// The bytes of the largest frame.
-const LARGEST_FRAME: usize = 1514;
+pub(crate) const LARGEST_FRAME: usize = 1514;
 
 /// Adds the line of a frame of datagrams of the present line behind a word, as `sent 4: ff..`, with the
 /// values that the datagrams' output variables have now. `AllocError` where a growth was refused; `out` may

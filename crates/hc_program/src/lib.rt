@@ -10,3 +10,5 @@ mod opening;
 mod places;
 mod refusals;
 mod replies;
+mod session;
+mod stops;

@@ -1,11 +1,17 @@
 //! Opening the project of an input, or telling why it can't be opened.
 ghost use Rattle.std.specs.Prelude.{◌≡◌, ◌++◌, IfErr, IfOk, IsOk, OnOk, false, string_bytes};
+ghost use Rattle.hc_events.specs.Points.{state_of};
+ghost use Rattle.hc_line.specs.Machines.{opened_machines};
 ghost use Rattle.hc_project.specs.Text.{project_in};
+ghost use Rattle.hc_program.specs.Sessions.{standing_of};
+ghost use Rattle.hc_program.specs.Standings.{opened_standing};
 ghost use Rattle.hc_program.specs.declared.opening.Unopened.TheVariants.{Memory};
 ghost use Rattle.hc_program.specs.Opening.{crowded_at_opening, in_want, is_memory, is_project_memory, opened_unless, opening_of, unopened_text};
 
 use crate::refusals::push_project_fault;
+use crate::session::Session;
 use hc_core::keeping::Core;
+use hc_line::SimulatedLine;
 use hc_project::read_project;
 use hc_records::faults::{EditFault, ProjectFault};
 use hc_records::project::Project;
@@ -63,7 +69,7 @@ fn open_project(alloc: Global, project: Project) -> Result<Core, Unopened>
 /// The core of the project of a text at its opening, or why it isn't opened. `Unopened::Memory` comes only
 /// where the text is a project.
 #[tactic(auto, unfolding(crate::specs::Opening::opening_of))]
-pub fn open_core(alloc: Global, text: &[u8]) -> Result<Core, Unopened>
+fn open_core(alloc: Global, text: &[u8]) -> Result<Core, Unopened>
     ensures opened { IfOk result (λ core. opening_of text.now ≡ Ok core.past) }
     ensures refused { IfErr result (λ fault. is_memory fault ≡ false → opening_of text.now ≡ Err fault) }
     ensures memory { IfErr result (λ fault. fault ≡ Memory → IsOk (project_in text.now)) }
@@ -71,6 +77,27 @@ pub fn open_core(alloc: Global, text: &[u8]) -> Result<Core, Unopened>
     match read_project(alloc, text) {
         Ok(project) => open_project(alloc, project),
         Err(fault) => Err(Unopened::Project(fault)),
+    }
+}
+
+/// The machines of a line at its opening.
+fn open_line(alloc: Global, core: &Core) -> Result<SimulatedLine, AllocError>
+    ensures { IfOk result (λ line. line ≡ opened_machines (state_of core.now.past).groups) }
+{
+    SimulatedLine::opened(alloc, core.plan().groups())
+}
+
+/// The session of the project of a text at its opening, or why it isn't opened. `Unopened::Memory` comes only
+/// where the text is a project.
+pub fn open_session(alloc: Global, text: &[u8]) -> Result<Session, Unopened>
+    ensures opened { IfOk result (λ session. (opening_of text.now ≡ Ok session.core.past) × (standing_of session ≡ opened_standing session.core.past)) }
+    ensures refused { IfErr result (λ fault. is_memory fault ≡ false → opening_of text.now ≡ Err fault) }
+    ensures memory { IfErr result (λ fault. fault ≡ Memory → IsOk (project_in text.now)) }
+{
+    let core = open_core(alloc, text)?;
+    match open_line(alloc, &core) {
+        Ok(line) => Ok(Session { core, line }),
+        Err(_) => Err(Unopened::Memory),
     }
 }
 

@@ -7,6 +7,6 @@ use std::process::ExitCode;
 fn main(rt: HostRuntime) -> ExitCode {
     let mut input = rt.stdin();
     let mut output = rt.stdout();
-    let end = run_hotline(rt.alloc(), &mut input, &mut output);
+    let end = run_hotline(&rt, rt.alloc(), &mut input, &mut output);
     ExitCode::from(end.status)
 }

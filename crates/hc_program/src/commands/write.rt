@@ -14,7 +14,7 @@ use std::alloc::AllocError;
 
 /// The bytes of a frame that writes a register block, of at most 16 bytes: zeros fill it up to the least
 /// frame.
-const WRITE_FRAME: usize = 60;
+pub(crate) const WRITE_FRAME: usize = 60;
 
 /// The bytes of the longest line of such a frame: its words, the serial, two digits a byte, and the line
 /// feed.

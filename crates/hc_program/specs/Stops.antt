@@ -1,0 +1,57 @@
+-- What a command leaves for which a growth was refused: in those that make several calls, what earlier calls did stands.
+use Rattle.std.specs.Prelude.{◌≡◌, ◌⊎◌, ℕ, zero, suc, true, List, take, codes}
+use Rattle.hc_events.specs.declared.faults.CoreFault.TheVariants as core
+use Rattle.hc_segment.specs.declared.faults.ChainFault.{ChainFault}
+use Rattle.hc_segment.specs.declared.faults.ChainFault.TheVariants as chain
+use Rattle.hc_program.specs.declared.commands.Command.{Command}
+use Rattle.hc_program.specs.declared.commands.Command.TheVariants as command
+use Rattle.hc_program.specs.declared.stops.Stop.{Stop}
+use Rattle.hc_program.specs.declared.stops.Stop.TheVariants as stop
+use Rattle.hc_program.specs.Cycles.{cycle_arrived, cycle_back, cycle_passed, cycle_sent}
+use Rattle.hc_program.specs.Programs.{can_write, is_done, write_passed, write_sent, written}
+use Rattle.hc_program.specs.Refusals.{refusal_text}
+use Rattle.hc_program.specs.Setups.{scanned}
+use Rattle.hc_program.specs.Standings.{Standing}
+
+-- the line of a chain that was refused
+unfoldable pub chain_fault_text : ChainFault → List ℕ
+chain_fault_text chain.Memory = codes "chain fault 1 Memory\n"
+
+-- what is printed in place of the command's text
+abbrev pub stop_text : Stop → List ℕ
+stop_text stop.Memory = refusal_text core.Memory
+stop_text (stop.Chain fault) = chain_fault_text fault
+
+-- a command of one call was not carried out
+abbrev pub Unchanged : Standing → Stop → Standing → Type 0
+Unchanged s why next = (why ≡ stop.Memory) × (next ≡ s)
+
+-- so many writes, each done
+abbrev pub AreWritten : ℕ → Standing → Standing → Type 0
+AreWritten zero s t = t ≡ s
+AreWritten (suc n) s t = (m : Standing) × AreWritten n s m × (can_write m.past ≡ true) × (is_done m ≡ true) × (t ≡ written m)
+
+-- the next write wasn't sent, or was sent and its frame didn't go along the line, or what came back wasn't taken in
+abbrev pub StopsInWrite : Standing → Standing → Type 0
+StopsInWrite s next = (next ≡ s) ⊎ (next ≡ write_sent s) ⊎ (next ≡ write_passed s)
+
+-- some writes were done, and then one was stopped
+abbrev pub StopsProgram : Standing → Standing → Type 0
+StopsProgram s next = (n : ℕ) × (m : Standing) × AreWritten n s m × StopsInWrite m next
+
+-- tasks weren't sent, or were sent and their frames didn't go along the line, or some of what came back was taken in
+abbrev pub StopsInCycle : Standing → List ℕ → Standing → Type 0
+StopsInCycle s tasks next =
+    (next ≡ s) ⊎ (next ≡ cycle_sent s tasks) ⊎ ((n : ℕ) × (next ≡ cycle_arrived (cycle_passed s tasks) (take n (cycle_back s tasks))))
+
+-- no alias was read, or all were
+abbrev pub StopsScan : Standing → Standing → Type 0
+StopsScan s next = (next ≡ s) ⊎ (next ≡ scanned s)
+
+-- where a command leaves the run that was stopped so
+abbrev pub StopsIn : Standing → Command → Stop → Standing → Type 0
+StopsIn s command.Program why next = StopsProgram s next
+StopsIn s (command.Cycle tasks) why next = StopsInCycle s tasks next
+StopsIn s command.Scan why next = StopsScan s next
+StopsIn s command.Name why next = next ≡ s
+StopsIn s other why next = Unchanged s why next

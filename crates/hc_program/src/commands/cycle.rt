@@ -1,0 +1,120 @@
+//! The command `cycle`.
+ghost use Rattle.std.specs.Prelude.{◌≡◌, ◌++◌, ℕ, All, IfOk, OnErr, OnOk, map, string_bytes, take};
+ghost use Rattle.hc_core.specs.Filled.{CanBeFilled};
+ghost use Rattle.hc_events.specs.Steps.{sent_text};
+ghost use Rattle.hc_program.specs.Cycles.{arrivals_text, arrived, back_text, cycle_in, cycle_text, cycled};
+ghost use Rattle.hc_program.specs.Sessions.{standing_of};
+ghost use Rattle.hc_program.specs.Stops.{StopsInCycle};
+
+use super::Command;
+use super::arrive;
+use super::send::Together;
+use crate::frames::LARGEST_FRAME;
+use crate::refusals::tell_refusal;
+use crate::session::Session;
+use crate::stops::Stop;
+use hc_core::keeping::Core;
+use hc_events::sending::Sending;
+use hc_rings::FrameBox;
+use std::alloc::{AllocError, Global};
+use std::sync::Wait;
+use std::thread::Threads;
+
+/// Its arguments are those of `send`; none where they are others.
+pub fn parse(arguments: &[&[u8]]) -> Option<Command>
+    ensures { result ≡ cycle_in (map (λ word. word.now) arguments.now) }
+{
+    match Together::of(arguments) {
+        Some(tasks) => Some(Command::Cycle(tasks)),
+        None => None,
+    }
+}
+
+/// A frame of the present line in a box, with the values that its datagrams' output variables have now.
+fn boxed(alloc: Global, core: &Core, frame: &Sending) -> Result<FrameBox, AllocError>
+    requires { CanBeFilled core.now.past frame.now }
+    ensures { IfOk result (λ boxed. boxed ≡ sent_text core.now.past frame.now) }
+{
+    // its datagrams fit a frame, so that its size is at most that of the largest
+    let _ = frame.datagrams();
+    let mut bytes = [0u8; LARGEST_FRAME];
+    let bytes = &mut bytes[..frame.size()];
+    core.fill(frame, bytes);
+    FrameBox::of(alloc, bytes)
+}
+
+/// The same of each of these frames.
+fn all_boxed(
+    alloc: Global,
+    core: &Core,
+    frames: &[Sending],
+) -> Result<Vec<FrameBox>, AllocError>
+    requires { All (CanBeFilled core.now.past) frames.now }
+    ensures { IfOk result (λ all. all.items ≡ map (sent_text core.now.past) frames.now) }
+{
+    let mut all = Vec::new(alloc);
+    for frame in frames {
+        all.push(boxed(alloc, core, frame)?)?;
+    }
+    Ok(all)
+}
+
+/// Takes frames in one after another, and adds what each is. `AllocError` where a growth was refused: those before have
+/// arrived then, and `out` may have a front of the lines.
+fn take_all_in(
+    alloc: Global,
+    frames: &[FrameBox],
+    core: &mut Core,
+    out: &mut String,
+) -> Result<(), AllocError>
+    ensures text { OnOk result (string_bytes out.new ≡ string_bytes out.old ++ arrivals_text core.old.past frames.now) }
+    ensures past { OnOk result (core.new.past ≡ arrived core.old.past frames.now) }
+    ensures stops { OnErr result ((n : ℕ) × (core.new.past ≡ arrived core.old.past (take n frames.now))) }
+{
+    for frame in frames {
+        arrive::reply(alloc, frame.bytes(), core, out)?;
+    }
+    Ok(())
+}
+
+/// The same, or the line that there is none.
+fn take_back(
+    alloc: Global,
+    frames: &[FrameBox],
+    core: &mut Core,
+    out: &mut String,
+) -> Result<(), AllocError>
+    ensures text { OnOk result (string_bytes out.new ≡ string_bytes out.old ++ back_text core.old.past frames.now) }
+    ensures past { OnOk result (core.new.past ≡ arrived core.old.past frames.now) }
+    ensures stops { OnErr result ((n : ℕ) × (core.new.past ≡ arrived core.old.past (take n frames.now))) }
+{
+    if frames.is_empty() {
+        return out.push_str("no frame\n");
+    }
+    take_all_in(alloc, frames, core, out)
+}
+
+/// Sends tasks along the line, takes in what comes back, and adds what that is, `no frame` where the tasks have no
+/// datagram, or why the sending is refused. A `Stop` where a growth was refused: what was done stands, and `out` may have a
+/// front of the lines. The frames are there before they are sent.
+#[tactic(auto, unfolding(crate::specs::Cycles::cycle_text, crate::specs::Cycles::cycled, crate::specs::Cycles::cycle_back, crate::specs::Cycles::cycle_frames))]
+pub fn reply<R: Threads + Wait + Sync>(
+    rt: &R,
+    alloc: Global,
+    tasks: &Together,
+    session: &mut Session,
+    out: &mut String,
+) -> Result<(), Stop>
+    ensures text { OnOk result (string_bytes out.new ≡ string_bytes out.old ++ cycle_text (standing_of session.old) tasks.now) }
+    ensures next { OnOk result (standing_of session.new ≡ cycled (standing_of session.old) tasks.now) }
+    ensures stops { OnErr result (StopsInCycle (standing_of session.old) tasks.now (standing_of session.new)) }
+{
+    let sendings = match session.core.propose(alloc, tasks.as_slice()) {
+        Ok(sendings) => sendings,
+        Err(fault) => return Ok(tell_refusal(fault, out)?),
+    };
+    let frames = all_boxed(alloc, &session.core, &sendings)?;
+    session.core.commit(&sendings);
+    let back = session.line.pass(rt, alloc, frames)?;
+    Ok(take_back(alloc, &back, &mut session.core, out)?)
+}

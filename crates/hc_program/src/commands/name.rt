@@ -1,0 +1,57 @@
+//! The command `name`.
+ghost use Rattle.std.specs.Prelude.{◌≡◌, ◌≤◌, ◌+◌, ◌++◌, OnErr, OnOk, map, string_bytes};
+ghost use Rattle.std.specs.String.{string_capacity, string_len};
+ghost use Rattle.hc_program.specs.Sessions.{standing_of};
+ghost use Rattle.hc_program.specs.Setups.{name_in, name_text, named, named_text};
+
+use super::Command;
+use crate::session::Session;
+use crate::stops::Stop;
+use hc_text::room::{MOST_DIGITS, add_number, add_text};
+use std::alloc::Global;
+use std::sync::Wait;
+use std::thread::Threads;
+
+/// The bytes of the longest line: its word, a number, and the line feed.
+const LONGEST_NAMED: usize = 7 + MOST_DIGITS;
+
+/// It has no argument; none where there is one.
+pub fn parse(arguments: &[&[u8]]) -> Option<Command>
+    ensures { result ≡ name_in (map (λ word. word.now) arguments.now) }
+{
+    if arguments.is_empty() {
+        Some(Command::Name)
+    } else {
+        None
+    }
+}
+
+/// Gives each slave its station address along the line and adds how many took it. A `Stop` where a growth was
+/// refused: no slave was written to then. Room for the line is taken before.
+#[tactic(auto, unfolding(crate::specs::Setups::name_text))]
+pub fn reply<R: Threads + Wait + Sync>(
+    rt: &R,
+    alloc: Global,
+    session: &mut Session,
+    out: &mut String,
+) -> Result<(), Stop>
+    ensures text { OnOk result (string_bytes out.new ≡ string_bytes out.old ++ name_text (standing_of session.old)) }
+    ensures next { OnOk result (standing_of session.new ≡ named (standing_of session.old)) }
+    ensures unchanged { OnErr result (standing_of session.new ≡ standing_of session.old) }
+{
+    out.reserve(LONGEST_NAMED)?;
+    let groups = session.core.plan().groups();
+    let count = session.line.name(rt, alloc, groups)?;
+    add_named(count, out);
+    Ok(())
+}
+
+/// Adds the line, for which there is room.
+fn add_named(count: usize, out: &mut String)
+    requires { string_len out.old + LONGEST_NAMED ≤ string_capacity out.old }
+    ensures { string_bytes out.new ≡ string_bytes out.old ++ named_text count }
+{
+    add_text("named ", out);
+    add_number(count as u64, out);
+    add_text("\n", out);
+}

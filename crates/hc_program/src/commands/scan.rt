@@ -1,0 +1,60 @@
+//! The command `scan`.
+ghost use Rattle.std.specs.Prelude.{◌≡◌, ◌++◌, OnErr, OnOk, map, string_bytes};
+ghost use Rattle.hc_program.specs.Sessions.{standing_of};
+ghost use Rattle.hc_program.specs.Setups.{alias_text, aliases_text, scan_in, scan_text, scanned};
+ghost use Rattle.hc_program.specs.Stops.{StopsScan};
+
+use super::Command;
+use crate::session::Session;
+use crate::stops::Stop;
+use std::alloc::{AllocError, Global};
+use std::sync::Wait;
+use std::thread::Threads;
+
+/// It has no argument; none where there is one.
+pub fn parse(arguments: &[&[u8]]) -> Option<Command>
+    ensures { result ≡ scan_in (map (λ word. word.now) arguments.now) }
+{
+    if arguments.is_empty() {
+        Some(Command::Scan)
+    } else {
+        None
+    }
+}
+
+/// Reads the alias of each slave along the line and adds them, position by position. A `Stop` where a growth was
+/// refused: `out` may then have a front of the lines.
+#[tactic(auto, unfolding(crate::specs::Setups::scan_text))]
+pub fn reply<R: Threads + Wait + Sync>(
+    rt: &R,
+    alloc: Global,
+    session: &mut Session,
+    out: &mut String,
+) -> Result<(), Stop>
+    ensures text { OnOk result (string_bytes out.new ≡ string_bytes out.old ++ scan_text (standing_of session.old)) }
+    ensures next { OnOk result (standing_of session.new ≡ scanned (standing_of session.old)) }
+    ensures stops { OnErr result (StopsScan (standing_of session.old) (standing_of session.new)) }
+{
+    let aliases = session.line.scan(rt, alloc)?;
+    push_aliases(&aliases, out)?;
+    Ok(())
+}
+
+fn push_aliases(aliases: &[u16], out: &mut String) -> Result<(), AllocError>
+    ensures { OnOk result (string_bytes out.new ≡ string_bytes out.old ++ aliases_text 0 aliases.now) }
+{
+    let mut position = 0usize;
+    for alias in aliases {
+        push_alias(position, *alias, out)?;
+        position += 1;
+    }
+    Ok(())
+}
+
+#[tactic(auto, unfolding(crate::specs::Setups::alias_text))]
+fn push_alias(position: usize, alias: u16, out: &mut String) -> Result<(), AllocError>
+    ensures { OnOk result (string_bytes out.new ≡ string_bytes out.old ++ alias_text position alias) }
+{
+    write!(out, "slot {position} ")?;
+    write!(out, "alias {alias}\n")
+}
