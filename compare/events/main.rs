@@ -5,14 +5,17 @@
 mod shared;
 
 mod arrivals;
+mod machines;
 mod reading;
 mod record;
 
 use arrivals::{KINDS, Kind, bytes_of, drawn, returned};
-use reading::read;
+use machines::{APRD, APWR, MEMORY, Machines};
+use reading::{Arrival, read};
 use record::{Answer, Entry, Item, Outcome, Sending, answer, line, next_serial, owed, sent_tasks, sent_write, slot};
 use shared::draws::Draws;
-use shared::edits::{Edit, Refusal};
+use shared::edits::{Edit, Refusal, naming_fault};
+use shared::frames::Datagram;
 use shared::line::Line;
 use shared::packing::TASKS;
 use shared::printed::{edit_line, edit_words, hex, layout_lines};
@@ -74,6 +77,16 @@ struct Met {
     empty_slots: usize,
     /// Frames of several datagrams that were sent.
     together: usize,
+    scans: usize,
+    names: usize,
+    programs: usize,
+    cycles: usize,
+    pokes: usize,
+    peeks: usize,
+    /// Writes along the line that weren't done.
+    missed_along: usize,
+    /// Datagrams along the line with another counter than the expected one.
+    wrong_along: usize,
     lines: usize,
     bytes: usize,
 }
@@ -84,7 +97,12 @@ impl Met {
     }
 
     fn events(&self) -> usize {
-        self.edits + self.writes + self.sends + self.reads + self.arrivals()
+        self.edits + self.writes + self.sends + self.reads + self.arrivals() + self.along()
+    }
+
+    /// The commands of the simulated line.
+    fn along(&self) -> usize {
+        self.scans + self.names + self.programs + self.cycles + self.pokes + self.peeks
     }
 
     fn refuse(&mut self, refusal: Refusal) -> Vec<String> {
@@ -93,13 +111,14 @@ impl Met {
     }
 }
 
-/// A script while it is drawn: the events so far, and all bytes that arrived.
+/// A script while it is drawn: the events so far, all bytes that arrived, and the machines of the simulated line.
 struct Run<'a> {
     draws: Draws,
     shape: Shape,
     names: Names,
     past: Vec<Entry>,
     arrived: Vec<Vec<u8>>,
+    machines: Machines,
     script: Script,
     met: &'a mut Met,
     events: usize,
@@ -149,6 +168,7 @@ impl Run<'_> {
         let answer = match line(&self.past).edited(edit) {
             Ok((new, recut, moved)) => {
                 let told = edit_line(Ok((new.state.epoch, recut, moved)));
+                self.machines = Machines::of(&new, &self.machines);
                 self.past.push(Entry::Edited(Rc::new(new)));
                 vec![told]
             }
@@ -305,6 +325,144 @@ impl Run<'_> {
         self.arrive(place_of(Kind::Repeated), bytes);
     }
 
+    /// What came back along the line is taken in.
+    fn take_in(&mut self, serial: u64, datagrams: Vec<Datagram>) -> Vec<String> {
+        let arrival = Arrival { serial, datagrams };
+        let answer = answer(&self.past, &arrival);
+        let lines = answer_lines(&answer, self.met);
+        self.past.push(Entry::Came { arrival, answer });
+        lines
+    }
+
+    /// The datagrams of a sending as they come back along the line.
+    fn along(&mut self, sending: &Sending) -> Vec<Datagram> {
+        let mut datagrams: Vec<Datagram> = sending.datagrams.iter().map(|(_, one, _)| one.clone()).collect();
+        self.machines.pass(&mut datagrams);
+        datagrams
+    }
+
+    fn program_along(&mut self) {
+        self.met.programs += 1;
+        let mut done = 0;
+        while let Ok(sending) = sent_write(&self.past) {
+            self.past.push(Entry::Sent(sending.clone()));
+            let back = self.along(&sending);
+            if self.take_in(sending.serial, back) != ["write done"] {
+                self.met.missed_along += 1;
+                break;
+            }
+            done += 1;
+        }
+        let left = owed(&self.past).len();
+        self.script.add("program", &[], vec![format!("written {done} owed {left}")]);
+    }
+
+    fn cycle_along(&mut self) {
+        self.met.cycles += 1;
+        let tasks = self.drawn_tasks();
+        let lines = match sent_tasks(&self.past, &tasks) {
+            Err(refusal) => self.met.refuse(refusal),
+            Ok(sendings) if sendings.is_empty() => vec!["no frame".to_string()],
+            Ok(sendings) => {
+                self.past.extend(sendings.iter().cloned().map(Entry::Sent));
+                let back: Vec<Vec<Datagram>> = sendings.iter().map(|sending| self.along(sending)).collect();
+                let pairs = sendings.iter().zip(back);
+                pairs.flat_map(|(sending, back)| self.take_in(sending.serial, back)).collect()
+            }
+        };
+        self.met.wrong_along += lines.iter().filter(|line| line.starts_with("wrong count")).count();
+        self.script.add("cycle", &tasks.iter().map(|task| u32::from(*task)).collect::<Vec<u32>>(), lines);
+    }
+
+    /// A datagram by a slave's position, as it comes back along the line.
+    fn by_position(&mut self, command: u8, position: usize, register: u32, data: [u8; 2]) -> Datagram {
+        let address = u32::from((position as u16).wrapping_neg()) | register << 16;
+        let mut datagrams = [Datagram::sent(command, address, data.to_vec())];
+        self.machines.pass(&mut datagrams);
+        let [datagram] = datagrams;
+        datagram
+    }
+
+    fn scan(&mut self) {
+        self.met.scans += 1;
+        let mut lines = Vec::new();
+        for position in 0..self.machines.0.len() {
+            let back = self.by_position(APRD, position, 0x0012, [0, 0]);
+            lines.push(format!("slot {position} alias {}", u16::from_le_bytes([back.data[0], back.data[1]])));
+        }
+        self.script.add("scan", &[], lines);
+    }
+
+    fn name(&mut self) {
+        self.met.names += 1;
+        let stations: Vec<u16> = self.machines.0.iter().map(|(station, _)| *station).collect();
+        let mut count = 0;
+        for (position, station) in stations.into_iter().enumerate() {
+            count += usize::from(self.by_position(APWR, position, 0x0010, station.to_le_bytes()).counter == 1);
+        }
+        self.script.add("name", &[], vec![format!("named {count}")]);
+    }
+
+    /// A station address, most often of a slave of the line, and a range of memory: registers that decide what frames do,
+    /// process memory, or any other.
+    fn drawn_range(&mut self, most: usize) -> (u16, usize, usize) {
+        let stations: Vec<u16> = line(&self.past).state.slaves().map(|(_, slave)| slave.station).collect();
+        let is_drawn = stations.is_empty() || self.draws.is(3);
+        let station = if is_drawn { self.draws.below(0x1_0000) as u16 } else { *self.draws.one_of(&stations) };
+        let at = match self.draws.below(10) {
+            0 => 0x0010 + self.draws.below(4),
+            1 | 2 => 0x0600 + self.draws.below(0x80),
+            3..=8 => 0x1000 + self.draws.below(0x2000),
+            _ => self.draws.below(MEMORY),
+        };
+        (station, at, self.draws.between(1, most.min(MEMORY - at)))
+    }
+
+    fn poke(&mut self) {
+        self.met.pokes += 1;
+        let most = if self.draws.is(10) { 400 } else { 4 };
+        let (station, at, count) = self.drawn_range(most);
+        let bytes: Vec<u8> = (0..count).map(|_| self.draws.below(256) as u8).collect();
+        let fault = naming_fault(&line(&self.past).state, station);
+        let lines = match fault {
+            Some(number) => self.met.refuse(Refusal::of(number)),
+            None => {
+                let own = self.machines.0.iter_mut().find(|(own, _)| *own == station).expect("a machine");
+                own.1.memory[at..at + count].copy_from_slice(&bytes);
+                vec!["poked".to_string()]
+            }
+        };
+        self.script.add_range("poke", &[station.into(), at as u32], &bytes, lines);
+    }
+
+    fn peek(&mut self) {
+        self.met.peeks += 1;
+        let most = if self.draws.is(10) { 1486 } else { 20 };
+        let (station, at, count) = self.drawn_range(most);
+        let lines = match naming_fault(&line(&self.past).state, station) {
+            Some(number) => self.met.refuse(Refusal::of(number)),
+            None => {
+                let own = self.machines.0.iter().find(|(own, _)| *own == station).expect("a machine");
+                let bytes = own.1.memory[at..at + count].iter().map(|byte| format!(" {byte:02x}"));
+                vec![format!("mem 0x{at:04x}:{}", bytes.collect::<String>())]
+            }
+        };
+        self.script.add("peek", &[station.into(), at as u32, count as u32], lines);
+    }
+
+    /// A command of the simulated line.
+    fn go_along(&mut self) {
+        self.events += 1;
+        match self.draws.below(20) {
+            0 => self.scan(),
+            1 | 2 => self.name(),
+            3..=7 => self.program_along(),
+            8..=13 => self.cycle_along(),
+            14..=16 => self.poke(),
+            _ => self.peek(),
+        }
+    }
+
     /// A question that is no event.
     fn ask(&mut self) {
         let (line, serial) = (line(&self.past), next_serial(&self.past));
@@ -315,6 +473,9 @@ impl Run<'_> {
     }
 
     fn step(&mut self) {
+        if self.draws.is(12) {
+            return self.go_along();
+        }
         let is_owed = !owed(&self.past).is_empty();
         match self.draws.below(100) {
             0..=2 => self.drawn_edit(),
@@ -337,9 +498,10 @@ fn script_of(case: &Case, met: &mut Met) -> Script {
     let groups = project(&mut draws, case.shape);
     let script = Script::of(case.seed, &groups);
     let opened = Line::opened(&groups).ok().expect("a line that can be opened");
+    let machines = Machines::of(&opened, &Machines(Vec::new()));
     let past = vec![Entry::Opened(Rc::new(opened))];
     let (shape, names) = (case.shape, Names::of(&groups));
-    let mut run = Run { draws, shape, names, past, arrived: Vec::new(), script, met, events: 0 };
+    let mut run = Run { draws, shape, names, past, arrived: Vec::new(), machines, script, met, events: 0 };
     for group in &groups[1..] {
         if run.draws.is(70) {
             run.edit(&Edit::Connect(group.alias));
@@ -363,6 +525,8 @@ fn meets_enough(met: &Met) -> bool {
         && refusals
         && answers.iter().all(|count| *count >= 100)
         && met.together >= 100
+        && [met.scans, met.names, met.programs, met.cycles, met.pokes, met.peeks].iter().all(|count| *count >= 100)
+        && [met.missed_along, met.wrong_along].iter().all(|count| *count >= 20)
 }
 
 fn tell(met: &Met) {
@@ -371,6 +535,10 @@ fn tell(met: &Met) {
         "{} events: {edits} edits, {writes} writes, {sends} sends, {} arrivals, {reads} reads",
         met.events(),
         met.arrivals()
+    );
+    let Met { scans, names, programs, cycles, pokes, peeks, missed_along, wrong_along, .. } = met;
+    println!(
+        "along the line: {scans} scans, {names} names, {programs} programs ({missed_along} missed), {cycles} cycles ({wrong_along} wrong counts), {pokes} pokes, {peeks} peeks"
     );
     let kinds: Vec<String> =
         KINDS.iter().zip(met.arrived).map(|((_, name), count)| format!("{count} {name}")).collect();

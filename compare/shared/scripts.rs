@@ -79,10 +79,17 @@ impl Script {
 
     /// A command of a name and bytes.
     pub fn add_bytes(&mut self, name: &str, bytes: &[u8], answer: Vec<String>) {
+        self.add_range(name, &[], bytes, answer);
+    }
+
+    /// A command of a name, numbers, and bytes behind them.
+    pub fn add_range(&mut self, name: &str, numbers: &[u32], bytes: &[u8], answer: Vec<String>) {
         let is_upper = self.spelling.is(10);
         let digits = bytes.iter().map(|byte| if is_upper { format!("{byte:02X}") } else { format!("{byte:02x}") });
-        let digits = digits.collect();
-        self.add_words(&[name.to_string(), digits], answer);
+        let digits: String = digits.collect();
+        let numbers: Vec<String> = numbers.iter().map(|number| self.number(*number)).collect();
+        let words: Vec<String> = [name.to_string()].into_iter().chain(numbers).chain([digits]).collect();
+        self.add_words(&words, answer);
     }
 
     pub fn wanted_text(&self) -> String {

@@ -80,7 +80,7 @@ found-line alias rank [] found is present = cc
 found-line alias rank (declared ∷ groups) found is present =
     let next = rank + slaves_in declared in
     let few = within-if (has_alias alias declared) declared found (find (has_alias alias) groups) (length (present_slaves declared)) (slaves_before alias groups) (length (line_from next groups)) is present (present-all declared)
-        (λ later. found-line alias next groups found later present) in
+    (λ later. found-line alias next groups found later present) in
     omega (arith, few, length-line rank declared groups)
 
 pub length-fresh : (alias : ℕ) (slaves : List Slave) → length (fresh_from alias slaves) ≡ length slaves

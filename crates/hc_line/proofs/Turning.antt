@@ -33,10 +33,10 @@ turned-at ms coming one two three four front back behind ordered within count fi
     let rest = drop back ms in
     let many : behind ≡ length rest = omega (arith, count, length-drop back ms) in
     let kept : two ≡ rest ++ take front ms =
-        second
-        ∙ ap₂ (λ (n : ℕ) (l : List (List ℕ)). take (n + front) l) many first
-        ∙ take-append-add rest (take back ms) front
-        ∙ ap (λ (l : List (List ℕ)). rest ++ l) (take-fewer ms front back ordered) in
+    second
+    ∙ ap₂ (λ (n : ℕ) (l : List (List ℕ)). take (n + front) l) many first
+    ∙ take-append-add rest (take back ms) front
+    ∙ ap (λ (l : List (List ℕ)). rest ++ l) (take-fewer ms front back ordered) in
     let joined : three ≡ rest ++ (take front ms ++ coming) = third ∙ ap (λ (l : List (List ℕ)). l ++ coming) kept ∙ append_assoc rest (take front ms) coming in
     fourth
     ∙ ap₂ (λ (n : ℕ) (l : List (List ℕ)). drop n l ++ take n l) many joined

@@ -24,10 +24,11 @@ abbrev pub station_frames : ℕ → List Member → List (List ℕ)
 station_frames position [] = []
 station_frames position (member ∷ members) = station_frame position member.slave.station ∷ station_frames (position + 1) members
 
--- the two data bytes of a frame of one datagram as a number, low byte first, and the working counter behind them
+-- the two data bytes of a frame of one datagram as a number, low byte first
 abbrev pub data_in : List ℕ → ℕ
 data_in frame = word_at frame FIRST_DATA
 
+-- the working counter behind them
 abbrev pub counter_in : List ℕ → ℕ
 counter_in frame = word_at frame (FIRST_DATA + 2)
 

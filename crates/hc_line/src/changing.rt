@@ -45,9 +45,7 @@ impl Model for LineEdit {
 fn group_with(groups: &[Declared], alias: u16) -> Option<&Declared>
     ensures { option_copied result ≡ find (has_alias alias) groups.now }
 {
-    groups
-        .iter()
-        .find(|declared| declared.group.alias == alias)
+    groups.iter().find(|declared| declared.group.alias == alias)
 }
 
 /// How many slaves of a declared group are in the line.

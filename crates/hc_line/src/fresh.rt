@@ -14,10 +14,7 @@ fn fresh(alloc: Global, alias: u16) -> Result<SlaveMachine, AllocError>
 }
 
 /// A fresh machine for each slave of a group: its alias stands in the first, the others have 0.
-pub(crate) fn fresh_machines(
-    alloc: Global,
-    group: &Group,
-) -> Result<Vec<SlaveMachine>, AllocError>
+pub(crate) fn fresh_machines(alloc: Global, group: &Group) -> Result<Vec<SlaveMachine>, AllocError>
     ensures { IfOk result (λ machines. machines.items ≡ fresh_machines group.now) }
 {
     let mut machines = Vec::new(alloc);

@@ -3,17 +3,12 @@
 //! the memories of its machines, in the order of the line.
 #![tactic(auto)]
 
-
 mod changing;
 mod fresh;
 pub mod laws;
 mod line;
-
 mod rows;
 mod setup;
-
-
-
 
 pub use changing::LineEdit;
 pub use line::SimulatedLine;

@@ -12,3 +12,4 @@ pub mod Served
 pub mod Proposed
 pub mod Written
 pub mod Together
+pub mod Programming

@@ -8,6 +8,7 @@ use Rattle.hc_program.specs.declared.opening.Unopened.{Unopened}
 use Rattle.hc_text.specs.Lines.{command_lines, lines_of, project_text}
 use Rattle.hc_program.specs.Opening.{opening_of}
 use Rattle.hc_program.specs.Runs.{run}
+use Rattle.hc_program.specs.Standings.{opened_standing}
 use Rattle.hc_program.specs.Text.{outcome_of, outcome_of_lines, run_opened, unopened}
 
 not_long : (n m : ℕ) → n ≤ m → nat_lt m n ≡ false
@@ -19,7 +20,7 @@ lines_outcome input within =
     ap (λ b. cond b (record { text = []; status = 4 }) (outcome_of_lines (lines_of input))) (not_long (length input) MOST_INPUT within)
 
 pub opened_outcome : (input : List ℕ) (past : Record) → length input ≤ MOST_INPUT → opening_of (project_text (lines_of input)) ≡ Ok past
-    → outcome_of input ≡ run past (command_lines (lines_of input))
+    → outcome_of input ≡ run (opened_standing past) (command_lines (lines_of input))
 unfolding outcome_of_lines
 opened_outcome input past within opens = lines_outcome input within ∙ ap (λ opening. run_opened opening (command_lines (lines_of input))) opens
 

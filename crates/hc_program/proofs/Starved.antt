@@ -4,7 +4,6 @@ use Rattle.std.specs.Prelude.{Option, Result, IfSome, IsOk}
 use Rattle.std.specs.Io.KnownBytes.{Appends}
 use Rattle.std.proofs.KnownBytes.{Appends-nil}
 use Rattle.hc_records.specs.declared.records.Group.{Group}
-use Rattle.hc_events.specs.declared.faults.CoreFault.TheVariants as core
 use Rattle.hc_records.specs.declared.faults.ProjectFault.{ProjectFault}
 use Rattle.hc_events.specs.Entries.{Record}
 use Rattle.hc_text.specs.declared.input.TheConstants.{MOST_INPUT}
@@ -14,15 +13,15 @@ use Rattle.hc_project.specs.Text.{project_in}
 use Rattle.hc_program.specs.declared.opening.Unopened.{Unopened}
 use Rattle.hc_program.specs.declared.opening.Unopened.TheVariants.{Project, TooManyDatagrams, Memory}
 use Rattle.hc_program.specs.Opening.{in_want, is_memory, opened_project, opening_of}
-use Rattle.hc_program.specs.Refusals.{refusal_text}
 use Rattle.hc_program.specs.Runs.{Outcome, Reply, behind, reply_to, run}
-use Rattle.hc_program.specs.Starved.{EndsAsOne, RunsInWant, StarvedOutcome, StarvedRun, StarvedSections, memory_reply}
+use Rattle.hc_program.specs.Standings.{Standing, opened_standing}
+use Rattle.hc_program.specs.Starved.{EndsAsOne, RunsInWant, StarvedOutcome, StarvedRun, StarvedSections, Stops}
 use Rattle.hc_program.specs.Text.{EndsAs, unopened}
-use Rattle.hc_program.specs.Turns.{Continues, Ends, GoesOn, Starves}
+use Rattle.hc_program.specs.Turns.{Continues, Ends, GoesOn}
 use Rattle.hc_program.proofs.Turns.{begins, continues, done, ends, ends_whole}
 
 -- what the lines that are left may give: memory was refused before, or is for one of them
-abbrev pub Left : Bool → Record → List Line → Outcome → Type 0
+abbrev pub Left : Bool → Standing → List Line → Outcome → Type 0
 Left true = RunsInWant
 Left false = StarvedRun
 
@@ -35,82 +34,78 @@ pub leads_all : (old : Option (List ℕ)) (All : Outcome → Type 0) → Leads o
 leads_all old All left is = (left, is, begins old left)
 
 -- a run in which memory isn't refused
-unrefused : (past : Record) (lines : List Line) → RunsInWant past lines (run past lines)
+unrefused : (s : Standing) (lines : List Line) → RunsInWant s lines (run s lines)
 unfolding RunsInWant run
-unrefused past [] = refl
-unrefused past (line ∷ lines) =
-    let reply = reply_to past line.number line.text in
-    inl (run reply.past lines, unrefused reply.past lines, refl)
+unrefused s [] = refl
+unrefused s (line ∷ lines) =
+    let reply = reply_to s line.number line.text in
+    inl (run reply.standing lines, unrefused reply.standing lines, refl)
 
 -- a line that gives its reply
-replied : (before : Bool) (past : Record) (line : Line) (lines : List Line) (rest : Outcome) → (before ≡ false → (reply_to past line.number line.text).goes_on ≡ true)
-    → Left before (reply_to past line.number line.text).past lines rest → Left before past (line ∷ lines) (behind (reply_to past line.number line.text) rest)
+replied : (before : Bool) (s : Standing) (line : Line) (lines : List Line) (rest : Outcome) → (before ≡ false → (reply_to s line.number line.text).goes_on ≡ true)
+    → Left before (reply_to s line.number line.text).standing lines rest → Left before s (line ∷ lines) (behind (reply_to s line.number line.text) rest)
 unfolding RunsInWant StarvedRun
-replied true past line lines rest on is = inl (rest, is, refl)
-replied false past line lines rest on is = inl (on refl, (rest, is, refl))
+replied true s line lines rest on is = inl (rest, is, refl)
+replied false s line lines rest on is = inl (on refl, (rest, is, refl))
 
--- a line for which memory is refused
-refused : (before : Bool) (past : Record) (line : Line) (lines : List Line) (rest : Outcome) → RunsInWant past lines rest
-    → Left before past (line ∷ lines) (behind (memory_reply past) rest)
+-- a line that is stopped
+stopped : (before : Bool) (s : Standing) (line : Line) (lines : List Line) (reply : Reply) (rest : Outcome) → Stops s line.text reply → RunsInWant reply.standing lines rest
+    → Left before s (line ∷ lines) (behind reply rest)
 unfolding RunsInWant StarvedRun
-refused true past line lines rest is = inr (rest, is, refl)
-refused false past line lines rest is = inr (rest, is, refl)
+stopped true s line lines reply rest stops is = inr (reply, stops, (rest, is, refl))
+stopped false s line lines reply rest stops is = inr (reply, stops, (rest, is, refl))
 
 -- the same of the first line that is cut
-cut_replied : (before : Bool) (past : Record) (number : ℕ) (input text : List ℕ) (rest : Option (List ℕ)) (behind_it : Outcome) → CutsLine input text rest
-    → (before ≡ false → (reply_to past number text).goes_on ≡ true) → Left before (reply_to past number text).past (lines_after (number + 1) rest) behind_it
-    → Left before past (lines_after number (Some input)) (behind (reply_to past number text) behind_it)
-cut_replied before past number input text rest behind_it cut on is =
-    subst (λ lines. Left before past lines (behind (reply_to past number text) behind_it)) (sym (cut.lines number))
-    (replied before past (record { number = number; text = text; bytes = cut.bytes }) (lines_after (number + 1) rest) behind_it on is)
+cut_replied : (before : Bool) (s : Standing) (number : ℕ) (input text : List ℕ) (rest : Option (List ℕ)) (behind_it : Outcome) → CutsLine input text rest
+    → (before ≡ false → (reply_to s number text).goes_on ≡ true) → Left before (reply_to s number text).standing (lines_after (number + 1) rest) behind_it
+    → Left before s (lines_after number (Some input)) (behind (reply_to s number text) behind_it)
+cut_replied before s number input text rest behind_it cut on is =
+    subst (λ lines. Left before s lines (behind (reply_to s number text) behind_it)) (sym (cut.lines number))
+    (replied before s (record { number = number; text = text; bytes = cut.bytes }) (lines_after (number + 1) rest) behind_it on is)
 
-cut_refused : (before : Bool) (past : Record) (number : ℕ) (input text : List ℕ) (rest : Option (List ℕ)) (behind_it : Outcome) → CutsLine input text rest
-    → RunsInWant past (lines_after (number + 1) rest) behind_it → Left before past (lines_after number (Some input)) (behind (memory_reply past) behind_it)
-cut_refused before past number input text rest behind_it cut is =
-    subst (λ lines. Left before past lines (behind (memory_reply past) behind_it)) (sym (cut.lines number))
-    (refused before past (record { number = number; text = text; bytes = cut.bytes }) (lines_after (number + 1) rest) behind_it is)
+cut_stopped : (before : Bool) (s : Standing) (number : ℕ) (input text : List ℕ) (rest : Option (List ℕ)) (reply : Reply) (behind_it : Outcome) → CutsLine input text rest
+    → Stops s text reply → RunsInWant reply.standing (lines_after (number + 1) rest) behind_it → Left before s (lines_after number (Some input)) (behind reply behind_it)
+cut_stopped before s number input text rest reply behind_it cut stops is =
+    subst (λ lines. Left before s lines (behind reply behind_it)) (sym (cut.lines number))
+    (stopped before s (record { number = number; text = text; bytes = cut.bytes }) (lines_after (number + 1) rest) reply behind_it stops is)
 
 -- a reply is written and the run goes on
-leads_on : (old mid new : Option (List ℕ)) (Rest Next All : Outcome → Type 0) (reply : Reply) (next : Record)
+leads_on : (old mid new : Option (List ℕ)) (Rest Next All : Outcome → Type 0) (reply : Reply) (next : Standing)
     → Leads old mid Rest All → ((rest : Outcome) → Next rest → Rest (behind reply rest)) → GoesOn mid new next reply → Leads old new Next All
 leads_on old mid new Rest Next All reply next leads first turn rest is =
     let (all, holds, c) = leads (behind reply rest) (first rest is) in
     (all, holds, continues old mid new (behind reply rest) all reply next (λ _. rest) c refl turn)
 
-refusal_written : (old new : Option (List ℕ)) (past next : Record) → Appends old new (refusal_text core.Memory) → next ≡ past → GoesOn old new next (memory_reply past)
-refusal_written old new past next written same = record { written = written; past_kept = same; on = refl }
-
-leads_refused : (before : Bool) (old mid new : Option (List ℕ)) (All : Outcome → Type 0) (past next : Record) (number : ℕ) (input text : List ℕ) (rest : Option (List ℕ)) → CutsLine input text rest
-    → Leads old mid (Left before past (lines_after number (Some input))) All → Appends mid new (refusal_text core.Memory) → next ≡ past
+leads_stopped : (before : Bool) (old mid new : Option (List ℕ)) (All : Outcome → Type 0) (s next : Standing) (number : ℕ) (input text : List ℕ) (rest : Option (List ℕ)) (reply : Reply) → CutsLine input text rest
+    → Leads old mid (Left before s (lines_after number (Some input))) All → Stops s text reply → GoesOn mid new next reply
     → Leads old new (RunsInWant next (lines_after (number + 1) rest)) All
-leads_refused before old mid new All past next number input text rest cut leads written same =
-    leads_on old mid new _ _ All (memory_reply past) next leads
-    (λ left is. cut_refused before past number input text rest left cut (subst (λ s. RunsInWant s (lines_after (number + 1) rest) left) same is))
-    (refusal_written mid new past next written same)
+leads_stopped before old mid new All s next number input text rest reply cut leads stops turn =
+    leads_on old mid new _ _ All reply next leads
+    (λ left is. cut_stopped before s number input text rest reply left cut stops (subst (λ t. RunsInWant t (lines_after (number + 1) rest) left) turn.kept is))
+    turn
 
-leads_replied : (before : Bool) (old mid new : Option (List ℕ)) (All : Outcome → Type 0) (past next : Record) (number : ℕ) (input text : List ℕ) (rest : Option (List ℕ)) → CutsLine input text rest
-    → Leads old mid (Left before past (lines_after number (Some input))) All → GoesOn mid new next (reply_to past number text)
+leads_replied : (before : Bool) (old mid new : Option (List ℕ)) (All : Outcome → Type 0) (s next : Standing) (number : ℕ) (input text : List ℕ) (rest : Option (List ℕ)) → CutsLine input text rest
+    → Leads old mid (Left before s (lines_after number (Some input))) All → GoesOn mid new next (reply_to s number text)
     → Leads old new (Left before next (lines_after (number + 1) rest)) All
-leads_replied before old mid new All past next number input text rest cut leads turn =
-    leads_on old mid new _ _ All (reply_to past number text) next leads
-    (λ left is. cut_replied before past number input text rest left cut (λ _. turn.on) (subst (λ s. Left before s (lines_after (number + 1) rest) left) turn.past_kept is))
+leads_replied before old mid new All s next number input text rest cut leads turn =
+    leads_on old mid new _ _ All (reply_to s number text) next leads
+    (λ left is. cut_replied before s number input text rest left cut (λ _. turn.on) (subst (λ t. Left before t (lines_after (number + 1) rest) left) turn.kept is))
     turn
 
 -- one turn behind which the run goes on
-pub leads_turn : (before now : Bool) (old mid new : Option (List ℕ)) (All : Outcome → Type 0) (past next : Record) (number : ℕ) (input text : List ℕ) (rest : Option (List ℕ)) → CutsLine input text rest
-    → Leads old mid (Left before past (lines_after number (Some input))) All
-    → (now ≡ false → GoesOn mid new next (reply_to past number text))
-    → (now ≡ true → Appends mid new (refusal_text core.Memory))
-    → (now ≡ true → next ≡ past)
+pub leads_turn : (before now : Bool) (old mid new : Option (List ℕ)) (All : Outcome → Type 0) (s next : Standing) (number : ℕ) (input text : List ℕ) (rest : Option (List ℕ)) → CutsLine input text rest
+    → Leads old mid (Left before s (lines_after number (Some input))) All
+    → (now ≡ false → GoesOn mid new next (reply_to s number text))
+    → (now ≡ true → (reply : Reply) × Stops s text reply × GoesOn mid new next reply)
     → Leads old new (Left (before || now) next (lines_after (number + 1) rest)) All
-leads_turn true true old mid new All past next number input text rest cut leads answered written same =
-    leads_refused true old mid new All past next number input text rest cut leads (written refl) (same refl)
-leads_turn false true old mid new All past next number input text rest cut leads answered written same =
-    leads_refused false old mid new All past next number input text rest cut leads (written refl) (same refl)
-leads_turn true false old mid new All past next number input text rest cut leads answered written same =
-    leads_replied true old mid new All past next number input text rest cut leads (answered refl)
-leads_turn false false old mid new All past next number input text rest cut leads answered written same =
-    leads_replied false old mid new All past next number input text rest cut leads (answered refl)
+leads_turn true true old mid new All s next number input text rest cut leads answered stops =
+    let (reply, is, turn) = stops refl in leads_stopped true old mid new All s next number input text rest reply cut leads is turn
+leads_turn false true old mid new All s next number input text rest cut leads answered stops =
+    let (reply, is, turn) = stops refl in leads_stopped false old mid new All s next number input text rest reply cut leads is turn
+leads_turn true false old mid new All s next number input text rest cut leads answered stops =
+    leads_replied true old mid new All s next number input text rest cut leads (answered refl)
+leads_turn false false old mid new All s next number input text rest cut leads answered stops =
+    leads_replied false old mid new All s next number input text rest cut leads (answered refl)
 
 -- one turn behind which the run ends
 leads_end : (old mid new : Option (List ℕ)) (Rest All : Outcome → Type 0) (reply : Reply) (rest : Outcome) (status : ℕ)
@@ -119,47 +114,42 @@ leads_end old mid new Rest All reply rest status leads is turn =
     let (all, holds, c) = leads (behind reply rest) is in
     (all, holds, ends old mid new (behind reply rest) all rest reply status c refl turn)
 
-refusal_broken : (old new : Option (List ℕ)) (status : ℕ) (past : Record) → Starves old new (Some status) → Ends old new status (memory_reply past)
-refusal_broken old new status past broken = record {
-  whole = λ not_four. absurd (not_four broken.0);
-  front = (broken.1, broken.2);
-}
-
-pub leads_ended : (before now : Bool) (old mid new : Option (List ℕ)) (All : Outcome → Type 0) (status : ℕ) (past : Record) (number : ℕ) (input text : List ℕ) (rest : Option (List ℕ)) → CutsLine input text rest
-    → (before || now) ≡ true → Leads old mid (Left before past (lines_after number (Some input))) All
-    → (now ≡ false → Ends mid new status (reply_to past number text))
-    → (now ≡ true → Starves mid new (Some status))
+pub leads_ended : (before now : Bool) (old mid new : Option (List ℕ)) (All : Outcome → Type 0) (status : ℕ) (s : Standing) (number : ℕ) (input text : List ℕ) (rest : Option (List ℕ)) → CutsLine input text rest
+    → (before || now) ≡ true → Leads old mid (Left before s (lines_after number (Some input))) All
+    → (now ≡ false → Ends mid new status (reply_to s number text))
+    → (now ≡ true → (reply : Reply) × Stops s text reply × Ends mid new status reply)
     → EndsAsOne old new status All
-leads_ended before true old mid new All status past number input text rest cut starved leads answered broken =
+leads_ended before true old mid new All status s number input text rest cut starved leads answered stops =
     let lines = lines_after (number + 1) rest in
-    leads_end old mid new _ All (memory_reply past) (run past lines) status leads
-    (cut_refused before past number input text rest (run past lines) cut (unrefused past lines))
-    (refusal_broken mid new status past (broken refl))
-leads_ended true false old mid new All status past number input text rest cut starved leads answered broken =
+    let (reply, is, turn) = stops refl in
+    leads_end old mid new _ All reply (run reply.standing lines) status leads
+    (cut_stopped before s number input text rest reply (run reply.standing lines) cut is (unrefused reply.standing lines))
+    turn
+leads_ended true false old mid new All status s number input text rest cut starved leads answered stops =
     let lines = lines_after (number + 1) rest in
-    let next = (reply_to past number text).past in
-    leads_end old mid new _ All (reply_to past number text) (run next lines) status leads
-    (cut_replied true past number input text rest (run next lines) cut (λ e. cc) (unrefused next lines))
+    let next = (reply_to s number text).standing in
+    leads_end old mid new _ All (reply_to s number text) (run next lines) status leads
+    (cut_replied true s number input text rest (run next lines) cut (λ e. cc) (unrefused next lines))
     (answered refl)
-leads_ended false false old mid new All status past number input text rest cut starved leads answered broken = cc
+leads_ended false false old mid new All status s number input text rest cut starved leads answered stops = cc
 
 -- a run whose last line was answered
-finished : (past : Record) (lines : List Line) → lines ≡ [] → RunsInWant past lines (record { text = []; status = 0 })
+finished : (s : Standing) (lines : List Line) → lines ≡ [] → RunsInWant s lines (record { text = []; status = 0 })
 unfolding RunsInWant
-finished past lines none = subst (λ l. RunsInWant past l (record { text = []; status = 0 })) (sym none) refl
+finished s lines none = subst (λ l. RunsInWant s l (record { text = []; status = 0 })) (sym none) refl
 
-pub leads_done : (before : Bool) (old new : Option (List ℕ)) (All : Outcome → Type 0) (past : Record) (lines : List Line) → before ≡ true → lines ≡ []
-    → Leads old new (Left before past lines) All → EndsAsOne old new 0 All
-leads_done true old new All past lines starved none leads =
-    let (all, holds, c) = leads (record { text = []; status = 0 }) (finished past lines none) in
+pub leads_done : (before : Bool) (old new : Option (List ℕ)) (All : Outcome → Type 0) (s : Standing) (lines : List Line) → before ≡ true → lines ≡ []
+    → Leads old new (Left before s lines) All → EndsAsOne old new 0 All
+leads_done true old new All s lines starved none leads =
+    let (all, holds, c) = leads (record { text = []; status = 0 }) (finished s lines none) in
     (all, holds, done old new (record { text = []; status = 0 }) all c refl)
-leads_done false old new All past lines starved none leads = cc
+leads_done false old new All s lines starved none leads = cc
 
 -- a project that opens
 pub starved_lines : (old new : Option (List ℕ)) (status : ℕ) (input : List ℕ) (past : Record) (lines : List Line) → length input ≤ MOST_INPUT → opening_of (project_text (lines_of input)) ≡ Ok past
-    → lines ≡ command_lines (lines_of input) → EndsAsOne old new status (StarvedRun past lines) → EndsAsOne old new status (StarvedOutcome input)
+    → lines ≡ command_lines (lines_of input) → EndsAsOne old new status (StarvedRun (opened_standing past) lines) → EndsAsOne old new status (StarvedOutcome input)
 starved_lines old new status input past lines within opens same (all, starved, end) =
-    (all, inr (within, inr (inr (past, opens, subst (λ l. StarvedRun past l all) same starved))), end)
+    (all, inr (within, inr (inr (past, opens, subst (λ l. StarvedRun (opened_standing past) l all) same starved))), end)
 
 behind_project : (project : Result (List Group) ProjectFault) (task : ℕ) → opened_project project ≡ Err (TooManyDatagrams task) → IsOk project
 behind_project (Ok groups) task e = refl

@@ -4,27 +4,27 @@ use Rattle.std.specs.Prelude.{Option}
 use Rattle.std.specs.Io.KnownBytes.{Appends}
 use Rattle.std.proofs.KnownBytes.{Appends-trans, Appends-nil}
 use Rattle.std.proofs.Math.Seq.{take-append_seam}
-use Rattle.hc_events.specs.Entries.{Record}
 use Rattle.hc_text.specs.Lines.{Line}
 use Rattle.hc_text.specs.Cutting.{CutsLine, lines_after}
 use Rattle.hc_program.specs.Runs.{Outcome, Reply, behind, reply_to, run}
+use Rattle.hc_program.specs.Standings.{Standing}
 use Rattle.hc_program.specs.Text.{EndsAs}
 use Rattle.hc_program.specs.Turns.{Continues, Ends, GoesOn}
 
 -- the first line's reply, and the rest of the run
-run_line : (past : Record) (line : Line) (lines : List Line)
-    → run past (line ∷ lines) ≡ behind (reply_to past line.number line.text) (run (reply_to past line.number line.text).past lines)
+run_line : (s : Standing) (line : Line) (lines : List Line)
+    → run s (line ∷ lines) ≡ behind (reply_to s line.number line.text) (run (reply_to s line.number line.text).standing lines)
 unfolding run
-run_line past line lines = refl
+run_line s line lines = refl
 
-pub run_cut : (past : Record) (number : ℕ) (input text : List ℕ) (rest : Option (List ℕ)) → CutsLine input text rest
-    → run past (lines_after number (Some input)) ≡ behind (reply_to past number text) (run (reply_to past number text).past (lines_after (number + 1) rest))
-run_cut past number input text rest cut =
-    ap (run past) (cut.lines number) ∙ run_line past (record { number = number; text = text; bytes = cut.bytes }) (lines_after (number + 1) rest)
+pub run_cut : (s : Standing) (number : ℕ) (input text : List ℕ) (rest : Option (List ℕ)) → CutsLine input text rest
+    → run s (lines_after number (Some input)) ≡ behind (reply_to s number text) (run (reply_to s number text).standing (lines_after (number + 1) rest))
+run_cut s number input text rest cut =
+    ap (run s) (cut.lines number) ∙ run_line s (record { number = number; text = text; bytes = cut.bytes }) (lines_after (number + 1) rest)
 
-pub run_none : (past : Record) → run past [] ≡ record { text = []; status = 0 }
+pub run_none : (s : Standing) → run s [] ≡ record { text = []; status = 0 }
 unfolding run
-run_none past = refl
+run_none s = refl
 
 -- a reply is the front of what follows from it
 reply_first : (text tail : List ℕ) (status : ℕ) (b : Bool)
@@ -45,12 +45,12 @@ pub begins : (old : Option (List ℕ)) (all : Outcome) → Continues old old all
 begins old all = record { text = record { done = []; appended = Appends-nil old; whole = refl }; status = refl }
 
 -- the run goes on behind a whole reply
-pub continues : (old mid new : Option (List ℕ)) (left all : Outcome) (reply : Reply) (next : Record) (of : Record → Outcome)
-    → Continues old mid left all → left ≡ behind reply (of reply.past) → GoesOn mid new next reply → Continues old new (of next) all
+pub continues : (old mid new : Option (List ℕ)) (left all : Outcome) (reply : Reply) (next : Standing) (of : Standing → Outcome)
+    → Continues old mid left all → left ≡ behind reply (of reply.standing) → GoesOn mid new next reply → Continues old new (of next) all
 continues old mid new left all reply next of c is turn =
-    let kept : of next ≡ of reply.past = ap of turn.past_kept in
+    let kept : of next ≡ of reply.standing = ap of turn.kept in
     let joined : left ≡ record { text = reply.text ++ (of next).text; status = (of next).status } =
-    is ∙ behind_on reply (of reply.past) turn.on ∙ ap (λ (o : Outcome). record { text = reply.text ++ o.text; status = o.status }) (sym kept) in
+    is ∙ behind_on reply (of reply.standing) turn.on ∙ ap (λ (o : Outcome). record { text = reply.text ++ o.text; status = o.status }) (sym kept) in
     record {
       text = record {
         done = c.text.done ++ reply.text;

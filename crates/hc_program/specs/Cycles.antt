@@ -20,10 +20,11 @@ cycle_in arguments = option_map command.Cycle (tasks_in arguments)
 unfoldable pub cycle_frames : Record → List ℕ → List (List ℕ)
 cycle_frames past tasks = map (sent_text past) (proposal past tasks)
 
--- the run once they are sent, and once they went along the line
+-- the run once they are sent
 abbrev pub cycle_sent : Standing → List ℕ → Standing
 cycle_sent s tasks = stepped s (SendsTasks tasks)
 
+-- and once they went along the line
 abbrev pub cycle_passed : Standing → List ℕ → Standing
 cycle_passed s tasks = passed (cycle_sent s tasks) (cycle_frames s.past tasks)
 
@@ -31,11 +32,12 @@ cycle_passed s tasks = passed (cycle_sent s tasks) (cycle_frames s.past tasks)
 unfoldable pub cycle_back : Standing → List ℕ → List (List ℕ)
 cycle_back s tasks = frames_through s.machines (cycle_frames s.past tasks)
 
--- what frames that arrive one after another print, and the record that they leave
+-- what frames that arrive one after another print
 abbrev pub arrivals_text : Record → List (List ℕ) → List ℕ
 arrivals_text past [] = []
 arrivals_text past (frame ∷ frames) = told past (Arrives frame) ++ arrivals_text (entries_after past (Arrives frame)) frames
 
+-- the record that they leave
 abbrev pub arrived : Record → List (List ℕ) → Record
 arrived past [] = past
 arrived past (frame ∷ frames) = arrived (entries_after past (Arrives frame)) frames
@@ -54,13 +56,15 @@ abbrev pub cycle_text_unless : Option CoreFault → Standing → List ℕ → Li
 cycle_text_unless None s tasks = back_text (cycle_sent s tasks).past (cycle_back s tasks)
 cycle_text_unless (Some fault) s tasks = refusal_text fault
 
+-- the run once that is done; a refused sending leaves it as it was
 abbrev pub cycled_unless : Option CoreFault → Standing → List ℕ → Standing
 cycled_unless None s tasks = cycle_arrived (cycle_passed s tasks) (cycle_back s tasks)
 cycled_unless (Some fault) s tasks = s
 
--- what a cycle of tasks prints, and where it leaves the run
+-- what a cycle of tasks prints
 unfoldable pub cycle_text : Standing → List ℕ → List ℕ
 cycle_text s tasks = cycle_text_unless (lowest (task_faults s.past tasks)) s tasks
 
+-- where a cycle leaves the run
 unfoldable pub cycled : Standing → List ℕ → Standing
 cycled s tasks = cycled_unless (lowest (task_faults s.past tasks)) s tasks

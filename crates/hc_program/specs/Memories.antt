@@ -31,6 +31,7 @@ poking_in (station ∷ address ∷ bytes ∷ []) =
     (number_in 65535 station)
 poking_in (station ∷ address ∷ bytes ∷ other ∷ words) = None
 
+-- the command that the arguments of a `poke` spell
 abbrev pub poke_in : List (List ℕ) → Option Command
 poke_in arguments = option_map command.Poke (poking_in arguments)
 
@@ -48,6 +49,7 @@ peeking_in (station ∷ address ∷ count ∷ []) =
     (number_in 65535 station)
 peeking_in (station ∷ address ∷ count ∷ other ∷ words) = None
 
+-- the command that the arguments of a `peek` spell
 abbrev pub peek_in : List (List ℕ) → Option Command
 peek_in arguments = option_map command.Peek (peeking_in arguments)
 
@@ -60,18 +62,21 @@ machine_within count (Err fault) = Err (edit_refusal fault)
 unfoldable pub machine_at : Standing → ℕ → Result ℕ CoreFault
 machine_at s station = machine_within (length s.machines) (position_of (state_of s.past) station)
 
--- what a poke prints, and the machines behind it
+-- what a poke prints
 abbrev pub poke_told : Result ℕ CoreFault → List ℕ
 poke_told (Ok position) = codes "poked\n"
 poke_told (Err fault) = refusal_text fault
 
+-- the machines behind it
 abbrev pub poked_at : Result ℕ CoreFault → Poking → List (List ℕ) → List (List ℕ)
 poked_at (Ok position) p machines = poked position p.at p.part machines
 poked_at (Err fault) p machines = machines
 
+-- the line `poked`, or the refusal
 abbrev pub poke_text : Standing → Poking → List ℕ
 poke_text s p = poke_told (machine_at s p.station)
 
+-- where a poke leaves the run
 abbrev pub poked_standing : Standing → Poking → Standing
 poked_standing s p = record { past = s.past; machines = poked_at (machine_at s p.station) p s.machines }
 
@@ -84,5 +89,6 @@ abbrev pub peek_told : Result ℕ CoreFault → Peeking → List (List ℕ) → 
 peek_told (Ok position) p machines = memory_text p.at (slice_range (slice_index_or machines position []) p.at (p.at + p.count))
 peek_told (Err fault) p machines = refusal_text fault
 
+-- the line of the bytes, or the refusal
 abbrev pub peek_text : Standing → Peeking → List ℕ
 peek_text s p = peek_told (machine_at s p.station) p s.machines

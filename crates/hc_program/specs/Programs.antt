@@ -32,10 +32,11 @@ write_in other = []
 unfoldable pub write_frame : Record → List ℕ
 write_frame past = write_in (answer_to past SendsWrite)
 
--- the run once the next write is sent, and once its frame went along the line
+-- the run once the next write is sent
 abbrev pub write_sent : Standing → Standing
 write_sent s = stepped s SendsWrite
 
+-- and once its frame went along the line
 abbrev pub write_passed : Standing → Standing
 write_passed s = passed (write_sent s) (write_frame s.past ∷ [])
 
@@ -43,14 +44,16 @@ write_passed s = passed (write_sent s) (write_frame s.past ∷ [])
 abbrev pub write_back : Standing → List ℕ
 write_back s = frame_through s.machines (write_frame s.past)
 
--- the run once that was taken in, and whether it says that the block was written
+-- the run once that was taken in
 unfoldable pub written : Standing → Standing
 written s = stepped (write_passed s) (Arrives (write_back s))
 
+-- whether an answer says that a block was written
 abbrev pub says_done : Answer → Bool
 says_done answer.WriteDone = true
 says_done other = false
 
+-- whether what comes back of the next write says so
 unfoldable pub is_done : Standing → Bool
 is_done s = says_done (answer_to (write_sent s).past (Arrives (write_back s)))
 
@@ -84,6 +87,7 @@ programmed_within (suc most) s =
 abbrev pub serials_left : Record → ℕ
 serials_left past = SETUP_SERIAL - next_serial past
 
+-- all of them: no more writes than serials are left
 unfoldable pub programmed : Standing → Programmed
 programmed s = programmed_within (serials_left s.past) s
 
@@ -91,5 +95,6 @@ programmed s = programmed_within (serials_left s.past) s
 abbrev pub programmed_text : ℕ → ℕ → List ℕ
 programmed_text done owed = codes "written " ++ decimal done ++ codes " owed " ++ decimal owed ++ codes "\n"
 
+-- what programming prints
 unfoldable pub program_text : Standing → List ℕ
 program_text s = let p = programmed s in programmed_text p.written (length (owed_blocks p.standing.past))

@@ -7,27 +7,30 @@ use Rattle.hc_program.specs.declared.commands.Command.{Command}
 use Rattle.hc_program.specs.declared.commands.Command.TheVariants as command
 use Rattle.hc_program.specs.Standings.{Standing}
 
--- neither has an argument
+-- `scan` has no argument
 abbrev pub scan_in : List (List ℕ) → Option Command
 scan_in [] = Some command.Scan
 scan_in (word ∷ words) = None
 
+-- nor has `name`
 abbrev pub name_in : List (List ℕ) → Option Command
 name_in [] = Some command.Name
 name_in (word ∷ words) = None
 
--- the line `slot N alias A` of the slave at a position, and those of slaves in a row, the first of which stands there
+-- the line `slot N alias A` of the slave at a position
 unfoldable pub alias_text : ℕ → ℕ → List ℕ
 alias_text position alias = codes "slot " ++ decimal position ++ codes " alias " ++ decimal alias ++ codes "\n"
 
+-- those of slaves in a row, the first of which stands at this position
 abbrev pub aliases_text : ℕ → List ℕ → List ℕ
 aliases_text position [] = []
 aliases_text position (alias ∷ aliases) = alias_text position alias ++ aliases_text (position + 1) aliases
 
--- what a scan prints, position by position, and where it leaves the run
+-- what a scan prints, position by position
 unfoldable pub scan_text : Standing → List ℕ
 scan_text s = aliases_text 0 (aliases_read s.machines)
 
+-- where a scan leaves the run
 abbrev pub scanned : Standing → Standing
 scanned s = record { past = s.past; machines = machines_scanned s.machines }
 
@@ -35,8 +38,10 @@ scanned s = record { past = s.past; machines = machines_scanned s.machines }
 abbrev pub named_text : ℕ → List ℕ
 named_text count = codes "named " ++ decimal count ++ codes "\n"
 
+-- what naming prints
 unfoldable pub name_text : Standing → List ℕ
 name_text s = named_text (named_count s.machines (line_of s.past))
 
+-- where naming leaves the run
 abbrev pub named : Standing → Standing
 named s = record { past = s.past; machines = machines_named s.machines (line_of s.past) }

@@ -24,6 +24,7 @@ spelt (name ∷ arguments) = command_in name arguments
 abbrev pub StopsWords : Standing → List (List ℕ) → Stop → Standing → Type 0
 StopsWords s words why next = Unchanged s why next ⊎ ((command : Command) × (spelt words ≡ Some command) × StopsIn s command why next)
 
+-- the same of a line by its text
 abbrev pub StopsLine : Standing → List ℕ → Stop → Standing → Type 0
 StopsLine s text why next = StopsWords s (words_of text) why next
 

@@ -5,7 +5,9 @@ use hc_program::engine::{RunEnd, run_hotline};
 use hc_text::input::MOST_INPUT;
 use std::alloc::{AllocError, Global};
 use std::io::ErrorKind;
+use std::sync::Wait;
 use std::test::Fail;
+use std::thread::Threads;
 
 /// An unstarved end.
 fn ended(status: u8) -> RunEnd {
@@ -16,10 +18,14 @@ fn ended(status: u8) -> RunEnd {
 }
 
 /// How a run over so many line feeds ends, and whether it prints nothing.
-fn fed(alloc: Global, size: usize) -> Result<(RunEnd, bool), AllocError> {
+fn fed<R: Threads + Wait + Sync>(
+    rt: &R,
+    alloc: Global,
+    size: usize,
+) -> Result<(RunEnd, bool), AllocError> {
     let mut input = LineFeeds { left: size };
     let mut output = Vec::new(alloc);
-    let end = run_hotline(alloc, &mut input, &mut output);
+    let end = run_hotline(rt, alloc, &mut input, &mut output);
     if end.starved {
         return Err(AllocError);
     }
@@ -28,8 +34,8 @@ fn fed(alloc: Global, size: usize) -> Result<(RunEnd, bool), AllocError> {
 
 #[test]
 fn one_byte_too_long(rt: HostRuntime) -> Result<(), Fail> {
-    let most = fed(rt.alloc(), MOST_INPUT)?;
-    let longer = fed(rt.alloc(), MOST_INPUT + 1)?;
+    let most = fed(&rt, rt.alloc(), MOST_INPUT)?;
+    let longer = fed(&rt, rt.alloc(), MOST_INPUT + 1)?;
     assert!(rt; most == (ended(0), true) && longer == (ended(4), true));
     Ok(())
 }
@@ -38,13 +44,14 @@ fn one_byte_too_long(rt: HostRuntime) -> Result<(), Fail> {
 fn reading_ends_after_its_turns(rt: HostRuntime) -> Result<(), Fail> {
     let mut input = Interrupted { calls: 0 };
     let mut output = Vec::new(rt.alloc());
-    let end = run_hotline(rt.alloc(), &mut input, &mut output);
+    let end = run_hotline(&rt, rt.alloc(), &mut input, &mut output);
     assert!(rt; end == ended(4) && input.calls == 4_194_305 && output.is_empty());
     Ok(())
 }
 
 /// How a run over a text ends whose reader fails in a way at a call, and what it prints.
-fn halted(
+fn halted<R: Threads + Wait + Sync>(
+    rt: &R,
     alloc: Global,
     text: &str,
     calls_left: u32,
@@ -56,7 +63,7 @@ fn halted(
         kind,
     };
     let mut output = Vec::with_capacity(alloc, ROOM)?;
-    let end = run_hotline(alloc, &mut input, &mut output);
+    let end = run_hotline(rt, alloc, &mut input, &mut output);
     if end.starved {
         return Err(AllocError);
     }
@@ -65,10 +72,14 @@ fn halted(
 
 /// At how many of the calls, from the first on, a failing read ends a run over a text, and one behind the last
 /// read doesn't.
-fn reads_failed(alloc: Global, text: &str) -> Result<u32, AllocError> {
+fn reads_failed<R: Threads + Wait + Sync>(
+    rt: &R,
+    alloc: Global,
+    text: &str,
+) -> Result<u32, AllocError> {
     let reads = text.as_bytes().len() / 50 + 2;
     for calls_left in 0..20u32 {
-        let printed = halted(alloc, text, calls_left, ErrorKind::BrokenPipe)?;
+        let printed = halted(rt, alloc, text, calls_left, ErrorKind::BrokenPipe)?;
         let is_read = calls_left as usize >= reads;
         let end = ended(if is_read { 0 } else { 4 });
         if printed.end != end || printed.text.is_empty() == is_read {
@@ -81,14 +92,18 @@ fn reads_failed(alloc: Global, text: &str) -> Result<u32, AllocError> {
 #[test]
 fn each_read_fails_once(rt: HostRuntime) -> Result<(), Fail> {
     let text = joined(rt.alloc(), ONE_SLAVE, FIRST_COMMANDS)?;
-    assert!(rt; reads_failed(rt.alloc(), text.as_str())? == 20);
+    assert!(rt; reads_failed(&rt, rt.alloc(), text.as_str())? == 20);
     Ok(())
 }
 
 /// At how many of the calls, from the first on, an interrupted read changes nothing of the first run.
-fn reads_interrupted(alloc: Global, text: &str) -> Result<u32, AllocError> {
+fn reads_interrupted<R: Threads + Wait + Sync>(
+    rt: &R,
+    alloc: Global,
+    text: &str,
+) -> Result<u32, AllocError> {
     for calls_left in 0..8 {
-        let printed = halted(alloc, text, calls_left, ErrorKind::Interrupted)?;
+        let printed = halted(rt, alloc, text, calls_left, ErrorKind::Interrupted)?;
         if !printed.is(0, FIRST_TEXT) {
             return Ok(calls_left);
         }
@@ -99,18 +114,22 @@ fn reads_interrupted(alloc: Global, text: &str) -> Result<u32, AllocError> {
 #[test]
 fn an_interrupted_read_is_taken_again(rt: HostRuntime) -> Result<(), Fail> {
     let text = joined(rt.alloc(), ONE_SLAVE, FIRST_COMMANDS)?;
-    assert!(rt; reads_interrupted(rt.alloc(), text.as_str())? == 8);
+    assert!(rt; reads_interrupted(&rt, rt.alloc(), text.as_str())? == 8);
     Ok(())
 }
 
 /// How a run over a text ends whose writer is interrupted at every other call, and what it prints.
-fn stuttered(alloc: Global, text: &str) -> Result<Printed, AllocError> {
+fn stuttered<R: Threads + Wait + Sync>(
+    rt: &R,
+    alloc: Global,
+    text: &str,
+) -> Result<Printed, AllocError> {
     let mut input = text.as_bytes();
     let mut output = Stuttering {
         taken: Vec::with_capacity(alloc, ROOM)?,
         is_interrupted: false,
     };
-    let end = run_hotline(alloc, &mut input, &mut output);
+    let end = run_hotline(rt, alloc, &mut input, &mut output);
     if end.starved {
         return Err(AllocError);
     }
@@ -123,16 +142,19 @@ fn stuttered(alloc: Global, text: &str) -> Result<Printed, AllocError> {
 #[test]
 fn an_interrupted_write_is_taken_again(rt: HostRuntime) -> Result<(), Fail> {
     let text = joined(rt.alloc(), ONE_SLAVE, FIRST_COMMANDS)?;
-    let printed = stuttered(rt.alloc(), text.as_str())?;
+    let printed = stuttered(&rt, rt.alloc(), text.as_str())?;
     assert!(rt; printed.is(0, FIRST_TEXT));
     Ok(())
 }
 
 /// How a run ends whose writer is interrupted forever, and how often it is called.
-fn interrupted(alloc: Global) -> Result<(RunEnd, u32), AllocError> {
+fn interrupted<R: Threads + Wait + Sync>(
+    rt: &R,
+    alloc: Global,
+) -> Result<(RunEnd, u32), AllocError> {
     let mut input = "%%\nfoo\n".as_bytes();
     let mut output = Interrupted { calls: 0 };
-    let end = run_hotline(alloc, &mut input, &mut output);
+    let end = run_hotline(rt, alloc, &mut input, &mut output);
     if end.starved {
         return Err(AllocError);
     }
@@ -141,13 +163,14 @@ fn interrupted(alloc: Global) -> Result<(RunEnd, u32), AllocError> {
 
 #[test]
 fn writing_ends_after_its_interruptions(rt: HostRuntime) -> Result<(), Fail> {
-    assert!(rt; interrupted(rt.alloc())? == (ended(4), 4_194_306));
+    assert!(rt; interrupted(&rt, rt.alloc())? == (ended(4), 4_194_306));
     Ok(())
 }
 
 /// Whether a run over a text whose writer takes so many times 7 bytes, and then none or fails, prints a front of
 /// what it is to print, and ends with a status where that is whole, else with 4.
-fn is_cut_at(
+fn is_cut_at<R: Threads + Wait + Sync>(
+    rt: &R,
     alloc: Global,
     text: &str,
     printed: &str,
@@ -160,7 +183,7 @@ fn is_cut_at(
         calls_left: fails_after.1,
         fails: fails_after.0,
     };
-    let end = run_hotline(alloc, &mut input, &mut output);
+    let end = run_hotline(rt, alloc, &mut input, &mut output);
     if end.starved {
         return Err(AllocError);
     }
@@ -170,9 +193,13 @@ fn is_cut_at(
 }
 
 /// At how many of the writes, from the first on, the first run is cut in both ways.
-fn writes_cut(alloc: Global, text: &str) -> Result<u32, AllocError> {
+fn writes_cut<R: Threads + Wait + Sync>(
+    rt: &R,
+    alloc: Global,
+    text: &str,
+) -> Result<u32, AllocError> {
     for calls in 0..160u32 {
-        if !is_cut_at(alloc, text, FIRST_TEXT, 0, (calls % 2 == 1, calls / 2))? {
+        if !is_cut_at(rt, alloc, text, FIRST_TEXT, 0, (calls % 2 == 1, calls / 2))? {
             return Ok(calls);
         }
     }
@@ -182,15 +209,21 @@ fn writes_cut(alloc: Global, text: &str) -> Result<u32, AllocError> {
 #[test]
 fn each_write_fails_in_turn(rt: HostRuntime) -> Result<(), Fail> {
     let text = joined(rt.alloc(), ONE_SLAVE, FIRST_COMMANDS)?;
-    assert!(rt; writes_cut(rt.alloc(), text.as_str())? == 160);
+    assert!(rt; writes_cut(&rt, rt.alloc(), text.as_str())? == 160);
     Ok(())
 }
 
 /// Whether a run whose writer takes 0 to 5 times 7 bytes prints a front of a text, and ends with a status
 /// where that is the whole text, else with 4.
-fn is_cut(alloc: Global, text: &str, printed: &str, status: u8) -> Result<bool, AllocError> {
+fn is_cut<R: Threads + Wait + Sync>(
+    rt: &R,
+    alloc: Global,
+    text: &str,
+    printed: &str,
+    status: u8,
+) -> Result<bool, AllocError> {
     for calls_left in 0..6 {
-        if !is_cut_at(alloc, text, printed, status, (false, calls_left))? {
+        if !is_cut_at(rt, alloc, text, printed, status, (false, calls_left))? {
             return Ok(false);
         }
     }
@@ -199,8 +232,9 @@ fn is_cut(alloc: Global, text: &str, printed: &str, status: u8) -> Result<bool, 
 
 #[test]
 fn a_refusal_is_cut_too(rt: HostRuntime) -> Result<(), Fail> {
-    let command = is_cut(rt.alloc(), "%%\nfoo\n", "line 2: bad command\n", 2)?;
+    let command = is_cut(&rt, rt.alloc(), "%%\nfoo\n", "line 2: bad command\n", 2)?;
     let project = is_cut(
+        &rt,
         rt.alloc(),
         "slave = 1\n",
         "project fault 2 MissingField\n",

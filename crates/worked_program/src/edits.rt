@@ -210,6 +210,6 @@ const RUNS: &[Run] = &[
 
 #[test]
 fn edits_change_the_line(rt: HostRuntime) -> Result<(), Fail> {
-    assert_eq!(rt; first_wrong(rt.alloc(), RUNS)?, None);
+    assert_eq!(rt; first_wrong(&rt, rt.alloc(), RUNS)?, None);
     Ok(())
 }

@@ -341,6 +341,6 @@ const RUNS: &[Run] = &[
 
 #[test]
 fn what_is_sent_is_answered(rt: HostRuntime) -> Result<(), Fail> {
-    assert_eq!(rt; first_wrong(rt.alloc(), RUNS)?, None);
+    assert_eq!(rt; first_wrong(&rt, rt.alloc(), RUNS)?, None);
     Ok(())
 }

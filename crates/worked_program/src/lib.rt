@@ -20,6 +20,8 @@ mod rows;
 #[cfg(test)]
 mod runs;
 #[cfg(test)]
+mod simulated;
+#[cfg(test)]
 mod wide_lines;
 #[cfg(test)]
 mod words;

@@ -1,6 +1,8 @@
 //! Runs over memory, what they print and how they end; and the first run.
 use hc_program::engine::{RunEnd, run_hotline};
 use std::alloc::{AllocError, Global};
+use std::sync::Wait;
+use std::thread::Threads;
 
 /// One mandatory slave with an output and an input area.
 pub const ONE_SLAVE: &str = r#"[[slave]]
@@ -72,20 +74,33 @@ impl Printed {
 fn has_memory_line(text: &[u8]) -> bool {
     text.windows(18)
         .any(|part| part == b"refused 28 Memory\n".as_slice())
+        || text
+            .windows(21)
+            .any(|part| part == b"chain fault 1 Memory\n".as_slice())
 }
 
 /// Runs an input over memory.
-fn run(alloc: Global, input: &[u8]) -> Result<Printed, AllocError> {
+fn run<R: Threads + Wait + Sync>(
+    rt: &R,
+    alloc: Global,
+    input: &[u8],
+) -> Result<Printed, AllocError> {
     let mut reader: &[u8] = input;
     let mut text = Vec::with_capacity(alloc, ROOM)?;
-    let end = run_hotline(alloc, &mut reader, &mut text);
+    let end = run_hotline(rt, alloc, &mut reader, &mut text);
     Ok(Printed { end, text })
 }
 
 /// Whether an input ends with a status and a text. `AllocError` where a growth was refused and the run
 /// said so; false where it didn't say so.
-pub fn ends_as(alloc: Global, input: &[u8], status: u8, text: &str) -> Result<bool, AllocError> {
-    let run = run(alloc, input)?;
+pub fn ends_as<R: Threads + Wait + Sync>(
+    rt: &R,
+    alloc: Global,
+    input: &[u8],
+    status: u8,
+    text: &str,
+) -> Result<bool, AllocError> {
+    let run = run(rt, alloc, input)?;
     if run.end.starved && run.says_memory() {
         return Err(AllocError);
     }

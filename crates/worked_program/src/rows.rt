@@ -1,7 +1,9 @@
 //! Runs in rows, whose pieces may have marks that are written out.
 use crate::printed::ends_as;
 use std::alloc::{AllocError, Global};
+use std::sync::Wait;
 use std::test::Fail;
+use std::thread::Threads;
 
 /// A run: the pieces of its input, its status, and the pieces of its text. A piece may have marks, which are written out:
 /// `<entries N>`, `<pdos N>` and `<slaves A B T N>` have N bits, `<zeros N>` are N bytes 0, and `<sends A B>` and
@@ -121,17 +123,21 @@ pub fn written(alloc: Global, pieces: &[&str]) -> Result<String, Fail> {
 }
 
 /// Whether a run ends as it is to.
-fn is_run(alloc: Global, run: &Run) -> Result<bool, Fail> {
+fn is_run<R: Threads + Wait + Sync>(rt: &R, alloc: Global, run: &Run) -> Result<bool, Fail> {
     let input = written(alloc, run.0)?;
     let text = written(alloc, run.2)?;
-    Ok(ends_as(alloc, input.as_bytes(), run.1, text.as_str())?)
+    Ok(ends_as(rt, alloc, input.as_bytes(), run.1, text.as_str())?)
 }
 
 /// The number of the first run that doesn't end as it is to, none where all do.
-pub fn first_wrong(alloc: Global, runs: &[Run]) -> Result<Option<usize>, Fail> {
+pub fn first_wrong<R: Threads + Wait + Sync>(
+    rt: &R,
+    alloc: Global,
+    runs: &[Run],
+) -> Result<Option<usize>, Fail> {
     let mut number = 0_usize;
     for run in runs {
-        if !is_run(alloc, run)? {
+        if !is_run(rt, alloc, run)? {
             return Ok(Some(number));
         }
         number = number.saturating_add(1);

@@ -174,6 +174,6 @@ const RUNS: &[Run] = &[
 
 #[test]
 fn commands_print_what_they_ask_for(rt: HostRuntime) -> Result<(), Fail> {
-    assert_eq!(rt; first_wrong(rt.alloc(), RUNS)?, None);
+    assert_eq!(rt; first_wrong(&rt, rt.alloc(), RUNS)?, None);
     Ok(())
 }

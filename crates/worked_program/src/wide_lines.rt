@@ -227,6 +227,6 @@ const RUNS: &[Run] = &[
 
 #[test]
 fn areas_go_from_datagram_to_datagram(rt: HostRuntime) -> Result<(), Fail> {
-    assert_eq!(rt; first_wrong(rt.alloc(), RUNS)?, None);
+    assert_eq!(rt; first_wrong(&rt, rt.alloc(), RUNS)?, None);
     Ok(())
 }

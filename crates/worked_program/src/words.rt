@@ -2,7 +2,9 @@
 use crate::printed::{ONE_SLAVE, ends_as};
 use crate::rows::{Run, first_wrong, written};
 use std::alloc::Global;
+use std::sync::Wait;
 use std::test::Fail;
+use std::thread::Threads;
 
 /// Lines that are no command.
 const NO_COMMANDS: &[&str] = &[
@@ -88,13 +90,53 @@ const NO_COMMANDS: &[&str] = &[
     "move 1001 256 0",
     "move 1001 0 256",
     "move 1001 0 0 0",
+    "scan 0",
+    "scans",
+    "name 1001",
+    "program 1001",
+    "cycle",
+    "cycle x",
+    "cycle 256",
+    "cycle 0 0x0",
+    "cycle 8 8",
+    "cycle 0 1 2 3 4 5 6 7 8",
+    "poke 1001 0x1100",
+    "poke 1001 0x1100 02 03",
+    "poke 65536 0x1100 02",
+    "poke 1001 65536 02",
+    "poke 1001 0x1100 2",
+    "poke 1001 0x1100 0x02",
+    "poke x 0x1100 02",
+    "poke 1001 x 02",
+    "poke 1001 0x3000 02",
+    "poke 1001 0x2fff 0203",
+    "poke 7 0x3000 02",
+    "peek 1001 0x1100",
+    "peek 1001 0x1100 1 1",
+    "peek 65536 0x1100 1",
+    "peek 1001 65536 1",
+    "peek 1001 0x1100 0",
+    "peek 1001 0x1100 1487",
+    "peek 1001 0x1100 x",
+    "peek 1001 0x3000 1",
+    "peek 1001 0x2fff 2",
+    "peek 7 0x2fff 2",
 ];
 
 /// The first of the lines that is a command behind one that is; none where none is.
-fn first_command(alloc: Global) -> Result<Option<&'static str>, Fail> {
+fn first_command<R: Threads + Wait + Sync>(
+    rt: &R,
+    alloc: Global,
+) -> Result<Option<&'static str>, Fail> {
     for line in NO_COMMANDS {
         let input = written(alloc, &["%%\nlayout\n\n", *line])?;
-        if !ends_as(alloc, input.as_bytes(), 2, "epoch 0\nline 4: bad command\n")? {
+        if !ends_as(
+            rt,
+            alloc,
+            input.as_bytes(),
+            2,
+            "epoch 0\nline 4: bad command\n",
+        )? {
             return Ok(Some(*line));
         }
     }
@@ -103,7 +145,7 @@ fn first_command(alloc: Global) -> Result<Option<&'static str>, Fail> {
 
 #[test]
 fn lines_that_are_no_command(rt: HostRuntime) -> Result<(), Fail> {
-    assert_eq!(rt; first_command(rt.alloc())?, None);
+    assert_eq!(rt; first_command(&rt, rt.alloc())?, None);
     Ok(())
 }
 
@@ -242,8 +284,8 @@ const RUNS: &[Run] = &[
 
 #[test]
 fn lines_and_words(rt: HostRuntime) -> Result<(), Fail> {
-    assert_eq!(rt; first_wrong(rt.alloc(), RUNS)?, None);
+    assert_eq!(rt; first_wrong(&rt, rt.alloc(), RUNS)?, None);
     let input = b"# \xff\n%%\nlayout\n";
-    assert!(rt; ends_as(rt.alloc(), input, 3, "project fault 1 NotToml\n")?);
+    assert!(rt; ends_as(&rt, rt.alloc(), input, 3, "project fault 1 NotToml\n")?);
     Ok(())
 }

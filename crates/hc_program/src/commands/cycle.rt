@@ -6,9 +6,8 @@ ghost use Rattle.hc_program.specs.Cycles.{arrivals_text, arrived, back_text, cyc
 ghost use Rattle.hc_program.specs.Sessions.{standing_of};
 ghost use Rattle.hc_program.specs.Stops.{StopsInCycle};
 
-use super::Command;
-use super::arrive;
 use super::send::Together;
+use super::{Command, arrive};
 use crate::frames::LARGEST_FRAME;
 use crate::refusals::tell_refusal;
 use crate::session::Session;
@@ -44,11 +43,7 @@ fn boxed(alloc: Global, core: &Core, frame: &Sending) -> Result<FrameBox, AllocE
 }
 
 /// The same of each of these frames.
-fn all_boxed(
-    alloc: Global,
-    core: &Core,
-    frames: &[Sending],
-) -> Result<Vec<FrameBox>, AllocError>
+fn all_boxed(alloc: Global, core: &Core, frames: &[Sending]) -> Result<Vec<FrameBox>, AllocError>
     requires { All (CanBeFilled core.now.past) frames.now }
     ensures { IfOk result (λ all. all.items ≡ map (sent_text core.now.past) frames.now) }
 {
