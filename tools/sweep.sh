@@ -142,6 +142,29 @@ sweep_program() {
     done
 }
 
+# A run whose frames go along the line prints a front of the text and then the refusal; what a stopped command had done
+# before stands, so that later lines may differ.
+line_ended_well() {
+    if ! has_refused; then
+        cmp -s "$scratch/said" "$text" && [ "$1" -eq "$text_status" ]
+        return
+    fi
+    ended_in_phase "$1" reading && return
+    ended_in_phase "$1" 0 && return
+    front=$(grep -nEx 'refused 28 Memory|chain fault 1 Memory' "$scratch/said" | head -n 1 | cut -d : -f 1)
+    [ "$1" -eq "$text_status" ] && [ -n "$front" ] || return
+    head -n $((front - 1)) "$scratch/said" >"$scratch/front"
+    head -n $((front - 1)) "$text" | cmp -s - "$scratch/front"
+}
+
+# sweep_line MODES LABEL INPUT TEXT STATUS
+sweep_line() {
+    text=$4 text_status=$5
+    for mode in $1; do
+        refuse_each "hotline, $2" line_ended_well "$mode" "$3" "$program"
+    done
+}
+
 # A run of `projectcheck` ends with its whole text, with nothing where its input isn't read, or with want of memory.
 check_ended_well() {
     if ! has_refused; then
@@ -181,6 +204,7 @@ sweep_program "alone lasting" "every command" tools/commands.in tools/commands.o
 sweep_program "alone lasting" "frames" tools/frames.in tools/frames.out 0
 sweep_program "alone lasting" "the tool changer with frames" examples/tool_changer_frames.in examples/tool_changer_frames.out 0
 sweep_program alone "two groups" examples/two_groups.in examples/two_groups.out 0
+sweep_line "alone lasting" "the day of the tool changer" examples/tool_changer_day.in examples/tool_changer_day.out 0
 sweep_check
 echo "$passed passed, $failed failed"
 [ "$failed" -eq 0 ]

@@ -13,3 +13,5 @@ pub mod Proposed
 pub mod Written
 pub mod Together
 pub mod Programming
+pub mod MemoryArguments
+pub mod Cycling

@@ -1,19 +1,25 @@
 -- Register writes along the line, one after another.
-use Rattle.std.proofs.Common.{◌≡◌, ◌≤◌, ◌+◌, ◌-◌, ℕ, zero, suc, Bool, true, false, not, List, [], ◌∷◌, length, refl, sym, ap, ◌∙◌, arith, Some, None, Ok, Err, is_none, eqb}
+use Rattle.std.proofs.Common.{◌≡◌, ◌≤◌, ◌+◌, ◌-◌, ◌++◌, ℕ, zero, suc, Bool, true, false, not, List, [], ◌∷◌, drop, length, take, refl, sym, ap, ◌∙◌, inl, inr, arith, Some, None, Ok, Err, IfOk, OnErr, OnOk, add-one, is_none, eqb}
 use Rattle.std.specs.Prelude.{Option, Result, if◌then◌else◌, nat_lt}
 use Rattle.std.proofs.lemmas.Bool.{eqb-false, ltb-false, not-false}
+use Rattle.std.proofs.lemmas.List.{length-append, length-drop, take_at}
+use Rattle.hc_core.specs.Written.{HoldsWrite}
+use Rattle.hc_events.specs.declared.answer.Answer.TheVariants as answer
 use Rattle.hc_frames.specs.declared.limits.TheConstants.{SETUP_SERIAL}
 use Rattle.hc_frames.specs.declared.reading.faults.FrameFault.{FrameFault}
 use Rattle.hc_records.specs.Lists.{lowest}
 use Rattle.hc_registers.specs.Blocks.{LineBlock}
 use Rattle.hc_events.specs.declared.faults.CoreFault.{CoreFault}
 use Rattle.hc_events.specs.Arrivals.{Arrival, arrival_in}
+use Rattle.hc_events.specs.Calls.{write_into_faults, write_size}
 use Rattle.hc_events.specs.Entries.{Record, Came}
 use Rattle.hc_events.specs.Owed.{owed_blocks}
 use Rattle.hc_events.specs.Points.{next_serial}
-use Rattle.hc_events.specs.Steps.{SendsWrite, entries_after, has_serials, kept_if, with_arrival, with_write, write_faults}
-use Rattle.hc_program.specs.Programs.{Programmed, behind_write, can_write, is_done, one_more, programmed, programmed_within, serials_left, write_back, write_sent, written}
+use Rattle.hc_events.specs.Steps.{Arrives, SendsWrite, answer_to, entries_after, has_serials, kept_if, with_arrival, with_write, write_faults}
+use Rattle.hc_segment.specs.Line.{frame_through, machines_after}
+use Rattle.hc_program.specs.Programs.{Programmed, WritesOnce, behind_write, can_write, is_done, one_more, programmed, programmed_within, says_done, serials_left, write_back, write_frame, write_in, write_sent, written}
 use Rattle.hc_program.specs.Standings.{Standing}
+use Rattle.hc_program.specs.Stops.{AreWritten, StopsInWrite}
 
 none_is : {A : Type 0} (o : Option A) → is_none o ≡ true → o ≡ None
 none_is None e = refl
@@ -126,3 +132,95 @@ falls s next can is =
     let fall = serials-fall s can in
     let same = ap (λ (t : Standing). serials_left t.past) is in
     omega (arith, fall, same)
+
+-- one write: its frame, and what its call leaves
+
+frame-told : (past : Record) (text : List ℕ) → answer_to past SendsWrite ≡ answer.WriteSent text → write_frame past ≡ text
+unfolding write_frame
+frame-told past text is = ap write_in is
+
+text-length : (whole text rest : List ℕ) (size all : ℕ) → whole ≡ text ++ rest → length whole ≡ all → length rest ≡ all - size → size ≤ all → length text ≡ size
+text-length whole text rest size all is has left fits =
+    let both = sym (ap length is ∙ length-append text rest) in
+    omega (arith, both, has, left, fits)
+
+pub frame-is : (past : Record) (old new : List ℕ) (size : ℕ) → HoldsWrite past old new size → length new ≡ length old → size ≤ length old → take size new ≡ write_frame past
+frame-is past old new size holds kept fits =
+    let counts = text-length new holds.text (drop size old) size (length old) holds.holds kept (length-drop size old) fits in
+    ap (take size) holds.holds ∙ take_at holds.text (drop size old) size counts ∙ sym (frame-told past holds.text holds.told)
+
+written-is : (s : Standing) (past : Record) (machines : List (List ℕ)) (frame back : List ℕ) → frame ≡ write_frame s.past → back ≡ frame_through s.machines frame
+    → past ≡ entries_after (write_sent s).past (Arrives back) → machines ≡ machines_after s.machines (frame ∷ []) → record { past = past; machines = machines } ≡ written s
+unfolding written
+written-is s past machines frame back f b p m =
+    let is = b ∙ ap (frame_through s.machines) f in
+    let went = p ∙ ap (λ (bytes : List ℕ). entries_after (write_sent s).past (Arrives bytes)) is in
+    let are = m ∙ ap (λ (bytes : List ℕ). machines_after s.machines (bytes ∷ [])) f in
+    ap (λ (e : Record). record { past = e; machines = machines }) went
+    ∙ ap (λ (all : List (List ℕ)). record { past = entries_after (write_sent s).past (Arrives (write_back s)); machines = all }) are
+
+done-is : (s : Standing) (frame back : List ℕ) (done : Bool) → frame ≡ write_frame s.past → back ≡ frame_through s.machines frame → done ≡ says_done (answer_to (write_sent s).past (Arrives back)) → is_done s ≡ done
+unfolding is_done
+done-is s frame back done f b d =
+    ap (λ (bytes : List ℕ). says_done (answer_to (write_sent s).past (Arrives bytes))) (sym (b ∙ ap (frame_through s.machines) f)) ∙ sym d
+
+once : (s : Standing) (past : Record) (machines : List (List ℕ)) (frame back : List ℕ) (done : Bool) → can_write s.past ≡ true → frame ≡ write_frame s.past → back ≡ frame_through s.machines frame
+    → machines ≡ machines_after s.machines (frame ∷ []) → done ≡ says_done (answer_to (write_sent s).past (Arrives back)) → past ≡ entries_after (write_sent s).past (Arrives back)
+    → WritesOnce s done (record { past = past; machines = machines })
+once s past machines frame back true can f b m d p = (can, done-is s frame back true f b d, written-is s past machines frame back f b p m)
+once s past machines frame back false can f b m d p = inr (can, done-is s frame back false f b d, written-is s past machines frame back f b p m)
+
+-- the same of what was answered
+pub once-ok : {E : Type 0} (result : Result Bool E) (s : Standing) (past : Record) (machines : List (List ℕ)) (frame back : List ℕ) → can_write s.past ≡ true → frame ≡ write_frame s.past
+    → back ≡ frame_through s.machines frame → machines ≡ machines_after s.machines (frame ∷ []) → IfOk result (λ done. done ≡ says_done (answer_to (write_sent s).past (Arrives back)))
+    → OnOk result (past ≡ entries_after (write_sent s).past (Arrives back)) → IfOk result (λ done. WritesOnce s done (record { past = past; machines = machines }))
+once-ok (Ok done) s past machines frame back can f b m d p = once s past machines frame back done can f b m d p
+once-ok (Err stop) s past machines frame back can f b m d p = tt
+
+pub stops-err : {E : Type 0} (result : Result Bool E) (s : Standing) (past : Record) (machines : List (List ℕ)) (frame : List ℕ) → frame ≡ write_frame s.past → machines ≡ machines_after s.machines (frame ∷ [])
+    → OnErr result (past ≡ (write_sent s).past) → OnErr result (StopsInWrite s (record { past = past; machines = machines }))
+stops-err (Ok done) s past machines frame f m p = tt
+stops-err (Err stop) s past machines frame f m p =
+    let are = m ∙ ap (λ (bytes : List ℕ). machines_after s.machines (bytes ∷ [])) f in
+    inr (inr (ap (λ (e : Record). record { past = e; machines = machines }) p ∙ ap (λ (all : List (List ℕ)). record { past = (write_sent s).past; machines = all }) are))
+
+-- a write that wasn't sent
+pub cannot : (past : Record) (fault : CoreFault) → lowest (write_faults past (owed_blocks past)) ≡ Some fault → can_write past ≡ false
+cannot past fault refused = ap is_none refused
+
+pub none-accepted : (past : Record) → lowest (write_faults past (owed_blocks past)) ≡ None → can_write past ≡ true
+none-accepted past none = ap is_none none
+
+-- a write that is accepted fits
+
+third : {F : Type 0} (a b c : Bool) (x y z : F) → lowest ((a, x) ∷ (b, y) ∷ (c, z) ∷ []) ≡ None → c ≡ false
+third true b c x y z e = cc
+third false true c x y z e = cc
+third false false true x y z e = cc
+third false false false x y z e = refl
+
+pub write-fits : (past : Record) (bytes size : ℕ) → lowest (write_into_faults past bytes) ≡ None → size ≡ write_size (owed_blocks past) → size ≤ bytes
+write-fits past bytes size none is =
+    let needed = write_size (owed_blocks past) in
+    let fits = ltb-false bytes needed (third (eqb (length (owed_blocks past)) 0) (not (has_serials past 1)) (nat_lt bytes needed) _ _ _ none) in
+    omega (arith, is, fits)
+
+-- what a write that was done says, and one that wasn't
+
+pub done-so : (s next : Standing) (done : Bool) → done ≡ true → WritesOnce s done next → (can_write s.past ≡ true) × (is_done s ≡ true) × (next ≡ written s)
+done-so s next true e one = one
+done-so s next false e one = cc
+
+pub ended-so : (count : ℕ) (s next : Standing) (done : Bool) (all : Programmed) → done ≡ false → WritesOnce s done next → plus count (programmed s) ≡ all → all ≡ record { standing = next; written = count }
+ended-so count s next true all e one whole = cc
+ended-so count s next false all e (inl (can, is)) whole = none-sent count s next all can is whole
+ended-so count s next false all e (inr (can, not_done, is)) whole = missed count s next all can not_done is whole
+
+pub one-written : (count : ℕ) (first s next : Standing) → AreWritten count first s → can_write s.past ≡ true → is_done s ≡ true → next ≡ written s → AreWritten (count + 1) first next
+one-written count first s next are can done is = rw add-one (s, are, can, done, is)
+
+pub few-first : (n : ℕ) → 0 + (SETUP_SERIAL - n) ≤ SETUP_SERIAL
+few-first n = omega arith
+
+pub counted : (count : ℕ) (s next : Standing) → can_write s.past ≡ true → next ≡ written s → count + serials_left s.past ≤ SETUP_SERIAL → count + 1 ≤ SETUP_SERIAL
+counted count s next can is within = let less = fewer count s next can is within in omega (arith, less)

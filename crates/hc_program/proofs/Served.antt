@@ -21,7 +21,9 @@ use Rattle.hc_events.specs.Points.{next_serial, state_of}
 use Rattle.hc_events.specs.Steps.{Step, Arrives, Edits, answer_to, edit_refused, entries_after, kept_if, outcome_for, told_of, told_of_arrival, told_of_block, told_of_edit, unless, with_arrival}
 use Rattle.hc_records.specs.Edits.{state_after}
 use Rattle.hc_records.specs.Line.{State}
+use Rattle.hc_line.specs.Machines.{machines_behind_edit}
 use Rattle.hc_program.specs.Answers.{answer_text, told}
+use Rattle.hc_program.specs.Standings.{Standing, edited, edited_unless}
 
 -- an answer that isn't want of memory is the event's
 pub answered : (past next : Record) (step : Step) (given : Answer) → MayAnswer past step given next → given ≢ answer.Refused Memory → IsAnswered past step given next
@@ -56,6 +58,38 @@ unless_stays (Some other) given fault past next plain e = refl
 pub edit_stays : (past : Record) (edit : Edit) (fault : CoreFault) → answer_to past (Edits edit) ≡ answer.Refused fault → entries_after past (Edits edit) ≡ past
 edit_stays past edit fault e =
     unless_stays (edit_refused past edit) (told_of_edit (state_of past) (state_after (state_of past) edit)) fault past (Edited edit ∷ past) refl e
+
+-- where an edit leaves the run
+
+accepted : (found : Option CoreFault) (given : Answer) (epoch recut moved : ℕ) → unless found given ≡ answer.Edited epoch recut moved → found ≡ None
+accepted None given epoch recut moved e = refl
+accepted (Some fault) given epoch recut moved e = cc
+
+pub edit_accepted : (past next : Record) (edit : Edit) (epoch recut moved : ℕ) → MayAnswer past (Edits edit) (answer.Edited epoch recut moved) next → edit_refused past edit ≡ None
+edit_accepted past next edit epoch recut moved may =
+    accepted (edit_refused past edit) (told_of_edit (state_of past) (state_after (state_of past) edit)) epoch recut moved
+    (sym (answered past next (Edits edit) (answer.Edited epoch recut moved) may (λ e. cc)).answer)
+
+pub edited_to : (s : Standing) (next : Record) (machines : List (List ℕ)) (edit : Edit) (epoch recut moved : ℕ) → MayAnswer s.past (Edits edit) (answer.Edited epoch recut moved) next
+    → machines ≡ machines_behind_edit (state_of s.past).groups edit s.machines → record { past = next; machines = machines } ≡ edited s edit
+edited_to s next machines edit epoch recut moved may are =
+    let none = edit_accepted s.past next edit epoch recut moved may in
+    let went : next ≡ Edited edit ∷ s.past = left_as s.past next (Edits edit) (answer.Edited epoch recut moved) may (λ e. cc) ∙ ap (λ (found : Option CoreFault). kept_if found s.past (Edited edit ∷ s.past)) none in
+    ap (λ (past : Record). record { past = past; machines = machines }) went
+    ∙ ap (λ (all : List (List ℕ)). record { past = Edited edit ∷ s.past; machines = all }) are
+    ∙ ap (λ (found : Option CoreFault). edited_unless found s edit) (sym none)
+
+refused_by : (found : Option CoreFault) (given : Answer) (fault : CoreFault) (s : Standing) (edit : Edit) → is_refusal given ≡ false → unless found given ≡ answer.Refused fault → edited_unless found s edit ≡ s
+refused_by None given fault s edit plain e = let is : is_refusal given ≡ true = ap is_refusal e in cc
+refused_by (Some other) given fault s edit plain e = refl
+
+pub edited_same : (s : Standing) (next : Record) (edit : Edit) (fault : CoreFault) → fault ≢ Memory → MayAnswer s.past (Edits edit) (answer.Refused fault) next
+    → record { past = next; machines = s.machines } ≡ edited s edit
+edited_same s next edit fault other may =
+    let is = answered s.past next (Edits edit) (answer.Refused fault) may (other_fault fault other) in
+    let went : next ≡ s.past = refused_stays s.past next (Edits edit) fault (edit_stays s.past edit fault) may in
+    ap (λ (past : Record). record { past = past; machines = s.machines }) went
+    ∙ sym (refused_by (edit_refused s.past edit) (told_of_edit (state_of s.past) (state_after (state_of s.past) edit)) fault s edit refl (sym is.answer))
 
 -- an arrival that can be read is never refused
 

@@ -146,10 +146,10 @@ leads_done true old new All s lines starved none leads =
 leads_done false old new All s lines starved none leads = cc
 
 -- a project that opens
-pub starved_lines : (old new : Option (List ℕ)) (status : ℕ) (input : List ℕ) (past : Record) (lines : List Line) → length input ≤ MOST_INPUT → opening_of (project_text (lines_of input)) ≡ Ok past
-    → lines ≡ command_lines (lines_of input) → EndsAsOne old new status (StarvedRun (opened_standing past) lines) → EndsAsOne old new status (StarvedOutcome input)
-starved_lines old new status input past lines within opens same (all, starved, end) =
-    (all, inr (within, inr (inr (past, opens, subst (λ l. StarvedRun (opened_standing past) l all) same starved))), end)
+pub starved_lines : (old new : Option (List ℕ)) (status : ℕ) (input : List ℕ) (past : Record) (s : Standing) (lines : List Line) → length input ≤ MOST_INPUT → opening_of (project_text (lines_of input)) ≡ Ok past
+    → lines ≡ command_lines (lines_of input) → s ≡ opened_standing past → EndsAsOne old new status (StarvedRun s lines) → EndsAsOne old new status (StarvedOutcome input)
+starved_lines old new status input past s lines within opens same is (all, starved, end) =
+    (all, inr (within, inr (inr (past, opens, subst (λ l. StarvedRun (opened_standing past) l all) same (subst (λ (t : Standing). StarvedRun t lines all) is starved)))), end)
 
 behind_project : (project : Result (List Group) ProjectFault) (task : ℕ) → opened_project project ≡ Err (TooManyDatagrams task) → IsOk project
 behind_project (Ok groups) task e = refl

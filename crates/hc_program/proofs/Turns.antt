@@ -1,5 +1,5 @@
 -- One turn of a run: what is written, and what is left.
-use Rattle.std.proofs.Common.{◌≡◌, ℕ, ◌+◌, List, [], ◌∷◌, ◌++◌, length, take, drop, refl, sym, ◌∙◌, ap, subst, append_assoc, append-nil, take-append-drop, Some, Bool, true, false, cond}
+use Rattle.std.proofs.Common.{◌≡◌, ℕ, ◌+◌, List, [], ◌∷◌, ◌++◌, length, take, drop, refl, sym, ◌∙◌, ap, subst, append_assoc, append-nil, take-append-drop, Some, None, Bool, true, false, cond}
 use Rattle.std.specs.Prelude.{Option}
 use Rattle.std.specs.Io.KnownBytes.{Appends}
 use Rattle.std.proofs.KnownBytes.{Appends-trans, Appends-nil}
@@ -9,7 +9,7 @@ use Rattle.hc_text.specs.Cutting.{CutsLine, lines_after}
 use Rattle.hc_program.specs.Runs.{Outcome, Reply, behind, reply_to, run}
 use Rattle.hc_program.specs.Standings.{Standing}
 use Rattle.hc_program.specs.Text.{EndsAs}
-use Rattle.hc_program.specs.Turns.{Continues, Ends, GoesOn}
+use Rattle.hc_program.specs.Turns.{Continues, Ends, GoesOn, Takes, end_behind}
 
 -- the first line's reply, and the rest of the run
 run_line : (s : Standing) (line : Line) (lines : List Line)
@@ -103,3 +103,27 @@ done old new left all c none =
 -- a text of which a front was written
 pub ends_broken : (old new : Option (List ℕ)) (all : Outcome) → (n : ℕ) × Appends old new (take n all.text) → EndsAs old new 4 all
 ends_broken old new all front = record { whole = λ not_four. absurd (not_four refl); front = front }
+
+-- a reply was written, or a front of it
+
+pub behind_whole : (old new : Option (List ℕ)) (text : List ℕ) (goes_on : Bool) (end : Option ℕ) (next : Standing) → end ≡ end_behind goes_on → Appends old new text
+    → Takes old new next end (record { text = text; standing = next; goes_on = goes_on })
+behind_whole old new text true end next is all =
+    subst (λ (e : Option ℕ). Takes old new next e (record { text = text; standing = next; goes_on = true })) (sym is) (record { written = all; kept = refl; on = refl })
+behind_whole old new text false end next is all =
+    subst (λ (e : Option ℕ). Takes old new next e (record { text = text; standing = next; goes_on = false })) (sym is)
+    (record { whole = λ not_four. (all, refl, refl); front = front_of old new text [] text (append-nil text) all })
+
+pub behind_broken : (old new : Option (List ℕ)) (text : List ℕ) (goes_on : Bool) (next : Standing) → (n : ℕ) × Appends old new (take n text)
+    → Ends old new 4 (record { text = text; standing = next; goes_on = goes_on })
+behind_broken old new text goes_on next front = record { whole = λ not_four. absurd (not_four refl); front = front }
+
+-- so it is of the reply that was meant
+pub meant : (old new : Option (List ℕ)) (text : List ℕ) (goes_on : Bool) (end : Option ℕ) (next : Standing) (reply : Reply)
+    → ((s : Standing) → Takes old new s end (record { text = text; standing = s; goes_on = goes_on })) → text ≡ reply.text → goes_on ≡ reply.goes_on → next ≡ reply.standing → Takes old new next end reply
+meant old new text goes_on end next reply takes same on kept =
+    let is : record { text = text; standing = next; goes_on = goes_on } ≡ reply =
+    ap (λ (t : List ℕ). record { text = t; standing = next; goes_on = goes_on }) same
+    ∙ ap (λ (s : Standing). record { text = reply.text; standing = s; goes_on = goes_on }) kept
+    ∙ ap (λ (b : Bool). record { text = reply.text; standing = reply.standing; goes_on = b }) on in
+    subst (Takes old new next end) is (takes next)

@@ -1,5 +1,5 @@
 -- One turn of a run: a line is answered, and its reply is written.
-use Rattle.std.specs.Prelude.{◌≡◌, ◌≢◌, ℕ, true, false, List, ◌++◌, take, Option, Some, None}
+use Rattle.std.specs.Prelude.{◌≡◌, ◌≢◌, ℕ, Bool, true, false, List, ◌++◌, take, Option, Some, None}
 use Rattle.std.specs.Io.KnownBytes.{Appends}
 use Rattle.hc_program.specs.Runs.{Outcome, Reply}
 use Rattle.hc_program.specs.Standings.{Standing}
@@ -19,6 +19,11 @@ pub record Ends (old new : Option (List ℕ)) (status : ℕ) (reply : Reply) : T
 abbrev pub Takes : Option (List ℕ) → Option (List ℕ) → Standing → Option ℕ → Reply → Type 0
 Takes old new next None reply = GoesOn old new next reply
 Takes old new next (Some status) reply = Ends old new status reply
+
+-- where a reply was written, the exit status if the run ends there
+abbrev pub end_behind : Bool → Option ℕ
+end_behind true = None
+end_behind false = Some 2
 
 -- some bytes were written, and with those that are left to write they are all
 pub record Writes (old new : Option (List ℕ)) (left all : List ℕ) : Type 0 where

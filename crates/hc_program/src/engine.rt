@@ -9,7 +9,7 @@ ghost use Rattle.hc_program.specs.Sessions.{standing_of};
 ghost use Rattle.hc_program.specs.Standings.{Standing};
 ghost use Rattle.hc_program.specs.Starved.{EndsAsOne, StarvedOutcome, StarvedRun, Stops};
 ghost use Rattle.hc_program.specs.Text.{EndsAs, outcome_of, unopened};
-ghost use Rattle.hc_program.specs.Turns.{Takes};
+ghost use Rattle.hc_program.specs.Turns.{Takes, end_behind};
 ghost use Rattle.hc_text.specs.declared.input.TheConstants.{MOST_INPUT};
 
 use crate::opening::{Unopened, memory_text, open_session, push_unopened};
@@ -60,19 +60,23 @@ fn write_reply<W: Write>(text: &[u8], goes_on: bool, starved: bool, output: &mut
     ensures takes { (next : Standing) → Takes (W.contents output.old) (W.contents output.new) next result.end (record { text = text.now; standing = next; goes_on = goes_on }) }
     ensures starved { result.starved ≡ starved }
 {
-    if write_text(output, text).is_err() {
-        return Turn {
+    match write_text(output, text) {
+        Ok(()) => Turn {
+            end: end_behind(goes_on),
+            starved,
+        },
+        Err(_) => Turn {
             end: Some(BROKEN),
             starved,
-        };
+        },
     }
-    if !goes_on {
-        return Turn {
-            end: Some(BAD_COMMAND),
-            starved,
-        };
-    }
-    Turn { end: None, starved }
+}
+
+/// The exit status where the run ends behind a reply that was written.
+fn end_behind(goes_on: bool) -> Option<u8>
+    ensures { result ≡ end_behind goes_on }
+{
+    if goes_on { None } else { Some(BAD_COMMAND) }
 }
 
 /// Answers a line and writes its reply, or why its command was stopped where a growth was refused. The changes that

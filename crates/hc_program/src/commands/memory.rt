@@ -60,23 +60,29 @@ impl Model for Peek {
 fn poke_of(alloc: Global, arguments: &[&[u8]]) -> Result<Option<Poke>, AllocError>
     ensures { IfOk result (λ spelt. spelt ≡ poking_in (map (λ word. word.now) arguments.now)) }
 {
-    let [station, address, bytes] = arguments else {
-        return Ok(None);
-    };
-    let (Some(station), Some(at)) = (double_byte_in(station), double_byte_in(address)) else {
-        return Ok(None);
-    };
-    let Some(bytes) = bytes_in(alloc, bytes)? else {
-        return Ok(None);
-    };
-    if usize::from(at) + bytes.len() > MEMORY_BYTES {
-        return Ok(None);
+    match arguments {
+        [station, address, bytes] => {
+            let (Some(station), Some(at)) = (double_byte_in(station), double_byte_in(address))
+            else {
+                return Ok(None);
+            };
+            let Some(bytes) = bytes_in(alloc, bytes)? else {
+                return Ok(None);
+            };
+            if usize::from(at) + bytes.len() > MEMORY_BYTES {
+                return Ok(None);
+            }
+            Ok(Some(Poke {
+                station,
+                at,
+                bytes: Items::of(bytes),
+            }))
+        }
+        [] => Ok(None),
+        [_] => Ok(None),
+        [_, _] => Ok(None),
+        [_, _, _, _, ..] => Ok(None),
     }
-    Ok(Some(Poke {
-        station,
-        at,
-        bytes: Items::of(bytes),
-    }))
 }
 
 /// Its arguments are a station address, an address and bytes, two hexadecimal digits each; none where one is another, or
@@ -94,15 +100,23 @@ pub fn parse_poke(alloc: Global, arguments: &[&[u8]]) -> Result<Option<Command>,
 fn peek_of(arguments: &[&[u8]]) -> Option<Peek>
     ensures { result ≡ peeking_in (map (λ word. word.now) arguments.now) }
 {
-    let [station, address, count] = arguments else {
-        return None;
-    };
-    let (station, at) = (double_byte_in(station)?, double_byte_in(address)?);
-    let count = double_byte_in(count)?;
-    if count < 1 || count > MAX_DATA || usize::from(at) + usize::from(count) > MEMORY_BYTES {
-        return None;
+    match arguments {
+        [station, address, count] => {
+            let (station, at) = (double_byte_in(station)?, double_byte_in(address)?);
+            let count = double_byte_in(count)?;
+            if count < 1
+                || count > MAX_DATA
+                || usize::from(at) + usize::from(count) > MEMORY_BYTES
+            {
+                return None;
+            }
+            Some(Peek { station, at, count })
+        }
+        [] => None,
+        [_] => None,
+        [_, _] => None,
+        [_, _, _, _, ..] => None,
     }
-    Some(Peek { station, at, count })
 }
 
 /// Its arguments are a station address, an address and how many bytes, 1 to 1,486; none where one is another, or where

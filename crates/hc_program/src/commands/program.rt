@@ -83,11 +83,13 @@ fn write_once<R: Threads + Wait + Sync>(
     ensures stops { OnErr result (StopsInWrite (standing_of session.old) (standing_of session.new)) }
 {
     let mut frame = [0u8; WRITE_FRAME];
-    let Ok(size) = session.core.write_into(&mut frame) else {
-        return Ok(false);
-    };
-    let back = pass(rt, alloc, &mut session.line, &frame[..size])?;
-    take_in(alloc, back.bytes(), &mut session.core)
+    match session.core.write_into(&mut frame) {
+        Ok(size) => {
+            let back = pass(rt, alloc, &mut session.line, &frame[..size])?;
+            take_in(alloc, back.bytes(), &mut session.core)
+        }
+        Err(_) => Ok(false),
+    }
 }
 
 /// Writes owed blocks along the line until nothing is owed or a write isn't done, and answers how many were done.

@@ -1,10 +1,11 @@
 use Rattle.std.proofs.Common.{subst, sym, ap, ◌∙◌}
 use Rattle.std.specs.Prelude.{IsOk}
+use Rattle.std.specs.Option.{option_copied}
+use Rattle.hc_text.specs.Cutting.{lines_after}
 use Rattle.hc_project.specs.Text.{project_in}
 use Rattle.hc_program.specs.Opening.{opening_of}
 use Rattle.hc_program.specs.Runs.{run}
 use Rattle.hc_program.specs.Standings.{Standing, opened_standing}
-use Rattle.hc_program.specs.Starved.{EndsAsOne, StarvedRun}
 use Rattle.hc_program.specs.Text.{EndsAs}
 use Rattle.hc_program.proofs.Outcomes.{opened_outcome, unopened_outcome}
 use Rattle.hc_program.proofs.Starved.{starved_lines, starved_unopened}
@@ -17,15 +18,14 @@ returns-in-Ok-clause-unstarved g c unstarved =
     let all =
     opened_outcome c.args.input.now past c.requires opens
     ∙ ap (run (opened_standing past)) (sym c.split_sections-sections.ensures.commands)
-    ∙ ap (λ (s : Standing). run s _) (sym c.in-Ok.ensures.opened.1) in
+    ∙ ap (λ (s : Standing). run s (lines_after c.split_sections-sections.result.first (option_copied c.split_sections-sections.result.commands))) (sym c.in-Ok.ensures.opened.1) in
     subst (EndsAs _ _ _) (sym all) (c.run_commands.ensures.unstarved unstarved)
 
 pub returns-in-Ok-clause-starved : goal.returns-in-Ok-clause-starved
 returns-in-Ok-clause-starved g c starved =
     let past = c.in-Ok.session.core.past in
     let opens = ap opening_of (sym c.split_sections-sections.ensures.project) ∙ c.in-Ok.ensures.opened.0 in
-    starved_lines _ _ _ c.args.input.now past _ c.requires opens c.split_sections-sections.ensures.commands
-    (subst (λ (s : Standing). EndsAsOne _ _ _ (StarvedRun s _)) c.in-Ok.ensures.opened.1 (c.run_commands.ensures.starved starved))
+    starved_lines _ _ _ c.args.input.now past _ _ c.requires opens c.split_sections-sections.ensures.commands c.in-Ok.ensures.opened.1 (c.run_commands.ensures.starved starved)
 
 pub returns-in-Err-clause-unstarved : goal.returns-in-Err-clause-unstarved
 returns-in-Err-clause-unstarved g c unstarved =

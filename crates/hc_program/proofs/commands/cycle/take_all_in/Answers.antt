@@ -1,0 +1,24 @@
+use Rattle.std.proofs.Common.{List, ℕ, ◌++◌, ◌∙◌, ap, string_bytes}
+use Rattle.hc_events.specs.Steps.{Arrives, entries_after}
+use Rattle.hc_program.specs.Answers.{told}
+use Rattle.hc_program.proofs.Cycling.{next_left, next_reached, next_told}
+use Rattle.hc_program.proofs.Grown.{any_err}
+use Rattle.hc_program.proofs.commands.cycle.take_all_in.Goals as goal
+
+pub returns-in_err-reply-clause-stops : goal.returns-in_err-reply-clause-stops
+returns-in_err-reply-clause-stops c = any_err c.from_residual.result _ (c.loop-frame.frame-index, c.in_err-reply.ensures.unchanged ∙ c.loop-frame.invariant.reached)
+
+pub loop-frame-preserved : goal.loop-frame-preserved
+loop-frame-preserved c =
+    let frames = c.args.frames.now in
+    let i = c.loop-frame.frame-index in
+    let past = c.loop-frame.core.past in
+    let within = c.loop-frame-test.true in
+    let is = c.bytes.ensures.bytes ∙ c.frame-item.is in
+    let grown = c.in_ok-reply.ensures.text ∙ ap (λ (bytes : List ℕ). string_bytes c.loop-frame.out ++ told past (Arrives bytes)) is in
+    let went = c.in_ok-reply.ensures.past ∙ ap (λ (bytes : List ℕ). entries_after past (Arrives bytes)) is in
+    record {
+      text = next_told frames i c.frame-item.result past c.reply.new.core.past _ _ _ within grown went c.loop-frame.invariant.text;
+      rest = next_left frames i c.frame-item.result past c.reply.new.core.past _ within went c.loop-frame.invariant.rest;
+      reached = next_reached frames i c.frame-item.result c.args.core.now.past past c.reply.new.core.past within went c.loop-frame.invariant.reached;
+    }
