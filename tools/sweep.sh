@@ -107,13 +107,18 @@ expect_refusals() {
     done
 }
 
+# What was said, with the line of a refused chain told as any other refusal.
+told_alike() {
+    sed 's/^chain fault 1 Memory$/refused 28 Memory/' "$scratch/said"
+}
+
 # Whether the run ended as one does for which a growth is refused in a phase of it: while the input is read, which prints
 # nothing, while the project is opened, or for a command.
 ended_in_phase() {
     case $2 in
     reading) [ "$1" -eq 4 ] && [ ! -s "$scratch/said" ] ;;
     0) [ "$1" -eq 3 ] && grep -Eqx 'project fault 11 Memory|open fault 2 Memory' "$scratch/said" && [ "$(wc -l <"$scratch/said")" -eq 1 ] ;;
-    *) [ -f "$scratch/$refusals.$2" ] && cmp -s "$scratch/said" "$scratch/$refusals.$2" && [ "$1" -eq "$(cat "$scratch/$refusals.$2.status")" ] ;;
+    *) [ -f "$scratch/$refusals.$2" ] && told_alike | cmp -s - "$scratch/$refusals.$2" && [ "$1" -eq "$(cat "$scratch/$refusals.$2.status")" ] ;;
     esac
 }
 

@@ -1,5 +1,5 @@
 -- Register writes along the line, one after another.
-use Rattle.std.proofs.Common.{◌≡◌, ◌≤◌, ◌+◌, ◌-◌, ◌++◌, ℕ, zero, suc, Bool, true, false, not, List, [], ◌∷◌, drop, length, take, refl, sym, ap, ◌∙◌, inl, inr, arith, Some, None, Ok, Err, IfOk, OnErr, OnOk, add-one, is_none, eqb}
+use Rattle.std.proofs.Common.{◌≡◌, ◌<◌, ◌≤◌, ◌+◌, ◌-◌, ◌++◌, ℕ, zero, suc, Bool, true, false, not, List, [], ◌∷◌, drop, length, take, refl, sym, ap, ◌∙◌, inl, inr, arith, Some, None, Ok, Err, IfOk, OnErr, OnOk, add-one, is_none, eqb}
 use Rattle.std.specs.Prelude.{Option, Result, if◌then◌else◌, nat_lt}
 use Rattle.std.proofs.lemmas.Bool.{eqb-false, ltb-false, not-false}
 use Rattle.std.proofs.lemmas.List.{length-append, length-drop, take_at}
@@ -127,7 +127,7 @@ fewer count s next can is within =
     let same = ap (λ (t : Standing). serials_left t.past) is in
     omega (arith, falls, same)
 
-pub falls : (s next : Standing) → can_write s.past ≡ true → next ≡ written s → serials_left next.past + 1 ≤ serials_left s.past
+pub falls : (s next : Standing) → can_write s.past ≡ true → next ≡ written s → serials_left next.past < serials_left s.past
 falls s next can is =
     let fall = serials-fall s can in
     let same = ap (λ (t : Standing). serials_left t.past) is in
