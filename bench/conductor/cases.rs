@@ -15,6 +15,8 @@ pub struct Case {
     pub name: String,
     pub slaves: usize,
     tasks: u8,
+    // what the proved program is asked for
+    word: &'static str,
 }
 
 impl Case {
@@ -24,8 +26,9 @@ impl Case {
 
     /// The words of the proved program.
     pub fn words(&self) -> Vec<String> {
-        let [tasks, rounds, times] = [self.tasks.into(), ROUNDS, TIMES].map(|number: u32| number.to_string());
-        vec!["cycle".into(), tasks, rounds, times]
+        let times = if self.word == "cycle" { TIMES } else { 2 * TIMES };
+        let [tasks, rounds, times] = [self.tasks.into(), ROUNDS, times].map(|number: u32| number.to_string());
+        vec![self.word.into(), tasks, rounds, times]
     }
 
     pub fn given(&self) -> String {
@@ -56,10 +59,17 @@ pub fn cases() -> Vec<Case> {
     for tasks in [1, 4, 8] {
         for slaves in [64, 2048] {
             let (number, name) = (cases.len(), format!("a cycle of {tasks} tasks"));
-            cases.push(Case { number, name, slaves, tasks });
+            cases.push(Case { number, name, slaves, tasks, word: "cycle" });
         }
     }
     cases
+}
+
+/// Sendings alone, each by the thread that sends and by a worker for each task.
+pub fn sendings() -> Vec<[Case; 2]> {
+    let pairs = [1, 4, 8].into_iter().flat_map(|tasks| [64, 2048].map(|slaves| (tasks, slaves)));
+    let case = |(tasks, slaves), number, word| Case { number, name: format!("a sending of {tasks} tasks"), slaves, tasks, word };
+    pairs.zip((100..).step_by(2)).map(|(pair, number)| [case(pair, number, "send"), case(pair, number + 1, "workers")]).collect()
 }
 
 /// Stops the benchmark where the proved program tells otherwise than the plain one of any two cycles.

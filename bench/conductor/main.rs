@@ -1,4 +1,5 @@
-//! Cycles of a master with its tasks, all in one thread, in `hc_conductor` and in plain Rust: `bench PROGRAM GROWTHS
+//! Cycles of a master with its tasks, all in one thread, in `hc_conductor` and in plain Rust, and sendings alone, by one
+//! thread and by a worker for each task: `bench PROGRAM GROWTHS
 //! SCRATCH`, where the first is the built program `conductor_bench`, the second a library that tells growths of memory in
 //! the place of time, and the last a folder for counts.
 //!
@@ -6,7 +7,9 @@
 //! at sixteen variables, leaves, and posts its outputs. Both are programs that print what their rounds took; this one calls
 //! them in turns, the plain one before the proved one and behind it. First both tell of cycles, which must be the same.
 //!
-//! Words behind the folder: `few` for a short run, `times` for no instructions, any other one for the cycles whose names have it. `plain NUMBER` alone plays a case in plain Rust.
+//! Words behind the folder: `few` for a short run, `times` for no instructions, `often` for 100,000 cycles beside eight
+//! tasks in threads, `workers` for sendings alone, any other one for the cycles whose names have it. `plain NUMBER` alone
+//! plays a case in plain Rust.
 
 mod cases;
 mod line;
@@ -32,8 +35,8 @@ mod ring;
 #[path = "../publish/runs.rs"]
 mod runs;
 
-use cases::{Case, cases, compare_all};
-use runs::{Count, Programs, figures};
+use cases::{Case, cases, compare_all, sendings};
+use runs::{Count, Programs, figures, median};
 
 /// Prints a row.
 fn tell(programs: &Programs, case: &Case, turns: usize, are_counted: bool) {
@@ -50,6 +53,22 @@ fn tell(programs: &Programs, case: &Case, turns: usize, are_counted: bool) {
     );
 }
 
+/// Prints the sendings, by the thread that sends and by workers.
+fn tell_sendings(programs: &Programs, turns: usize) {
+    println!("| Sending | Slaves | ns in one thread | ns by workers |");
+    println!("|---|---|---|---|");
+    for pair in sendings() {
+        let mut times = [vec![], vec![]];
+        for _ in 0..turns {
+            for (case, times) in pair.iter().zip(&mut times) {
+                times.push(programs.proved(case, Count::Time));
+            }
+        }
+        let [alone, workers] = times.map(median);
+        println!("| {} | {} | {alone:.0} | {workers:.0} |", pair[0].name, pair[0].slaves);
+    }
+}
+
 fn main() {
     let words: Vec<String> = std::env::args().skip(1).collect();
     if let [word, number] = words.as_slice()
@@ -61,13 +80,21 @@ fn main() {
         panic!("a program, a library and a folder");
     };
     let programs = Programs::new(program, growths, scratch);
-    let [few, times] = ["few", "times"].map(|name| words.iter().any(|word| word == name));
+    let [few, times, often, workers] = ["few", "times", "often", "workers"].map(|name| words.iter().any(|word| word == name));
+    let turns = if few { 1 } else { 9 };
+    if often {
+        let told = programs.often("", &["10000", "100000"]);
+        return println!("resident KiB at the 10,000th cycle and at the 100,000th, and posts: {told}");
+    }
+    if workers {
+        return tell_sendings(&programs, turns);
+    }
     let are_counted = !times;
     compare_all(&programs, few);
     println!("| Cycle | Slaves | ns | To plain Rust | Growths | Of plain Rust | Instructions, of plain Rust, their ratio |");
     println!("|---|---|---|---|---|---|---|");
     let names: Vec<&String> = words.iter().filter(|word| !["few", "times"].contains(&word.as_str())).collect();
     for case in cases().iter().filter(|case| names.iter().all(|word| case.name.contains(word.as_str()))) {
-        tell(&programs, case, if few { 1 } else { 9 }, are_counted);
+        tell(&programs, case, turns, are_counted);
     }
 }

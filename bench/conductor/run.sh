@@ -22,12 +22,19 @@ take() {
 }
 take hc_project
 take hc_conductor
-echo 'conductor_bench: hc_records hc_project hc_places hc_plan hc_events hc_sendings hc_core hc_publish hc_rings hc_conductor anyhow' \
+echo 'conductor_bench: hc_records hc_project hc_places hc_plan hc_events hc_sendings hc_core hc_publish hc_rings hc_lend hc_conductor anyhow' \
     >> "$scratch/crates.txt"
 cp "$top/HANDLES" "$scratch/"
 for part in "$here"/program/*.sh; do
     sh "$part" "$program"
 done
+# The line that is cycled beside tasks in threads, and what stands of it in the tests.
+tests="$top/crates/worked_conductor"
+for part in src/fates.rt src/lines.rt src/posting.rt src/working.rt proofs/lines proofs/working; do
+    mkdir -p "$program/proofs"
+    cp -r "$tests/$part" "$program/$part"
+done
+find "$program" -type f -exec sed -i 's/Rattle\.worked_conductor/Rattle.conductor_bench/g' {} +
 (cd "$program" && rt run < /dev/null) > "$scratch/program.txt" 2>&1 || { cat "$scratch/program.txt"; exit 1; }
 rustc --edition 2024 -O --crate-type cdylib "$here/../publish/growths.rs" -o "$scratch/growths.so"
 # The program is made for x86-64-v2, so the plain Rust beside it is too.

@@ -19,7 +19,7 @@ use std::sync::Wait;
 const DATA: usize = 26;
 
 /// Room for the frames of eight tasks.
-const ARENA: usize = 8 * 1514;
+pub const ARENA: usize = 8 * 1514;
 
 /// What a master has beside its conductor: the frames that come back, of as many tasks, and room for those that go.
 #[derive(Drop)]
@@ -63,7 +63,7 @@ pub fn write_all(alloc: Global, conductor: &mut Conductor) {
 }
 
 /// The first tasks are sent, 1, 4 or 8.
-fn send(
+pub fn send(
     alloc: Global,
     conductor: &mut Conductor,
     count: u32,

@@ -3,23 +3,31 @@
 set -eu
 mkdir -p "$1/src"
 cat > "$1/src/main.rt" <<'END_OF_CODE'
-//! `conductor_bench WORD NUMBER.. < LINE` plays cycles by `hc_conductor`, all in one thread, and prints what was told or how
-//! long it took. LINE is a project's text, and behind it a row `# variables` and a row for each task: the variables that it
+//! `conductor_bench WORD NUMBER.. < LINE` plays cycles by `hc_conductor`, all in one thread or beside tasks in threads, and
+//! prints what was told or how long it took. LINE is a project's text, and behind it a row `# variables` and a row for each task: the variables that it
 //! looks at.
 #![tactic(auto)]
 
 mod cycle;
+mod fates;
 mod given;
+mod lines;
 mod master;
+mod posting;
 mod rounds;
+mod sendings;
+mod stress;
 mod task;
+mod working;
 
 use crate::given::Given;
+use crate::sendings::Writers;
 use std::env;
 use std::io::Read;
 use std::process::ExitCode;
-use std::rt::Clock;
+use std::rt::{Clock, Files};
 use std::sync::Wait;
+use std::thread::Threads;
 
 /// The word with this number, counted from 0, as a number; 0 where it is none.
 fn number_of(words: &[String], place: usize) -> u32 {
@@ -30,7 +38,12 @@ fn number_of(words: &[String], place: usize) -> u32 {
 }
 
 /// What a word asks, with its numbers.
-fn is_done<R: Wait + Clock + Print + AllocGlobal>(rt: &R, words: &[String], given: &Given) -> bool {
+fn is_done<R: Threads + Wait + Sync + Clock + Print + Files + AllocGlobal>(
+    rt: &R,
+    words: &[String],
+    given: &Given,
+) -> bool {
+    let alloc = rt.alloc();
     let Some(word) = words.get(1) else {
         return true;
     };
@@ -40,8 +53,11 @@ fn is_done<R: Wait + Clock + Print + AllocGlobal>(rt: &R, words: &[String], give
         number_of(words, 4),
     );
     match word.as_str() {
-        "told" => rounds::tell(rt, rt.alloc(), given, first, second),
-        "cycle" => rounds::time_cycles(rt, rt.alloc(), given, first, second, third),
+        "told" => rounds::tell(rt, alloc, given, first, second),
+        "cycle" => rounds::time_cycles(rt, alloc, given, first, second, third),
+        "send" => sendings::time_sendings(rt, alloc, given, Writers::Sender, first, second, third),
+        "workers" => sendings::time_sendings(rt, alloc, given, Writers::Workers, first, second, third),
+        "often" => stress::cycle_often(rt, alloc, first, second),
         _ => false,
     }
 }
