@@ -7,13 +7,14 @@ use Rattle.std.proofs.lemmas.List.{length-map}
 use Rattle.std.proofs.lemmas.List.Sums.{sum_by-cons}
 use Rattle.std.proofs.lemmas.List.Elements.{All-head, All-tail}
 use Rattle.hc_records.specs.declared.edit.Edit.{Edit}
-use Rattle.hc_records.specs.declared.edit.Edit.TheVariants.{Connect, Disconnect, Remap, Move}
+use Rattle.hc_records.specs.declared.edit.Edit.TheVariants.{Connect, Disconnect, Remap, Move, Declare}
 use Rattle.hc_records.specs.declared.records.Slave.{Slave}
 use Rattle.hc_records.specs.declared.records.Declared.{Declared}
 use Rattle.hc_records.specs.Edits.{groups_after, with_area, with_presence, with_slaves}
 use Rattle.hc_records.specs.declared.records.Group.{Group}
 use Rattle.hc_records.specs.Line.{groups_of, line_from, present_slaves}
 use Rattle.hc_records.specs.Project.{lowest_fault}
+use Rattle.hc_records.proofs.lemmas.Declaring.{line-absent}
 use Rattle.hc_records.proofs.lemmas.Limits.{project-inside}
 use Rattle.hc_records.proofs.lemmas.Lists.{AllPairs-head, AllPairs-tail}
 use Rattle.hc_machine.specs.Frames.{frame_after}
@@ -222,6 +223,7 @@ edit-count groups (Remap station area pdos) ms project each =
 edit-count groups (Move station area task) ms project each =
     let total = changed-total (with_area station area (λ a. record a { task = task })) groups in
     omega (arith, total, each, line-total 1 groups, line-total 1 (map (with_slaves (with_area station area (λ a. record a { task = task }))) groups))
+edit-count groups (Declare group) ms project each = each ∙ sym (ap length (line-absent 1 groups group))
 
 -- so has one at its opening
 pub opened-count : (groups : List Declared) → length (opened_machines groups) ≡ length (line_from 1 groups)
