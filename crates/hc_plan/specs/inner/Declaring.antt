@@ -37,8 +37,7 @@ pdos_take groups pdos = list_any (λ pdo. list_any (names_taken groups) pdo.entr
 abbrev pub areas_take : List Declared → List Area → Bool
 areas_take groups areas = list_any (λ area. pdos_take groups area.offered) areas
 
--- the faults of a declared group by what is taken already, and those by the limits: the last ones of `declaring_faults`, in its order
-
+-- the faults of a declared group by what is taken already; those by the limits stand behind them in `declaring_faults`
 abbrev pub taken_faults : List Declared → Group → List (Bool × EditFault)
 taken_faults groups group =
     (list_any (λ declared. declared.group.alias == group.alias) groups, AliasTaken)
