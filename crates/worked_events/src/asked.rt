@@ -5,6 +5,7 @@ use hc_events::answer::{Answer, Outcome};
 use hc_events::event::Event;
 use hc_events::faults::CoreFault;
 use hc_frames::Command;
+use hc_project::read_group;
 use hc_records::edit::Edit;
 use hc_records::items::Items;
 use std::alloc::{AllocError, Global};
@@ -23,6 +24,8 @@ pub enum Asked {
     Disconnect(u16),
     Remap(u16, u8, &'static [u16]),
     Move(u16, u8, u8),
+    /// The group of this text is declared.
+    Declare(&'static str),
     /// A task's post of an epoch.
     Post(u8, u32, &'static [u8]),
     Send(&'static [u8]),
@@ -166,6 +169,10 @@ fn edit_of(alloc: Global, asked: Asked) -> Result<Option<Edit>, AllocError> {
             station,
             area,
             task,
+        },
+        Asked::Declare(text) => match read_group(alloc, text.as_bytes()) {
+            Ok(group) => Edit::Declare(group),
+            Err(_) => return Ok(None),
         },
         _ => return Ok(None),
     };

@@ -9,6 +9,8 @@ mod asked;
 #[cfg(test)]
 mod changed;
 #[cfg(test)]
+mod declared;
+#[cfg(test)]
 mod driven;
 #[cfg(test)]
 mod followed;
