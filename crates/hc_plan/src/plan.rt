@@ -290,8 +290,9 @@ impl Plan {
         }
         let declaration = Declaration::of(alloc, &self.groups, &self.index, &self.cuts, group)?;
         let report = declared_report(alloc, edit, self.groups.as_slice(), self.epoch)?;
+        let was = Snapshot::of(self);
         Ok(PreparedEdit {
-            was: Snapshot::of(self),
+            was,
             report,
             blocks: Vec::new(alloc),
             work: Work::NewGroup(declaration),

@@ -49,7 +49,7 @@ invariant_of-result c =
     let prepared = declared-prepared old c.args.edit.now declaration report c.self.invariant.0 c.self.invariant.1 (ne_eqb old.epoch LAST_EPOCH c.if-self.false)
     (c.requires ∙ ap Declare (sym c.in_ok-declaration.ensures.group)) named ready.free nothing in
     let blocks = subst (λ (bs : List RankedBlock). IsPrepared (prepared_of old (NewGroup declaration) report bs)) (sym c.new.ensures.items) prepared in
-    subst (λ (s : State). IsPrepared (prepared_of s (NewGroup declaration) report c.new.result.items) × CanDeclare s.groups declaration) (c.self.view_is ∙ sym c.of-2.ensures) (blocks, ready)
+    subst (λ (s : State). IsPrepared (prepared_of s (NewGroup declaration) report c.new.result.items) × CanDeclare s.groups declaration) (c.self.view_is ∙ sym c.of-was.ensures) (blocks, ready)
 
 pub returns-clause-prepared : goal.returns-clause-prepared
 returns-clause-prepared c = (invariant_of-result c).0
@@ -62,6 +62,6 @@ returns-clause-edit c =
 
 pub returns-clause-accepted : goal.returns-clause-accepted
 returns-clause-accepted c =
-    ap (λ (s : State). edited s c.args.edit.now) (sym c.of-2.ensures)
-    ∙ ap (edited c.of-2.result.value) (sym (returns-clause-edit c))
+    ap (λ (s : State). edited s c.args.edit.now) (sym c.of-was.ensures)
+    ∙ ap (edited c.of-was.result.value) (sym (returns-clause-edit c))
     ∙ (invariant_of-result c).0.accepted
