@@ -10,8 +10,8 @@ use Rattle.hc_c.specs.declared.numbers.TheConstants.{MEMORY, NO_GROUP}
 use Rattle.hc_c.specs.Edits.{Serves}
 
 -- the text is no group's for this fault, which is told, or memory was wanted; nothing changes
-pub record IsNoGroup (fault : ProjectFault) (old new : Embedded) (number told : ℕ) (before after : Cost) : Type 0 where
-  pub told : number ≢ MEMORY → (number ≡ NO_GROUP) × (told ≡ project_fault_number fault)
+pub record IsNoGroup (fault : ProjectFault) (old new : Embedded) (number cause : ℕ) (before after : Cost) : Type 0 where
+  pub told : number ≢ MEMORY → (number ≡ NO_GROUP) × (cause ≡ project_fault_number fault)
   pub kept : new ≡ old
   pub untold : after ≡ before
 
