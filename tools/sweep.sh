@@ -147,13 +147,12 @@ sweep_program() {
     done
 }
 
-# A run whose frames go along the line prints a front of the text and then the refusal; what a stopped command had done
-# before stands, so that later lines may differ.
+# A run whose frames go along the line prints the whole text, also where a thread isn't made and its segment is run by the
+# caller's; else a front of it and then the refusal. What a stopped command had done before stands, so that later lines
+# may differ.
 line_ended_well() {
-    if ! has_refused; then
-        cmp -s "$scratch/said" "$text" && [ "$1" -eq "$text_status" ]
-        return
-    fi
+    cmp -s "$scratch/said" "$text" && [ "$1" -eq "$text_status" ] && return
+    has_refused || return
     ended_in_phase "$1" reading && return
     ended_in_phase "$1" 0 && return
     front=$(grep -nEx 'refused 28 Memory|chain fault 1 Memory' "$scratch/said" | head -n 1 | cut -d : -f 1)
