@@ -1,9 +1,8 @@
 -- An input that isn't read is told nothing of.
-use Rattle.std.proofs.Common.{◌≡◌, ℕ, List, [], inl, refl, Some, None}
+use Rattle.std.proofs.Common.{ℕ, List, inl, refl, Some, None}
 use Rattle.std.specs.Prelude.{IfSome, Option}
 use Rattle.std.proofs.KnownBytes.{Appends-nil}
 use Rattle.hc_program.specs.Checking.{CheckOutcome, StarvedCheck, unread}
-use Rattle.hc_program.specs.Runs.{Outcome}
 use Rattle.hc_program.specs.Starved.{EndsAsOne}
 use Rattle.hc_program.proofs.Turns.{ends_whole}
 

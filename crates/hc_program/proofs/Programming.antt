@@ -1,7 +1,7 @@
 -- Register writes along the line, one after another.
 use Rattle.std.proofs.Common.{◌≡◌, ◌<◌, ◌≤◌, ◌+◌, ◌-◌, ◌++◌, ℕ, zero, suc, Bool, true, false, not, List, [], ◌∷◌, drop, length, take, refl, sym, ap, ◌∙◌, inl, inr, arith, Some, None, Ok, Err, IfOk, OnErr, OnOk, add-one, is_none, eqb}
 use Rattle.std.specs.Prelude.{Option, Result, if◌then◌else◌, nat_lt}
-use Rattle.std.proofs.lemmas.Bool.{eqb-false, ltb-false, not-false}
+use Rattle.std.proofs.lemmas.Bool.{ltb-false}
 use Rattle.std.proofs.lemmas.List.{length-append, length-drop, take_at}
 use Rattle.hc_core.specs.Written.{HoldsWrite}
 use Rattle.hc_events.specs.declared.answer.Answer.TheVariants as answer
@@ -12,12 +12,12 @@ use Rattle.hc_registers.specs.Blocks.{LineBlock}
 use Rattle.hc_events.specs.declared.faults.CoreFault.{CoreFault}
 use Rattle.hc_events.specs.Arrivals.{Arrival, arrival_in}
 use Rattle.hc_events.specs.Calls.{write_into_faults, write_size}
-use Rattle.hc_events.specs.Entries.{Record, Came}
+use Rattle.hc_events.specs.Entries.{Record}
 use Rattle.hc_events.specs.Owed.{owed_blocks}
 use Rattle.hc_events.specs.Points.{next_serial}
 use Rattle.hc_events.specs.Steps.{Arrives, SendsWrite, answer_to, entries_after, has_serials, kept_if, with_arrival, with_write, write_faults}
 use Rattle.hc_segment.specs.Line.{frame_through, machines_after}
-use Rattle.hc_program.specs.Programs.{Programmed, WritesOnce, behind_write, can_write, is_done, one_more, programmed, programmed_within, says_done, serials_left, write_back, write_frame, write_in, write_sent, written}
+use Rattle.hc_program.specs.Programs.{Programmed, WritesOnce, behind_write, can_write, is_done, programmed, programmed_within, says_done, serials_left, write_back, write_frame, write_in, write_sent, written}
 use Rattle.hc_program.specs.Standings.{Standing}
 use Rattle.hc_program.specs.Stops.{AreWritten, StopsInWrite}
 

@@ -1,5 +1,5 @@
 -- The commands `poke` and `peek`: the memory of a machine of the line.
-use Rattle.std.specs.Prelude.{ℕ, ◌+◌, ◌&&◌, nat_le, nat_lt, Bool, if◌then◌else◌, List, [], ◌∷◌, ◌++◌, length, slice_index_or, slice_range, Option, Some, None, option_and_then, option_map, Result, Ok, Err, codes}
+use Rattle.std.specs.Prelude.{ℕ, ◌+◌, ◌&&◌, nat_le, nat_lt, if◌then◌else◌, List, [], ◌∷◌, ◌++◌, length, slice_index_or, slice_range, Option, Some, None, option_and_then, option_map, Result, Ok, Err, codes}
 use Rattle.hc_records.specs.declared.faults.EditFault.{EditFault}
 use Rattle.hc_frames.specs.declared.limits.TheConstants.{MAX_DATA}
 use Rattle.hc_machine.specs.declared.limits.TheConstants.{MEMORY_BYTES}

@@ -1,11 +1,11 @@
-use Rattle.std.proofs.Common.{◌≡◌, ◌+◌, ℕ, suc, length, ap, subst, ◌∙◌, arith, Some, None}
+use Rattle.std.proofs.Common.{◌≡◌, ◌+◌, ℕ, suc, length, ap, subst, ◌∙◌, arith}
 use Rattle.std.specs.Prelude.{Option}
 use Rattle.std.specs.Option.{option_copied}
 use Rattle.std.proofs.lemmas.Bool.{or_parts}
 use Rattle.hc_text.specs.Cutting.{left_in, lines_after}
 use Rattle.hc_program.specs.Runs.{Reply, reply_to, run}
 use Rattle.hc_program.specs.Sessions.{standing_of}
-use Rattle.hc_program.specs.Starved.{StarvedRun, Stops}
+use Rattle.hc_program.specs.Starved.{StarvedRun}
 use Rattle.hc_program.specs.Turns.{Takes}
 use Rattle.hc_program.proofs.Starved.{leads_all, leads_done, leads_ended, leads_turn}
 use Rattle.hc_program.proofs.Turns.{begins, continues, done, ends, run_cut, run_none}
