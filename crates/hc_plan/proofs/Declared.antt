@@ -1,6 +1,6 @@
 -- A group that is declared leaves the line as it was, so nothing is told of it.
 use Rattle.std.proofs.Common.{◌≡◌, ◌∙◌, ◌||◌, ℕ, ◌+◌, ◌≤◌, arith, length-append, Bool, true, false, Contains, List, [], ◌∷◌, None, Some, Option, length, map, refl, sym, ap, subst}
-use Rattle.std.specs.Prelude.{All, if◌then◌else◌, is_some, not, position}
+use Rattle.std.specs.Prelude.{if◌then◌else◌, is_some, not, position}
 use Rattle.std.specs.List.{list_any, position_from}
 use Rattle.std.specs.Option.{option_map_or}
 use Rattle.std.proofs.lemmas.Bool.{ltb-false, not_from_true}
@@ -26,7 +26,7 @@ use Rattle.hc_records.specs.declared.records.Area.{Area}
 use Rattle.hc_records.specs.declared.records.Pdo.{Pdo}
 use Rattle.hc_records.specs.declared.records.Slave.{Slave}
 use Rattle.hc_records.proofs.lemmas.Declaring.{any-flat, same-recut}
-use Rattle.hc_registers.specs.Blocks.{LineBlock, line_blocks, moved_blocks, same_block}
+use Rattle.hc_registers.specs.Blocks.{line_blocks, moved_blocks, same_block}
 use Rattle.hc_records.specs.Image.{VariablePlace}
 use Rattle.hc_ranks.specs.Blocks.{RankedBlock, moved_ranked}
 use Rattle.hc_ranks.proofs.lemmas.Moved.{ranked-are-moved}
@@ -36,7 +36,7 @@ use Rattle.hc_places.proofs.lemmas.Same.{found-same}
 use Rattle.hc_changes.proofs.lemmas.Moved.{had, none-kept}
 use Rattle.hc_plan.specs.declared.report.Report.{Report}
 use Rattle.hc_plan.specs.inner.Declaring.{AreTrees, TellsNothing}
-use Rattle.hc_plan.specs.Reports.{Tells, name_of}
+use Rattle.hc_plan.specs.Reports.{name_of}
 use Rattle.hc_plan.proofs.Telling.{is-table}
 
 -- no block of a line moves to the same line

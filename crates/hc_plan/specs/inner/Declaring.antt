@@ -20,7 +20,7 @@ use Rattle.hc_cuts.specs.Starts.{Kept}
 use Rattle.hc_index.specs.Room.{IsRoomFor}
 use Rattle.hc_tasks.specs.Areas.{areas_by_rank}
 use Rattle.hc_tasks.specs.Kept.{line_kept}
-use Rattle.hc_tasks.specs.Room.{AreOfFewer, with_absent}
+use Rattle.hc_tasks.specs.Room.{with_absent}
 use Rattle.hc_plan.specs.declared.declaring.Declaration.{Declaration}
 use Rattle.hc_plan.specs.declared.report.Report.{Report}
 use Rattle.hc_plan.specs.Reports.{Tells}

@@ -1,5 +1,4 @@
-use Rattle.std.proofs.Common.{◌≡◌, ◌∙◌, ◌+◌, ◌≤◌, List, None, ap, arith, length, subst, sym}
-use Rattle.hc_records.specs.declared.limits.TheConstants.{MOST_SLAVES}
+use Rattle.std.proofs.Common.{◌≡◌, ◌∙◌, List, None, ap, arith, sym}
 use Rattle.hc_records.specs.declared.records.Declared.{Declared}
 use Rattle.hc_records.specs.declared.records.Group.{Group}
 use Rattle.hc_records.specs.Edits.{declaring_faults}

@@ -1,5 +1,4 @@
-use Rattle.std.proofs.Common.{◌≡◌, ◌∙◌, ap, subst, sym, List, None}
-use Rattle.hc_records.specs.declared.records.Declared.{Declared}
+use Rattle.std.proofs.Common.{subst, sym}
 use Rattle.hc_records.specs.Line.{State}
 use Rattle.hc_plan.specs.declared.work.Work.{Work}
 use Rattle.hc_plan.specs.inner.Declaring.{CanDeclare}

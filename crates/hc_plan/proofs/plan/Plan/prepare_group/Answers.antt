@@ -1,20 +1,18 @@
-use Rattle.std.proofs.Common.{◌≡◌, ◌∙◌, [], List, ap, refl, subst, sym}
-use Rattle.std.specs.Prelude.{Err, Ok}
+use Rattle.std.proofs.Common.{◌≡◌, ◌∙◌, List, ap, subst, sym}
+use Rattle.std.specs.Prelude.{Err}
 use Rattle.std.proofs.lemmas.Bool.{eq-eqb, ne_eqb}
 use Rattle.std.proofs.lemmas.Result.{err_from_is_err_and}
-use Rattle.hc_records.specs.declared.edit.Edit.{Edit}
 use Rattle.hc_records.specs.declared.edit.Edit.TheVariants.{Declare}
 use Rattle.hc_records.specs.declared.faults.EditFault.TheVariants.{EpochsSpent}
 use Rattle.hc_records.specs.declared.limits.TheConstants.{LAST_EPOCH}
 use Rattle.hc_records.specs.declared.records.Declared.{Declared}
-use Rattle.hc_records.specs.Edits.{changed, edited}
+use Rattle.hc_records.specs.Edits.{edited}
 use Rattle.hc_records.specs.Line.{State}
-use Rattle.hc_records.proofs.lemmas.Declaring.{line-absent}
 use Rattle.hc_ranks.specs.Blocks.{RankedBlock}
 use Rattle.hc_plan.specs.declared.work.Work.TheVariants.{NewGroup}
 use Rattle.hc_plan.specs.inner.Declaring.{CanDeclare, TellsNothing}
 use Rattle.hc_plan.specs.inner.Prepared.{prepared_of}
-use Rattle.hc_plan.specs.Prepared.{IsPrepared, PreparedEdit}
+use Rattle.hc_plan.specs.Prepared.{IsPrepared}
 use Rattle.hc_plan.proofs.Editing.{declared-refused, declared-spent}
 use Rattle.hc_plan.proofs.Preparing.{declared-prepared, nothing-named}
 use Rattle.hc_plan.proofs.plan.Plan.prepare_group.Goals as goal
