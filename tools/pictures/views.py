@@ -10,7 +10,10 @@ from pictures.states import State, state_of
 
 EDITED = re.compile(r"epoch (\d+) recut (\d+) moved (\d+)")
 # Commands that only look, send or take what arrives: no register block and no place hangs on them.
-PASSED_OVER = {b"layout", b"regs", b"show", b"place", b"write", b"send", b"arrive", b"read"}
+PASSED_OVER = {
+    *(b"layout", b"regs", b"show", b"place", b"write", b"send", b"arrive", b"read"),
+    *(b"scan", b"name", b"program", b"cycle", b"poke", b"peek"),
+}
 
 
 class Mark(Enum):
