@@ -1,5 +1,5 @@
-use Rattle.std.proofs.Common.{◌≡◌, ◌+◌, ◌∷◌, ◌++◌, ◌∙◌, [], List, ap, append_assoc, drop, map, sym, arith}
-use Rattle.std.proofs.lemmas.List.{drop_more}
+use Rattle.std.proofs.Common.{◌≡◌, ◌+◌, ◌∷◌, ◌++◌, ◌∙◌, [], List, ap, append_assoc, drop, map, sym, arith, append-nil}
+use Rattle.std.proofs.lemmas.List.{drop_more, drop_all}
 use Rattle.hc_records.specs.declared.records.Slave.{Slave}
 use Rattle.hc_records.specs.Line.{members_from}
 use Rattle.hc_index.specs.declared.addresses.Address.{Address}
@@ -23,3 +23,6 @@ loop-slave-preserved c =
           ∙ l.invariant.0,
       omega (arith, l.invariant.1),
     )
+
+pub returns : goal.returns
+returns c = sym (append-nil c.loop-slave.all.items) ∙ rw (drop_all c.loop-slave.slave-index c.args.slaves.now c.loop-slave-test.false) at c.loop-slave.invariant.0

@@ -1,7 +1,7 @@
-use Rattle.std.proofs.Common.{◌≡◌, ℕ, ◌+◌, ◌∷◌, ◌++◌, ◌∙◌, [], List, ap, append_assoc, drop, sym, arith}
+use Rattle.std.proofs.Common.{◌≡◌, ℕ, ◌+◌, ◌∷◌, ◌++◌, ◌∙◌, [], List, ap, append_assoc, drop, sym, arith, append-nil}
 use Rattle.std.specs.Prelude.{map}
 use Rattle.std.specs.List.{enumerate_from}
-use Rattle.std.proofs.lemmas.List.{drop_more}
+use Rattle.std.proofs.lemmas.List.{drop_more, drop_all}
 use Rattle.hc_records.specs.declared.records.Declared.{Declared}
 use Rattle.hc_index.specs.declared.aliases.Alias.{Alias}
 use Rattle.hc_index.specs.Index.{alias_of}
@@ -24,3 +24,6 @@ loop-declared-preserved c =
           ∙ l.invariant.0,
       ap (λ (n : ℕ). n + 1) l.invariant.1,
     )
+
+pub returns : goal.returns
+returns c = sym (append-nil c.loop-declared.all.items) ∙ rw (drop_all c.loop-declared.declared-index c.args.groups.now c.loop-declared-test.false) at c.loop-declared.invariant.0

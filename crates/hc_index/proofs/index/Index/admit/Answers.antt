@@ -161,7 +161,7 @@ returns c can =
           ∙ ap (λ (n : ℕ). old.owners ++ replicate (length group.slaves) n) number;
       fronts =
           ap (map (λ sums. sums.items)) c.add_list.ensures
-          ∙ map-append (λ sums. sums.items) inside.fronts.items (c.room.inside.sums ∷ [])
+          ∙ map-append (λ sums. sums.items) inside.fronts.items (c.room.inside.entry.sums ∷ [])
           ∙ ap (λ (l : List ℕ). old.fronts ++ l ∷ []) sums;
       ranks = c.add_sum.ensures ∙ ap (λ (n : ℕ). old.ranks ++ (slice_index old.ranks (length old.ranks - 1) + n) ∷ []) count;
       slaves = c.add_sum-2.ensures;
