@@ -1,6 +1,6 @@
 use Rattle.std.specs.Prelude.{map}
-use Rattle.std.proofs.Common.{◌≡◌, ℕ, ◌+◌, ◌<◌, List, [], ◌∷◌, ◌++◌, length, get_or, drop, sym, ap, ◌∙◌, append_assoc, arith, if◌then◌else◌}
-use Rattle.std.proofs.lemmas.List.{drop_more}
+use Rattle.std.proofs.Common.{◌≡◌, ℕ, ◌+◌, ◌<◌, List, [], ◌∷◌, ◌++◌, length, get_or, drop, sym, ap, ◌∙◌, append_assoc, arith, if◌then◌else◌, append-nil}
+use Rattle.std.proofs.lemmas.List.{drop_more, drop_all}
 use Rattle.hc_records.specs.declared.records.Area.{Area}
 use Rattle.hc_records.specs.declared.records.Slave.{Slave}
 use Rattle.hc_tasks.specs.Areas.{present_areas}
@@ -28,3 +28,6 @@ loop-slave-preserved c =
     elim c.if-declared.branch [ then-declared w ↦ grind (arith, w.areas-is, w.if-declared, w.as_slice-areas) | else-declared w ↦ grind (arith, w.areas-is, w.if-declared) ] in
     slaves-on (λ slave. if declared.present then slave.areas else []) c.as_slice-slave-items.result.now l.slave-index slave c.if-declared.areas.now l.slaves.items c.push.new.self.items
     (c.args.slaves.now.items ++ present_areas declared) c.loop-slave-test.true c.slave-item.is has c.in_ok-push.ensures.items l.invariant
+
+pub returns : goal.returns
+returns c = sym (append-nil c.loop-slave.slaves.items) ∙ rw (drop_all c.loop-slave.slave-index c.as_slice-slave-items.result.now c.loop-slave-test.false) at c.loop-slave.invariant

@@ -1,6 +1,6 @@
 use Rattle.std.specs.List.{flat_map}
-use Rattle.std.proofs.Common.{◌≡◌, ℕ, ◌+◌, ◌<◌, List, ◌∷◌, ◌++◌, length, get_or, drop, sym, ap, ◌∙◌, append_assoc}
-use Rattle.std.proofs.lemmas.List.{drop_more}
+use Rattle.std.proofs.Common.{◌≡◌, ℕ, ◌+◌, ◌<◌, List, ◌∷◌, ◌++◌, length, get_or, drop, sym, ap, ◌∙◌, append_assoc, append-nil}
+use Rattle.std.proofs.lemmas.List.{drop_more, drop_all}
 use Rattle.hc_records.specs.declared.records.Area.{Area}
 use Rattle.hc_records.specs.declared.records.Declared.{Declared}
 use Rattle.hc_tasks.specs.Areas.{areas_by_rank, present_areas}
@@ -22,3 +22,6 @@ loop-declared-preserved c =
     let l = c.loop-declared in
     groups-on c.args.groups.now l.declared-index c.declared-item.result l.slaves.items c.add_group.new.slaves.items (areas_by_rank c.args.groups.now) c.loop-declared-test.true c.declared-item.is
     c.in_ok-add_group.ensures l.invariant
+
+pub returns : goal.returns
+returns c = sym (append-nil c.loop-declared.slaves.items) ∙ rw (drop_all c.loop-declared.declared-index c.args.groups.now c.loop-declared-test.false) at c.loop-declared.invariant
