@@ -13,6 +13,7 @@ use Rattle.hc_cuts.specs.Starts.{Kept}
 use Rattle.hc_tasks.specs.Areas.{areas_by_rank, list_by}
 use Rattle.hc_tasks.specs.Kept.{IsLine, crowded_from, line_kept}
 use Rattle.hc_tasks.proofs.lemmas.Projects.{line-crowded, project-line}
+use Rattle.hc_places.specs.Opened.{AreOpened}
 use Rattle.hc_places.specs.Table.{Row, TaskTable, by_number, table_of, task_table}
 use Rattle.hc_places.proofs.Founds.{IsTask, kept-task}
 
@@ -23,12 +24,22 @@ is-line groups slaves is none = subst (λ (s : List (List Area)). IsLine s) (sym
 pub same-crowded : (groups : List Declared) (slaves : List (List Area)) → slaves ≡ areas_by_rank groups → crowded_task (line_from 1 groups) ≡ crowded_from 8 0 slaves
 same-crowded groups slaves is = line-crowded groups ∙ ap (λ (s : List (List Area)). crowded_from 8 0 s) (sym is)
 
-pub opened-task : (groups : List Declared) (slaves : List (List Area)) (kept : List Kept) (task : ℕ) (places : List Placed)
-    → slaves ≡ areas_by_rank groups → lowest_fault (groups_of groups) ≡ None → crowded_from 8 0 slaves ≡ None → kept ≡ line_kept slaves → task < 8
-    → ((line : List (List Area)) → kept ≡ line_kept line → places ≡ packed opening (list_by task line)) → IsTask groups task places
-opened-task groups slaves kept task places is none fits stands low told =
-    kept-task groups task places low none (same-crowded groups slaves is ∙ fits)
-    (told (areas_by_rank groups) (stands ∙ ap (λ (s : List (List Area)). line_kept s) is))
+-- the areas by rank, taken out a second time
+abbrev pub are-opened : (groups : List Declared) (slaves again : List (List Area)) (cuts : List Kept) → lowest_fault (groups_of groups) ≡ None
+    → slaves ≡ areas_by_rank groups → again ≡ areas_by_rank groups → crowded_from 8 0 slaves ≡ None → cuts ≡ line_kept slaves → AreOpened again cuts
+are-opened groups slaves again cuts none is same accepted kept = record {
+  groups = groups;
+  project = none;
+  areas = same;
+  accepted = ap (λ (s : List (List Area)). crowded_from 8 0 s) (same ∙ sym is) ∙ accepted;
+  kept = kept ∙ ap (λ (s : List (List Area)). line_kept s) (is ∙ sym same);
+}
+
+pub opened-task : (slaves : List (List Area)) (kept : List Kept) (opened : AreOpened slaves kept) (task : ℕ) (places : List Placed) → task < 8
+    → ((line : List (List Area)) → kept ≡ line_kept line → places ≡ packed opening (list_by task line)) → IsTask opened.groups task places
+opened-task slaves kept opened task places low told =
+    kept-task opened.groups task places low opened.project (same-crowded opened.groups slaves opened.areas ∙ opened.accepted)
+    (told (areas_by_rank opened.groups) (opened.kept ∙ ap (λ (s : List (List Area)). line_kept s) opened.areas))
 
 pub table-made : (line : List Member) (tables : List TaskTable) (rows : List Row) → tables ≡ map (task_table line) tasks → rows ≡ flat_map (task_variables line) tasks
     → record { tasks = tables; variables = by_number rows } ≡ table_of line

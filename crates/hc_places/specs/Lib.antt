@@ -1,6 +1,7 @@
 pub mod Found
 pub mod Layout
 pub mod Loads
+pub mod Opened
 pub mod Ranges
 pub mod Room
 pub mod WorkedLines

@@ -4,6 +4,7 @@ ghost use Rattle.hc_records.specs.Edits.{crowded_task};
 ghost use Rattle.hc_records.specs.Line.{groups_of, line_from};
 ghost use Rattle.hc_records.specs.Project.{lowest_fault};
 ghost use Rattle.hc_places.specs.Layout.{NamesCrowded};
+ghost use Rattle.hc_places.specs.Opened.{AreOpened};
 ghost use Rattle.hc_places.specs.Table.{table_of};
 ghost use Rattle.hc_tasks.specs.Areas.{areas_by_rank};
 ghost use Rattle.hc_tasks.specs.Kept.{line_kept};
@@ -15,9 +16,9 @@ use hc_bitsum::steps::Steps;
 use hc_records::faults::EditFault;
 use hc_records::limits::TASKS;
 use hc_records::records::Declared;
-use hc_tasks::areas::areas_by_rank;
+use hc_tasks::areas::{SlaveAreas, areas_by_rank};
 use hc_tasks::tasks::LineCuts;
-use std::alloc::Global;
+use std::alloc::{AllocError, Global};
 use std::sync::ledger::{Blank, Ledger};
 
 /// A line at its opening: the trees of its tasks, and where its datagrams and its variables stand.
@@ -27,6 +28,26 @@ pub struct OpenedLine {
     pub cuts: LineCuts,
     /// The datagrams and the variables.
     pub places: Places,
+}
+
+/// The table of a line from the areas of its slaves by rank and the tasks that were opened for them. `AllocError`
+/// where a growth was refused.
+fn opened_places(
+    alloc: Global,
+    slaves: &[SlaveAreas],
+    cuts: &LineCuts,
+) -> Result<Places, AllocError>
+    requires { AreOpened slaves.now cuts.now }
+    ensures { (opened : AreOpened slaves.now cuts.now) → IfOk result (λ places. places ≡ table_of (line_from 1 opened.groups)) }
+{
+    let mut tables = Vec::with_capacity(alloc, usize::from(TASKS))?;
+    let mut rows = Vec::new(alloc);
+    for task in 0..TASKS {
+        let places = cuts.places(alloc, task)?;
+        tables.push_reserved(task_table(task, places.as_slice()));
+        add_found(&mut rows, task, slaves, places.as_slice())?;
+    }
+    Places::of(tables, rows)
 }
 
 /// Configures the line of declared groups from nothing: the areas of each datagram are gone over from a
@@ -50,15 +71,6 @@ pub fn open_line<L: Ledger>(
     let mut steps: Steps<L> = Steps::start(blank);
     let slaves = areas_by_rank(alloc, groups)?;
     let cuts = LineCuts::open(alloc, slaves.as_slice(), &mut steps)?;
-    let mut tables = Vec::with_capacity(alloc, usize::from(TASKS))?;
-    let mut rows = Vec::new(alloc);
-    for task in 0..TASKS {
-        let places = cuts.places(alloc, task)?;
-        tables.push_reserved(task_table(task, places.as_slice()));
-        add_found(&mut rows, task, slaves.as_slice(), places.as_slice())?;
-    }
-    Ok(OpenedLine {
-        cuts,
-        places: Places::of(tables, rows)?,
-    })
+    let places = opened_places(alloc, slaves.as_slice(), &cuts)?;
+    Ok(OpenedLine { cuts, places })
 }

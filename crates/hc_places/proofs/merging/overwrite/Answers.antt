@@ -32,3 +32,12 @@ loop-change-preserved c =
 pub returns : goal.returns
 returns c =
     ap (λ (left : List ChangedRow). overwritten left c.loop-change.rows.items) (sym (drop_all c.loop-change.change-index c.args.changed.now c.loop-change-test.false)) ∙ c.loop-change.invariant.is
+
+pub count_from-at-requires-clause-ascends : goal.count_from-at-requires-clause-ascends
+count_from-at-requires-clause-ascends c = subst RowsAscend (sym c.as_slice.ensures.value) c.loop-change.invariant.ascends
+
+pub count_with-front-requires-clause-ascends : goal.count_with-front-requires-clause-ascends
+count_with-front-requires-clause-ascends c = subst RowsAscend (sym c.as_slice-in-loop-change.ensures.value) c.loop-change.invariant.ascends
+
+pub overwrite_row-requires-clause-ascends : goal.overwrite_row-requires-clause-ascends
+overwrite_row-requires-clause-ascends c = c.loop-change.invariant.ascends

@@ -1,9 +1,11 @@
-use Rattle.std.proofs.Common.{◌≡◌, ◌+◌, ◌<◌, ◌++◌, ◌∙◌, ap, sym, length, drop, get_or, arith}
+use Rattle.std.proofs.Common.{◌≡◌, ◌+◌, ◌<◌, ◌++◌, ◌∙◌, ap, sym, length, drop, get_or, arith, ℕ, append-nil, map}
 use Rattle.std.specs.List.{flat_map}
-use Rattle.hc_records.specs.Area.{bits_of, entries_at}
+use Rattle.std.proofs.lemmas.List.{drop_all}
+use Rattle.hc_records.specs.Area.{bits_of, entries_at, assigned_entries}
 use Rattle.hc_places.specs.inner.Parts.{row_at}
 use Rattle.hc_places.proofs.Widths.{entries-bits}
 use Rattle.hc_places.proofs.Entries.{AddsEntries, added-bits, added-rows, bits-append, entries-drop}
+use Rattle.hc_records.specs.Image.{variables_from}
 use Rattle.hc_places.proofs.variables.add_area.Goals as goal
 
 pub loop-index-preserved : goal.loop-index-preserved
@@ -38,3 +40,10 @@ add_entries-requires-clause-inside c =
     let rest = flat_map (entries_at area.offered) (drop (i + 1) area.assigned) in
     let whole = entries-drop area.offered area.assigned i within ∙ ap (λ own. own ++ rest) (sym is) in
     omega (arith, ap bits_of whole, bits-append entries rest, c.loop-index.invariant.bits, c.requires.inside)
+
+pub returns : goal.returns
+returns c =
+    let area = c.args.area.now in
+    let none = drop_all c.loop-index.index-index area.assigned (rw c.as_slice-index-items.ensures at c.loop-index-test.false) in
+    let row = λ (datagram : ℕ). c.args.rows.now.items ++ map (row_at c.args.task datagram area.dir) (variables_from c.args.placed.bit (assigned_entries area)) in
+    sym (append-nil c.loop-index.rows.items) ∙ rw none at c.loop-index.invariant.rows ∙ ap row c.datagram.ensures

@@ -1,6 +1,6 @@
 use Rattle.std.proofs.Common.{◌≡◌, ◌+◌, ◌++◌, ◌∷◌, ◌∙◌, [], ap, append-nil, arith, drop, sym}
 use Rattle.std.specs.Prelude.{map}
-use Rattle.std.proofs.lemmas.List.{drop_more}
+use Rattle.std.proofs.lemmas.List.{drop_more, drop_all}
 use Rattle.hc_records.specs.Area.{Entry}
 use Rattle.hc_records.specs.Image.{variables_from}
 use Rattle.hc_places.specs.inner.Parts.{row_at}
@@ -35,3 +35,9 @@ loop-entry-preserved c =
       rows = added-rows _ _ _ _ _ _ _ _ _ adds l.invariant.rows;
       bits = added-bits _ _ _ _ _ _ _ _ _ adds l.invariant.bits;
     }
+
+pub returns-clause-rows : goal.returns-clause-rows
+returns-clause-rows c = sym (append-nil c.loop-entry.rows.items) ∙ rw (drop_all c.loop-entry.entry-index c.args.entries.now c.loop-entry-test.false) at c.loop-entry.invariant.rows
+
+pub returns-clause-behind : goal.returns-clause-behind
+returns-clause-behind c = omega (arith, rw (drop_all c.loop-entry.entry-index c.args.entries.now c.loop-entry-test.false) at c.loop-entry.invariant.bits)
