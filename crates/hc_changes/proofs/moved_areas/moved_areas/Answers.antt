@@ -1,5 +1,6 @@
 use Rattle.std.proofs.Common.{◌≡◌, ◌++◌, ◌∷◌, [], Option, ap, sym, ◌∙◌, append-nil, if◌then◌else◌, rules}
 use Rattle.std.specs.Prelude.{filter, map}
+use Rattle.std.proofs.lemmas.List.{drop_all}
 use Rattle.hc_changes.specs.MovedAreas.{FormerArea, MovedArea, moved_area_of, moves}
 use Rattle.hc_changes.proofs.Adding.{made-added}
 use Rattle.hc_changes.proofs.lemmas.MovedBlocks.{candidate-stands}
@@ -26,3 +27,9 @@ loop-candidate-preserved c =
           (filter (moves it) (map (moved_area_of it) c.args.found.now)) c.loop-candidate-test.true c.candidate-item.is
           (ap (λ (former : Option FormerArea). record { found = found; former = former }) c.before-in-loop-candidate.ensures.former) c.is_moved.ensures adds l.invariant.moved_areas;
     }
+
+pub returns : goal.returns
+returns c =
+    sym (append-nil c.loop-candidate.moved_areas.items)
+    ∙ rw (drop_all c.loop-candidate.candidate-index c.args.found.now c.loop-candidate-test.false) at c.loop-candidate.invariant.moved_areas
+    ∙ ap (λ found. filter (moves c.args.edited_line.now) (map (moved_area_of c.args.edited_line.now) found)) c.requires.candidates

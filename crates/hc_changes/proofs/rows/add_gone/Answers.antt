@@ -1,5 +1,6 @@
 use Rattle.std.proofs.Common.{◌≡◌, ◌==◌, ℕ, Bool, true, false, not, None, ap, ◌∙◌, sym, append-nil}
 use Rattle.std.specs.List.{list_any}
+use Rattle.std.proofs.lemmas.List.{drop_all}
 use Rattle.hc_places.specs.Swap.{ChangedRow}
 use Rattle.hc_changes.proofs.Adding.{kept-added}
 use Rattle.hc_changes.proofs.rows.add_gone.Goals as goal
@@ -21,3 +22,6 @@ loop-variable-preserved c =
           let failed : is_gone variable ≡ false = told ∙ ap not w.if-not-is_among.false in
           kept-added gone is_gone c.args.before.now i variable false c.loop-variable.rows.items c.if-not-is_among.rows.items _ within c.variable-item.is failed (ap (λ rows. rows.items) w.rows-is ∙ sym (append-nil c.loop-variable.rows.items)) c.loop-variable.invariant
     ]
+
+pub returns : goal.returns
+returns c = sym (append-nil c.loop-variable.rows.items) ∙ rw (drop_all c.loop-variable.variable-index c.args.before.now c.loop-variable-test.false) at c.loop-variable.invariant

@@ -1,4 +1,5 @@
-use Rattle.std.proofs.Common.{◌≡◌, ◌∷◌, ◌++◌, [], Some, append-nil, sym, if◌then◌else◌}
+use Rattle.std.proofs.Common.{◌≡◌, ◌∷◌, ◌++◌, [], Some, append-nil, sym, if◌then◌else◌, ◌∙◌}
+use Rattle.std.proofs.lemmas.List.{drop_all}
 use Rattle.hc_places.specs.Swap.{ChangedRow}
 use Rattle.hc_places.specs.Table.{Row}
 use Rattle.hc_changes.specs.Rows.{is_new_row, moved_rows}
@@ -20,3 +21,6 @@ loop-row-preserved c =
     ] in
     kept-added make (is_new_row old) found l.row-index row c.is_new.result l.rows.items c.if-is_new.rows.items (c.args.rows.now.items ++ moved_rows old found) c.loop-row-test.true c.row-item.is
     (sym c.is_new.ensures) adds l.invariant
+
+pub returns : goal.returns
+returns c = sym (append-nil c.loop-row.rows.items) ∙ rw (drop_all c.loop-row.row-index c.args.found.now c.loop-row-test.false) at c.loop-row.invariant

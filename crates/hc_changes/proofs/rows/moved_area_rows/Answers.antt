@@ -1,4 +1,5 @@
 use Rattle.std.proofs.Common.{◌≡◌, ◌+◌, ◌<◌, ◌≤◌, ◌++◌, ◌∙◌, Some, ap, subst, sym, append-nil, rules}
+use Rattle.std.proofs.lemmas.List.{drop_all}
 use Rattle.hc_records.specs.declared.limits.TheConstants.{MOST_AREA_BITS, TASKS}
 use Rattle.hc_records.specs.declared.records.Area.{Area}
 use Rattle.hc_records.specs.Area.{width}
@@ -54,3 +55,6 @@ loop-moved_area-preserved c =
     ] in
     all-added (λ (m : MovedArea). rows_of m.found) c.args.moved_areas.now l.moved_area-index c.moved_area-item.result l.rows.items c.match-found.rows.items (rows_of_moved_areas c.args.moved_areas.now)
     c.loop-moved_area-test.true c.moved_area-item.is (adds ∙ ap (λ (f : Candidate). l.rows.items ++ rows_of f) (sym same)) l.invariant
+
+pub returns : goal.returns
+returns c = sym (append-nil c.loop-moved_area.rows.items) ∙ rw (drop_all c.loop-moved_area.moved_area-index c.args.moved_areas.now c.loop-moved_area-test.false) at c.loop-moved_area.invariant
