@@ -222,8 +222,8 @@ impl Declaration {
         Ok(Declaration {
             slaves,
             groups: groups.room_for(alloc, 1)?,
-            index: index.room_for(alloc, &group)?,
             wider: widened(alloc, cuts, slaves)?,
+            index: index.room_for(alloc, &group)?,
             group,
         })
     }

@@ -1,3 +1,4 @@
+use Rattle.std.proofs.Common.{◌∙◌}
 use Rattle.hc_plan.proofs.Telling.{all-stand, told-leads, told-once, told-rows}
 use Rattle.hc_plan.proofs.applying.tell.Goals as goal
 
@@ -21,3 +22,11 @@ returns-clause-leads c =
     (told-rows it c.args.places.now c.in_ok-moved_areas.moved_areas.items c.as_slice-moving.result.now c.before-2.result.now c.after.result.now rows c.requires.edit.stands
     c.in_ok-moved_areas.ensures c.as_slice-moving.ensures.value c.before-2.ensures c.after.ensures c.in_ok-rows.ensures)
     c.in_ok-swap.ensures.leads
+
+-- that trees are those of a line is handed on as it was told: a tactic would open the eight tasks
+
+pub moved_areas-requires-clause-trees : goal.moved_areas-requires-clause-trees
+moved_areas-requires-clause-trees c = c.requires.trees
+
+pub moved_areas-requires-clause-candidates : goal.moved_areas-requires-clause-candidates
+moved_areas-requires-clause-candidates c = c.as_slice.ensures.value ∙ c.requires.seen.candidates

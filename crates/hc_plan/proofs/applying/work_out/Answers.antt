@@ -1,5 +1,6 @@
 use Rattle.std.proofs.Common.{◌≡◌, ◌∙◌, length, refl, sym, arith}
 use Rattle.std.proofs.lemmas.Bool.{eq-eqb, ne_eqb}
+use Rattle.std.proofs.lemmas.Result.{err_from_is_err_and}
 use Rattle.hc_records.specs.declared.limits.TheConstants.{LAST_EPOCH}
 use Rattle.hc_tasks.specs.Areas.{areas_by_rank}
 use Rattle.hc_plan.proofs.Turned.{edited_line-lines}
@@ -87,3 +88,13 @@ returns-in_err-blocks-clause-unchanged g c = c.turn_back.ensures ∙ sym c.requi
 
 pub returns-clause-unchanged : goal.returns-clause-unchanged
 returns-clause-unchanged g c = c.turn_back.ensures ∙ sym c.requires.trees
+
+pub returns-in_err-seen-clause-refused : goal.returns-in_err-seen-clause-refused
+returns-in_err-seen-clause-refused g c =
+    let p = err_from_is_err_and c.from_residual.result c.from_residual.ensures.1 in
+    rw (p.1, p.2) (λ other. absurd (other refl))
+
+pub returns-in_err-blocks-clause-refused : goal.returns-in_err-blocks-clause-refused
+returns-in_err-blocks-clause-refused g c =
+    let p = err_from_is_err_and c.from_residual-in_err-blocks.result c.from_residual-in_err-blocks.ensures.1 in
+    rw (p.1, p.2) (λ other. absurd (other refl))

@@ -1,4 +1,5 @@
-use Rattle.std.proofs.Common.{◌≡◌, ◌∙◌, List, None, ap, arith, sym}
+use Rattle.std.proofs.Common.{◌≡◌, ◌∙◌, List, None, ap, arith, sym, refl}
+use Rattle.std.proofs.lemmas.Result.{err_from_is_err_and}
 use Rattle.hc_records.specs.declared.records.Declared.{Declared}
 use Rattle.hc_records.specs.declared.records.Group.{Group}
 use Rattle.hc_records.specs.Edits.{declaring_faults}
@@ -48,3 +49,18 @@ returns-clause-ready c =
       index = c.in_ok-room_for-2.ensures groups c.requires.index;
       trees = own-trees c.args.cuts.now groups _ _ c.requires.cuts c.in_ok-widened.ensures;
     }
+
+pub returns-in_err-room_for-clause-refused : goal.returns-in_err-room_for-clause-refused
+returns-in_err-room_for-clause-refused c =
+    let p = err_from_is_err_and c.from_residual-in_err-room_for.result c.from_residual-in_err-room_for.ensures.1 in
+    rw (p.1, p.2) (λ other. absurd (other refl))
+
+pub returns-in_err-widened-clause-refused : goal.returns-in_err-widened-clause-refused
+returns-in_err-widened-clause-refused c =
+    let p = err_from_is_err_and c.from_residual-in_err-widened.result c.from_residual-in_err-widened.ensures.1 in
+    rw (p.1, p.2) (λ other. absurd (other refl))
+
+pub returns-in_err-room_for-2-clause-refused : goal.returns-in_err-room_for-2-clause-refused
+returns-in_err-room_for-2-clause-refused c =
+    let p = err_from_is_err_and c.from_residual-in_err-room_for-2.result c.from_residual-in_err-room_for-2.ensures.1 in
+    rw (p.1, p.2) (λ other. absurd (other refl))

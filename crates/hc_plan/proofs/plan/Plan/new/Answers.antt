@@ -1,4 +1,5 @@
-use Rattle.std.proofs.Common.{◌≡◌, ◌∙◌, List, None, map, ap, subst}
+use Rattle.std.proofs.Common.{◌≡◌, ◌∙◌, List, None, map, ap, subst, refl}
+use Rattle.std.proofs.lemmas.Result.{err_from_is_err_and}
 use Rattle.hc_records.specs.Edits.{crowded_task}
 use Rattle.hc_records.specs.declared.records.Declared.{Declared}
 use Rattle.hc_records.specs.Line.{line_from, opened_group}
@@ -33,3 +34,13 @@ invariant_of-result c =
       c.in_ok-line.ensures.kept ∙ ap (λ (g : List Declared). line_kept (areas_by_rank g)) groups,
       subst (λ (g : List Declared). IsIndexOf g c.in_ok-index.index) c.as_slice.ensures c.in_ok-index.ensures,
     )
+
+pub returns-in_err-groups-clause-refused : goal.returns-in_err-groups-clause-refused
+returns-in_err-groups-clause-refused c =
+    let p = err_from_is_err_and c.from_residual.result c.from_residual.ensures.1 in
+    rw (p.1, p.2) (λ other. absurd (other refl))
+
+pub returns-in_err-index-clause-refused : goal.returns-in_err-index-clause-refused
+returns-in_err-index-clause-refused c =
+    let p = err_from_is_err_and c.from_residual-in_err-index.result c.from_residual-in_err-index.ensures.1 in
+    rw (p.1, p.2) (λ other. absurd (other refl))

@@ -1,4 +1,4 @@
-use Rattle.std.proofs.Common.{◌≡◌, ◌∙◌, List, None, Some, ap, sym, subst}
+use Rattle.std.proofs.Common.{◌≡◌, ◌∙◌, List, None, Some, ap, sym, subst, refl}
 use Rattle.std.specs.Prelude.{Err}
 use Rattle.std.proofs.lemmas.Option.{MatchOption-from_none}
 use Rattle.std.proofs.lemmas.Result.{err_from_is_err_and}
@@ -121,3 +121,25 @@ returns-in_err-worked-clause-unchanged c = c.self.view_is
 
 pub returns-clause-unchanged : goal.returns-clause-unchanged
 returns-clause-unchanged c = c.self.view_is
+
+pub returns-in_err-slaves-clause-own : goal.returns-in_err-slaves-clause-own
+returns-in_err-slaves-clause-own c =
+    let edit = c.args.edit.now in
+    let none = judged c.as_slice.result.now c.self.inside.groups edit None c.as_slice.ensures (sym c.in_ok-change.ensures.accepted) in
+    MatchOption-from_none (own_fault c.args.self.now.groups edit) _ (ap (λ (s : State). own_fault s.groups edit) (sym c.self.view_is) ∙ none)
+
+pub returns-in_err-slaves-clause-refused : goal.returns-in_err-slaves-clause-refused
+returns-in_err-slaves-clause-refused c =
+    let p = err_from_is_err_and c.from_residual-in_err-slaves.result c.from_residual-in_err-slaves.ensures.1 in
+    rw (p.1, p.2) (λ other. absurd (other refl))
+
+pub returns-in_err-room-clause-own : goal.returns-in_err-room-clause-own
+returns-in_err-room-clause-own c =
+    let edit = c.args.edit.now in
+    let none = judged c.as_slice.result.now c.self.inside.groups edit None c.as_slice.ensures (sym c.in_ok-change.ensures.accepted) in
+    MatchOption-from_none (own_fault c.args.self.now.groups edit) _ (ap (λ (s : State). own_fault s.groups edit) (sym c.self.view_is) ∙ none)
+
+pub returns-in_err-room-clause-refused : goal.returns-in_err-room-clause-refused
+returns-in_err-room-clause-refused c =
+    let p = err_from_is_err_and c.from_residual-in_err-room.result c.from_residual-in_err-room.ensures.1 in
+    rw (p.1, p.2) (λ other. absurd (other refl))

@@ -1,0 +1,66 @@
+use Rattle.std.proofs.Common.{◌≡◌, ◌∙◌, false, List, None, ap, sym, subst}
+use Rattle.hc_records.specs.declared.edit.Edit.{Edit}
+use Rattle.hc_records.specs.declared.records.Declared.{Declared}
+use Rattle.hc_records.specs.Edits.{crowded_task, declares, groups_after}
+use Rattle.hc_records.specs.Line.{State, groups_of, line, line_from}
+use Rattle.hc_records.specs.Project.{lowest_fault}
+use Rattle.hc_tasks.specs.Areas.{areas_by_rank}
+use Rattle.hc_tasks.specs.Kept.{line_kept}
+use Rattle.hc_tasks.specs.Turn.{AreStartsOf}
+use Rattle.hc_edits.specs.Changes.{changed_groups}
+use Rattle.hc_index.specs.Index.{IsIndexOf}
+use Rattle.hc_places.specs.Swap.{swapped}
+use Rattle.hc_places.specs.Table.{table_of}
+use Rattle.hc_changes.specs.EditedLine.{EditedLine}
+use Rattle.hc_plan.specs.inner.Prepared.{IsLineReady}
+use Rattle.hc_plan.proofs.Editing.{old-groups}
+use Rattle.hc_plan.proofs.plan.Plan.change_line.Goals as goal
+
+-- the new groups are told by the change: a tactic would open the faults and the eight tasks of both lines
+
+pub turn_on-requires-clause-trees : goal.turn_on-requires-clause-trees
+turn_on-requires-clause-trees c =
+    c.self.invariant.3
+    ∙ ap (λ (g : List Declared). line_kept (areas_by_rank g))
+    (sym (old-groups c.of-edited_line.result c.args.work.change c.as_slice.result.now c.self.inside.groups c.of-edited_line.ensures c.as_slice.ensures))
+
+pub turn_on-requires-clause-starts : goal.turn_on-requires-clause-starts
+turn_on-requires-clause-starts c =
+    let change = c.args.work.change in
+    let new = ap (λ (it : EditedLine). it.new) c.of-edited_line.ensures ∙ ap (changed_groups change) c.as_slice.ensures ∙ ap (λ (s : State). changed_groups change s.groups) c.self.view_is in
+    subst (λ (g : List Declared). AreStartsOf (areas_by_rank g) c.args.work.starts) (sym new) c.requires.ready.starts
+
+pub follow-requires : goal.follow-requires
+follow-requires c =
+    let old : State = record { groups = c.self.inside.groups; epoch = c.self.inside.epoch } in
+    let ready = subst (λ (s : State). IsLineReady s c.args.report.now c.args.work) (sym c.self.view_is) c.requires.ready in
+    let groups = c.as_slice-2.ensures ∙ c.carry_out.ensures.groups in
+    record {
+      before = old.groups;
+      was = c.self.invariant.4;
+      changes = subst (λ (e : Edit). declares e ≡ false) (sym c.edit.ensures) ready.changes;
+      leads = groups ∙ ready.leads ∙ ap (groups_after old.groups) (sym c.edit.ensures);
+      project = subst (λ (g : List Declared). lowest_fault (groups_of g) ≡ None) (sym groups) ready.project;
+    }
+
+pub invariant_of-self : goal.invariant_of-self
+invariant_of-self c =
+    let change = c.args.work.change in
+    let made = c.carry_out.ensures.groups in
+    let same = made ∙ ap (λ (s : State). changed_groups change s.groups) c.self.view_is in
+    let new = ap (λ (it : EditedLine). it.new) c.of-edited_line.ensures ∙ ap (changed_groups change) c.as_slice.ensures ∙ sym made in (
+      subst (λ (g : List Declared). lowest_fault (groups_of g) ≡ None) (sym same) c.requires.ready.project,
+      subst (λ (g : List Declared). crowded_task (line_from 1 g) ≡ None) (sym same) c.requires.prepared.crowds.1,
+      c.carry_out-2.ensures
+          ∙ ap (swapped c.args.report.now.swap.change) (c.self.invariant.2 ∙ ap (λ (s : State). table_of (line s)) c.self.view_is)
+          ∙ c.requires.prepared.told.leads
+          ∙ ap (λ (g : List Declared). table_of (line_from 1 g)) (sym same),
+      c.turn_on.ensures ∙ ap (λ (g : List Declared). line_kept (areas_by_rank g)) new,
+      subst (λ (g : List Declared). IsIndexOf g c.follow.new.index) c.as_slice-2.ensures c.follow.ensures,
+    )
+
+pub returns : goal.returns
+returns c =
+    let change = c.args.work.change in
+    let state : List Declared → State = λ groups. record { groups = groups; epoch = c.self.inside.epoch } in
+    ap state c.carry_out.ensures.groups ∙ ap (λ (s : State). record s { groups = changed_groups change s.groups }) c.self.view_is
