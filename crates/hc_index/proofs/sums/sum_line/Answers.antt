@@ -1,6 +1,7 @@
-use Rattle.std.proofs.Common.{ℕ, ◌+◌, ◌∷◌, [], ◌∙◌, ap, length, length-append, arith, rules}
+use Rattle.std.proofs.Common.{ℕ, ◌+◌, ◌∷◌, [], ◌∙◌, ap, length, length-append, arith, rules, sym}
+use Rattle.std.proofs.lemmas.List.{drop_all, length-map}
 use Rattle.hc_records.proofs.lemmas.Walks.{length-line}
-use Rattle.hc_index.specs.Index.{own_sum, present_count, sums_from}
+use Rattle.hc_index.specs.Index.{own_sum, present_count, sums_from, block_sums}
 use Rattle.hc_index.proofs.Lines.{line-length}
 use Rattle.hc_index.proofs.Summed.{left-step, mapped-at, sums-on}
 use Rattle.hc_index.proofs.sums.sum_line.Goals as goal
@@ -49,3 +50,14 @@ loop-declared-preserved c =
       first.capacity ∙ is.7,
       second.capacity ∙ is.8,
     )
+
+pub bounds-fronts-group : goal.bounds-fronts-group
+bounds-fronts-group c =
+    let fronts = sym (length-map c.args.fronts.now (λ sums. sums.items)) ∙ ap length c.requires.fronts ∙ length-map c.args.groups.now block_sums in
+    omega (arith, fronts, c.loop-declared.invariant.4, c.loop-declared-test.true)
+
+pub returns-clause-slaves : goal.returns-clause-slaves
+returns-clause-slaves c = c.push_reserved-2.ensures.items ∙ rw (drop_all c.loop-declared.declared-index c.args.groups.now c.loop-declared-test.false) at c.loop-declared.invariant.0
+
+pub returns-clause-blocks : goal.returns-clause-blocks
+returns-clause-blocks c = c.push_reserved-3.ensures.items ∙ rw (drop_all c.loop-declared.declared-index c.args.groups.now c.loop-declared-test.false) at c.loop-declared.invariant.1

@@ -3,6 +3,9 @@ use Rattle.std.proofs.lemmas.List.{length-map}
 use Rattle.hc_records.proofs.lemmas.Slaves.{project-counted}
 use Rattle.hc_index.specs.Index.{block_sums}
 use Rattle.hc_index.proofs.Owners.{few-declared, few-present}
+use Rattle.hc_records.specs.declared.records.Declared.{Declared}
+use Rattle.hc_records.specs.Line.{groups_of}
+use Rattle.hc_records.proofs.lemmas.Limits.{project-inside}
 use Rattle.hc_index.proofs.index.Index.new.Goals as goal
 
 pub ranks_by_station-requires : goal.ranks_by_station-requires
@@ -30,3 +33,13 @@ invariant_of-result c =
       omega (arith, count, slaves, c.in_ok-slaves.ensures.capacity),
       omega (arith, count, blocks, c.in_ok-blocks.ensures.capacity),
     )
+
+pub sorted_aliases-requires : goal.sorted_aliases-requires
+sorted_aliases-requires c =
+    let most = (project-inside (groups_of c.args.groups.now) c.requires).few_groups in
+    omega (arith, most, length-map c.args.groups.now (λ (declared : Declared). declared.group))
+
+pub owners-requires : goal.owners-requires
+owners-requires c =
+    let most = (project-inside (groups_of c.args.groups.now) c.requires).few_groups in
+    omega (arith, most, length-map c.args.groups.now (λ (declared : Declared). declared.group))
