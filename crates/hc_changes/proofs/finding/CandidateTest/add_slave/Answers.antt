@@ -59,3 +59,6 @@ loop-i-init c = record {
 
 pub returns-clause-places : goal.returns-clause-places
 returns-clause-places c = c.loop-i.invariant.places
+
+pub returns-in_err-push-clause-places : goal.returns-in_err-push-clause-places
+returns-in_err-push-clause-places c = c.judge.ensures.places ∙ c.loop-i.invariant.places
