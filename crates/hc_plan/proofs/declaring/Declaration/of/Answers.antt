@@ -64,3 +64,10 @@ pub returns-in_err-room_for-2-clause-refused : goal.returns-in_err-room_for-2-cl
 returns-in_err-room_for-2-clause-refused c =
     let p = err_from_is_err_and c.from_residual-in_err-room_for-2.result c.from_residual-in_err-room_for-2.ensures.1 in
     rw (p.1, p.2) (λ other. absurd (other refl))
+
+pub returns-in_err-group-clause-refused : goal.returns-in_err-group-clause-refused
+returns-in_err-group-clause-refused c =
+    let fault = c.in_err-group.field-0.0 in
+    let p = err_from_is_err_and c.from_residual.result c.from_residual.ensures.1 in
+    rw (p.1, p.2) (λ other.
+    ap (λ (groups : List Declared). lowest (declaring_faults groups c.args.group.now)) (sym (c.of-indexed.ensures ∙ c.as_slice.ensures)) ∙ c.in_err-group.ensures.refused other)
