@@ -1,8 +1,8 @@
-use Rattle.std.proofs.Common.{◌≡◌, ap, arith, drop, length, subst, sym}
+use Rattle.std.proofs.Common.{◌≡◌, ap, arith, drop, length, subst, sym, ◌∙◌}
 use Rattle.hc_places.specs.Swap.{Change, swapped}
 use Rattle.hc_places.specs.Table.{Table}
 use Rattle.hc_outputs.specs.Moves.{Moves, table_after}
-use Rattle.hc_outputs.specs.Packed.{Bytes, Carries}
+use Rattle.hc_outputs.specs.Packed.{Bytes, Carries, HasSizes}
 use Rattle.hc_outputs.specs.Pieces.{carried_bit}
 use Rattle.hc_outputs.proofs.Carrying.{all-lent}
 use Rattle.hc_outputs.proofs.moves.Moves.carry.Goals as goal
@@ -21,3 +21,25 @@ returns-clause-carried c = λ value before.
     let all = c.carry_over.ensures.all in
     let was = c.requires.all in
     subst (Carries (table_after moves) (carried_bit moves.before value c.args.ones)) (sym (all-lent c.args.rows.now.len rows (drop (length rows) c.args.rows.now.items) (omega arith))) made
+
+pub returns-clause-sizes : goal.returns-clause-sizes
+returns-clause-sizes c =
+    let moves = c.args.self.now in
+    let rows = c.carry_over.new.rows in
+    let table : c.self.inside.before.value ≡ moves.before = ap (λ (m : Moves). m.before) c.self.view_is in
+    let moved = subst (λ (t : Table). HasSizes (swapped c.args.swap.now.change t) rows) table c.carry_over.ensures.sizes in
+    let made : HasSizes (table_after moves) rows = subst (λ (change : Change). HasSizes (swapped change moves.before) rows) c.requires.swap moved in
+    let size = c.as_mut_slice.ensures.len in
+    let same = ap (λ (r : Bytes). length r) c.as_mut_slice.ensures.value in
+    let all = c.carry_over.ensures.all in
+    let was = c.requires.all in
+    subst (HasSizes (table_after moves)) (sym (all-lent c.args.rows.now.len rows (drop (length rows) c.args.rows.now.items) (omega arith))) made
+
+pub returns-clause-all : goal.returns-clause-all
+returns-clause-all c =
+    let rows = c.carry_over.new.rows in
+    let size = c.as_mut_slice.ensures.len in
+    let same = ap (λ (r : Bytes). length r) c.as_mut_slice.ensures.value in
+    let all = c.carry_over.ensures.all in
+    let was = c.requires.all in
+    ap (λ (r : Bytes). length r) (all-lent c.args.rows.now.len rows (drop (length rows) c.args.rows.now.items) (omega arith)) ∙ all
