@@ -1,5 +1,5 @@
-use Rattle.std.proofs.Common.{rules}
-use Rattle.std.proofs.lemmas.List.{append_assoc, length-append}
+use Rattle.std.proofs.Common.{rules, ◌∙◌, append-nil, sym}
+use Rattle.std.proofs.lemmas.List.{append_assoc, length-append, drop_all}
 use Rattle.hc_owed.proofs.Opened.{item-cons, length-slaves_flags}
 use Rattle.hc_owed.proofs.opening.declared_flags.Goals as goal
 
@@ -8,3 +8,6 @@ push_slaves-requires c = search (rules, item-cons, length-append)
 
 pub loop-declared-preserved : goal.loop-declared-preserved
 loop-declared-preserved c = search (rules, item-cons, length-append, length-slaves_flags, append_assoc)
+
+pub returns : goal.returns
+returns c = sym (append-nil c.loop-declared.flags.list) ∙ rw (drop_all c.loop-declared.declared-index c.args.groups.now c.loop-declared-test.false) at c.loop-declared.invariant.0

@@ -1,5 +1,5 @@
-use Rattle.std.proofs.Common.{◌≡◌, ℕ, ◌+◌, ◌∷◌, ◌++◌, ◌∙◌, List, ap, append_assoc, drop, map, sym}
-use Rattle.std.proofs.lemmas.List.{drop_more, map-append}
+use Rattle.std.proofs.Common.{◌≡◌, ℕ, ◌+◌, ◌∷◌, ◌++◌, ◌∙◌, List, ap, append_assoc, drop, map, sym, append-nil}
+use Rattle.std.proofs.lemmas.List.{drop_more, map-append, drop_all}
 use Rattle.hc_records.specs.declared.records.Declared.{Declared}
 use Rattle.hc_records.specs.declared.records.Slave.{Slave}
 use Rattle.hc_records.specs.Line.{groups_of}
@@ -23,3 +23,6 @@ loop-declared-preserved c =
     ∙ ap (λ (all : List ℕ). l.stations.items ++ all) (sym (map-append station slaves behind))
     ∙ ap (λ (left : List Declared). l.stations.items ++ map station (slaves_of (groups_of left))) (sym cut)
     ∙ l.invariant
+
+pub returns : goal.returns
+returns c = sym (append-nil c.loop-declared.stations.items) ∙ rw (drop_all c.loop-declared.declared-index c.args.groups.now c.loop-declared-test.false) at c.loop-declared.invariant

@@ -1,5 +1,5 @@
-use Rattle.std.proofs.Common.{◌≡◌, ℕ, ◌+◌, ◌∷◌, ◌++◌, ◌∙◌, [], List, ap, append_assoc, drop, map, sym}
-use Rattle.std.proofs.lemmas.List.{drop_more}
+use Rattle.std.proofs.Common.{◌≡◌, ℕ, ◌+◌, ◌∷◌, ◌++◌, ◌∙◌, [], List, ap, append_assoc, drop, map, sym, append-nil}
+use Rattle.std.proofs.lemmas.List.{drop_more, drop_all}
 use Rattle.hc_records.specs.declared.records.Slave.{Slave}
 use Rattle.hc_owed.proofs.opening.push_stations.Goals as goal
 
@@ -17,3 +17,6 @@ loop-slave-preserved c =
     ∙ append_assoc l.stations.items (slave.station ∷ []) (map station rest)
     ∙ ap (λ (left : List Slave). l.stations.items ++ map station left) (sym cut)
     ∙ l.invariant
+
+pub returns : goal.returns
+returns c = sym (append-nil c.loop-slave.stations.items) ∙ rw (drop_all c.loop-slave.slave-index c.args.slaves.now c.loop-slave-test.false) at c.loop-slave.invariant

@@ -35,3 +35,24 @@ returns c =
     ∙ ap (λ (o : List Bool). board_of (replicate n None) o c.in_ok-stations.stations.items) (flagged c)
     ∙ ap (board_of (replicate n None) (declared_flags plan.groups)) (named c)
     ∙ opened-right plan n (omega (arith, count, size, c.len-places.ensures))
+
+pub overflow_mul-places : goal.overflow_mul-places
+overflow_mul-places c =
+    let count = ap length c.in_ok-stations.ensures ∙ length-map (slaves_of (groups_of c.groups.result.now)) (λ slave. slave.station)
+    ∙ ap (λ (groups : List Declared). length (slaves_of (groups_of groups))) c.groups.ensures.value in
+    let few = project-few (groups_of c.args.plan.now.groups) c.groups.ensures.kept in
+    omega (arith, count, few, c.len-places.ensures)
+
+pub declared_flags-requires-clause-places : goal.declared_flags-requires-clause-places
+declared_flags-requires-clause-places c =
+    let count = ap length c.in_ok-stations.ensures ∙ length-map (slaves_of (groups_of c.groups.result.now)) (λ slave. slave.station)
+    ∙ ap (λ (groups : List Declared). length (slaves_of (groups_of groups))) c.groups.ensures.value in
+    let again = ap (λ (groups : List Declared). length (slaves_of (groups_of groups))) c.groups-2.ensures.value in
+    omega (arith, count, again, c.len-places.ensures)
+
+pub declared_flags-requires-clause-low : goal.declared_flags-requires-clause-low
+declared_flags-requires-clause-low c =
+    let count = ap length c.in_ok-stations.ensures ∙ length-map (slaves_of (groups_of c.groups.result.now)) (λ slave. slave.station)
+    ∙ ap (λ (groups : List Declared). length (slaves_of (groups_of groups))) c.groups.ensures.value in
+    let few = project-few (groups_of c.args.plan.now.groups) c.groups.ensures.kept in
+    omega (arith, count, few, c.len-places.ensures)
