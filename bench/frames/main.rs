@@ -35,9 +35,10 @@ enum Kind {
     Write,
     Lend,
     PlainWrite,
+    PlainLend,
 }
 
-const KINDS: [Kind; 8] = [
+const KINDS: [Kind; 9] = [
     Kind::Memory,
     Kind::Control,
     Kind::Read,
@@ -46,6 +47,7 @@ const KINDS: [Kind; 8] = [
     Kind::Write,
     Kind::Lend,
     Kind::PlainWrite,
+    Kind::PlainLend,
 ];
 
 /// A frame with what it was made from.
@@ -95,6 +97,7 @@ fn run(kind: Kind, case: &Case, frame: &[u8], out: &mut [u8]) -> u64 {
             frame_lent(to, size, SERIAL, wanted.as_ptr(), wanted.len(), data.as_ptr(), data.len())
         }),
         Kind::PlainWrite => u64::from(plain::write(out, SERIAL, wanted, data)),
+        Kind::PlainLend => u64::from(plain::write_lent(out, SERIAL, wanted, data)),
     }
 }
 
@@ -102,7 +105,7 @@ fn run(kind: Kind, case: &Case, frame: &[u8], out: &mut [u8]) -> u64 {
 /// it, and with each bit of its first 64 bytes and of its last 32 turned.
 fn compare(case: &Case) {
     let mut out = vec![0xa5; case.frame.len()];
-    for kind in [Kind::Write, Kind::Lend, Kind::PlainWrite] {
+    for kind in [Kind::Write, Kind::Lend, Kind::PlainWrite, Kind::PlainLend] {
         out.fill(0xa5);
         assert_eq!(run(kind, case, &case.frame, &mut out), 1);
         assert!(out == case.frame, "{}: another frame", case.name);
@@ -171,7 +174,7 @@ fn main() {
             ("read", Kind::Read, Kind::PlainRead),
             ("read, plain Rust in one walk", Kind::PlainReadAtOnce, Kind::PlainRead),
             ("written, each byte once", Kind::Write, Kind::PlainWrite),
-            ("written, data parts lent", Kind::Lend, Kind::PlainWrite),
+            ("written, data parts lent", Kind::Lend, Kind::PlainLend),
         ] {
             lines.push(format!(
                 "| {name}: {} | {:.2} | {:.2} | {:.2} |",

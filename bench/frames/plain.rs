@@ -1,5 +1,5 @@
 //! The same answers in plain Rust, written for speed: a reader that judges a frame whole before it hands out a part, a
-//! reader that tells of each part while it judges, and a writer that copies each byte once.
+//! reader that tells of each part while it judges, a writer that copies each byte once, and one that lends parts of zeros.
 
 /// A datagram to be written; the library's export has one of the same layout.
 #[repr(C)]
@@ -173,18 +173,65 @@ pub fn read_at_once(frame: &[u8]) -> u64 {
     }
 }
 
-/// Writes a frame of these datagrams into a slice of its exact size, 60 bytes at least, each byte once.
-#[inline(never)]
-pub fn write(out: &mut [u8], serial: u64, wanted: &[Wanted], data: &[u8]) -> bool {
+/// Writes the head of a frame into a slice of its exact size, 60 bytes at least, and gives the bytes behind it.
+fn opened(out: &mut [u8], serial: u64) -> Option<&mut [u8]> {
     if out.len() < 60 || 1514 < out.len() || 0xff_ffff_ffff < serial {
-        return false;
+        return None;
     }
-    let Some((head, mut texts)) = out.split_first_chunk_mut::<16>() else {
-        return false;
-    };
+    let (head, texts) = out.split_first_chunk_mut::<16>()?;
     let [_, _, _, s4, s3, s2, s1, s0] = serial.to_be_bytes();
     let [low, high] = (texts.len() as u16 | 0x1000).to_le_bytes();
     *head = [255, 255, 255, 255, 255, 255, 2, s4, s3, s2, s1, s0, 0x88, 0xa4, low, high];
+    Some(texts)
+}
+
+/// The ten bytes in front of a datagram's data.
+fn head_of(serial: u64, datagram: &Wanted, more: bool) -> [u8; 10] {
+    let [a0, a1, a2, a3] = datagram.address.to_le_bytes();
+    let [low, high] = (datagram.size | if more { 0x8000 } else { 0 }).to_le_bytes();
+    [12, serial as u8, a0, a1, a2, a3, low, high, 0, 0]
+}
+
+/// A datagram of zeros at the front of a slice: its data part is lent, beside what stands behind the datagram.
+#[inline(never)]
+fn lend<'a>(texts: &'a mut [u8], serial: u64, datagram: &Wanted, more: bool) -> Option<(&'a mut [u8], &'a mut [u8])> {
+    let size = usize::from(datagram.size);
+    if 1486 < size {
+        return None;
+    }
+    let (text, rest) = texts.split_at_mut_checked(12 + size)?;
+    text.fill(0);
+    text[..10].copy_from_slice(&head_of(serial, datagram, more));
+    Some((&mut text[10..10 + size], rest))
+}
+
+/// Writes a frame of these datagrams into a slice of its exact size, 60 bytes at least: each data part is zeros before it is
+/// lent, and is then written.
+#[inline(never)]
+pub fn write_lent(out: &mut [u8], serial: u64, wanted: &[Wanted], data: &[u8]) -> bool {
+    let Some(mut texts) = opened(out, serial) else {
+        return false;
+    };
+    let mut data = data;
+    for (place, datagram) in wanted.iter().enumerate() {
+        let Some((part, rest)) = lend(texts, serial, datagram, place + 1 < wanted.len()) else {
+            return false;
+        };
+        let Some((bytes, behind)) = data.split_at_checked(part.len()) else {
+            return false;
+        };
+        part.copy_from_slice(bytes);
+        (texts, data) = (rest, behind);
+    }
+    true
+}
+
+/// Writes a frame of these datagrams into a slice of its exact size, 60 bytes at least, each byte once.
+#[inline(never)]
+pub fn write(out: &mut [u8], serial: u64, wanted: &[Wanted], data: &[u8]) -> bool {
+    let Some(mut texts) = opened(out, serial) else {
+        return false;
+    };
     let mut data = data;
     for (place, datagram) in wanted.iter().enumerate() {
         let size = usize::from(datagram.size);
@@ -197,10 +244,7 @@ pub fn write(out: &mut [u8], serial: u64, wanted: &[Wanted], data: &[u8]) -> boo
         if 1486 < size {
             return false;
         }
-        let more = if place + 1 < wanted.len() { 0x8000 } else { 0 };
-        let [a0, a1, a2, a3] = datagram.address.to_le_bytes();
-        let [low, high] = (datagram.size | more).to_le_bytes();
-        text[..10].copy_from_slice(&[12, serial as u8, a0, a1, a2, a3, low, high, 0, 0]);
+        text[..10].copy_from_slice(&head_of(serial, datagram, place + 1 < wanted.len()));
         text[10..10 + size].copy_from_slice(bytes);
         text[10 + size..].copy_from_slice(&[0, 0]);
         (texts, data) = (rest, behind);

@@ -1,12 +1,14 @@
 //! What an arrival is for what is awaited with its serial.
 ghost use Rattle.std.specs.Option.{option_map_or};
-ghost use Rattle.std.specs.Prelude.{◌≡◌, ◌==◌, [], All, IfOk, None, Some, if◌then◌else◌};
+ghost use Rattle.std.specs.Prelude.{◌≡◌, ◌==◌, List, [], All, IfOk, None, Some, if◌then◌else◌};
 ghost use Rattle.hc_records.specs.Line.{line};
 ghost use Rattle.hc_registers.specs.declared.counters.TheConstants.{WRITE_COUNT};
 ghost use Rattle.hc_places.specs.Table.{datagram_of};
+ghost use Rattle.hc_events.specs.declared.answer.Outcome.{Outcome};
 ghost use Rattle.hc_events.specs.Accepted.{StandsIn};
 ghost use Rattle.hc_events.specs.Answering.{Good, Wrong, has_head};
 ghost use Rattle.hc_events.specs.Heads.{data_head};
+ghost use Rattle.hc_events.specs.Outcomes.{told_with};
 ghost use Rattle.hc_events.specs.Sendings.{Named};
 ghost use Rattle.hc_events.specs.Steps.{outcome_for, told_of, told_of_block};
 ghost use Rattle.hc_awaited.specs.Waiting.{IsNamed};
@@ -17,30 +19,31 @@ ghost use Rattle.hc_awaited.specs.Walk.{head_of, outcomes_in};
 use crate::awaited::{Awaited, Write, find_frame, has_serial};
 use crate::kept::KeptFrame;
 use crate::newest::Newest;
-use hc_events::answer::{Answer, Outcome};
+use hc_events::answer::{Arrived, Outcome};
 use hc_events::sending::Named;
 use hc_frames::Command;
 use hc_frames::reading::{Part, Returned};
 use hc_places::table::Datagram;
 use hc_plan::plan::Plan;
-use hc_records::items::Items;
 use hc_registers::counters::WRITE_COUNT;
-use std::alloc::{AllocError, Global};
+use std::alloc::AllocError;
 
 /// What a register write is that came back with this working counter.
-fn told_of_write(counter: u16) -> Answer
-    ensures { result ≡ told_of_block (if counter == WRITE_COUNT then Good else Wrong) }
+fn told_of_write(counter: u16) -> Arrived
+    ensures { (none : List Outcome) → told_with result none ≡ told_of_block (if counter == WRITE_COUNT then Good else Wrong) }
 {
     if counter == WRITE_COUNT {
-        Answer::WriteDone
+        Arrived::WriteDone
     } else {
-        Answer::WriteMissed
+        Arrived::WriteMissed
     }
 }
 
 impl Write {
-    ghost use Rattle.std.specs.Prelude.{◌≡◌};
+    ghost use Rattle.std.specs.Prelude.{◌≡◌, List};
+    ghost use Rattle.hc_events.specs.declared.answer.Outcome.{Outcome};
     ghost use Rattle.hc_events.specs.Answering.{has_head};
+    ghost use Rattle.hc_events.specs.Outcomes.{told_with};
     ghost use Rattle.hc_events.specs.Steps.{told_of};
     ghost use Rattle.hc_awaited.specs.Judging.{judged_due, write_due, written_head};
 
@@ -54,27 +57,27 @@ impl Write {
     }
 
     /// What an arrival with the write's serial is for it.
-    fn judge(&self, arrival: &Returned<'_>) -> Answer
-        ensures { result ≡ told_of (judged_due arrival.now (write_due self.now)) }
+    fn judge(&self, arrival: &Returned<'_>) -> Arrived
+        ensures { (none : List Outcome) → told_with result none ≡ told_of (judged_due arrival.now (write_due self.now)) }
     {
         let mut parts = arrival.parts();
         let Some(part) = parts.next() else {
-            return Answer::Stale;
+            return Arrived::Stale;
         };
         if parts.next().is_some() || !self.is_of(&part) {
-            return Answer::Stale;
+            return Arrived::Stale;
         }
         told_of_write(part.counter)
     }
 }
 
 /// What an arrival is for the write, if there is one.
-fn judge_write(write: &Option<Write>, arrival: &Returned<'_>) -> Answer
-    ensures { result ≡ told_of (option_map_or (λ write. judged_due arrival.now (write_due write)) write.now []) }
+fn judge_write(write: &Option<Write>, arrival: &Returned<'_>) -> Arrived
+    ensures { (none : List Outcome) → told_with result none ≡ told_of (option_map_or (λ write. judged_due arrival.now (write_due write)) write.now []) }
 {
     match write {
         Some(write) => write.judge(arrival),
-        None => Answer::Stale,
+        None => Arrived::Stale,
     }
 }
 
@@ -116,69 +119,71 @@ fn sent_datagram(plan: &Plan, datagram: Named, part: &Part<'_>) -> Option<Datagr
     if is_of(part, sent) { Some(sent) } else { None }
 }
 
-/// What the datagrams of a frame are that came back as this arrival, in one walk over both; none where a
-/// datagram is missing or left over, or came back with another command, address or length.
-fn outcomes(
-    alloc: Global,
+/// Puts into an empty list what the datagrams of a frame are that came back as this arrival, in one walk over both.
+/// Whether all are there: not where a datagram is missing or left over, or came back with another command, address or
+/// length.
+fn judge_parts(
     plan: &Plan,
     newest: &Newest,
     frame: &KeptFrame,
     arrival: &Returned<'_>,
-) -> Result<Option<Items<Outcome>>, AllocError>
+    outcomes: &mut Vec<Outcome>,
+) -> Result<bool, AllocError>
     requires named { All IsNamed frame.now.datagrams }
     requires stands { All (StandsIn (line plan.now)) frame.now.datagrams }
-    ensures { IfOk result (λ told. told ≡ outcomes_in (frame_due (line plan.now) (frame_by newest.now frame.now)) arrival.now.parts) }
+    requires empty { outcomes.old.items ≡ [] }
+    ensures { IfOk result (λ whole. (if whole then Some outcomes.new.items else None) ≡ outcomes_in (frame_due (line plan.now) (frame_by newest.now frame.now)) arrival.now.parts) }
 {
-    let mut outcomes = Vec::with_capacity(alloc, frame.datagrams().len())?;
+    outcomes.reserve(frame.datagrams().len())?;
     let mut parts = arrival.parts();
     for datagram in frame.datagrams() {
         let Some(part) = parts.next() else {
-            return Ok(None);
+            return Ok(false);
         };
         let Some(sent) = sent_datagram(plan, *datagram, &part) else {
-            return Ok(None);
+            return Ok(false);
         };
         let is_newest = newest.is(frame.serial(), *datagram);
         outcomes.push(judge(*datagram, sent, is_newest, &part))?;
     }
-    if parts.next().is_some() {
-        return Ok(None);
-    }
-    Ok(Some(Items::of(outcomes)))
+    Ok(parts.next().is_none())
 }
 
 impl Awaited {
-    ghost use Rattle.std.specs.Prelude.{◌≡◌, IfOk};
+    ghost use Rattle.std.specs.Prelude.{◌≡◌, [], IfOk};
     ghost use Rattle.hc_records.specs.Line.{line};
+    ghost use Rattle.hc_events.specs.Outcomes.{told_with};
     ghost use Rattle.hc_events.specs.Steps.{told_of};
     ghost use Rattle.hc_awaited.specs.Waiting.{AllStand};
     ghost use Rattle.hc_awaited.specs.Judging.{judged_in};
 
-    /// The answer to an arrival, by what is awaited with its serial: `Stale` where nothing is, or where a
-    /// datagram is missing or left over, or came back with another command, address or length; else
-    /// `WriteDone` or `WriteMissed` of a register write, by its working counter; else `Answered`: each
-    /// datagram in the frame's order, stale where it was sent again since, else good or wrong by its
-    /// working counter. What is awaited is of the plan's line. It takes memory for the answer alone:
-    /// `AllocError` where that was refused.
+    /// What an arrival is, by what is awaited with its serial: `Stale` where nothing is, or where a datagram is missing
+    /// or left over, or came back with another command, address or length; else `WriteDone` or `WriteMissed` of a
+    /// register write, by its working counter; else `Answered`, and the list, which is empty before, has of each
+    /// datagram in the frame's order that it is stale where it was sent again since, else good or wrong by its working
+    /// counter. What is awaited is of the plan's line. It takes memory where the list has no room for the frame's
+    /// datagrams, 115 at most, alone: `AllocError` where that was refused.
     pub fn judge(
         &self,
-        alloc: Global,
         plan: &Plan,
         arrival: &Returned<'_>,
-    ) -> Result<Answer, AllocError>
-        requires { AllStand (line plan.now) self.now }
-        ensures { IfOk result (λ answer. answer ≡ told_of (judged_in (line plan.now) self.now arrival.now)) }
+        outcomes: &mut Vec<Outcome>,
+    ) -> Result<Arrived, AllocError>
+        requires stand { AllStand (line plan.now) self.now }
+        requires empty { outcomes.old.items ≡ [] }
+        ensures { IfOk result (λ arrived. told_with arrived outcomes.new.items ≡ told_of (judged_in (line plan.now) self.now arrival.now)) }
     {
         if has_serial(&self.write, arrival.serial()) {
             return Ok(judge_write(&self.write, arrival));
         }
         let found = find_frame(&self.newest, self.frames.as_slice(), arrival.serial());
         let Some(frame) = found else {
-            return Ok(Answer::Stale);
+            return Ok(Arrived::Stale);
         };
-        match outcomes(alloc, plan, &self.newest, frame, arrival)? {
-            Some(outcomes) => Ok(Answer::Answered(outcomes)),
-            None => Ok(Answer::Stale),
+        if judge_parts(plan, &self.newest, frame, arrival, outcomes)? {
+            Ok(Arrived::Answered)
+        } else {
+            Ok(Arrived::Stale)
         }
     }
 }

@@ -137,7 +137,8 @@ impl Conductor {
         ensures unchanged { OnErr result (self.new ≡ self.old) }
         ensures untouched { OnErr result (arena.new ≡ arena.old) }
     {
-        let (frames, size) = self.propose_into(alloc, tasks, arena.len())?;
+        let mut frames = Vec::new(alloc);
+        let size = self.propose_into(tasks, arena.len(), &mut frames)?;
         fill_front_at_once(rt, &self.core, tasks, frames.as_slice(), size, arena, gate);
         self.commit(frames.as_slice());
         Ok(frames)

@@ -1,15 +1,20 @@
 //! The events that the core is given one by one.
-ghost use Rattle.std.specs.Prelude.{◌≡◌, IfErr, IfOk, None, OnErr, OnOk, Some, length};
+ghost use Rattle.std.specs.Prelude.{◌≡◌, ◌≢◌, [], Err, IfErr, IfOk, IfSome, None, Ok, OnErr, OnOk, Some, length, option_map};
 ghost use Rattle.hc_records.specs.Lists.{lowest};
+ghost use Rattle.hc_frames.specs.Arrived.{fault_in};
+ghost use Rattle.hc_events.specs.declared.answer.Arrived.TheVariants.{Answered};
+ghost use Rattle.hc_events.specs.declared.faults.CoreFault.TheVariants.{Memory};
 ghost use Rattle.hc_events.specs.Calls.{MayAnswer, write_into_faults};
-ghost use Rattle.hc_events.specs.Steps.{Arrives, Edits, SendsWrite, entries_after, step_of};
+ghost use Rattle.hc_events.specs.Faults.{frame_refusal};
+ghost use Rattle.hc_events.specs.Outcomes.{told_with};
+ghost use Rattle.hc_events.specs.Steps.{Arrives, Edits, SendsWrite, answer_to, entries_after, step_of};
 ghost use Rattle.hc_core.specs.Early.{TellsEarly};
 ghost use Rattle.hc_core.specs.Serving.{IsAsked};
 ghost use Rattle.hc_core.specs.Written.{HoldsWrite};
 ghost use Rattle.hc_conductor.specs.Conducting.{SameLists, past_of};
 
 use crate::conductor::Conductor;
-use hc_events::answer::Answer;
+use hc_events::answer::{Answer, Arrived, Outcome};
 use hc_events::event::Event;
 use hc_events::faults::CoreFault;
 use hc_records::edit::Edit;
@@ -44,6 +49,26 @@ impl Conductor {
         ensures lists { SameLists self.old self.new }
     {
         self.step(alloc, Event::Arrive(bytes))
+    }
+
+    /// A frame arrived, as `arrive` takes it, with a list that is used again (the core's `arrive_into`): what it is for each
+    /// datagram stands there, and it is empty where the frame answers none of tasks. The data of good answers go into the
+    /// memory of answers that the views have done with, as long as there is some.
+    pub fn arrive_into(
+        &mut self,
+        alloc: Global,
+        bytes: &[u8],
+        outcomes: &mut Vec<Outcome>,
+    ) -> Result<Arrived, CoreFault>
+        ensures answer { IfOk result (λ arrived. told_with arrived outcomes.new.items ≡ answer_to (past_of self.old) (Arrives bytes.now)) }
+        ensures entries { OnOk result (past_of self.new ≡ entries_after (past_of self.old) (Arrives bytes.now)) }
+        ensures refused { IfErr result (λ fault. fault ≢ Memory → option_map frame_refusal (fault_in bytes.now) ≡ Some fault) }
+        ensures early { IfSome (fault_in bytes.now) (λ fault. result ≡ Err (frame_refusal fault)) }
+        ensures none { result ≢ Ok Answered → outcomes.new.items ≡ [] }
+        ensures lists { SameLists self.old self.new }
+        ensures unchanged { OnErr result (self.new ≡ self.old) }
+    {
+        self.core.arrive_into(alloc, bytes, outcomes)
     }
 
     /// The first owed register block is sent: its frame stands at the front of `out`, and its size in bytes is

@@ -10,6 +10,7 @@ use crate::conductor::Conductor;
 use hc_core::keeping::Core;
 use hc_events::change::Change;
 use hc_publish::publisher::{Kept, Note, Publisher};
+use hc_records::limits::{MOST_DATAGRAMS, TASKS};
 use std::alloc::{AllocError, Global};
 use std::mem;
 use std::sync::Wait;
@@ -29,6 +30,19 @@ fn append_all(publisher: &mut Publisher, waiting: &mut Vec<Change>) -> Result<()
         }
     }
     Ok(())
+}
+
+// Hands the core the memory of good answers that both copies have taken in, for the next ones. No line has more
+// datagrams than 16 in each of the eight tasks.
+fn give_back(publisher: &Publisher, core: &mut Core)
+    ensures { core.new ≡ core.old }
+{
+    for _ in 0..MOST_DATAGRAMS * TASKS as usize {
+        let Some(good) = publisher.spare() else {
+            return;
+        };
+        core.give_back(good.into_bytes());
+    }
 }
 
 impl Conductor {
@@ -92,7 +106,9 @@ impl Conductor {
         self.append()?;
         self.take_changes(alloc);
         self.append()?;
-        self.show(rt)
+        self.show(rt)?;
+        give_back(&self.publisher, &mut self.core);
+        Ok(())
     }
 
     /// A note of what is published, for each seat of this conductor to learn.

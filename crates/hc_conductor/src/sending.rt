@@ -1,6 +1,7 @@
 //! Tasks are sent into one arena.
-ghost use Rattle.std.specs.Prelude.{◌≡◌, ◌≢◌, ◌+◌, ◌≤◌, ◌*◌, All, ◌++◌, Err, IfErr, IfOk, IfSome, None, OnErr, OnOk, Some, drop, length, sum_by};
+ghost use Rattle.std.specs.Prelude.{◌≡◌, ◌≢◌, ◌+◌, ◌<◌, ◌≤◌, ◌*◌, [], All, ◌++◌, Err, IfErr, IfOk, IfSome, None, OnErr, OnOk, Some, drop, length, sum_by, vec_capacity};
 ghost use Rattle.std.specs.List.{flat_map};
+ghost use Rattle.hc_records.specs.declared.limits.TheConstants.{MOST_DATAGRAMS, TASKS};
 ghost use Rattle.hc_records.specs.Lists.{lowest};
 ghost use Rattle.hc_frames.specs.declared.limits.TheConstants.{SETUP_SERIAL};
 ghost use Rattle.hc_events.specs.declared.faults.CoreFault.TheVariants.{Memory};
@@ -70,31 +71,34 @@ fn fill_front(core: &Core, frames: &[Sending], size: usize, arena: &mut [u8])
 }
 
 impl Conductor {
-    // The present proposal with its bytes, where the arena has room for it.
+    // The bytes of the present proposal, where the arena has room for it.
     pub(crate) fn propose_into(
         &self,
-        alloc: Global,
         tasks: &[u8],
         room: usize,
-    ) -> Result<(Vec<Sending>, usize), CoreFault>
+        frames: &mut Vec<Sending>,
+    ) -> Result<usize, CoreFault>
         requires { AreSentTogether tasks.now }
-        ensures frames { IfOk result (λ found. found.0.items ≡ proposal (past_of self.now) tasks.now) }
-        ensures present { IfOk result (λ found. IsProposal (past_of self.now) found.0.items) }
-        ensures filled { IfOk result (λ found. All (CanBeFilled (past_of self.now)) found.0.items) }
-        ensures few { IfOk result (λ found. length found.0.items ≤ SETUP_SERIAL) }
-        ensures size { IfOk result (λ found. found.1 ≡ sum_by size_of found.0.items) }
-        ensures room { IfOk result (λ found. found.1 ≤ room) }
-        ensures most { IfOk result (λ found. found.1 ≤ LARGEST_FRAME * length found.0.items) }
+        ensures frames { OnOk result (frames.new.items ≡ proposal (past_of self.now) tasks.now) }
+        ensures present { OnOk result (IsProposal (past_of self.now) frames.new.items) }
+        ensures filled { OnOk result (All (CanBeFilled (past_of self.now)) frames.new.items) }
+        ensures few { OnOk result (length frames.new.items ≤ SETUP_SERIAL) }
+        ensures size { IfOk result (λ size. size ≡ sum_by size_of frames.new.items) }
+        ensures fits { IfOk result (λ size. size ≤ room) }
+        ensures most { IfOk result (λ size. size ≤ LARGEST_FRAME * length frames.new.items) }
         ensures accepted { OnOk result (lowest (task_faults (past_of self.now) tasks.now) ≡ None) }
         ensures refused { IfErr result (λ fault. fault ≢ Memory → lowest (send_into_faults (past_of self.now) tasks.now room) ≡ Some fault) }
         ensures early { IfSome (lowest (early_faults (length (owed_blocks (past_of self.now))) tasks.now)) (λ fault. result ≡ Err fault) }
+        ensures room { IfErr result (λ fault. fault ≡ Memory → vec_capacity frames.old < MOST_DATAGRAMS * TASKS) }
+        ensures none { OnErr result (frames.new.items ≡ []) }
     {
-        let frames = self.core.propose(alloc, tasks)?;
+        self.core.propose_into(tasks, frames)?;
         let needed = size_of_all(frames.as_slice());
         if room < needed {
+            frames.clear();
             return Err(CoreFault::Room(needed));
         }
-        Ok((frames, needed))
+        Ok(needed)
     }
 
     // The present proposal is sent.
@@ -129,9 +133,36 @@ impl Conductor {
         ensures unchanged { OnErr result (self.new ≡ self.old) }
         ensures untouched { OnErr result (arena.new ≡ arena.old) }
     {
-        let (frames, size) = self.propose_into(alloc, tasks, arena.len())?;
+        let mut frames = Vec::new(alloc);
+        self.send_into(tasks, arena, &mut frames)?;
+        Ok(frames)
+    }
+
+    /// The same, and the frames stand in a list that is used again: what it held is dropped, and it is empty where they
+    /// are refused. A list with room for 128 frames, 16 of each of the eight tasks, takes no memory, and is never refused
+    /// for `Memory` (this project's profile).
+    pub fn send_into(
+        &mut self,
+        tasks: &[u8],
+        arena: &mut [u8],
+        frames: &mut Vec<Sending>,
+    ) -> Result<(), CoreFault>
+        requires { AreSentTogether tasks.now }
+        ensures frames { OnOk result (frames.new.items ≡ proposal (past_of self.old) tasks.now) }
+        ensures sent { OnOk result (arena.new ≡ flat_map (sent_text (past_of self.old)) (proposal (past_of self.old) tasks.now) ++ drop (frames_size (past_of self.old) tasks.now) arena.old) }
+        ensures accepted { OnOk result (lowest (send_into_faults (past_of self.old) tasks.now (length arena.old)) ≡ None) }
+        ensures entries { OnOk result (past_of self.new ≡ entries_after (past_of self.old) (SendsTasks tasks.now)) }
+        ensures lists { SameLists self.old self.new }
+        ensures refused { IfErr result (λ fault. fault ≢ Memory → lowest (send_into_faults (past_of self.old) tasks.now (length arena.old)) ≡ Some fault) }
+        ensures early { IfSome (lowest (early_faults (length (owed_blocks (past_of self.old))) tasks.now)) (λ fault. result ≡ Err fault) }
+        ensures room { IfErr result (λ fault. fault ≡ Memory → vec_capacity frames.old < MOST_DATAGRAMS * TASKS) }
+        ensures unchanged { OnErr result (self.new ≡ self.old) }
+        ensures untouched { OnErr result (arena.new ≡ arena.old) }
+        ensures none { OnErr result (frames.new.items ≡ []) }
+    {
+        let size = self.propose_into(tasks, arena.len(), frames)?;
         fill_front(&self.core, frames.as_slice(), size, arena);
         self.commit(frames.as_slice());
-        Ok(frames)
+        Ok(())
     }
 }

@@ -1,6 +1,6 @@
 -- Which frames can be filled, and what `fill` asks for.
 use Rattle.std.proofs.Common.{◌≡◌, ℕ, ◌+◌, ◌<◌, ◌≤◌, ◌&&◌, nat_lt, Bool, false, cond, List, [], ◌∷◌, length, refl, sym, ap, ◌∙◌, subst, arith, Option, Some, None, rules}
-use Rattle.std.specs.Prelude.{All, IfOk, IfSome, OnOk, Result, sum_by}
+use Rattle.std.specs.Prelude.{All, IfSome, OnOk, Result, sum_by}
 use Rattle.std.specs.List.{flat_map, range_with_len}
 use Rattle.std.proofs.lemmas.Bool.{ltb-false}
 use Rattle.std.proofs.lemmas.List.Elements.{All-cons, All-head, All-nil, All-tail, All-weaker}
@@ -18,7 +18,6 @@ use Rattle.hc_events.specs.Entries.{Record}
 use Rattle.hc_events.specs.Owed.{owed_blocks}
 use Rattle.hc_events.specs.Points.{line_of, next_serial, state_of}
 use Rattle.hc_events.specs.Sendings.{Frame, Named, alone, length_of, sendings_of, task_datagrams}
-use Rattle.hc_events.specs.declared.answer.Answer.TheVariants as answer
 use Rattle.hc_events.specs.Steps.{has_serials, proposal, task_faults}
 use Rattle.hc_events.proofs.lemmas.Accepted.{proposal-stands}
 use Rattle.hc_events.proofs.lemmas.Frames.{frames-counted, proposals-numbered}
@@ -81,8 +80,8 @@ pub proposed-as : (past : Record) (state : State) (serial owed : ℕ) (tasks : L
     → (frames : List Frame) → frames ≡ sendings_of (line state) serial tasks → lowest (sending_faults (line state) serial owed tasks) ≡ None → IsProposal past frames
 proposed-as past state serial owed tasks same number count together frames is none = search rules
 
-pub if-proposed : {X E : Type 0} (P : X → Type 0) (Q : Type 0) (R : X → Type 0) (result : Result X E) → ((x : X) → P x → Q → R x) → IfOk result P → OnOk result Q → IfOk result R
-if-proposed P Q R result next is on = search rules
+pub on-proposed : {X E : Type 0} (P Q R : Type 0) (result : Result X E) → (P → Q → R) → OnOk result P → OnOk result Q → OnOk result R
+on-proposed P Q R result next is on = search rules
 
 -- a preview
 

@@ -13,7 +13,7 @@ use Rattle.hc_events.specs.AnswerLaws.{IsAwaited}
 use Rattle.hc_events.specs.Entries.{Entry, Record}
 use Rattle.hc_events.specs.Sendings.{Named}
 use Rattle.hc_events.specs.Heads.{Head, Item, data_heads, is_block, write_head}
-use Rattle.hc_events.specs.Answering.{Judged, Sending, Verdict, Stale, has_good, has_heads, is_good, is_news, is_stale, is_stale_to, judge, judged, judged_by, sending_of, verdict}
+use Rattle.hc_events.specs.Answering.{Judged, Sending, Verdict, has_good, has_heads, is_good, is_news, is_stale, is_stale_to, judge, judged, judged_by, sending_of, verdict}
 use Rattle.hc_events.specs.Awaited.{alive, awaited, is_write}
 use Rattle.hc_events.specs.Images.{fresh, fresh_by, fresh_item}
 use Rattle.hc_events.specs.Owed.{owed_blocks}
@@ -178,14 +178,6 @@ told-stale past arrival e =
     by_bool (list_any is_news (judged_by past arrival))
     (λ t. let is = news_of past arrival t in absurd (stale_by past arrival is t e (sort_of past arrival.serial is.awaits.sending is.awaits.there)))
     (λ t. ap not t)
-
--- what is neither inputs nor of a write is nothing
-
-block_else : (verdict : Verdict) (told : Answer) → told_of_block verdict ≡ told → (told ≡ answer.WriteDone → ⊥) → (told ≡ answer.WriteMissed → ⊥) → told ≡ answer.Stale
-block_else verdict told e done missed = search rules
-
-pub told-else : (datagrams : List Judged) (told : Answer) → told_of datagrams ≡ told → ((outcomes : List Outcome) → told ≡ answer.Answered outcomes → ⊥) → (told ≡ answer.WriteDone → ⊥) → (told ≡ answer.WriteMissed → ⊥) → told ≡ answer.Stale
-told-else datagrams told e inputs done missed = search rules
 
 -- where a write is answered something is owed
 

@@ -1,18 +1,22 @@
 //! What an arrival is, and what it changes.
-ghost use Rattle.std.specs.Prelude.{◌≡◌, ◌∷◌, IfOk, IfSome, Ok, OnErr, OnOk};
+ghost use Rattle.std.specs.Prelude.{◌≡◌, ◌≢◌, [], ◌∷◌, Err, IfErr, IfOk, IfSome, Ok, OnErr, OnOk, Some, option_map};
 ghost use Rattle.hc_frames.specs.Arrived.{fault_in};
 ghost use Rattle.hc_events.specs.declared.answer.Answer.TheVariants as answer;
+ghost use Rattle.hc_events.specs.declared.answer.Arrived.TheVariants.{Answered};
+ghost use Rattle.hc_events.specs.declared.faults.CoreFault.TheVariants.{Memory};
 ghost use Rattle.hc_events.specs.Answering.{judged_by};
 ghost use Rattle.hc_events.specs.Arrivals.{arrival_in};
 ghost use Rattle.hc_events.specs.Entries.{Came};
 ghost use Rattle.hc_events.specs.Faults.{frame_refusal};
+ghost use Rattle.hc_events.specs.Outcomes.{told_with};
 ghost use Rattle.hc_events.specs.Steps.{Arrives, answer_to, entries_after, told_of};
 
-use crate::goods::{changes_of, put_goods};
+use crate::goods::{put_changes, put_goods};
 use crate::keeping::Core;
-use hc_events::answer::{Answer, Outcome};
+use hc_events::answer::{Answer, Arrived, Outcome};
 use hc_events::faults::CoreFault;
 use hc_frames::reading::{Returned, read_frame};
+use hc_records::items::Items;
 use std::alloc::{AllocError, Global};
 
 impl Core {
@@ -42,8 +46,9 @@ impl Core {
     {
         // a look at the core tells its invariant, by which the changes fit an image
         let _ = &self.past;
-        let mut changes = changes_of(alloc, outcomes, arrival)?;
-        self.changes.append(&mut changes)?;
+        self.fresh.clear();
+        put_changes(alloc, &mut self.buffers, &mut self.fresh, outcomes, arrival)?;
+        self.changes.append(&mut self.fresh)?;
         put_goods(&mut self.inputs, outcomes, arrival);
         self.awaited.end(arrival.serial());
         self.past = self.past.came(bytes);
@@ -76,29 +81,48 @@ impl Core {
         self.past = self.past.came(bytes);
     }
 
-    /// What an arrival changes, by its answer. `AllocError` where a growth was refused, and nothing changed.
+    /// What an arrival changes, by what it is. `AllocError` where a growth was refused, and nothing changed.
     fn take(
         &mut self,
         alloc: Global,
         bytes: &[u8],
         arrival: &Returned<'_>,
-        told: &Answer,
+        arrived: Arrived,
+        outcomes: &[Outcome],
     ) -> Result<(), AllocError>
         requires read { arrival_in bytes.now ≡ Ok arrival.now }
-        requires told { told_of (judged_by self.old.past arrival.now) ≡ told.now }
+        requires told { told_of (judged_by self.old.past arrival.now) ≡ told_with arrived outcomes.now }
         ensures taken { OnOk result (self.new ≡ record self.old { past = Came arrival.now ∷ self.old.past }) }
         ensures unchanged { OnErr result (self.new ≡ self.old) }
     {
         let _ = &self.past;
-        match told {
-            Answer::Answered(outcomes) => {
-                self.take_inputs(alloc, bytes, arrival, outcomes.as_slice())?;
-            }
-            Answer::WriteDone => self.take_written(bytes, arrival),
-            Answer::WriteMissed => self.take_missed(bytes, arrival),
-            _ => self.take_stale(bytes, arrival),
+        match arrived {
+            Arrived::Answered => self.take_inputs(alloc, bytes, arrival, outcomes)?,
+            Arrived::WriteDone => self.take_written(bytes, arrival),
+            Arrived::WriteMissed => self.take_missed(bytes, arrival),
+            Arrived::Stale => self.take_stale(bytes, arrival),
         }
         Ok(())
+    }
+
+    /// An arrival that was read as a frame is recorded, and its answer tells datagram by datagram what it is.
+    /// `AllocError` where a growth was refused, and nothing changed.
+    fn take_read(
+        &mut self,
+        alloc: Global,
+        bytes: &[u8],
+        arrival: &Returned<'_>,
+        outcomes: &mut Vec<Outcome>,
+    ) -> Result<Arrived, AllocError>
+        requires read { arrival_in bytes.now ≡ Ok arrival.now }
+        requires empty { outcomes.old.items ≡ [] }
+        ensures answer { IfOk result (λ arrived. told_with arrived outcomes.new.items ≡ told_of (judged_by self.old.past arrival.now)) }
+        ensures taken { OnOk result (self.new ≡ record self.old { past = Came arrival.now ∷ self.old.past }) }
+        ensures unchanged { OnErr result (self.new ≡ self.old) }
+    {
+        let arrived = self.awaited.judge(&self.plan, arrival, outcomes)?;
+        self.take(alloc, bytes, arrival, arrived, outcomes.as_slice())?;
+        Ok(arrived)
     }
 
     /// An arrival, any bytes. One that can't be read as a frame is refused, whatever memory does, and nothing
@@ -114,8 +138,62 @@ impl Core {
             Ok(arrival) => arrival,
             Err(fault) => return Ok(Answer::Refused(CoreFault::from(fault))),
         };
-        let told = self.awaited.judge(alloc, &self.plan, &arrival)?;
-        self.take(alloc, bytes, &arrival, &told)?;
-        Ok(told)
+        let mut outcomes = Vec::new(alloc);
+        let arrived = self.take_read(alloc, bytes, &arrival, &mut outcomes)?;
+        Ok(arrived.answer(outcomes))
+    }
+
+    /// The same, what it is for each datagram behind what an empty list holds.
+    fn arrive_with(
+        &mut self,
+        alloc: Global,
+        bytes: &[u8],
+        outcomes: &mut Vec<Outcome>,
+    ) -> Result<Arrived, CoreFault>
+        requires { outcomes.old.items ≡ [] }
+        ensures answer { IfOk result (λ arrived. told_with arrived outcomes.new.items ≡ answer_to self.old.past (Arrives bytes.now)) }
+        ensures entries { OnOk result (self.new ≡ record self.old { past = entries_after self.old.past (Arrives bytes.now) }) }
+        ensures refused { IfErr result (λ fault. fault ≢ Memory → option_map frame_refusal (fault_in bytes.now) ≡ Some fault) }
+        ensures early { IfSome (fault_in bytes.now) (λ fault. result ≡ Err (frame_refusal fault)) }
+        ensures unchanged { OnErr result (self.new ≡ self.old) }
+    {
+        let arrival = read_frame(bytes)?;
+        let arrived = self.take_read(alloc, bytes, &arrival, outcomes)?;
+        Ok(arrived)
+    }
+
+    /// An arrival, any bytes, as `step` serves it, for a list that is used again: where it answers frames of tasks the
+    /// list has of each datagram, in the frame's order, what it is; else it is empty. It takes memory where the list
+    /// has no room for these outcomes, 115 at most; and for the data of good answers, which go into buffers that came
+    /// back (`give_back`) as long as there are some. A fault of the frame, 20 to 27, is told whatever memory does, and
+    /// `Memory` where a growth was refused; then nothing changed.
+    pub fn arrive_into(
+        &mut self,
+        alloc: Global,
+        bytes: &[u8],
+        outcomes: &mut Vec<Outcome>,
+    ) -> Result<Arrived, CoreFault>
+        ensures answer { IfOk result (λ arrived. told_with arrived outcomes.new.items ≡ answer_to self.old.past (Arrives bytes.now)) }
+        ensures entries { OnOk result (self.new ≡ record self.old { past = entries_after self.old.past (Arrives bytes.now) }) }
+        ensures refused { IfErr result (λ fault. fault ≢ Memory → option_map frame_refusal (fault_in bytes.now) ≡ Some fault) }
+        ensures early { IfSome (fault_in bytes.now) (λ fault. result ≡ Err (frame_refusal fault)) }
+        ensures none { result ≢ Ok Answered → outcomes.new.items ≡ [] }
+        ensures unchanged { OnErr result (self.new ≡ self.old) }
+    {
+        outcomes.clear();
+        let told = self.arrive_with(alloc, bytes, outcomes);
+        if !matches!(told, Ok(Arrived::Answered)) {
+            outcomes.clear();
+        }
+        told
+    }
+
+    /// The memory of a good answer that nobody reads any more comes back, for the data of good answers to come: up to
+    /// 128 buffers are kept, and others dropped. It changes nothing that contracts see. It takes memory for the list of
+    /// the buffers while that grows; where it is refused, the buffer is dropped.
+    pub fn give_back(&mut self, bytes: Items<u8>)
+        ensures { self.new ≡ self.old }
+    {
+        self.buffers.put(bytes.into_vec());
     }
 }

@@ -1,20 +1,21 @@
 //! What an arrival's good answers change: the input image, and the changes that its readers are told.
-ghost use Rattle.std.specs.Prelude.{◌≡◌, ◌<◌, ℕ, All, IfOk, fold, map, option_to_list};
+ghost use Rattle.std.specs.Prelude.{◌≡◌, ◌<◌, ℕ, [], All, IfOk, OnOk, fold, map, option_to_list};
 ghost use Rattle.hc_records.specs.declared.limits.TheConstants.{MOST_DATAGRAMS};
 ghost use Rattle.hc_events.specs.Images.{FitsImage, renewed};
 ghost use Rattle.hc_inputs.specs.Image.{data_of};
 ghost use Rattle.hc_core.specs.Goods.{change_of, good_of, goods_in};
 
+use crate::buffers::Buffers;
 use hc_events::answer::Outcome;
 use hc_events::change::{Change, GoodAnswer};
 use hc_frames::reading::{Part, Returned};
 use hc_inputs::inputs::Inputs;
-use hc_records::items::Items;
 use std::alloc::{AllocError, Global};
 
 /// The change that an outcome tells; none where it is no good answer.
 fn change_of(
     alloc: Global,
+    buffers: &mut Buffers,
     outcome: &Outcome,
     part: &Part<'_>,
 ) -> Result<Option<Change>, AllocError>
@@ -23,7 +24,7 @@ fn change_of(
 {
     match outcome {
         Outcome::Inputs { task, datagram } => {
-            let bytes = Items::of(Vec::from_slice(alloc, part.bytes)?);
+            let bytes = buffers.filled(alloc, part.bytes)?;
             let good = GoodAnswer::of(*task, *datagram, bytes);
             Ok(Some(Change::Good(good)))
         }
@@ -35,26 +36,28 @@ fn change_of(
     }
 }
 
-/// The changes of an arrival's good answers, each with a copy of its data.
-pub(crate) fn changes_of(
+/// Puts the changes of an arrival's good answers into an empty list, each with a copy of its data.
+pub(crate) fn put_changes(
     alloc: Global,
+    buffers: &mut Buffers,
+    changes: &mut Vec<Change>,
     outcomes: &[Outcome],
     arrival: &Returned<'_>,
-) -> Result<Vec<Change>, AllocError>
-    requires { All FitsImage (goods_in outcomes.now arrival.now.parts) }
-    ensures { IfOk result (λ changes. changes.items ≡ map change_of (goods_in outcomes.now arrival.now.parts)) }
+) -> Result<(), AllocError>
+    requires fit { All FitsImage (goods_in outcomes.now arrival.now.parts) }
+    requires empty { changes.old.items ≡ [] }
+    ensures { OnOk result (changes.new.items ≡ map change_of (goods_in outcomes.now arrival.now.parts)) }
 {
-    let mut changes = Vec::new(alloc);
     let mut parts = arrival.parts();
     for outcome in outcomes {
         let Some(part) = parts.next() else {
-            return Ok(changes);
+            return Ok(());
         };
-        if let Some(change) = change_of(alloc, outcome, &part)? {
+        if let Some(change) = change_of(alloc, buffers, outcome, &part)? {
             changes.push(change)?;
         }
     }
-    Ok(changes)
+    Ok(())
 }
 
 /// An outcome's data are those of its datagram from now on, where it is a good answer.

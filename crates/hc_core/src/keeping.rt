@@ -1,4 +1,5 @@
 //! What a core keeps.
+use crate::buffers::Buffers;
 use crate::past::Past;
 use hc_awaited::awaited::Awaited;
 use hc_events::change::Change;
@@ -20,6 +21,9 @@ pub struct Core {
     pub(crate) outputs: Outputs,
     pub(crate) owed: Owed,
     pub(crate) changes: Vec<Change>,
+    // the changes of one arrival until all of them are there
+    pub(crate) fresh: Vec<Change>,
+    pub(crate) buffers: Buffers,
     pub(crate) past: Past,
     pub(crate) taken: Snapshot<Past>,
 }
@@ -34,6 +38,8 @@ impl Drop for Core {
             outputs: _,
             owed: _,
             changes: _,
+            fresh: _,
+            buffers: _,
             past: _,
             taken: _,
         } = self;

@@ -3,6 +3,7 @@
 #![tactic(auto)]
 
 mod arriving;
+mod buffers;
 mod declaring;
 mod editing;
 mod filling;

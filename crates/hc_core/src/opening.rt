@@ -5,6 +5,7 @@ ghost use Rattle.hc_records.specs.Line.{line, opened};
 ghost use Rattle.hc_places.specs.Layout.{NamesCrowded};
 ghost use Rattle.hc_events.specs.Accepted.{just_opened};
 
+use crate::buffers::Buffers;
 use crate::keeping::Core;
 use crate::past::Past;
 use hc_awaited::awaited::Awaited;
@@ -42,6 +43,8 @@ impl Core {
             outputs,
             owed,
             changes: Vec::new(alloc),
+            fresh: Vec::new(alloc),
+            buffers: Buffers::new(alloc),
             past,
             taken,
         })

@@ -1,10 +1,12 @@
 //! What a core tells of itself and to tasks.
-ghost use Rattle.std.specs.Prelude.{◌≡◌, ◌<◌, IfOk, IfSome, Ok, length};
-ghost use Rattle.hc_records.specs.declared.limits.TheConstants.{TASKS};
+ghost use Rattle.std.specs.Prelude.{◌≡◌, ◌<◌, ◌≤◌, ◌⊎◌, IfOk, IfSome, None, Ok, length};
+ghost use Rattle.std.specs.Option.{option_copied};
+ghost use Rattle.hc_records.specs.declared.limits.TheConstants.{MOST_DATAGRAMS, TASKS};
 ghost use Rattle.hc_records.specs.Lists.{lowest};
 ghost use Rattle.hc_events.specs.declared.answer.Answer.TheVariants as answer;
 ghost use Rattle.hc_events.specs.Owed.{owed_blocks};
 ghost use Rattle.hc_events.specs.Accepted.{IsReachable};
+ghost use Rattle.hc_events.specs.Images.{slot_of};
 ghost use Rattle.hc_events.specs.Points.{epoch_of, next_serial, state_of};
 ghost use Rattle.hc_events.specs.Steps.{Reads, answer_to, read_faults};
 ghost use Rattle.hc_core.specs.LastData.{ShowsLastData};
@@ -13,7 +15,7 @@ use crate::keeping::Core;
 use hc_events::answer::Answer;
 use hc_events::faults::CoreFault;
 use hc_plan::plan::Plan;
-use hc_records::limits::TASKS;
+use hc_records::limits::{MOST_DATAGRAMS, TASKS};
 use std::alloc::{AllocError, Global};
 
 impl Core {
@@ -39,6 +41,20 @@ impl Core {
         ensures { result ≡ length (owed_blocks self.now.past) }
     {
         self.owed.count()
+    }
+
+    /// What a task reads of one of its datagrams, lent: the data of the last good answer in the present epoch, or none
+    /// where it had none; none too where the task is over 7, or the number over 15. It takes no memory.
+    pub fn data(&self, task: u8, number: u8) -> Option<&[u8]>
+        ensures slot { task < TASKS → number < MOST_DATAGRAMS → option_copied result ≡ slot_of self.now.past task number }
+        ensures none { TASKS ≤ task ⊎ MOST_DATAGRAMS ≤ number → option_copied result ≡ None }
+    {
+        // a look at the plan tells the core's invariant, by which the image shows the record's data
+        let _ = &self.plan;
+        if task >= TASKS || usize::from(number) >= MOST_DATAGRAMS {
+            return None;
+        }
+        self.inputs.data(task, number)
     }
 
     /// The image of a task as it is kept.

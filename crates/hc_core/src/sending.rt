@@ -1,5 +1,6 @@
 //! What is sent: frames of tasks and register writes.
-ghost use Rattle.std.specs.Prelude.{◌≡◌, ◌≢◌, ◌<◌, ◌≤◌, ◌∷◌, All, Err, IfErr, IfOk, IfSome, None, OnErr, OnOk, Some, length};
+ghost use Rattle.std.specs.Prelude.{◌≡◌, ◌≢◌, ◌<◌, ◌≤◌, ◌*◌, [], ◌∷◌, All, Err, IfErr, IfOk, IfSome, None, OnErr, OnOk, Some, length, vec_capacity};
+ghost use Rattle.hc_records.specs.declared.limits.TheConstants.{MOST_DATAGRAMS, TASKS};
 ghost use Rattle.hc_records.specs.Lists.{lowest};
 ghost use Rattle.hc_frames.specs.declared.limits.TheConstants.{SETUP_SERIAL};
 ghost use Rattle.hc_events.specs.declared.faults.CoreFault.TheVariants.{Memory};
@@ -18,7 +19,7 @@ use hc_events::answer::Answer;
 use hc_events::faults::CoreFault;
 use hc_events::sending::Sending;
 use hc_plan::blocks::LineBlock;
-use hc_sendings::proposing::{preview, propose};
+use hc_sendings::proposing::{preview, propose_into};
 use std::alloc::Global;
 
 impl Core {
@@ -38,8 +39,28 @@ impl Core {
         ensures refused { IfErr result (λ fault. fault ≢ Memory → lowest (task_faults self.now.past tasks.now) ≡ Some fault) }
         ensures early { IfSome (lowest (early_faults (length (owed_blocks self.now.past)) tasks.now)) (λ fault. result ≡ Err fault) }
     {
+        let mut frames = Vec::new(alloc);
+        self.propose_into(tasks, &mut frames)?;
+        Ok(frames)
+    }
+
+    /// The same frames in a list that is used again: what it held is dropped, and it is empty where they are refused. A
+    /// list with room for 128 frames, 16 of each of the eight tasks, takes no memory and is never refused for `Memory`
+    /// (this project's profile).
+    pub fn propose_into(&self, tasks: &[u8], frames: &mut Vec<Sending>) -> Result<(), CoreFault>
+        requires { AreSentTogether tasks.now }
+        ensures frames { OnOk result (frames.new.items ≡ proposal self.now.past tasks.now) }
+        ensures present { OnOk result (IsProposal self.now.past frames.new.items) }
+        ensures filled { OnOk result (All (CanBeFilled self.now.past) frames.new.items) }
+        ensures few { OnOk result (length frames.new.items ≤ SETUP_SERIAL) }
+        ensures accepted { OnOk result (lowest (task_faults self.now.past tasks.now) ≡ None) }
+        ensures refused { IfErr result (λ fault. fault ≢ Memory → lowest (task_faults self.now.past tasks.now) ≡ Some fault) }
+        ensures early { IfSome (lowest (early_faults (length (owed_blocks self.now.past)) tasks.now)) (λ fault. result ≡ Err fault) }
+        ensures room { IfErr result (λ fault. fault ≡ Memory → vec_capacity frames.old < MOST_DATAGRAMS * TASKS) }
+        ensures none { OnErr result (frames.new.items ≡ []) }
+    {
         let owed = self.owed.count();
-        propose(alloc, &self.plan, self.serial, owed, tasks)
+        propose_into(&self.plan, self.serial, owed, tasks, frames)
     }
 
     /// The frame of one datagram of a task alone, as it would be sent next, whether or not blocks are owed; none

@@ -10,6 +10,7 @@ pub mod Outputs
 pub mod Owed
 pub mod Changes
 pub mod Steps
+pub mod Outcomes
 pub mod Calls
 pub mod WorkedAxis
 pub mod WorkedRecords

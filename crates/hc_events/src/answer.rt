@@ -23,6 +23,37 @@ pub enum Outcome {
     Stale,
 }
 
+/// What an arrival is as a whole, where what it is for each datagram stands in a list beside it.
+#[derive(Clone, Copy, Debug, PartialEq, Eq)]
+pub enum Arrived {
+    /// It answers frames of tasks, and the list has what it is for each datagram, in the frame's order.
+    Answered,
+    /// It answers a register write, with a working counter of 1: the block is known now.
+    WriteDone,
+    /// It answers a register write, with another working counter: the block stays owed.
+    WriteMissed,
+    /// It answers no sending, or one of which each datagram or the register block was sent again since: nothing
+    /// changed.
+    Stale,
+}
+
+impl Arrived {
+    ghost use Rattle.std.specs.Prelude.{◌≡◌};
+    ghost use Rattle.hc_events.specs.Outcomes.{told_with};
+
+    /// The answer to the arrival, with the list that stood beside. It takes no memory.
+    pub fn answer(self, outcomes: Vec<Outcome>) -> Answer
+        ensures { result ≡ told_with self outcomes.items }
+    {
+        match self {
+            Arrived::Answered => Answer::Answered(Items::of(outcomes)),
+            Arrived::WriteDone => Answer::WriteDone,
+            Arrived::WriteMissed => Answer::WriteMissed,
+            Arrived::Stale => Answer::Stale,
+        }
+    }
+}
+
 /// The answer to an event.
 #[derive(Debug, Drop)]
 pub enum Answer {

@@ -1,5 +1,5 @@
 //! Puts the datagrams of tasks into frames, one datagram after another.
-ghost use Rattle.std.specs.Prelude.{◌≡◌, ◌+◌, ◌*◌, ◌^◌, ◌<◌, ◌≤◌, ◌++◌, IfOk, IfSome, List, OnOk, Some, ℕ, length};
+ghost use Rattle.std.specs.Prelude.{◌≡◌, ◌+◌, ◌*◌, ◌^◌, ◌<◌, ◌≤◌, ◌++◌, [], IfSome, List, OnErr, OnOk, Some, ℕ, length, vec_capacity, vec_len};
 ghost use Rattle.hc_records.specs.Line.{line};
 ghost use Rattle.hc_records.specs.declared.limits.TheConstants.{MOST_DATAGRAMS, TASKS};
 ghost use Rattle.hc_frames.specs.declared.limits.TheConstants.{MAX_DATA, SETUP_SERIAL};
@@ -8,7 +8,7 @@ ghost use Rattle.hc_sendings.specs.Framing.{closed, done_by, framed_from, last_w
 
 use hc_events::sending::{Named, Sending};
 use hc_plan::plan::Plan;
-use std::alloc::{AllocError, Global};
+use std::alloc::AllocError;
 
 /// Puts a datagram with so many bytes of data, 1 to 1,486, behind frames, of which the last is open: into that one
 /// where it has room, else it is done and the datagram begins a frame with the next serial, or with the first one.
@@ -23,6 +23,9 @@ fn place(
     requires serial { IfSome (open_in frames.old.items) (λ frame. frame.serial + 1 < 2 ^ 64) }
     ensures done { OnOk result (closed frames.new.items ≡ closed frames.old.items ++ done_by (open_in frames.old.items) length) }
     ensures open { OnOk result (open_in frames.new.items ≡ Some (last_with serial (open_in frames.old.items) datagram length)) }
+    ensures more { vec_len frames.new ≤ vec_len frames.old + 1 }
+    ensures room { vec_capacity frames.old ≤ vec_capacity frames.new }
+    ensures full { OnErr result (vec_capacity frames.old ≤ vec_len frames.old) }
 {
     let count = frames.len();
     if count == 0 {
@@ -48,6 +51,9 @@ fn place_task(
     requires serial { serial + MOST_DATAGRAMS < 2 ^ 64 }
     requires last { IfSome (open_in frames.old.items) (λ frame. frame.serial + MOST_DATAGRAMS < 2 ^ 64) }
     ensures serials { OnOk result ((bound : ℕ) → serial ≤ bound → IfSome (open_in frames.old.items) (λ frame. frame.serial ≤ bound) → IfSome (open_in frames.new.items) (λ frame. frame.serial ≤ bound + MOST_DATAGRAMS)) }
+    ensures more { OnOk result (vec_len frames.new ≤ vec_len frames.old + MOST_DATAGRAMS) }
+    ensures room { vec_capacity frames.old ≤ vec_capacity frames.new }
+    ensures full { OnErr result (vec_capacity frames.old < vec_len frames.old + MOST_DATAGRAMS) }
     ensures framed { OnOk result ((rest : List Named) → closed frames.new.items ++ framed_from (line plan.now) serial (open_in frames.new.items) rest ≡ closed frames.old.items ++ framed_from (line plan.now) serial (open_in frames.old.items) (task_datagrams (line plan.now) task ++ rest)) }
 {
     let datagrams = plan.places().datagrams(task);
@@ -58,30 +64,36 @@ fn place_task(
     Ok(())
 }
 
-/// How many datagrams tasks have together: no sending of them has more frames.
-fn most_frames(plan: &Plan, tasks: &[u8]) -> usize {
-    let mut count = 0_usize;
+/// How many datagrams tasks have together, 128 at most: no sending of them has more frames.
+fn most_frames(plan: &Plan, tasks: &[u8]) -> usize
+    requires { length tasks.now ≤ TASKS }
+    ensures { result ≤ MOST_DATAGRAMS * TASKS }
+{
+    let mut count = 0;
     for task in tasks {
-        count = count.saturating_add(plan.places().datagrams(*task).len());
+        count += plan.places().datagrams(*task).len();
     }
     count
 }
 
-/// The frames in which tasks are sent, with serials from this one on: datagrams in the tasks' order, each
-/// of which joins the frame before it where that has room, else begins a frame.
-pub(crate) fn frames_of(
-    alloc: Global,
+/// Puts the frames in which tasks are sent, with serials from this one on, into an empty list: datagrams in the tasks'
+/// order, each of which joins the frame before it where that has room, else begins a frame. A list with room for 128
+/// frames is never refused a growth.
+pub(crate) fn put_frames(
     plan: &Plan,
     serial: u64,
     tasks: &[u8],
-) -> Result<Vec<Sending>, AllocError>
+    frames: &mut Vec<Sending>,
+) -> Result<(), AllocError>
     requires serial { serial ≤ SETUP_SERIAL }
     requires few { length tasks.now ≤ TASKS }
-    ensures { IfOk result (λ frames. frames.items ≡ sendings_of (line plan.now) serial tasks.now) }
+    requires empty { frames.old.items ≡ [] }
+    ensures frames { OnOk result (frames.new.items ≡ sendings_of (line plan.now) serial tasks.now) }
+    ensures full { OnErr result (vec_capacity frames.old < MOST_DATAGRAMS * TASKS) }
 {
-    let mut frames = Vec::with_capacity(alloc, most_frames(plan, tasks))?;
+    frames.reserve(most_frames(plan, tasks))?;
     for task in tasks {
-        place_task(plan, &mut frames, serial, *task)?;
+        place_task(plan, frames, serial, *task)?;
     }
-    Ok(frames)
+    Ok(())
 }

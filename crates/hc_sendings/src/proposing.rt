@@ -1,10 +1,11 @@
 //! Proposes frames of tasks: what the next sending would be, which uses no serial yet.
-ghost use Rattle.std.specs.Prelude.{◌≡◌, ◌≢◌, ◌≤◌, ◌+◌, All, Err, IfErr, IfOk, IfSome, None, OnOk, Some, length, ◌&&◌, nat_lt};
+ghost use Rattle.std.specs.Prelude.{◌≡◌, ◌≢◌, ◌<◌, ◌≤◌, ◌+◌, ◌*◌, [], All, Err, IfErr, IfSome, None, OnErr, OnOk, Some, length, ◌&&◌, nat_lt, vec_capacity};
 ghost use Rattle.std.specs.List.{list_any};
 ghost use Rattle.hc_records.specs.Line.{line};
 ghost use Rattle.hc_records.specs.Lists.{lowest};
 ghost use Rattle.hc_frames.specs.declared.limits.TheConstants.{SETUP_SERIAL};
-ghost use Rattle.hc_events.specs.declared.faults.CoreFault.TheVariants.{Memory};
+ghost use Rattle.hc_records.specs.declared.limits.TheConstants.{MOST_DATAGRAMS, TASKS};
+ghost use Rattle.hc_events.specs.declared.faults.CoreFault.TheVariants.{Memory, SerialsSpent};
 ghost use Rattle.hc_events.specs.Accepted.{StandsIn};
 ghost use Rattle.hc_events.specs.Calls.{AreSentTogether};
 ghost use Rattle.hc_events.specs.Sendings.{sendings_of};
@@ -12,13 +13,12 @@ ghost use Rattle.hc_events.specs.Steps.{is_no_task, serials_left};
 ghost use Rattle.hc_sendings.specs.Refusals.{early_faults, sending_faults};
 ghost use Rattle.hc_sendings.specs.Previews.{preview_in};
 
-use crate::framing::frames_of;
+use crate::framing::put_frames;
 use hc_events::faults::CoreFault;
 use hc_events::sending::Sending;
 use hc_frames::limits::SETUP_SERIAL;
 use hc_plan::plan::Plan;
 use hc_records::limits::TASKS;
-use std::alloc::Global;
 
 /// Whether there is no task with one of these numbers.
 fn names_no_task(tasks: &[u8]) -> bool
@@ -27,29 +27,10 @@ fn names_no_task(tasks: &[u8]) -> bool
     tasks.iter().any(|task| !(*task < TASKS))
 }
 
-/// The frames in which 1 to 8 distinct tasks are sent by a plan, with serials from `serial` on, which is
-/// at most that of alias reads and station writes: datagrams in the tasks' order, each of which joins
-/// the frame before it where that has room, else begins a frame; none where the tasks have no datagram.
-/// So their datagrams are the line's, and their serials are below that of alias reads and station writes.
-///
-/// `NoSuchTask` where a number is over 7; `Unprogrammed` where register blocks are owed, `owed` of them;
-/// `SerialsSpent` where the frames need more serials than are left; and of several the first of these.
-/// `Memory` where a growth was refused, and only behind the first two.
-pub fn propose(
-    alloc: Global,
-    plan: &Plan,
-    serial: u64,
-    owed: u32,
-    tasks: &[u8],
-) -> Result<Vec<Sending>, CoreFault>
-    requires serial { serial ≤ SETUP_SERIAL }
-    requires together { AreSentTogether tasks.now }
-    ensures frames { IfOk result (λ frames. frames.items ≡ sendings_of (line plan.now) serial tasks.now) }
-    ensures stand { IfOk result (λ frames. All (λ frame. All (StandsIn (line plan.now)) frame.datagrams) frames.items) }
-    ensures left { IfOk result (λ frames. serial + length frames.items ≤ SETUP_SERIAL) }
-    ensures accepted { OnOk result (lowest (sending_faults (line plan.now) serial owed tasks.now) ≡ None) }
-    ensures refused { IfErr result (λ fault. fault ≢ Memory → lowest (sending_faults (line plan.now) serial owed tasks.now) ≡ Some fault) }
-    ensures early { IfSome (lowest (early_faults owed tasks.now)) (λ fault. result ≡ Err fault) }
+/// The fault that is judged before any frame is planned: `NoSuchTask`, and behind it `Unprogrammed`.
+fn refuse_early(owed: u32, tasks: &[u8]) -> Result<(), CoreFault>
+    ensures passed { OnOk result (lowest (early_faults owed tasks.now) ≡ None) }
+    ensures refused { IfErr result (λ fault. lowest (early_faults owed tasks.now) ≡ Some fault) }
 {
     if names_no_task(tasks) {
         return Err(CoreFault::NoSuchTask);
@@ -57,11 +38,69 @@ pub fn propose(
     if owed > 0 {
         return Err(CoreFault::Unprogrammed(owed));
     }
-    let frames = frames_of(alloc, plan, serial, tasks)?;
+    Ok(())
+}
+
+/// Puts the frames of tasks into an empty list, where enough serials are left.
+fn plan_frames(
+    plan: &Plan,
+    serial: u64,
+    tasks: &[u8],
+    frames: &mut Vec<Sending>,
+) -> Result<(), CoreFault>
+    requires serial { serial ≤ SETUP_SERIAL }
+    requires few { length tasks.now ≤ TASKS }
+    requires empty { frames.old.items ≡ [] }
+    ensures frames { OnOk result (frames.new.items ≡ sendings_of (line plan.now) serial tasks.now) }
+    ensures stand { OnOk result (All (λ frame. All (StandsIn (line plan.now)) frame.datagrams) frames.new.items) }
+    ensures left { OnOk result (serial + length frames.new.items ≤ SETUP_SERIAL) }
+    ensures refused { IfErr result (λ fault. fault ≢ Memory → (fault ≡ SerialsSpent) × (SETUP_SERIAL < serial + length (sendings_of (line plan.now) serial tasks.now))) }
+    ensures room { IfErr result (λ fault. fault ≡ Memory → vec_capacity frames.old < MOST_DATAGRAMS * TASKS) }
+{
+    put_frames(plan, serial, tasks, frames)?;
     if SETUP_SERIAL < serial + frames.len() as u64 {
         return Err(CoreFault::SerialsSpent);
     }
-    Ok(frames)
+    Ok(())
+}
+
+/// The frames in which 1 to 8 distinct tasks are sent by a plan, with serials from `serial` on, which is
+/// at most that of alias reads and station writes: datagrams in the tasks' order, each of which joins
+/// the frame before it where that has room, else begins a frame; none where the tasks have no datagram.
+/// So their datagrams are the line's, and their serials are below that of alias reads and station writes.
+///
+/// They are put into a list that is used again: what it held is dropped, and it is empty where they are refused. It takes
+/// memory where the list has no room for as many frames as the tasks have datagrams; so one with room for 128, 16 of each
+/// of the eight tasks, takes none (this project's profile).
+///
+/// `NoSuchTask` where a number is over 7; `Unprogrammed` where register blocks are owed, `owed` of them;
+/// `SerialsSpent` where the frames need more serials than are left; and of several the first of these.
+/// `Memory` where a growth was refused, and only behind the first two.
+pub fn propose_into(
+    plan: &Plan,
+    serial: u64,
+    owed: u32,
+    tasks: &[u8],
+    frames: &mut Vec<Sending>,
+) -> Result<(), CoreFault>
+    requires serial { serial ≤ SETUP_SERIAL }
+    requires together { AreSentTogether tasks.now }
+    ensures frames { OnOk result (frames.new.items ≡ sendings_of (line plan.now) serial tasks.now) }
+    ensures stand { OnOk result (All (λ frame. All (StandsIn (line plan.now)) frame.datagrams) frames.new.items) }
+    ensures left { OnOk result (serial + length frames.new.items ≤ SETUP_SERIAL) }
+    ensures accepted { OnOk result (lowest (sending_faults (line plan.now) serial owed tasks.now) ≡ None) }
+    ensures refused { IfErr result (λ fault. fault ≢ Memory → lowest (sending_faults (line plan.now) serial owed tasks.now) ≡ Some fault) }
+    ensures early { IfSome (lowest (early_faults owed tasks.now)) (λ fault. result ≡ Err fault) }
+    ensures room { IfErr result (λ fault. fault ≡ Memory → vec_capacity frames.old < MOST_DATAGRAMS * TASKS) }
+    ensures none { OnErr result (frames.new.items ≡ []) }
+{
+    frames.clear();
+    refuse_early(owed, tasks)?;
+    let planned = plan_frames(plan, serial, tasks, frames);
+    if planned.is_err() {
+        frames.clear();
+    }
+    planned
 }
 
 /// Whether a datagram with this number can be sent, of so many, with this serial.

@@ -141,7 +141,7 @@ fn come(alloc: Global, conductor: &mut Conductor, frame: &[u8], wanted: Option<u
 }
 
 /// What the slaves make of a task's frame: each byte of its inputs is that of the step, and its counter the expected one.
-fn answer(conductor: &Conductor, task: u8, step: u8, frame: &mut [u8]) -> Option<()> {
+pub fn answer(conductor: &Conductor, task: u8, step: u8, frame: &mut [u8]) -> Option<()> {
     let plan = conductor.core().plan();
     let datagram = plan.places().datagram(task, 0)?;
     let (outputs, _) = plan.places().part(task);

@@ -30,6 +30,8 @@ mod rows;
 #[cfg(test)]
 mod scopes;
 #[cfg(test)]
+mod steady;
+#[cfg(test)]
 mod steps;
 #[cfg(test)]
 mod working;

@@ -12,6 +12,6 @@ of-good-requires-clause-datagram c = (input-fits c.args.outcome.now c.in-Inputs.
 
 pub of-good-requires-clause-few : goal.of-good-requires-clause-few
 of-good-requires-clause-few c =
-    let same = c.of-bytes.ensures ∙ c.in_ok-from_slice-in-Inputs.ensures.items ∙ ap (λ (part : Placed). part.carried.bytes) c.part.view_is in
+    let same = c.in_ok-bytes-in-Inputs.ensures ∙ ap (λ (part : Placed). part.carried.bytes) c.part.view_is in
     subst (λ (bytes : List ℕ). length bytes ≤ MOST_DATAGRAM_BYTES) (sym same)
     (input-fits c.args.outcome.now c.in-Inputs.task c.in-Inputs.datagram c.args.part.now.carried c.in-Inputs.is c.requires).few

@@ -49,6 +49,8 @@ loop-number-preserved c =
       serials = λ bound low held.
           let more = serial-more c.args.serial (open_in frames) (c.args.task, number) bytes (bound + number) (omega (arith, low)) (c.loop-number.invariant.serials bound low held) in
           subst (λ (last : Option Frame). IfSome last (λ frame. frame.serial ≤ bound + (number + 1))) (sym c.in_ok-place.ensures.open) (omega (arith, more));
+      more = omega (arith, c.place.ensures.more, c.loop-number.invariant.more);
+      room = omega (arith, c.place.ensures.room, c.loop-number.invariant.room);
     }
 
 pub returns-clause-framed : goal.returns-clause-framed

@@ -1,16 +1,18 @@
-use Rattle.std.proofs.Common.{◌≡◌, ◌==◌, ◌∙◌, ap, sym, false, ℕ, List, Some}
+use Rattle.std.proofs.Common.{◌≡◌, ◌==◌, ◌∙◌, Bool, ap, cond, sym, false, ℕ, List, Some, None}
 use Rattle.std.specs.Prelude.{All, find}
 use Rattle.std.specs.Option.{option_map_or}
 use Rattle.hc_records.specs.Line.{line}
 use Rattle.hc_events.specs.Accepted.{StandsIn}
 use Rattle.hc_events.specs.Steps.{told_of}
+use Rattle.hc_awaited.specs.Judging.{frame_due}
+use Rattle.hc_awaited.specs.Walk.{outcomes_in}
 use Rattle.hc_awaited.specs.Kept.{KeptFrame, Newest, awaited_frames, frame_by}
 use Rattle.hc_awaited.specs.Waiting.{AwaitedFrame, AwaitedWrite, Carried, Waiting}
 use Rattle.hc_awaited.proofs.Told.{found-holds, found-stands, frame-told, judged-frame}
 use Rattle.hc_awaited.proofs.awaited.Awaited.judge.Goals as goal
 
-pub outcomes-requires-clause-stands : goal.outcomes-requires-clause-stands
-outcomes-requires-clause-stands c =
+pub judge_parts-requires-clause-stands : goal.judge_parts-requires-clause-stands
+judge_parts-requires-clause-stands c =
     let newest : Newest = c.self.inside.newest in
     let serial : ℕ = c.args.arrival.now.serial in
     let frame : KeptFrame = c.in-Some.frame.now in
@@ -20,10 +22,10 @@ outcomes-requires-clause-stands c =
     ∙ ap (λ (frames : List KeptFrame). find (λ (one : AwaitedFrame). one.serial == serial) (awaited_frames newest frames)) c.as_slice.ensures.value
     ∙ ap (λ (w : Waiting). find (λ (one : AwaitedFrame). one.serial == serial) w.frames) c.self.view_is in
     found-stands (line c.args.plan.now) newest frame
-    (found-holds (λ (one : AwaitedFrame). All (λ (carried : Carried). StandsIn (line c.args.plan.now) carried.datagram) one.datagrams) serial c.args.self.now.frames (frame_by newest frame) c.requires found)
+    (found-holds (λ (one : AwaitedFrame). All (λ (carried : Carried). StandsIn (line c.args.plan.now) carried.datagram) one.datagrams) serial c.args.self.now.frames (frame_by newest frame) c.requires.stand found)
 
-pub returns-in-Some-2 : goal.returns-in-Some-2
-returns-in-Some-2 c =
+pub returns-then-branch : goal.returns-then-branch
+returns-then-branch c =
     let newest : Newest = c.self.inside.newest in
     let serial : ℕ = c.args.arrival.now.serial in
     let frame : KeptFrame = c.in-Some.frame.now in
@@ -34,5 +36,7 @@ returns-in-Some-2 c =
     ∙ ap (λ (w : Waiting). find (λ (one : AwaitedFrame). one.serial == serial) w.frames) c.self.view_is in
     let other : option_map_or (λ (one : AwaitedWrite). one.serial == serial) c.self.inside.write false ≡ false =
     ap (λ (n : ℕ). option_map_or (λ (one : AwaitedWrite). one.serial == n) c.self.inside.write false) (sym c.serial.ensures.value) ∙ sym c.has_serial.ensures ∙ c.if-has_serial.false in
-    frame-told (line c.args.plan.now) (frame_by newest frame) c.args.arrival.now c.in-Some-2.outcomes c.in-Some.ensures.alive (sym c.in-Some-2.is ∙ c.in_ok-outcomes.ensures)
+    let whole : Some c.judge_parts.new.outcomes.items ≡ outcomes_in (frame_due (line c.args.plan.now) (frame_by newest frame)) c.args.arrival.now.parts =
+    ap (λ (b : Bool). cond b (Some c.judge_parts.new.outcomes.items) None) (sym c.if-branch.true) ∙ c.in_ok-judge_parts.ensures in
+    frame-told (line c.args.plan.now) (frame_by newest frame) c.args.arrival.now c.judge_parts.new.outcomes.items c.in-Some.ensures.alive whole
     ∙ ap told_of (judged-frame (line c.args.plan.now) c.args.self.now c.args.arrival.now c.self.inside.write (Some (frame_by newest frame)) (ap (λ (w : Waiting). w.write) c.self.view_is) other found)

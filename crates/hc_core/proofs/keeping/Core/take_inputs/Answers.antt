@@ -13,8 +13,8 @@ use Rattle.hc_core.specs.Goods.{goods_in}
 use Rattle.hc_core.specs.State.{CoreState}
 use Rattle.hc_core.proofs.keeping.Core.take_inputs.Goals as goal
 
-pub changes_of-requires : goal.changes_of-requires
-changes_of-requires c =
+pub put_changes-requires-clause-fit : goal.put_changes-requires-clause-fit
+put_changes-requires-clause-fit c =
     let inside = c.self.inside in
     let past = record_of inside.past in
     let arrival = c.args.arrival.now in
@@ -31,8 +31,8 @@ put_goods-requires c =
     let told : told_of (judged_by past arrival) ≡ answer.Answered outcomes = ap (λ (state : CoreState). told_of (judged_by state.past arrival)) c.self.view_is ∙ c.requires.told in
     goods-fit (kept_in inside) past (record_of inside.taken.value) arrival (goods_in outcomes arrival.parts) c.self.invariant (told-inputs past arrival outcomes told).goods
 
-pub invariant_of-self : goal.invariant_of-self
-invariant_of-self c =
+pub invariant_of-self-in_err-append : goal.invariant_of-self-in_err-append
+invariant_of-self-in_err-append c =
     let inside = c.self.inside in
     subst (λ (changes : List Change). Agree (record (kept_in inside) { changes = changes }) (record_of inside.past) (record_of inside.taken.value)) (sym c.in_err-append.ensures.items) c.self.invariant
 
@@ -46,7 +46,7 @@ invariant_of-self-2 c =
     let grown = c.came.ensures ∙ ap (with_arrival past) c.requires.read in
     let told : told_of (judged_by past arrival) ≡ answer.Answered outcomes = ap (λ (state : CoreState). told_of (judged_by state.past arrival)) c.self.view_is ∙ c.requires.told in
     let over = c.end.ensures ∙ ap (λ serial. ended serial inside.awaited) c.serial.ensures.value in
-    let more = c.in_ok-append.ensures.items ∙ ap (λ (changes : List Change). inside.changes.items ++ changes) c.in_ok-changes.ensures in
+    let more = c.in_ok-append.ensures.items ∙ ap (λ (changes : List Change). inside.changes.items ++ changes) c.in_ok-put_changes.ensures in
     subst (λ (grows : Record). Agree (record (kept_in inside) { awaited = c.end.new.self; inputs = c.put_goods.new.inputs; changes = c.append.new.self.items }) grows taken) (sym grown)
     (subst (λ (left : Waiting). Agree (record (kept_in inside) { awaited = left; inputs = c.put_goods.new.inputs; changes = c.append.new.self.items }) (Came arrival ∷ past) taken) (sym over)
     (subst (λ (changes : List Change). Agree (record (kept_in inside) { awaited = ended arrival.serial inside.awaited; inputs = c.put_goods.new.inputs; changes = changes }) (Came arrival ∷ past) taken) (sym more)

@@ -4,9 +4,9 @@ use Rattle.hc_records.specs.Line.{line}
 use Rattle.hc_events.specs.Accepted.{StandsIn}
 use Rattle.hc_events.specs.Sendings.{Frame}
 use Rattle.hc_sendings.proofs.lemmas.Whole.{frames-stand}
-use Rattle.hc_sendings.proofs.proposing.propose.Goals as goal
+use Rattle.hc_sendings.proofs.proposing.plan_frames.Goals as goal
 
 pub returns-clause-stand : goal.returns-clause-stand
 returns-clause-stand c =
-    subst (λ (frames : List Frame). All (λ (frame : Frame). All (StandsIn (line c.args.plan.now)) frame.datagrams) frames) (sym c.in_ok-frames.ensures)
+    subst (λ (frames : List Frame). All (λ (frame : Frame). All (StandsIn (line c.args.plan.now)) frame.datagrams) frames) (sym c.in_ok-put_frames.ensures.frames)
     (frames-stand (line c.args.plan.now) c.args.serial c.args.tasks.now)

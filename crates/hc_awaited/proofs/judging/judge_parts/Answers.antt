@@ -3,12 +3,12 @@ use Rattle.hc_frames.specs.Arrived.{Placed}
 use Rattle.hc_records.specs.Line.{line}
 use Rattle.hc_awaited.specs.Walk.{outcomes_in}
 use Rattle.hc_awaited.proofs.Walked.{behind, due_by, parts_of, walked-none, walked-short}
-use Rattle.hc_awaited.proofs.judging.outcomes.Goals as goal
+use Rattle.hc_awaited.proofs.judging.judge_parts.Goals as goal
 
 pub loop-datagram-init : goal.loop-datagram-init
 loop-datagram-init c =
     walked-none (line c.args.plan.now) c.args.newest.now c.args.frame.now.serial c.args.frame.now.datagrams c.args.arrival.now.parts c.parts-parts.result
-    c.in_ok-outcomes.outcomes.items c.parts-parts.ensures c.in_ok-outcomes.ensures.items
+    c.reserve.new.self.items c.parts-parts.ensures (c.reserve.ensures.items ∙ c.requires.empty)
 
 pub returns-in_default : goal.returns-in_default
 returns-in_default c =

@@ -6,7 +6,7 @@ use Rattle.hc_records.specs.Line.{line}
 use Rattle.hc_events.specs.Sendings.{task_datagrams}
 use Rattle.hc_sendings.specs.Framing.{closed, framed_from, open_in}
 use Rattle.hc_sendings.proofs.Framed.{whole-of}
-use Rattle.hc_sendings.proofs.framing.frames_of.Goals as goal
+use Rattle.hc_sendings.proofs.framing.put_frames.Goals as goal
 
 pub loop-task-preserved : goal.loop-task-preserved
 loop-task-preserved c =
@@ -23,10 +23,12 @@ loop-task-preserved c =
           (sym split)
           ∙ c.loop-task.invariant.framed;
       serials = subst (λ (n : ℕ). IfSome (open_in c.place_task.new.frames.items) (λ frame. frame.serial ≤ n)) (omega arith) (c.in_ok-place_task.ensures.serials bound (omega arith) c.loop-task.invariant.serials);
+      more = omega (arith, c.in_ok-place_task.ensures.more, c.loop-task.invariant.more);
+      room = omega (arith, c.place_task.ensures.room, c.loop-task.invariant.room);
     }
 
-pub returns : goal.returns
-returns c =
+pub returns-clause-frames : goal.returns-clause-frames
+returns-clause-frames c =
     let members = line c.args.plan.now in
     let frames = c.loop-task.frames.items in
     let done : drop c.loop-task.task-index c.args.tasks.now ≡ [] = drop_all c.loop-task.task-index c.args.tasks.now (grind (arith, c.loop-task.auto.task-index-end, c.loop-task-test.false)) in

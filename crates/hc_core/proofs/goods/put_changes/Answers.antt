@@ -7,8 +7,8 @@ use Rattle.hc_events.specs.Images.{FitsImage}
 use Rattle.hc_core.specs.Goods.{change_of, good_of, goods_in, parts_of}
 use Rattle.hc_core.proofs.GoodsSteps.{goods-over, goods-short, goods-step, parts-back}
 use Rattle.hc_events.specs.declared.change.Change.{Change}
-use Rattle.hc_core.proofs.goods.changes_of.Goals.{in-Some-2+in_ok-push, in_default-2}
-use Rattle.hc_core.proofs.goods.changes_of.Goals as goal
+use Rattle.hc_core.proofs.goods.put_changes.Goals.{in-Some-2+in_ok-push, in_default-2}
+use Rattle.hc_core.proofs.goods.put_changes.Goals as goal
 
 pub returns-in_default : goal.returns-in_default
 returns-in_default c =
@@ -27,8 +27,8 @@ loop-outcome-init c =
     let back = ap parts_of c.parts-parts.ensures ∙ parts-back 16 c.args.arrival.now.parts in
     let same = ap (goods_in c.args.outcomes.now) back in
     record {
-      same = ap (λ items. items ++ map change_of (goods_in c.args.outcomes.now (parts_of c.parts-parts.result))) c.new-changes.ensures.items ∙ ap (map change_of) same;
-      fit = subst (All FitsImage) (sym same) c.requires;
+      same = ap (λ items. items ++ map change_of (goods_in c.args.outcomes.now (parts_of c.parts-parts.result))) c.requires.empty ∙ ap (map change_of) same;
+      fit = subst (All FitsImage) (sym same) c.requires.fit;
     }
 
 pub change_of-requires : goal.change_of-requires

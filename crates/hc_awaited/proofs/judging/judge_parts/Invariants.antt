@@ -2,7 +2,7 @@ use Rattle.std.proofs.Common.{◌≡◌, drop}
 use Rattle.hc_records.specs.Line.{line}
 use Rattle.hc_awaited.specs.Walk.{outcomes_in}
 use Rattle.hc_awaited.proofs.Walked.{behind, due_by, parts_of}
-use Rattle.hc_awaited.proofs.judging.outcomes.Given as goal
+use Rattle.hc_awaited.proofs.judging.judge_parts.Given as goal
 
 abbrev pub invariant-loop-datagram : goal.invariant-loop-datagram
 invariant-loop-datagram l = outcomes_in (due_by (line l.plan) l.newest l.frame.serial l.frame.datagrams) l.arrival.parts
