@@ -3,8 +3,8 @@ use Rattle.std.specs.Prelude.{ℕ, not, Bool, true, false, if◌then◌else◌, 
 use Rattle.std.specs.Option.{option_copied, option_map_or}
 use Rattle.std.specs.Str.{bytes_eq}
 use Rattle.hc_text.specs.Lines.{Line, closed_text, is_mark, sole, words_of}
-use Rattle.hc_program.specs.declared.turns.Turn as cut
-use Rattle.hc_program.specs.declared.turns.Turn.TheVariants as turn
+use Rattle.hc_program.specs.declared.turn.Turn as cut
+use Rattle.hc_program.specs.declared.turn.Turn.TheVariants as turn
 
 -- a command line, by its number and its text; or a declaration, by the number of the line `declare`, with its document: none where no line `%%` ends that
 pub data Turn : Type 0 where

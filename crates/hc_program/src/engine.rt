@@ -17,7 +17,7 @@ use crate::opening::{Unopened, memory_text, open_session, push_unopened};
 use crate::replies::answer;
 use crate::session::Session;
 use crate::stops::stop_line;
-use crate::turns::{Turn, split_turn};
+use crate::turn::{Turn, split_turn};
 use hc_text::input::{Unread, read_all};
 use hc_text::lines::split_sections;
 use hc_text::output::write_text;
@@ -91,9 +91,9 @@ fn take_turn<Rt: Threads + Wait + Sync, W: Write>(
     output: &mut W,
 ) -> TurnEnd
     ensures answered { result.starved ≡ false
-        → Takes (W.contents output.old) (W.contents output.new) (standing_of session.new) result.end (reply_to (standing_of session.old) (turn_of turn)) }
+        → Takes (W.contents output.old) (W.contents output.new) (standing_of session.new) result.end (reply_to (standing_of session.old) (turn_of turn.entry)) }
     ensures stopped { result.starved ≡ true
-        → (reply : Reply) × Stops (standing_of session.old) (turn_of turn) reply × Takes (W.contents output.old) (W.contents output.new) (standing_of session.new) result.end reply }
+        → (reply : Reply) × Stops (standing_of session.old) (turn_of turn.entry) reply × Takes (W.contents output.old) (W.contents output.new) (standing_of session.new) result.end reply }
 {
     let answered = answer(rt, alloc, turn, session);
     drop(session.core.take_changes(alloc));

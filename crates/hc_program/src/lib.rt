@@ -12,4 +12,4 @@ mod refusals;
 mod replies;
 mod session;
 mod stops;
-mod turns;
+mod turn;

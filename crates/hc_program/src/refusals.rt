@@ -36,10 +36,17 @@ pub fn push_project_fault(fault: ProjectFault, out: &mut String) -> Result<(), A
     push_project_fault_words(fault, out)
 }
 
-/// Adds the line of a document that declares no group, as `declare fault 12 NotOneGroup`: of any fault but `Memory`,
-/// whose line is the run's to write (`memory_refusal`). `AllocError` where a growth was refused or the fault is
-/// `Memory`; `out` may then have a front of the line.
-#[tactic(auto, unfolding(crate::specs::Refusals::declare_fault_text))]
+/// Adds the line of a document that declares no group, as `declare fault 12 NotOneGroup`. `AllocError` where a growth was
+/// refused; `out` may then have a front of the line.
+fn push_declare_fault(fault: ProjectFault, out: &mut String) -> Result<(), AllocError>
+    ensures { OnOk result (string_bytes out.new ≡ string_bytes out.old ++ declare_fault_text fault) }
+{
+    out.push_str("declare fault ")?;
+    push_project_fault_words(fault, out)
+}
+
+/// The same of a fault that may be `Memory`: that one is answered as `AllocError`, and its line is the run's to write
+/// (`memory_refusal`).
 pub fn tell_declare_fault(fault: ProjectFault, out: &mut String) -> Result<(), AllocError>
     ensures text { OnOk result (string_bytes out.new ≡ string_bytes out.old ++ declare_fault_text fault) }
     ensures other { OnOk result (fault ≢ project.Memory) }
@@ -47,8 +54,7 @@ pub fn tell_declare_fault(fault: ProjectFault, out: &mut String) -> Result<(), A
     if let ProjectFault::Memory = fault {
         return Err(AllocError);
     }
-    out.push_str("declare fault ")?;
-    push_project_fault_words(fault, out)
+    push_declare_fault(fault, out)
 }
 
 /// Adds the fault's number and name, and the end of the line.

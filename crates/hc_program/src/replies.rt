@@ -10,7 +10,7 @@ use crate::commands::{command_in, declare, obey};
 use crate::refusals::push_bad_command;
 use crate::session::Session;
 use crate::stops::Stop;
-use crate::turns::Turn;
+use crate::turn::Turn;
 use hc_text::words::split_words;
 use std::alloc::{AllocError, Global};
 use std::sync::Wait;
@@ -33,10 +33,10 @@ pub fn answer<R: Threads + Wait + Sync>(
     turn: Turn<'_>,
     session: &mut Session,
 ) -> Result<Reply, Stop>
-    ensures text { IfOk result (λ reply. string_bytes reply.text ≡ (reply_to (standing_of session.old) (turn_of turn)).text) }
-    ensures goes_on { IfOk result (λ reply. reply.goes_on ≡ (reply_to (standing_of session.old) (turn_of turn)).goes_on) }
-    ensures next { OnOk result (standing_of session.new ≡ (reply_to (standing_of session.old) (turn_of turn)).standing) }
-    ensures stops { IfErr result (λ stop. StopsTurn (standing_of session.old) (turn_of turn) stop (standing_of session.new)) }
+    ensures text { IfOk result (λ reply. string_bytes reply.text ≡ (reply_to (standing_of session.old) (turn_of turn.entry)).text) }
+    ensures goes_on { IfOk result (λ reply. reply.goes_on ≡ (reply_to (standing_of session.old) (turn_of turn.entry)).goes_on) }
+    ensures next { OnOk result (standing_of session.new ≡ (reply_to (standing_of session.old) (turn_of turn.entry)).standing) }
+    ensures stops { IfErr result (λ stop. StopsTurn (standing_of session.old) (turn_of turn.entry) stop (standing_of session.new)) }
 {
     let mut text = String::new(alloc);
     let goes_on = push_turn(rt, alloc, turn, session, &mut text)?;
@@ -52,10 +52,10 @@ fn push_turn<R: Threads + Wait + Sync>(
     session: &mut Session,
     out: &mut String,
 ) -> Result<bool, Stop>
-    ensures text { OnOk result (string_bytes out.new ≡ string_bytes out.old ++ (reply_to (standing_of session.old) (turn_of turn)).text) }
-    ensures goes_on { IfOk result (λ goes_on. goes_on ≡ (reply_to (standing_of session.old) (turn_of turn)).goes_on) }
-    ensures next { OnOk result (standing_of session.new ≡ (reply_to (standing_of session.old) (turn_of turn)).standing) }
-    ensures stops { IfErr result (λ stop. StopsTurn (standing_of session.old) (turn_of turn) stop (standing_of session.new)) }
+    ensures text { OnOk result (string_bytes out.new ≡ string_bytes out.old ++ (reply_to (standing_of session.old) (turn_of turn.entry)).text) }
+    ensures goes_on { IfOk result (λ goes_on. goes_on ≡ (reply_to (standing_of session.old) (turn_of turn.entry)).goes_on) }
+    ensures next { OnOk result (standing_of session.new ≡ (reply_to (standing_of session.old) (turn_of turn.entry)).standing) }
+    ensures stops { IfErr result (λ stop. StopsTurn (standing_of session.old) (turn_of turn.entry) stop (standing_of session.new)) }
 {
     match turn {
         Turn::Says { number, line } => {

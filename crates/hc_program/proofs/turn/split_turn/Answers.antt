@@ -4,7 +4,7 @@ use Rattle.hc_text.specs.Cutting.{lines_after}
 use Rattle.hc_text.specs.Lines.{Line, command_lines}
 use Rattle.hc_program.specs.Declaring.{Turn, turn_of, turns_of}
 use Rattle.hc_program.proofs.Declaring.{declares, says}
-use Rattle.hc_program.proofs.turns.split_turn.Goals as goal
+use Rattle.hc_program.proofs.turn.split_turn.Goals as goal
 
 pub returns-then-is_declare-clause-turn : goal.returns-then-is_declare-clause-turn
 returns-then-is_declare-clause-turn c =
