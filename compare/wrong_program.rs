@@ -1,10 +1,11 @@
-//! A wrong program: it runs another one over what it reads, and prints what that prints but for one line. The comparisons
-//! are shown it and must refuse it.
+//! A wrong program: it runs another one over what it reads, and prints what that prints but for one line; or it hands on
+//! what it reads but for the last line of a document. The comparisons are shown it and must refuse it.
 //!
-//! Words after its name: the way in which it is wrong (`byte`, `line` or `epoch`), the program, and its arguments.
+//! Words after its name: the way in which it is wrong (`byte`, `line`, `epoch` or `document`), the program, and its arguments.
 
-use std::io::{Write, stdout};
-use std::process::{Command, ExitCode, Stdio};
+use std::io::{Read, Write, stdin, stdout};
+use std::process::{Command, ExitCode, Output, Stdio};
+use std::thread::spawn;
 
 /// The line with another last byte.
 fn with_other_byte(line: &str) -> String {
@@ -41,14 +42,51 @@ fn turn(way: &str, lines: &mut Vec<String>) -> Option<()> {
     Some(())
 }
 
+/// An input with a blank line in place of the last line of each `declare`'s document.
+fn with_shorter_documents(input: &str) -> String {
+    let mut lines: Vec<&str> = input.lines().collect();
+    let is_mark = |line: &&str| line.trim_end_matches('\r') == "%%";
+    let mut place = lines.iter().position(is_mark).unwrap_or(lines.len());
+    while let Some(ahead) = lines[place..].iter().position(|line| line.trim() == "declare") {
+        let Some(length) = lines[place + ahead..].iter().position(is_mark) else {
+            break;
+        };
+        place += ahead + length;
+        if length > 1 {
+            lines[place - 1] = "";
+        }
+    }
+    lines.join("\n") + "\n"
+}
+
+/// What a program prints for an input.
+fn run(program: &str, arguments: &[String], input: String) -> std::io::Result<Output> {
+    let mut command = Command::new(program);
+    command.args(arguments).stdin(Stdio::piped()).stdout(Stdio::piped());
+    let mut child = command.spawn()?;
+    let mut to = child.stdin.take().expect("a pipe");
+    // a program that stops reading fails by what it prints
+    let writer = spawn(move || drop(to.write_all(input.as_bytes())));
+    let output = child.wait_with_output();
+    writer.join().expect("a writer");
+    output
+}
+
 fn main() -> ExitCode {
     let words: Vec<String> = std::env::args().skip(1).collect();
     let [way, program, arguments @ ..] = &words[..] else {
-        eprintln!("usage: wrong_program byte|line|epoch PROGRAM [ARGUMENT..]");
+        eprintln!("usage: wrong_program byte|line|epoch|document PROGRAM [ARGUMENT..]");
         return ExitCode::from(64);
     };
-    let run = Command::new(program).args(arguments).stdin(Stdio::inherit()).stderr(Stdio::inherit()).output();
-    let Ok(output) = run else {
+    let mut input = String::new();
+    if stdin().read_to_string(&mut input).is_err() {
+        eprintln!("the input isn't text");
+        return ExitCode::from(64);
+    }
+    if way == "document" {
+        input = with_shorter_documents(&input);
+    }
+    let Ok(output) = run(program, arguments, input) else {
         eprintln!("{program} can't be run");
         return ExitCode::from(64);
     };

@@ -2,8 +2,8 @@
 # Compares what the program that `rt ci` has built prints for drawn scripts with what the plain models of compare/ work out
 # of them, and what `projectcheck` tells of spoilt projects with what was spoilt. Each comparison is also shown wrong
 # programs, of which it must find the wrong line: one with another byte in a line, one that leaves a line out, and of
-# `hotline` one that tells the epoch before. The last line is 'N passed, M failed'. Words after its name are a program to be
-# compared in place of the built `hotline`.
+# `hotline` one that tells the epoch before, and one that leaves the last line of a declared group out. The last line is
+# 'N passed, M failed'. Words after its name are a program to be compared in place of the built `hotline`.
 set -u
 cd "$(dirname "$0")/.."
 [ "$#" -gt 0 ] || set -- crates/hotline/out/hotline
@@ -60,8 +60,8 @@ compare() {
 }
 
 build wrong compare/wrong_program.rs
-compare edits "byte line epoch" "$@"
-compare events "byte line epoch" "$@"
+compare edits "byte line epoch document" "$@"
+compare events "byte line epoch document" "$@"
 compare places "byte line" "$check"
 echo "$passed passed, $failed failed"
 [ "$passed" -gt 0 ] && [ "$failed" -eq 0 ]

@@ -88,6 +88,8 @@ done
 "$check/drawn_line.py" 2048 >"$scratch/drawn.in"
 make drawn "$scratch/drawn.in"
 
+make declared tools/declared.in
+
 stored examples/tool_changer.svg examples/tool_changer.toml ''
 stored examples/tool_changer_gripper.svg examples/tool_changer.toml 'connect 100'
 

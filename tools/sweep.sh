@@ -84,27 +84,37 @@ run_unrefused() {
     echo $? >"$scratch/$2.status"
 }
 
+# turns_of INPUT: the first and the last line of each command behind the project; that of a `declare` is the line that ends its
+# document.
+turns_of() {
+    awk '!begun { begun = $0 == "%%"; next }
+        first && $0 != "%%" { next }
+        first { print first, NR; first = 0; next }
+        $0 == "declare" { first = NR; next }
+        { print NR, NR }' "$1"
+}
+
 # expect_refusals INPUT: numbers the commands that a run reaches from 1, and writes what the program must print where growths
-# are refused for command I: in `alone.I` what it prints with a blank line in place of the command, but for the refusal in
+# are refused for command I: in `alone.I` what it prints with blank lines in place of the command, but for the refusal in
 # its place; in `lasting.I` what it prints before the command, and the refusal for it and each command behind it.
 expect_refusals() {
     rm -f "$scratch"/alone.* "$scratch"/lasting.*
-    first=$(($(grep -n '^%%$' "$1" | head -n 1 | cut -d : -f 1) + 1))
-    last=$(wc -l <"$1")
+    turns_of "$1" >"$scratch/turns"
+    commands=$(wc -l <"$scratch/turns")
     count=0
-    for line in $(seq "$first" "$last"); do
-        head -n $((line - 1)) "$1" >"$scratch/lines"
+    while read -r first last; do
+        head -n $((first - 1)) "$1" >"$scratch/lines"
         run_unrefused "$scratch/lines" front
         [ "$(cat "$scratch/front.status")" -eq 0 ] || return
-        sed "${line}s/.*//" "$1" >"$scratch/lines"
+        sed "${first},${last}s/.*//" "$1" >"$scratch/lines"
         run_unrefused "$scratch/lines" without
         count=$((count + 1))
         size=$(wc -c <"$scratch/front")
         { cat "$scratch/front"; echo refused 28 Memory; tail -c +$((size + 1)) "$scratch/without"; } >"$scratch/alone.$count"
         cp "$scratch/without.status" "$scratch/alone.$count.status"
-        { cat "$scratch/front"; yes refused 28 Memory | head -n $((last - line + 1)); } >"$scratch/lasting.$count"
+        { cat "$scratch/front"; yes refused 28 Memory | head -n $((commands - count + 1)); } >"$scratch/lasting.$count"
         echo 0 >"$scratch/lasting.$count.status"
-    done
+    done <"$scratch/turns"
 }
 
 # What was said, with the line of a refused chain told as any other refusal.
@@ -207,6 +217,7 @@ sweep_steady worked_conductor steady::few_cycles steady::many_cycles
 sweep_program "alone lasting" "its first run" crates/hotline/stdin crates/hotline/stdout 0
 sweep_program "alone lasting" "every command" tools/commands.in tools/commands.out 2
 sweep_program "alone lasting" "frames" tools/frames.in tools/frames.out 0
+sweep_program "alone lasting" "declarations" tools/declared.in tools/declared.out 0
 sweep_program "alone lasting" "the tool changer with frames" examples/tool_changer_frames.in examples/tool_changer_frames.out 0
 sweep_program alone "two groups" examples/two_groups.in examples/two_groups.out 0
 sweep_line "alone lasting" "the day of the tool changer" examples/tool_changer_day.in examples/tool_changer_day.out 0

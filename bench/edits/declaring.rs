@@ -1,6 +1,7 @@
 //! Groups of one slave with eight areas that are declared while the line runs, on lines of 64 and of 2,000 slaves: of each
 //! line so many that the lists that keep them double less than half of the time.
 
+use super::plain::Group;
 use super::{line, median};
 
 /// The lines, and how many groups are declared on each.
@@ -21,12 +22,41 @@ unsafe extern "C" {
     ) -> usize;
 }
 
+/// The names of the first declared group, the others follow: above all that a line has, so that nothing is shifted in the
+/// lists that keep them sorted, or below them, so that all is.
+struct Names {
+    title: &'static str,
+    alias: u16,
+    station: u16,
+    variable: u32,
+}
+
+const NAMES: [Names; 2] = [
+    Names { title: "above all others", alias: 60_000, station: 60_000, variable: 4_000_000_000 },
+    Names { title: "below all others", alias: 1, station: 1, variable: 1 },
+];
+
+/// A line of so many slaves, whose names are all above the lowest groups'.
+fn line_of(slaves: usize) -> Vec<Group> {
+    let mut groups = line::line(slaves);
+    for group in &mut groups {
+        group.alias += if group.alias > 0 { GROUPS } else { 0 };
+        let areas = group.slaves.iter_mut().flat_map(|slave| &mut slave.areas);
+        let entries = areas.flat_map(|area| &mut area.offered).flat_map(|pdo| &mut pdo.entries);
+        entries.for_each(|(variable, _)| *variable += 8 * u32::from(GROUPS));
+    }
+    groups
+}
+
 /// The nanoseconds of each declaration on a line of so many slaves.
-fn declared(slaves: usize) -> Vec<f64> {
-    let text = line::text(&line::line(slaves));
-    let groups: Vec<Coming> = (0..GROUPS)
-        .map(|number| Coming { alias: 60_000 + number, station: 60_000 + number, variable: 4_000_000_000 + 8 * u32::from(number) })
-        .collect();
+fn declared(slaves: usize, names: &Names) -> Vec<f64> {
+    let text = line::text(&line_of(slaves));
+    let coming = |number: u16| Coming {
+        alias: names.alias + number,
+        station: names.station + number,
+        variable: names.variable + 8 * u32::from(number),
+    };
+    let groups: Vec<Coming> = (0..GROUPS).map(coming).collect();
     let mut times = vec![0; groups.len()];
     let count = unsafe {
         groups_declared(text.as_ptr(), text.len(), groups.as_ptr(), groups.len(), times.as_mut_ptr(), times.len())
@@ -39,14 +69,16 @@ fn declared(slaves: usize) -> Vec<f64> {
 /// Prints the median and the longest of the declarations, over so many lines of each length, and what the median is of the
 /// one at 64 slaves.
 pub fn tell(turns: usize) {
-    println!("| A declared group of one slave | Median, ns | To 64 slaves | Longest, ns |");
-    println!("|---|---|---|---|");
-    let mut few = f64::NAN;
-    for slaves in SLAVES {
-        let times: Vec<f64> = (0..turns).flat_map(|_| declared(slaves)).collect();
-        let longest = times.iter().copied().fold(0.0, f64::max);
-        let usual = median(times);
-        few = if few.is_nan() { usual } else { few };
-        println!("| {slaves} slaves | {usual:.0} | {:.2} | {longest:.0} |", usual / few);
+    println!("| A declared group of one slave, its names | Slaves | Median, ns | To 64 slaves | Longest, ns |");
+    println!("|---|---|---|---|---|");
+    for names in NAMES {
+        let mut few = f64::NAN;
+        for slaves in SLAVES {
+            let times: Vec<f64> = (0..turns).flat_map(|_| declared(slaves, &names)).collect();
+            let longest = times.iter().copied().fold(0.0, f64::max);
+            let usual = median(times);
+            few = if few.is_nan() { usual } else { few };
+            println!("| {} | {slaves} | {usual:.0} | {:.2} | {longest:.0} |", names.title, usual / few);
+        }
     }
 }

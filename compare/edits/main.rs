@@ -5,12 +5,14 @@
 #[path = "../shared/mod.rs"]
 mod shared;
 
+use shared::counts::Counts;
+use shared::documents::{FAULTS, drawn_edit, fault_line};
 use shared::draws::Draws;
 use shared::edits::{Edit, Refusal};
 use shared::line::Line;
-use shared::printed::{edit_line, edit_words, layout_lines};
+use shared::printed::{edit_line, layout_lines};
 use shared::projects::Widths::{self, Brimming, Mixed};
-use shared::projects::{Shape, edit, project};
+use shared::projects::{Shape, project};
 use shared::questions::{Names, ask};
 use shared::running::{compare, main_of};
 use shared::scripts::Script;
@@ -21,14 +23,22 @@ struct Case {
     seed: u64,
     shape: Shape,
     edits: usize,
+    /// How many in a hundred edits are declarations.
+    declarations: usize,
 }
 
 const fn case(seed: u64, [slaves, groups, areas, tasks]: [usize; 4], widths: Widths, edits: usize) -> Case {
-    Case { seed, shape: Shape { slaves, groups, areas, tasks, widths }, edits }
+    Case { seed, shape: Shape { slaves, groups, areas, tasks, widths }, edits, declarations: 10 }
 }
 
-/// From one slave to hundreds; where many PDOs are wide, or many areas share a task, tasks get crowded.
-const CASES: [Case; 19] = [
+/// Most edits of these are declarations.
+const fn at_a_limit(case: Case) -> Case {
+    Case { declarations: 70, ..case }
+}
+
+/// From one slave to hundreds; where many PDOs are wide, or many areas share a task, tasks get crowded. The last two have
+/// nearly as many groups, and as many slaves, as can be declared.
+const CASES: [Case; 21] = [
     case(1, [1, 0, 8, 3], Mixed(30), 300),
     case(2, [1, 1, 8, 8], Mixed(30), 400),
     case(3, [3, 2, 4, 2], Mixed(0), 500),
@@ -48,15 +58,19 @@ const CASES: [Case; 19] = [
     case(17, [350, 80, 8, 1], Mixed(2), 400),
     case(19, [14, 5, 2, 2], Brimming, 700),
     case(18, [500, 100, 4, 2], Mixed(6), 300),
+    at_a_limit(case(20, [680, 507, 1, 8], Mixed(0), 40)),
+    at_a_limit(case(21, [2042, 60, 1, 8], Mixed(0), 40)),
 ];
 
 /// What was met in all cases.
 #[derive(Default)]
 struct Met {
-    /// Accepted edits that connect, disconnect, remap and move.
-    accepted: [usize; 4],
+    /// Accepted edits that connect, disconnect, remap, move and declare.
+    accepted: [usize; 5],
     /// Refusals by their number.
-    refused: [usize; 14],
+    refused: Counts,
+    /// Faults of documents by their number.
+    faults: Counts,
     /// Edits that recut a span, those of which a datagram with areas stayed settled, and those that moved a block.
     recut: usize,
     moved: usize,
@@ -71,6 +85,7 @@ fn kind_of(edit: &Edit) -> usize {
         Edit::Disconnect(_) => 1,
         Edit::Remap { .. } => 2,
         Edit::Move { .. } => 3,
+        Edit::Declare(_) => 4,
     }
 }
 
@@ -86,25 +101,35 @@ fn script_of(case: &Case, met: &mut Met) -> Script {
             return script;
         }
     };
-    let names = Names::of(&groups);
+    let mut names = Names::of(&groups);
     script.add("layout", &[], layout_lines(0, &line.layout));
     for _ in 0..case.edits {
-        let edit = edit(&mut draws, &line.state, case.shape);
+        let drawn = drawn_edit(&mut draws, &line.state, case.shape, case.declarations);
+        let edit = match drawn.edit() {
+            Ok(edit) => edit,
+            Err(number) => {
+                met.faults.add(number);
+                drawn.add(&mut script, fault_line(number));
+                continue;
+            }
+        };
         let answer = line.edited(&edit);
         let told = match &answer {
             Ok((new, recut, moved)) => Ok((new.state.epoch, *recut, *moved)),
             Err(refusal) => Err(*refusal),
         };
-        let (name, numbers) = edit_words(&edit);
-        script.add(name, &numbers, vec![edit_line(told)]);
+        drawn.add(&mut script, edit_line(told));
         match answer {
             Ok((new, recut, moved)) => {
                 met.accepted[kind_of(&edit)] += 1;
                 met.recut += usize::from(recut > 0);
                 met.moved += usize::from(moved > 0);
                 line = new;
+                if let Edit::Declare(group) = &edit {
+                    names.add(group);
+                }
             }
-            Err(Refusal { number, .. }) => met.refused[number] += 1,
+            Err(Refusal { number, .. }) => met.refused.add(number),
         }
         script.add("layout", &[], layout_lines(line.state.epoch, &line.layout));
         if draws.is(60) {
@@ -112,15 +137,19 @@ fn script_of(case: &Case, met: &mut Met) -> Script {
             ask(&mut draws, &mut script, &line, &names, 0);
         }
     }
+    if draws.is(50) {
+        script.add_unclosed(if draws.is(50) { "layout\n %%\n" } else { "" });
+    }
     script
 }
 
 /// Whether the draws met what they are for.
 fn meets_enough(met: &Met) -> bool {
-    let edits: usize = met.accepted.iter().chain(&met.refused).sum();
-    edits >= 5000
+    met.accepted.iter().sum::<usize>() + met.refused.total() >= 5000
         && met.accepted.iter().all(|count| *count >= 200)
-        && met.refused[1..=12].iter().all(|count| *count >= 10)
+        && met.refused.have_each((1..=12).chain(31..=33), 10)
+        && met.refused.have_each(34..=35, 5)
+        && met.faults.have_each(FAULTS, 5)
 }
 
 fn compare_all(program: &[String], seed: Option<u64>) -> Result<(), String> {
@@ -131,10 +160,11 @@ fn compare_all(program: &[String], seed: Option<u64>) -> Result<(), String> {
         met.lines += script.wanted.len();
         met.bytes += script.input.len();
     }
-    let Met { accepted: [connected, disconnected, remapped, moved], refused, .. } = &met;
-    let edits: usize = met.accepted.iter().chain(refused).sum();
-    println!("{edits} edits: {connected} connect, {disconnected} disconnect, {remapped} remap, {moved} move");
-    println!("refused by number from 1 on: {:?}", &refused[1..=12]);
+    let Met { accepted: [connected, disconnected, remapped, moved, declared], refused, .. } = &met;
+    let edits = met.accepted.iter().sum::<usize>() + refused.total();
+    println!("{edits} edits: {connected} connect, {disconnected} disconnect, {remapped} remap, {moved} move, {declared} declare");
+    println!("refused by number: {refused}");
+    println!("faults of documents by number: {}", met.faults);
     let (recut, moved, others) = (met.recut, met.moved, met.others);
     println!("{recut} edits recut spans, {moved} moved blocks; {others} questions beside the layouts");
     println!("{} bytes read, {} lines compared", met.bytes, met.lines);

@@ -14,13 +14,15 @@ use machines::{APRD, APWR, MEMORY, Machines};
 use reading::{Arrival, read};
 use record::{Answer, Entry, Item, Outcome, Sending, answer, line, next_serial, owed, sent_tasks, sent_write, slot};
 use shared::draws::Draws;
+use shared::counts::Counts;
+use shared::documents::{Drawn, FAULTS, drawn_edit, fault_line};
 use shared::edits::{Edit, Refusal, naming_fault};
 use shared::frames::Datagram;
 use shared::line::Line;
 use shared::packing::TASKS;
-use shared::printed::{edit_line, edit_words, hex, layout_lines};
+use shared::printed::{edit_line, hex, layout_lines};
 use shared::projects::Widths::{self, Brimming, Mixed};
-use shared::projects::{Shape, edit, project};
+use shared::projects::{Shape, project};
 use shared::questions::{Names, ask};
 use shared::running::{compare, main_of};
 use shared::scripts::Script;
@@ -56,14 +58,21 @@ const CASES: [Case; 15] = [
     case(118, [6, 1, 1, 6], Brimming, 2000),
 ];
 
+/// How many in a hundred edits are declarations.
+const DECLARATIONS: usize = 25;
+
 /// What was met in all cases.
 #[derive(Default)]
 struct Met {
     edits: usize,
+    /// Edits that declare a group, and are accepted.
+    declared: usize,
     writes: usize,
     sends: usize,
     reads: usize,
-    refused: [usize; 28],
+    refused: Counts,
+    /// Faults of documents by their number.
+    faults: Counts,
     /// Arrivals by the kind that was drawn.
     arrived: [usize; KINDS.len()],
     inputs: usize,
@@ -106,7 +115,7 @@ impl Met {
     }
 
     fn refuse(&mut self, refusal: Refusal) -> Vec<String> {
-        self.refused[refusal.number] += 1;
+        self.refused.add(refusal.number);
         vec![refusal.line()]
     }
 }
@@ -162,25 +171,39 @@ fn answer_lines(answer: &Answer, met: &mut Met) -> Vec<String> {
 }
 
 impl Run<'_> {
-    fn edit(&mut self, edit: &Edit) {
-        self.met.edits += 1;
-        let (name, numbers) = edit_words(edit);
-        let answer = match line(&self.past).edited(edit) {
+    /// The line that answers an edit.
+    fn edited(&mut self, edit: &Edit) -> String {
+        match line(&self.past).edited(edit) {
             Ok((new, recut, moved)) => {
                 let told = edit_line(Ok((new.state.epoch, recut, moved)));
                 self.machines = Machines::of(&new, &self.machines);
                 self.past.push(Entry::Edited(Rc::new(new)));
-                vec![told]
+                if let Edit::Declare(group) = edit {
+                    self.met.declared += 1;
+                    self.names.add(group);
+                }
+                told
             }
-            Err(refusal) => self.met.refuse(refusal),
-        };
-        self.script.add(name, &numbers, answer);
+            Err(refusal) => self.met.refuse(refusal).remove(0),
+        }
+    }
+
+    fn edit(&mut self, drawn: &Drawn) {
+        self.met.edits += 1;
         self.events += 1;
+        let answer = match drawn.edit() {
+            Ok(edit) => self.edited(&edit),
+            Err(number) => {
+                self.met.faults.add(number);
+                fault_line(number)
+            }
+        };
+        drawn.add(&mut self.script, answer);
     }
 
     fn drawn_edit(&mut self) {
-        let edit = edit(&mut self.draws, &line(&self.past).state, self.shape);
-        self.edit(&edit);
+        let drawn = drawn_edit(&mut self.draws, &line(&self.past).state, self.shape, DECLARATIONS);
+        self.edit(&drawn);
     }
 
     /// The frames that were sent.
@@ -504,11 +527,14 @@ fn script_of(case: &Case, met: &mut Met) -> Script {
     let mut run = Run { draws, shape, names, past, arrived: Vec::new(), machines, script, met, events: 0 };
     for group in &groups[1..] {
         if run.draws.is(70) {
-            run.edit(&Edit::Connect(group.alias));
+            run.edit(&Drawn::Words(Edit::Connect(group.alias)));
         }
     }
     while run.events < case.events {
         run.step();
+    }
+    if run.draws.is(50) {
+        run.script.add_unclosed("connect 0\n");
     }
     run.script
 }
@@ -516,8 +542,8 @@ fn script_of(case: &Case, met: &mut Met) -> Script {
 /// Whether the draws met what they are for.
 fn meets_enough(met: &Met) -> bool {
     let kinds = met.arrived.iter().all(|count| *count >= 200);
-    let frames = met.refused[20..=27].iter().all(|count| *count >= 5);
-    let refusals = [8, 17, 18].iter().all(|number| met.refused[*number] >= 20);
+    let frames = met.refused.have_each(20..=27, 5);
+    let refusals = met.refused.have_each([8, 17, 18], 20) && met.refused.have_each(31..=33, 2);
     let answers = [met.inputs, met.wrong, met.passed, met.done, met.missed, met.stale, met.full_slots, met.empty_slots];
     met.events() >= 20_000
         && kinds
@@ -525,6 +551,8 @@ fn meets_enough(met: &Met) -> bool {
         && refusals
         && answers.iter().all(|count| *count >= 100)
         && met.together >= 100
+        && met.declared >= 100
+        && FAULTS.iter().filter(|number| met.faults.of(**number) > 0).count() >= 6
         && [met.scans, met.names, met.programs, met.cycles, met.pokes, met.peeks].iter().all(|count| *count >= 100)
         && [met.missed_along, met.wrong_along].iter().all(|count| *count >= 20)
 }
@@ -546,9 +574,8 @@ fn tell(met: &Met) {
     println!(
         "answers: {inputs} inputs, {wrong} wrong count, {passed} stale beside others, {done} write done, {missed} write missed, {stale} stale"
     );
-    let refused = met.refused.iter().enumerate().filter(|(_, count)| **count > 0);
-    let refused: Vec<String> = refused.map(|(number, count)| format!("{number}: {count}")).collect();
-    println!("refused by number: {}", refused.join(", "));
+    println!("refused by number: {}", met.refused);
+    println!("{} groups declared; {} documents with faults by number: {}", met.declared, met.faults.total(), met.faults);
     println!(
         "{} frames of several datagrams; slots read: {} with data, {} without",
         met.together, met.full_slots, met.empty_slots

@@ -1,14 +1,15 @@
 //! Edits of a line, and what refuses them.
 
 use super::packing::{MOST_BITS, TASKS, crowded_task};
-use super::records::{Area, State};
+use super::records::{Area, Declared, Group, Slave, State};
 
-#[derive(Clone, PartialEq)]
+#[derive(Clone)]
 pub enum Edit {
     Connect(u16),
     Disconnect(u16),
     Remap { station: u16, area: u8, pdos: Vec<u16> },
     Move { station: u16, area: u8, task: u8 },
+    Declare(Group),
 }
 
 /// A refusal: its number, and what it carries.
@@ -19,7 +20,7 @@ pub struct Refusal {
 }
 
 /// The names of refusals by their numbers; those of unreadable frames begin at 20.
-const NAMES: [&str; 28] = [
+const NAMES: [&str; 36] = [
     "",
     "UnknownAlias",
     "AlreadyPresent",
@@ -48,7 +49,19 @@ const NAMES: [&str; 28] = [
     "MoreFollows",
     "UnknownCommand",
     "IndexMismatch",
+    "",
+    "",
+    "",
+    "AliasTaken",
+    "StationTaken",
+    "VariableTaken",
+    "TooManyGroups",
+    "TooManySlaves",
 ];
+
+/// The most groups, with the mandatory one, and the most slaves that can be declared.
+const MOST_GROUPS: usize = 512;
+const MOST_SLAVES: usize = 2048;
 
 impl Refusal {
     pub fn of(number: usize) -> Refusal {
@@ -77,6 +90,26 @@ fn area_of(state: &State, station: u16, area: u8) -> Option<&Area> {
 
 fn with_pdos(area: &Area, pdos: &[u16]) -> Area {
     Area { assigned: pdos.to_vec(), ..area.clone() }
+}
+
+/// Whether two groups have a variable in common.
+fn share_variable(one: &Group, other: &Group) -> bool {
+    let theirs: Vec<u32> = other.variables().collect();
+    one.variables().any(|variable| theirs.contains(&variable))
+}
+
+/// The numbers of all faults that a group has beside those that are declared.
+fn declaring_faults(state: &State, group: &Group) -> Vec<usize> {
+    let others: Vec<&Group> = state.declared.iter().map(|one| &one.group).collect();
+    let is_taken = |slave: &Slave| state.slaves().any(|(_, other)| other.station == slave.station);
+    let conditions = [
+        (31, others.iter().any(|other| other.alias == group.alias)),
+        (32, group.slaves.iter().any(is_taken)),
+        (33, others.iter().any(|other| share_variable(other, group))),
+        (34, others.len() + 1 > MOST_GROUPS),
+        (35, state.slaves().count() + group.slaves.len() > MOST_SLAVES),
+    ];
+    conditions.into_iter().filter(|(_, holds)| *holds).map(|(number, _)| number).collect()
 }
 
 /// The numbers of all faults that an edit has by itself.
@@ -125,6 +158,7 @@ fn own_faults(state: &State, edit: &Edit) -> Vec<usize> {
                 faults.push(8);
             }
         }
+        Edit::Declare(group) => faults = declaring_faults(state, group),
     }
     faults
 }
@@ -132,6 +166,9 @@ fn own_faults(state: &State, edit: &Edit) -> Vec<usize> {
 /// What an edit makes of the groups, where it can be carried out.
 fn changed(state: &State, edit: &Edit) -> State {
     let mut new = State { declared: state.declared.clone(), epoch: state.epoch + 1 };
+    if let Edit::Declare(group) = edit {
+        new.declared.push(Declared { group: group.clone(), is_present: false });
+    }
     for declared in &mut new.declared {
         match edit {
             Edit::Connect(alias) if declared.group.alias == *alias => declared.is_present = true,

@@ -2,6 +2,8 @@
 
 pub mod blocks;
 pub mod boundaries;
+pub mod counts;
+pub mod documents;
 pub mod draws;
 pub mod edits;
 pub mod frames;

@@ -85,5 +85,7 @@ pub fn edit_words(edit: &Edit) -> (&'static str, Vec<u32>) {
         Edit::Move { station, area, task } => {
             ("move", [*station, u16::from(*area), u16::from(*task)].map(u32::from).to_vec())
         }
+        // its document stands behind the line
+        Edit::Declare(_) => ("declare", Vec::new()),
     }
 }

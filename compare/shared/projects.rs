@@ -29,14 +29,14 @@ pub struct Shape {
 }
 
 /// The first byte of a slave's process memory, and the first one behind it.
-const MEMORY: (usize, usize) = (0x1000, 0x3000);
+pub const MEMORY: (usize, usize) = (0x1000, 0x3000);
 
 /// The bits of a PDO of 512 bytes, of four that make 736 to 738 and 743 bytes with it, and of two small ones: two
 /// datagrams of 737 bytes fill a frame, and two areas of 743 bytes a datagram.
 const BRIMMING: [usize; 7] = [4096, 8 * 224, 8 * 225, 8 * 226, 8 * 231, 8, 1];
 
 /// The bits that an area offers, as far as it can have them assigned at once.
-fn reach_of(offered: &[Pdo]) -> usize {
+pub fn reach_of(offered: &[Pdo]) -> usize {
     let bits: usize = offered.iter().flat_map(|pdo| &pdo.entries).map(|(_, bits)| usize::from(*bits)).sum();
     bits.min(MOST_BITS as usize).div_ceil(8)
 }
@@ -185,6 +185,41 @@ pub fn project(draws: &mut Draws, shape: Shape) -> Vec<Group> {
     let mut groups = vec![maker.group(true, mandatory)];
     groups.extend(sizes.iter().map(|slaves| maker.group(false, *slaves)));
     groups
+}
+
+/// The number that a variable was drawn as.
+fn drawn_as(variable: u32) -> usize {
+    (variable & 0x7fff_ffff) as usize
+}
+
+/// A group of one to three slaves, beside those of a state. At times a name of it is taken.
+pub fn new_group(draws: &mut Draws, state: &State, shape: Shape) -> Group {
+    let declared = || state.declared.iter().map(|one| &one.group);
+    let stations = state.slaves().map(|(_, slave)| usize::from(slave.station)).collect();
+    let aliases = declared().map(|group| usize::from(group.alias)).collect();
+    let variables = declared().flat_map(Group::variables).map(drawn_as).collect();
+    let count = draws.between(1, 3);
+    let mut group = Maker { draws, shape, stations, aliases, variables }.group(false, count);
+    take_a_name(draws, state, &mut group);
+    group
+}
+
+/// Gives a group an alias, a station address or a variable that is declared, in some of a hundred draws.
+fn take_a_name(draws: &mut Draws, state: &State, group: &mut Group) {
+    let other = draws.one_of(&state.declared).group.clone();
+    if draws.is(5) && other.alias > 0 {
+        group.alias = other.alias;
+    }
+    if draws.is(5) && !other.slaves.is_empty() {
+        group.slaves[0].station = draws.one_of(&other.slaves).station;
+    }
+    let taken: Vec<u32> = other.variables().collect();
+    if draws.is(8) && !taken.is_empty() {
+        let pdos = group.slaves.iter_mut().flat_map(|slave| &mut slave.areas).flat_map(|area| &mut area.offered);
+        if let Some((variable, _)) = pdos.flat_map(|pdo| &mut pdo.entries).next() {
+            *variable = *draws.one_of(&taken);
+        }
+    }
 }
 
 /// A group comes or goes: mostly one that can, and more come than go.

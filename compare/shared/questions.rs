@@ -3,7 +3,7 @@
 use super::draws::Draws;
 use super::line::Line;
 use super::printed::{place_line, regs_lines, show_line};
-use super::records::{Group, Slave};
+use super::records::Group;
 use super::scripts::Script;
 
 /// What a project declares that can be asked about, whether it is there or not.
@@ -14,10 +14,17 @@ pub struct Names {
 
 impl Names {
     pub fn of(groups: &[Group]) -> Names {
-        let slaves: Vec<&Slave> = groups.iter().flat_map(|group| &group.slaves).collect();
-        let pdos = slaves.iter().flat_map(|slave| &slave.areas).flat_map(|area| &area.offered);
-        let variables = pdos.flat_map(|pdo| &pdo.entries).map(|(variable, _)| *variable);
-        Names { stations: slaves.iter().map(|slave| slave.station).collect(), variables: variables.collect() }
+        let mut names = Names { stations: Vec::new(), variables: Vec::new() };
+        for group in groups {
+            names.add(group);
+        }
+        names
+    }
+
+    /// And those of a group that is declared later.
+    pub fn add(&mut self, group: &Group) {
+        self.stations.extend(group.slaves.iter().map(|slave| slave.station));
+        self.variables.extend(group.variables());
     }
 }
 

@@ -40,6 +40,14 @@ impl Area {
     }
 }
 
+impl Group {
+    /// The variables that its areas offer.
+    pub fn variables(&self) -> impl Iterator<Item = u32> + '_ {
+        let pdos = self.slaves.iter().flat_map(|slave| &slave.areas).flat_map(|area| &area.offered);
+        pdos.flat_map(|pdo| &pdo.entries).map(|(variable, _)| *variable).filter(|variable| *variable > 0)
+    }
+}
+
 /// The project's text.
 pub fn text_of(groups: &[Group]) -> String {
     let mut text = String::new();

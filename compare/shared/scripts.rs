@@ -52,7 +52,8 @@ impl Script {
         self.lines += 1;
     }
 
-    fn add_words(&mut self, words: &[String], answer: Vec<String>) {
+    /// A line of words, and its number.
+    fn add_line(&mut self, words: &[String]) -> usize {
         if self.spelling.is(1) {
             self.end_line();
         }
@@ -66,8 +67,35 @@ impl Script {
         let behind = self.gap(0);
         self.input.push_str(&behind);
         self.end_line();
-        let line = self.lines;
+        self.lines
+    }
+
+    fn add_words(&mut self, words: &[String], answer: Vec<String>) {
+        let line = self.add_line(words);
         self.wanted.extend(answer.into_iter().map(|text| Wanted { line, text }));
+    }
+
+    /// A line `declare`, and the lines of a document. The line's number.
+    fn add_document(&mut self, document: &str) -> usize {
+        let line = self.add_line(&["declare".to_string()]);
+        self.input.push_str(document);
+        self.lines += document.lines().count();
+        line
+    }
+
+    /// A declaration, with the lines that answer it.
+    pub fn add_declaration(&mut self, document: &str, answer: Vec<String>) {
+        let line = self.add_document(document);
+        self.input.push_str("%%");
+        self.end_line();
+        self.wanted.extend(answer.into_iter().map(|text| Wanted { line, text }));
+    }
+
+    /// A declaration that no line closes, with which the run ends: what stands in it isn't read.
+    pub fn add_unclosed(&mut self, document: &str) {
+        let line = self.add_document(document);
+        self.wanted.push(Wanted { line, text: format!("line {line}: bad command") });
+        self.status = 2;
     }
 
     /// A command of a name and numbers, with the lines that answer it.

@@ -35,7 +35,7 @@ class Program:
 
 
 class Session:
-    """A project text and the edits behind which questions are asked; `edits` are lines with their line feeds."""
+    """A project text and the edits behind which questions are asked; `edits` are their lines with line feeds."""
 
     def __init__(self, program, text, edits):
         self.program = program

@@ -94,13 +94,19 @@ def group_of(table):
     return Group(table["alias"], name, slaves_of(table, name))
 
 
-def read_project(text):
-    """The project of a text that the program took; what it refuses isn't judged here a second time."""
+def document_of(text):
+    """What stands in a text that the program took; what it refuses isn't judged here a second time."""
     try:
-        document = tomllib.loads(text.decode())
+        return tomllib.loads(text.decode())
     except ValueError as error:
         raise Refusal(f"the project text can't be read: {error}") from error
+
+
+def read_project(text, declared):
+    """The project of a text, with the groups of the texts that were declared later."""
+    document = document_of(text)
     groups = [Group(0, "", slaves_of(document, "")), *map(group_of, document.get("group", []))]
+    groups += [group_of(table) for later in declared for table in document_of(later)["group"]]
     homes = {
         variable: (slave.station, area.number, pdo)
         for group in groups

@@ -104,24 +104,46 @@ def areas_by_name(state):
     return {(place.station, place.area): place for places in state.areas.values() for place in places}
 
 
-def edits_of(commands):
-    """The lines of the commands, with those blank that are no edits: so the program counts lines as in the file."""
-    lines = [line + b"\n" for line in commands.split(b"\n")]
-    return [b"\n" if line.split()[:1] and line.split()[0] in PASSED_OVER else line for line in lines]
+def is_declaration(lines):
+    """Whether some lines begin with a `declare`."""
+    return lines[0].split() == [b"declare"]
+
+
+def commands_in(content):
+    """The lines of each command: one, or those of a `declare` up to the one that ends its document."""
+    commands, lines = [], []
+    for line in content.split(b"\n"):
+        lines.append(line + b"\n")
+        if not is_declaration(lines) or (len(lines) > 1 and line.removesuffix(b"\r") == b"%%"):
+            commands.append(lines)
+            lines = []
+    return commands + [lines] if lines else commands
+
+
+def edits_of(content):
+    """The commands, with those blank that are no edits: so the program counts lines as in the file."""
+    named = [(lines[0].split()[:1], lines) for lines in commands_in(content)]
+    return [[b"\n"] if name and name[0] in PASSED_OVER else lines for name, lines in named]
+
+
+def project_behind(text, edits):
+    """The project of a text, and the groups that accepted edits declare."""
+    return read_project(text, [b"".join(lines[1:-1]) for lines in edits if is_declaration(lines)])
 
 
 def view_of(program, name, text, commands):
     """Asks the program for the line behind the commands, and for the line before their last accepted edit."""
     edits = edits_of(commands)
-    session = Session(program, text, edits)
-    rows = [row for row, line in enumerate(edits) if line.strip()]
-    words = [edits[row].decode(errors="replace").strip() for row in rows]
+    session = Session(program, text, [b"".join(lines) for lines in edits])
+    rows = [row for row, lines in enumerate(edits) if lines[0].strip()]
+    words = [edits[row][0].decode(errors="replace").strip() for row in rows]
     answers = list(zip(words, session.edited()))
-    project = read_project(text)
-    after = state_of(session, project)
     accepted = [(row, *answer) for row, answer in zip(rows, answers) if EDITED.fullmatch(answer[1])]
+    project = project_behind(text, [edits[row] for row, _, _ in accepted])
+    after = state_of(session, project)
     if not accepted:
         return View(name, project, None, after, None, answers)
     row, edit, said = accepted[-1]
-    before = state_of(Session(program, text, edits[:row]), project)
+    earlier = project_behind(text, [edits[row] for row, _, _ in accepted[:-1]])
+    before = state_of(Session(program, text, [b"".join(lines) for lines in edits[:row]]), earlier)
     return View(name, project, before, after, Edit(edit, *map(int, EDITED.fullmatch(said).groups())), answers)

@@ -18,19 +18,26 @@ def run(program, text, commands):
 
 
 def opened(path):
-    """The text and the edits of an input."""
+    """The text and the edits of an input; that of a declaration has the lines of its document."""
     text, _, commands = path.read_text().partition("\n%%\n")
-    asked = [line.strip() for line in commands.splitlines()]
-    return text, [line for line in asked if line and line.split()[0] not in QUESTIONS]
+    edits = []
+    for line in commands.splitlines():
+        if edits and re.match("declare(?!.*\n%%$)", edits[-1], re.DOTALL):
+            edits[-1] += "\n" + line
+        elif line.strip() and line.split()[0] not in QUESTIONS:
+            edits.append(line.strip())
+    return text, edits
 
 
 class Records:
-    """Of the project text what a state is asked by: stations with their areas' variables, in declared order."""
+    """Of the project text, and of the groups that edits declare, what a state is asked by: stations with their areas'
+    variables, in declared order."""
 
-    def __init__(self, text):
+    def __init__(self, text, edits):
         document = tomllib.loads(text)
         self.areas, self.homes, self.names, self.aliases = {}, {}, {}, {}
         groups = [document, *document.get("group", [])]
+        groups += [tomllib.loads(words[7:-2])["group"][0] for words in edits if words.startswith("declare")]
         for group, slave in ((group, slave) for group in groups for slave in group.get("slave", [])):
             self.areas[slave["station"]] = slave.get("area", [])
             self.names[slave["station"]] = slave.get("name", "") or (group.get("name", "") if "alias" in group else "")
@@ -104,13 +111,15 @@ class Told:
 
     def __init__(self, program, path):
         text, edits = opened(path)
-        self.records = Records(text)
-        self.answers = list(zip(edits, run(program, text, edits)))
-        accepted = [row for row, (_, said) in enumerate(self.answers) if said.startswith("epoch")]
+        said = run(program, text, edits)
+        self.answers = [(words.split("\n")[0], line) for words, line in zip(edits, said)]
+        accepted = [row for row, line in enumerate(said) if line.startswith("epoch")]
+        self.records = Records(text, [edits[row] for row in accepted])
         self.after = State(program, text, self.records, edits)
         self.before, self.edit, self.written = None, None, set()
         if accepted:
-            self.before = State(program, text, self.records, edits[: accepted[-1]])
+            earlier = Records(text, [edits[row] for row in accepted[:-1]])
+            self.before = State(program, text, earlier, edits[: accepted[-1]])
             self.edit = self.answers[accepted[-1]]
             old = self.before.blocks
             self.written = {name for name, block in self.after.blocks.items() if old.get(name) != block}

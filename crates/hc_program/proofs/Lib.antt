@@ -1,6 +1,7 @@
 pub mod Numbered
 pub mod Arguments
 pub mod Turns
+pub mod Declaring
 mod Checks
 pub mod Openings
 pub mod Outcomes

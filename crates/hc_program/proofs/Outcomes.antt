@@ -6,6 +6,7 @@ use Rattle.hc_events.specs.Entries.{Record}
 use Rattle.hc_text.specs.declared.input.TheConstants.{MOST_INPUT}
 use Rattle.hc_program.specs.declared.opening.Unopened.{Unopened}
 use Rattle.hc_text.specs.Lines.{command_lines, lines_of, project_text}
+use Rattle.hc_program.specs.Declaring.{turns_of}
 use Rattle.hc_program.specs.Opening.{opening_of}
 use Rattle.hc_program.specs.Runs.{run}
 use Rattle.hc_program.specs.Standings.{opened_standing}
@@ -20,7 +21,7 @@ lines_outcome input within =
     ap (λ b. cond b (record { text = []; status = 4 }) (outcome_of_lines (lines_of input))) (not_long (length input) MOST_INPUT within)
 
 pub opened_outcome : (input : List ℕ) (past : Record) → length input ≤ MOST_INPUT → opening_of (project_text (lines_of input)) ≡ Ok past
-    → outcome_of input ≡ run (opened_standing past) (command_lines (lines_of input))
+    → outcome_of input ≡ run (opened_standing past) (turns_of (command_lines (lines_of input)))
 unfolding outcome_of_lines
 opened_outcome input past within opens = lines_outcome input within ∙ ap (λ opening. run_opened opening (command_lines (lines_of input))) opens
 

@@ -6,11 +6,11 @@ use Rattle.hc_records.specs.declared.records.Group.{Group}
 use Rattle.hc_records.specs.declared.faults.ProjectFault.{ProjectFault}
 use Rattle.hc_events.specs.Entries.{Record}
 use Rattle.hc_text.specs.declared.input.TheConstants.{MOST_INPUT}
-use Rattle.hc_text.specs.Cutting.{CutsLine, lines_after}
 use Rattle.hc_text.specs.Lines.{Line, command_lines, lines_of, project_text}
 use Rattle.hc_project.specs.Text.{project_in}
 use Rattle.hc_program.specs.declared.opening.Unopened.{Unopened}
 use Rattle.hc_program.specs.declared.opening.Unopened.TheVariants.{Project, TooManyDatagrams, Memory}
+use Rattle.hc_program.specs.Declaring.{Turn, turns_of}
 use Rattle.hc_program.specs.Opening.{in_want, is_memory, opened_project, opening_of}
 use Rattle.hc_program.specs.Runs.{Outcome, Reply, behind, reply_to, run}
 use Rattle.hc_program.specs.Standings.{Standing, opened_standing}
@@ -19,8 +19,8 @@ use Rattle.hc_program.specs.Text.{EndsAs, unopened}
 use Rattle.hc_program.specs.Turns.{Continues, Ends, GoesOn}
 use Rattle.hc_program.proofs.Turns.{begins, continues, done, ends, ends_whole}
 
--- what the lines that are left may give: memory was refused before, or is for one of them
-abbrev pub Left : Bool → Standing → List Line → Outcome → Type 0
+-- what the turns that are left may give: memory was refused before, or is for one of them
+abbrev pub Left : Bool → Standing → List Turn → Outcome → Type 0
 Left true = RunsInWant
 Left false = StarvedRun
 
@@ -28,45 +28,31 @@ Left false = StarvedRun
 abbrev pub Leads : Option (List ℕ) → Option (List ℕ) → (Outcome → Type 0) → (Outcome → Type 0) → Type 0
 Leads old new Rest All = (left : Outcome) → Rest left → ((all : Outcome) × All all × Continues old new left all)
 
--- before the first line
+-- before the first turn
 pub leads_all : (old : Option (List ℕ)) (All : Outcome → Type 0) → Leads old old All All
 leads_all old All left is = (left, is, begins old left)
 
 -- a run in which memory isn't refused
-unrefused : (s : Standing) (lines : List Line) → RunsInWant s lines (run s lines)
+unrefused : (s : Standing) (turns : List Turn) → RunsInWant s turns (run s turns)
 unfolding RunsInWant run
 unrefused s [] = refl
-unrefused s (line ∷ lines) =
-    let reply = reply_to s line.number line.text in
-    inl (run reply.standing lines, unrefused reply.standing lines, refl)
+unrefused s (turn ∷ turns) =
+    let reply = reply_to s turn in
+    inl (run reply.standing turns, unrefused reply.standing turns, refl)
 
--- a line that gives its reply
-replied : (before : Bool) (s : Standing) (line : Line) (lines : List Line) (rest : Outcome) → (before ≡ false → (reply_to s line.number line.text).goes_on ≡ true)
-    → Left before (reply_to s line.number line.text).standing lines rest → Left before s (line ∷ lines) (behind (reply_to s line.number line.text) rest)
+-- a turn that gives its reply
+replied : (before : Bool) (s : Standing) (turns : List Turn) (turn : Turn) (behind_it : List Turn) (rest : Outcome) → turns ≡ turn ∷ behind_it
+    → (before ≡ false → (reply_to s turn).goes_on ≡ true) → Left before (reply_to s turn).standing behind_it rest → Left before s turns (behind (reply_to s turn) rest)
 unfolding RunsInWant StarvedRun
-replied true s line lines rest on is = inl (rest, is, refl)
-replied false s line lines rest on is = inl (on refl, (rest, is, refl))
+replied true s turns turn behind_it rest first on is = subst (λ t. RunsInWant s t (behind (reply_to s turn) rest)) (sym first) (inl (rest, is, refl))
+replied false s turns turn behind_it rest first on is = subst (λ t. StarvedRun s t (behind (reply_to s turn) rest)) (sym first) (inl (on refl, (rest, is, refl)))
 
--- a line that is stopped
-stopped : (before : Bool) (s : Standing) (line : Line) (lines : List Line) (reply : Reply) (rest : Outcome) → Stops s line.text reply → RunsInWant reply.standing lines rest
-    → Left before s (line ∷ lines) (behind reply rest)
+-- a turn that is stopped
+stopped : (before : Bool) (s : Standing) (turns : List Turn) (turn : Turn) (behind_it : List Turn) (reply : Reply) (rest : Outcome) → turns ≡ turn ∷ behind_it
+    → Stops s turn reply → RunsInWant reply.standing behind_it rest → Left before s turns (behind reply rest)
 unfolding RunsInWant StarvedRun
-stopped true s line lines reply rest stops is = inr (reply, stops, (rest, is, refl))
-stopped false s line lines reply rest stops is = inr (reply, stops, (rest, is, refl))
-
--- the same of the first line that is cut
-cut_replied : (before : Bool) (s : Standing) (number : ℕ) (input text : List ℕ) (rest : Option (List ℕ)) (behind_it : Outcome) → CutsLine input text rest
-    → (before ≡ false → (reply_to s number text).goes_on ≡ true) → Left before (reply_to s number text).standing (lines_after (number + 1) rest) behind_it
-    → Left before s (lines_after number (Some input)) (behind (reply_to s number text) behind_it)
-cut_replied before s number input text rest behind_it cut on is =
-    subst (λ lines. Left before s lines (behind (reply_to s number text) behind_it)) (sym (cut.lines number))
-    (replied before s (record { number = number; text = text; bytes = cut.bytes }) (lines_after (number + 1) rest) behind_it on is)
-
-cut_stopped : (before : Bool) (s : Standing) (number : ℕ) (input text : List ℕ) (rest : Option (List ℕ)) (reply : Reply) (behind_it : Outcome) → CutsLine input text rest
-    → Stops s text reply → RunsInWant reply.standing (lines_after (number + 1) rest) behind_it → Left before s (lines_after number (Some input)) (behind reply behind_it)
-cut_stopped before s number input text rest reply behind_it cut stops is =
-    subst (λ lines. Left before s lines (behind reply behind_it)) (sym (cut.lines number))
-    (stopped before s (record { number = number; text = text; bytes = cut.bytes }) (lines_after (number + 1) rest) reply behind_it stops is)
+stopped true s turns turn behind_it reply rest first stops is = subst (λ t. RunsInWant s t (behind reply rest)) (sym first) (inr (reply, stops, (rest, is, refl)))
+stopped false s turns turn behind_it reply rest first stops is = subst (λ t. StarvedRun s t (behind reply rest)) (sym first) (inr (reply, stops, (rest, is, refl)))
 
 -- a reply is written and the run goes on
 leads_on : (old mid new : Option (List ℕ)) (Rest Next All : Outcome → Type 0) (reply : Reply) (next : Standing)
@@ -75,36 +61,34 @@ leads_on old mid new Rest Next All reply next leads first turn rest is =
     let (all, holds, c) = leads (behind reply rest) (first rest is) in
     (all, holds, continues old mid new (behind reply rest) all reply next (λ _. rest) c refl turn)
 
-leads_stopped : (before : Bool) (old mid new : Option (List ℕ)) (All : Outcome → Type 0) (s next : Standing) (number : ℕ) (input text : List ℕ) (rest : Option (List ℕ)) (reply : Reply) → CutsLine input text rest
-    → Leads old mid (Left before s (lines_after number (Some input))) All → Stops s text reply → GoesOn mid new next reply
-    → Leads old new (RunsInWant next (lines_after (number + 1) rest)) All
-leads_stopped before old mid new All s next number input text rest reply cut leads stops turn =
+leads_stopped : (before : Bool) (old mid new : Option (List ℕ)) (All : Outcome → Type 0) (s next : Standing) (turns : List Turn) (turn : Turn) (behind_it : List Turn) (reply : Reply) → turns ≡ turn ∷ behind_it
+    → Leads old mid (Left before s turns) All → Stops s turn reply → GoesOn mid new next reply → Leads old new (RunsInWant next behind_it) All
+leads_stopped before old mid new All s next turns turn behind_it reply first leads stops taken =
     leads_on old mid new _ _ All reply next leads
-    (λ left is. cut_stopped before s number input text rest reply left cut stops (subst (λ t. RunsInWant t (lines_after (number + 1) rest) left) turn.kept is))
-    turn
+    (λ left is. stopped before s turns turn behind_it reply left first stops (subst (λ t. RunsInWant t behind_it left) taken.kept is))
+    taken
 
-leads_replied : (before : Bool) (old mid new : Option (List ℕ)) (All : Outcome → Type 0) (s next : Standing) (number : ℕ) (input text : List ℕ) (rest : Option (List ℕ)) → CutsLine input text rest
-    → Leads old mid (Left before s (lines_after number (Some input))) All → GoesOn mid new next (reply_to s number text)
-    → Leads old new (Left before next (lines_after (number + 1) rest)) All
-leads_replied before old mid new All s next number input text rest cut leads turn =
-    leads_on old mid new _ _ All (reply_to s number text) next leads
-    (λ left is. cut_replied before s number input text rest left cut (λ _. turn.on) (subst (λ t. Left before t (lines_after (number + 1) rest) left) turn.kept is))
-    turn
+leads_replied : (before : Bool) (old mid new : Option (List ℕ)) (All : Outcome → Type 0) (s next : Standing) (turns : List Turn) (turn : Turn) (behind_it : List Turn) → turns ≡ turn ∷ behind_it
+    → Leads old mid (Left before s turns) All → GoesOn mid new next (reply_to s turn) → Leads old new (Left before next behind_it) All
+leads_replied before old mid new All s next turns turn behind_it first leads taken =
+    leads_on old mid new _ _ All (reply_to s turn) next leads
+    (λ left is. replied before s turns turn behind_it left first (λ _. taken.on) (subst (λ t. Left before t behind_it left) taken.kept is))
+    taken
 
 -- one turn behind which the run goes on
-pub leads_turn : (before now : Bool) (old mid new : Option (List ℕ)) (All : Outcome → Type 0) (s next : Standing) (number : ℕ) (input text : List ℕ) (rest : Option (List ℕ)) → CutsLine input text rest
-    → Leads old mid (Left before s (lines_after number (Some input))) All
-    → (now ≡ false → GoesOn mid new next (reply_to s number text))
-    → (now ≡ true → (reply : Reply) × Stops s text reply × GoesOn mid new next reply)
-    → Leads old new (Left (before || now) next (lines_after (number + 1) rest)) All
-leads_turn true true old mid new All s next number input text rest cut leads answered stops =
-    let (reply, is, turn) = stops refl in leads_stopped true old mid new All s next number input text rest reply cut leads is turn
-leads_turn false true old mid new All s next number input text rest cut leads answered stops =
-    let (reply, is, turn) = stops refl in leads_stopped false old mid new All s next number input text rest reply cut leads is turn
-leads_turn true false old mid new All s next number input text rest cut leads answered stops =
-    leads_replied true old mid new All s next number input text rest cut leads (answered refl)
-leads_turn false false old mid new All s next number input text rest cut leads answered stops =
-    leads_replied false old mid new All s next number input text rest cut leads (answered refl)
+pub leads_turn : (before now : Bool) (old mid new : Option (List ℕ)) (All : Outcome → Type 0) (s next : Standing) (turns : List Turn) (turn : Turn) (behind_it : List Turn) → turns ≡ turn ∷ behind_it
+    → Leads old mid (Left before s turns) All
+    → (now ≡ false → GoesOn mid new next (reply_to s turn))
+    → (now ≡ true → (reply : Reply) × Stops s turn reply × GoesOn mid new next reply)
+    → Leads old new (Left (before || now) next behind_it) All
+leads_turn true true old mid new All s next turns turn behind_it first leads answered stops =
+    let (reply, is, taken) = stops refl in leads_stopped true old mid new All s next turns turn behind_it reply first leads is taken
+leads_turn false true old mid new All s next turns turn behind_it first leads answered stops =
+    let (reply, is, taken) = stops refl in leads_stopped false old mid new All s next turns turn behind_it reply first leads is taken
+leads_turn true false old mid new All s next turns turn behind_it first leads answered stops =
+    leads_replied true old mid new All s next turns turn behind_it first leads (answered refl)
+leads_turn false false old mid new All s next turns turn behind_it first leads answered stops =
+    leads_replied false old mid new All s next turns turn behind_it first leads (answered refl)
 
 -- one turn behind which the run ends
 leads_end : (old mid new : Option (List ℕ)) (Rest All : Outcome → Type 0) (reply : Reply) (rest : Outcome) (status : ℕ)
@@ -113,42 +97,38 @@ leads_end old mid new Rest All reply rest status leads is turn =
     let (all, holds, c) = leads (behind reply rest) is in
     (all, holds, ends old mid new (behind reply rest) all rest reply status c refl turn)
 
-pub leads_ended : (before now : Bool) (old mid new : Option (List ℕ)) (All : Outcome → Type 0) (status : ℕ) (s : Standing) (number : ℕ) (input text : List ℕ) (rest : Option (List ℕ)) → CutsLine input text rest
-    → (before || now) ≡ true → Leads old mid (Left before s (lines_after number (Some input))) All
-    → (now ≡ false → Ends mid new status (reply_to s number text))
-    → (now ≡ true → (reply : Reply) × Stops s text reply × Ends mid new status reply)
+pub leads_ended : (before now : Bool) (old mid new : Option (List ℕ)) (All : Outcome → Type 0) (status : ℕ) (s : Standing) (turns : List Turn) (turn : Turn) (behind_it : List Turn) → turns ≡ turn ∷ behind_it
+    → (before || now) ≡ true → Leads old mid (Left before s turns) All
+    → (now ≡ false → Ends mid new status (reply_to s turn))
+    → (now ≡ true → (reply : Reply) × Stops s turn reply × Ends mid new status reply)
     → EndsAsOne old new status All
-leads_ended before true old mid new All status s number input text rest cut starved leads answered stops =
-    let lines = lines_after (number + 1) rest in
-    let (reply, is, turn) = stops refl in
-    leads_end old mid new _ All reply (run reply.standing lines) status leads
-    (cut_stopped before s number input text rest reply (run reply.standing lines) cut is (unrefused reply.standing lines))
-    turn
-leads_ended true false old mid new All status s number input text rest cut starved leads answered stops =
-    let lines = lines_after (number + 1) rest in
-    let next = (reply_to s number text).standing in
-    leads_end old mid new _ All (reply_to s number text) (run next lines) status leads
-    (cut_replied true s number input text rest (run next lines) cut (λ e. cc) (unrefused next lines))
-    (answered refl)
-leads_ended false false old mid new All status s number input text rest cut starved leads answered stops = cc
+leads_ended before true old mid new All status s turns turn behind_it first starved leads answered stops =
+    let (reply, is, taken) = stops refl in
+    let rest = run reply.standing behind_it in
+    leads_end old mid new _ All reply rest status leads (stopped before s turns turn behind_it reply rest first is (unrefused reply.standing behind_it)) taken
+leads_ended true false old mid new All status s turns turn behind_it first starved leads answered stops =
+    let next = (reply_to s turn).standing in
+    let rest = run next behind_it in
+    leads_end old mid new _ All (reply_to s turn) rest status leads (replied true s turns turn behind_it rest first (λ e. cc) (unrefused next behind_it)) (answered refl)
+leads_ended false false old mid new All status s turns turn behind_it first starved leads answered stops = cc
 
--- a run whose last line was answered
-finished : (s : Standing) (lines : List Line) → lines ≡ [] → RunsInWant s lines (record { text = []; status = 0 })
+-- a run whose last turn was answered
+finished : (s : Standing) (turns : List Turn) → turns ≡ [] → RunsInWant s turns (record { text = []; status = 0 })
 unfolding RunsInWant
-finished s lines none = subst (λ l. RunsInWant s l (record { text = []; status = 0 })) (sym none) refl
+finished s turns none = subst (λ t. RunsInWant s t (record { text = []; status = 0 })) (sym none) refl
 
-pub leads_done : (before : Bool) (old new : Option (List ℕ)) (All : Outcome → Type 0) (s : Standing) (lines : List Line) → before ≡ true → lines ≡ []
-    → Leads old new (Left before s lines) All → EndsAsOne old new 0 All
-leads_done true old new All s lines starved none leads =
-    let (all, holds, c) = leads (record { text = []; status = 0 }) (finished s lines none) in
+pub leads_done : (before : Bool) (old new : Option (List ℕ)) (All : Outcome → Type 0) (s : Standing) (turns : List Turn) → before ≡ true → turns ≡ []
+    → Leads old new (Left before s turns) All → EndsAsOne old new 0 All
+leads_done true old new All s turns starved none leads =
+    let (all, holds, c) = leads (record { text = []; status = 0 }) (finished s turns none) in
     (all, holds, done old new (record { text = []; status = 0 }) all c refl)
-leads_done false old new All s lines starved none leads = cc
+leads_done false old new All s turns starved none leads = cc
 
 -- a project that opens
 pub starved_lines : (old new : Option (List ℕ)) (status : ℕ) (input : List ℕ) (past : Record) (s : Standing) (lines : List Line) → length input ≤ MOST_INPUT → opening_of (project_text (lines_of input)) ≡ Ok past
-    → lines ≡ command_lines (lines_of input) → s ≡ opened_standing past → EndsAsOne old new status (StarvedRun s lines) → EndsAsOne old new status (StarvedOutcome input)
+    → lines ≡ command_lines (lines_of input) → s ≡ opened_standing past → EndsAsOne old new status (StarvedRun s (turns_of lines)) → EndsAsOne old new status (StarvedOutcome input)
 starved_lines old new status input past s lines within opens same is (all, starved, end) =
-    (all, inr (within, inr (inr (past, opens, subst (λ l. StarvedRun (opened_standing past) l all) same (subst (λ (t : Standing). StarvedRun t lines all) is starved)))), end)
+    (all, inr (within, inr (inr (past, opens, subst (λ l. StarvedRun (opened_standing past) (turns_of l) all) same (subst (λ (t : Standing). StarvedRun t (turns_of lines) all) is starved)))), end)
 
 behind_project : (project : Result (List Group) ProjectFault) (task : ℕ) → opened_project project ≡ Err (TooManyDatagrams task) → IsOk project
 behind_project (Ok groups) task e = refl

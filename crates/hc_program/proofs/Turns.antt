@@ -4,23 +4,17 @@ use Rattle.std.specs.Prelude.{Option}
 use Rattle.std.specs.Io.KnownBytes.{Appends}
 use Rattle.std.proofs.KnownBytes.{Appends-trans, Appends-nil}
 use Rattle.std.proofs.Math.Seq.{take-append_seam}
-use Rattle.hc_text.specs.Lines.{Line}
-use Rattle.hc_text.specs.Cutting.{CutsLine, lines_after}
+use Rattle.hc_program.specs.Declaring.{Turn}
 use Rattle.hc_program.specs.Runs.{Outcome, Reply, behind, reply_to, run}
 use Rattle.hc_program.specs.Standings.{Standing}
 use Rattle.hc_program.specs.Text.{EndsAs}
 use Rattle.hc_program.specs.Turns.{Continues, Ends, GoesOn, Takes, end_behind}
 
--- the first line's reply, and the rest of the run
-run_line : (s : Standing) (line : Line) (lines : List Line)
-    → run s (line ∷ lines) ≡ behind (reply_to s line.number line.text) (run (reply_to s line.number line.text).standing lines)
+-- the first turn's reply, and the rest of the run
+pub run_turn : (s : Standing) (turns : List Turn) (turn : Turn) (behind_it : List Turn) → turns ≡ turn ∷ behind_it
+    → run s turns ≡ behind (reply_to s turn) (run (reply_to s turn).standing behind_it)
 unfolding run
-run_line s line lines = refl
-
-pub run_cut : (s : Standing) (number : ℕ) (input text : List ℕ) (rest : Option (List ℕ)) → CutsLine input text rest
-    → run s (lines_after number (Some input)) ≡ behind (reply_to s number text) (run (reply_to s number text).standing (lines_after (number + 1) rest))
-run_cut s number input text rest cut =
-    ap (run s) (cut.lines number) ∙ run_line s (record { number = number; text = text; bytes = cut.bytes }) (lines_after (number + 1) rest)
+run_turn s turns turn behind_it is = ap (run s) is
 
 pub run_none : (s : Standing) → run s [] ≡ record { text = []; status = 0 }
 unfolding run
@@ -40,7 +34,7 @@ behind_end : (reply : Reply) (rest : Outcome) → reply.goes_on ≡ false → be
 behind_end reply rest off =
     ap (λ b. cond b (record { text = reply.text ++ rest.text; status = rest.status }) (record { text = reply.text; status = 2 })) off
 
--- before the first line
+-- before the first turn
 pub begins : (old : Option (List ℕ)) (all : Outcome) → Continues old old all all
 begins old all = record { text = record { done = []; appended = Appends-nil old; whole = refl }; status = refl }
 
@@ -93,7 +87,7 @@ ends_whole old new status all written same = record {
   front = front_of old new all.text [] all.text (append-nil all.text) written;
 }
 
--- a run whose last line was answered
+-- a run whose last turn was answered
 pub done : (old new : Option (List ℕ)) (left all : Outcome) → Continues old new left all → left ≡ record { text = []; status = 0 } → EndsAs old new 0 all
 done old new left all c none =
     ends_whole old new 0 all

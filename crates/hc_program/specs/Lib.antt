@@ -14,6 +14,7 @@ pub mod Cycles
 pub mod MemoryRanges
 pub mod Memories
 pub mod Commands
+pub mod Declaring
 pub mod Runs
 pub mod Sessions
 pub mod Opening

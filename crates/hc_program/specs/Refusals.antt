@@ -31,6 +31,10 @@ project_fault_words fault = decimal (project_fault_number fault) ++ codes " " ++
 abbrev pub project_fault_text : ProjectFault → List ℕ
 project_fault_text fault = codes "project fault " ++ project_fault_words fault
 
+-- what a document prints that declares no group
+unfoldable pub declare_fault_text : ProjectFault → List ℕ
+declare_fault_text fault = codes "declare fault " ++ project_fault_words fault
+
 -- a fault that names a task or a number is followed by it
 abbrev pub core_fault_name : CoreFault → List ℕ
 core_fault_name core.UnknownAlias = codes "UnknownAlias"

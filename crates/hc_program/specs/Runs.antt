@@ -1,12 +1,19 @@
--- What the command lines print, and the exit status of the run.
-use Rattle.std.specs.Prelude.{ℕ, Bool, true, false, if◌then◌else◌, List, [], ◌∷◌, ◌++◌, Option, Some, None}
+-- What the turns of a run print, and its exit status.
+use Rattle.std.specs.Prelude.{ℕ, Bool, true, false, if◌then◌else◌, List, [], ◌∷◌, ◌++◌, Option, Some, None, Result, Ok, Err}
+use Rattle.hc_records.specs.declared.edit.Edit.TheVariants.{Declare}
+use Rattle.hc_records.specs.declared.faults.ProjectFault.{ProjectFault}
+use Rattle.hc_records.specs.declared.records.Group.{Group}
+use Rattle.hc_project.specs.Text.{group_in}
+use Rattle.hc_events.specs.Steps.{Edits}
 use Rattle.hc_program.specs.declared.commands.Command.{Command}
-use Rattle.hc_text.specs.Lines.{Line, words_of}
-use Rattle.hc_program.specs.Refusals.{bad_command_text}
+use Rattle.hc_text.specs.Lines.{words_of}
+use Rattle.hc_program.specs.Answers.{told}
+use Rattle.hc_program.specs.Refusals.{bad_command_text, declare_fault_text}
 use Rattle.hc_program.specs.Commands.{command_in, left_by, printed}
-use Rattle.hc_program.specs.Standings.{Standing}
+use Rattle.hc_program.specs.Declaring.{Turn, Says, Declares}
+use Rattle.hc_program.specs.Standings.{Standing, edited}
 
--- what a line prints, where it leaves the run, and whether that goes on behind it
+-- what a turn prints, where it leaves the run, and whether that goes on behind it
 pub record Reply : Type 0 where
   pub text : List ℕ
   pub standing : Standing
@@ -23,24 +30,30 @@ abbrev pub reply_to_words : Standing → ℕ → List (List ℕ) → Reply
 reply_to_words s number [] = record { text = []; standing = s; goes_on = true }
 reply_to_words s number (name ∷ arguments) = reply_to_command s number (command_in name arguments)
 
--- the reply to a line with this number, by its words
-unfoldable pub reply_to : Standing → ℕ → List ℕ → Reply
-reply_to s number text = reply_to_words s number (words_of text)
+-- the document of a declaration, where it has one: its group is declared, as by any edit, or its fault is told
+abbrev pub reply_to_document : Standing → Result Group ProjectFault → Reply
+reply_to_document s (Ok group) = record { text = told s.past (Edits (Declare group)); standing = edited s (Declare group); goes_on = true }
+reply_to_document s (Err fault) = record { text = declare_fault_text fault; standing = s; goes_on = true }
+
+-- the reply to a turn: to the words of a line, or to a document; a declaration without one is no command
+unfoldable pub reply_to : Standing → Turn → Reply
+reply_to s (Says number text) = reply_to_words s number (words_of text)
+reply_to s (Declares number None) = reply_to_command s number None
+reply_to s (Declares number (Some document)) = reply_to_document s (group_in document)
 
 -- what a run prints, and its exit status
 pub record Outcome : Type 0 where
   pub text : List ℕ
   pub status : ℕ
 
--- a reply, and what the lines behind it print unless the run ends there
+-- a reply, and what the turns behind it print unless the run ends there
 abbrev pub behind : Reply → Outcome → Outcome
 behind reply rest =
     if reply.goes_on
     then record { text = reply.text ++ rest.text; status = rest.status }
     else record { text = reply.text; status = 2 }
 
--- the command lines of a run that stands somewhere as it begins
-unfoldable pub run : Standing → List Line → Outcome
+-- the turns of a run that stands somewhere as it begins
+unfoldable pub run : Standing → List Turn → Outcome
 run s [] = record { text = []; status = 0 }
-run s (line ∷ lines) =
-    behind (reply_to s line.number line.text) (run (reply_to s line.number line.text).standing lines)
+run s (turn ∷ turns) = behind (reply_to s turn) (run (reply_to s turn).standing turns)

@@ -10,6 +10,7 @@ use Rattle.hc_program.specs.Opening.{opening_of}
 use Rattle.hc_program.specs.declared.commands.Command.{Command}
 use Rattle.hc_program.specs.declared.stops.Stop.{Stop}
 use Rattle.hc_program.specs.Commands.{command_in}
+use Rattle.hc_program.specs.Declaring.{Turn, Says, Declares, turns_of}
 use Rattle.hc_program.specs.Standings.{Standing, opened_standing}
 use Rattle.hc_program.specs.Stops.{StopsIn, Unchanged, stop_text}
 use Rattle.hc_program.specs.Runs.{Outcome, Reply, behind, reply_to}
@@ -24,14 +25,15 @@ spelt (name ∷ arguments) = command_in name arguments
 abbrev pub StopsWords : Standing → List (List ℕ) → Stop → Standing → Type 0
 StopsWords s words why next = Unchanged s why next ⊎ ((command : Command) × (spelt words ≡ Some command) × StopsIn s command why next)
 
--- the same of a line by its text
-abbrev pub StopsLine : Standing → List ℕ → Stop → Standing → Type 0
-StopsLine s text why next = StopsWords s (words_of text) why next
+-- the same of a turn; a declaration was not carried out
+abbrev pub StopsTurn : Standing → Turn → Stop → Standing → Type 0
+StopsTurn s (Says number text) why next = StopsWords s (words_of text) why next
+StopsTurn s (Declares number document) why next = Unchanged s why next
 
 -- it prints why, and the run goes on
-pub record Stops (s : Standing) (text : List ℕ) (reply : Reply) : Type 0 where
+pub record Stops (s : Standing) (turn : Turn) (reply : Reply) : Type 0 where
   pub why : Stop
-  pub line : StopsLine s text why reply.standing
+  pub stopped : StopsTurn s turn why reply.standing
   pub told : reply.text ≡ stop_text why
   pub on : reply.goes_on ≡ true
 
@@ -39,27 +41,26 @@ pub record Stops (s : Standing) (text : List ℕ) (reply : Reply) : Type 0 where
 abbrev pub GivesFirst : Reply → (Outcome → Type 0) → Outcome → Type 0
 GivesFirst reply Rest outcome = (rest : Outcome) × Rest rest × (outcome ≡ behind reply rest)
 
--- a run of lines each of which gives its reply, or is stopped
-unfoldable pub RunsInWant : Standing → List Line → Outcome → Type 0
+-- a run of turns each of which gives its reply, or is stopped
+unfoldable pub RunsInWant : Standing → List Turn → Outcome → Type 0
 RunsInWant s [] outcome = outcome ≡ record { text = []; status = 0 }
-RunsInWant s (line ∷ lines) outcome =
-    GivesFirst (reply_to s line.number line.text) (RunsInWant (reply_to s line.number line.text).standing lines) outcome
-    ⊎ ((reply : Reply) × Stops s line.text reply × GivesFirst reply (RunsInWant reply.standing lines) outcome)
+RunsInWant s (turn ∷ turns) outcome =
+    GivesFirst (reply_to s turn) (RunsInWant (reply_to s turn).standing turns) outcome
+    ⊎ ((reply : Reply) × Stops s turn reply × GivesFirst reply (RunsInWant reply.standing turns) outcome)
 
--- such a run, one at least of whose lines is stopped: a later one, which the run reaches, or the first
-unfoldable pub StarvedRun : Standing → List Line → Outcome → Type 0
+-- such a run, one at least of whose turns is stopped: a later one, which the run reaches, or the first
+unfoldable pub StarvedRun : Standing → List Turn → Outcome → Type 0
 StarvedRun s [] outcome = ⊥
-StarvedRun s (line ∷ lines) outcome =
-    ((reply_to s line.number line.text).goes_on ≡ true)
-    × GivesFirst (reply_to s line.number line.text) (StarvedRun (reply_to s line.number line.text).standing lines) outcome
-    ⊎ ((reply : Reply) × Stops s line.text reply × GivesFirst reply (RunsInWant reply.standing lines) outcome)
+StarvedRun s (turn ∷ turns) outcome =
+    ((reply_to s turn).goes_on ≡ true) × GivesFirst (reply_to s turn) (StarvedRun (reply_to s turn).standing turns) outcome
+    ⊎ ((reply : Reply) × Stops s turn reply × GivesFirst reply (RunsInWant reply.standing turns) outcome)
 
--- memory was refused while the project was read or its fault told, while the plan of the project was made or its fault told, or for a line
+-- memory was refused while the project was read or its fault told, while the plan of the project was made or its fault told, or for a turn
 abbrev pub StarvedSections : List ℕ → List Line → Outcome → Type 0
 StarvedSections text lines outcome =
     (outcome ≡ unopened (Project project.Memory))
     ⊎ IsOk (project_in text) × (outcome ≡ unopened Memory)
-    ⊎ ((past : Record) × (opening_of text ≡ Ok past) × StarvedRun (opened_standing past) lines outcome)
+    ⊎ ((past : Record) × (opening_of text ≡ Ok past) × StarvedRun (opened_standing past) (turns_of lines) outcome)
 
 -- memory was refused while the input was read, which prints nothing, or behind that
 abbrev pub StarvedOutcome : List ℕ → Outcome → Type 0

@@ -5,6 +5,7 @@ use Rattle.hc_events.specs.Entries.{Record}
 use Rattle.hc_text.specs.declared.input.TheConstants.{MOST_INPUT}
 use Rattle.hc_program.specs.declared.opening.Unopened.{Unopened}
 use Rattle.hc_text.specs.Lines.{Line, command_lines, lines_of, project_text}
+use Rattle.hc_program.specs.Declaring.{turns_of}
 use Rattle.hc_program.specs.Opening.{opening_of, unopened_text}
 use Rattle.hc_program.specs.Runs.{Outcome, run}
 use Rattle.hc_program.specs.Standings.{opened_standing}
@@ -13,9 +14,9 @@ use Rattle.hc_program.specs.Standings.{opened_standing}
 abbrev pub unopened : Unopened → Outcome
 unopened fault = record { text = unopened_text fault; status = 3 }
 
--- the run of the command lines from the opening on; where nothing was opened, the outcome that says why
+-- the run of the command lines from the opening on, turn by turn; where nothing was opened, the outcome that says why
 abbrev pub run_opened : Result Record Unopened → List Line → Outcome
-run_opened (Ok past) lines = run (opened_standing past) lines
+run_opened (Ok past) lines = run (opened_standing past) (turns_of lines)
 run_opened (Err fault) lines = unopened fault
 
 -- the project before the mark is opened, then the command lines behind the mark are run

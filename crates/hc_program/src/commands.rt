@@ -7,6 +7,7 @@ ghost use Rattle.hc_program.specs.Stops.{StopsIn};
 
 mod arrive;
 mod cycle;
+pub mod declare;
 mod edits;
 mod layout;
 mod memory;

@@ -1,8 +1,9 @@
-//! The run: reads all input, opens the project, answers each command line, and writes each reply before
-//! the next line is answered.
+//! The run: reads all input, opens the project, answers each turn, which is a command line or a declaration with the
+//! lines of its document, and writes each reply before the next turn is answered.
 ghost use Rattle.std.specs.Prelude.{◌≡◌, ◌≤◌, ◌+◌, false, true, length, IfSome};
 ghost use Rattle.std.specs.Option.{option_copied};
 ghost use Rattle.hc_text.specs.Cutting.{left_in, lines_after};
+ghost use Rattle.hc_program.specs.Declaring.{turn_of, turns_of};
 ghost use Rattle.hc_program.specs.Opening.{in_want, is_memory};
 ghost use Rattle.hc_program.specs.Runs.{Reply, reply_to, run};
 ghost use Rattle.hc_program.specs.Sessions.{standing_of};
@@ -16,8 +17,9 @@ use crate::opening::{Unopened, memory_text, open_session, push_unopened};
 use crate::replies::answer;
 use crate::session::Session;
 use crate::stops::stop_line;
+use crate::turn::{Turn, split_turn};
 use hc_text::input::{Unread, read_all};
-use hc_text::lines::{split_line, split_sections};
+use hc_text::lines::split_sections;
 use hc_text::output::write_text;
 use std::alloc::Global;
 use std::io::{Read, Write};
@@ -46,9 +48,9 @@ pub struct RunEnd {
     pub starved: bool,
 }
 
-/// How the turn of a line ended.
+/// How a turn ended.
 #[derive(Clone, Copy, Debug, PartialEq, Eq)]
-struct Turn {
+struct TurnEnd {
     /// The exit status where the run ends here.
     end: Option<u8>,
     /// Whether a growth was refused.
@@ -56,16 +58,16 @@ struct Turn {
 }
 
 /// Writes a reply that ends the run, or behind which it goes on.
-fn write_reply<W: Write>(text: &[u8], goes_on: bool, starved: bool, output: &mut W) -> Turn
+fn write_reply<W: Write>(text: &[u8], goes_on: bool, starved: bool, output: &mut W) -> TurnEnd
     ensures takes { (next : Standing) → Takes (W.contents output.old) (W.contents output.new) next result.end (record { text = text.now; standing = next; goes_on = goes_on }) }
     ensures starved { result.starved ≡ starved }
 {
     match write_text(output, text) {
-        Ok(()) => Turn {
+        Ok(()) => TurnEnd {
             end: end_behind(goes_on),
             starved,
         },
-        Err(_) => Turn {
+        Err(_) => TurnEnd {
             end: Some(BROKEN),
             starved,
         },
@@ -79,22 +81,21 @@ fn end_behind(goes_on: bool) -> Option<u8>
     if goes_on { None } else { Some(BAD_COMMAND) }
 }
 
-/// Answers a line and writes its reply, or why its command was stopped where a growth was refused. The changes that
-/// the line made of what tasks read are dropped: nobody follows them here.
+/// Answers a turn and writes its reply, or why it was stopped where a growth was refused. The changes that the turn
+/// made of what tasks read are dropped: nobody follows them here.
 fn take_turn<Rt: Threads + Wait + Sync, W: Write>(
     rt: &Rt,
     alloc: Global,
-    line: &[u8],
-    number: u32,
+    turn: Turn<'_>,
     session: &mut Session,
     output: &mut W,
-) -> Turn
+) -> TurnEnd
     ensures answered { result.starved ≡ false
-        → Takes (W.contents output.old) (W.contents output.new) (standing_of session.new) result.end (reply_to (standing_of session.old) number line.now) }
+        → Takes (W.contents output.old) (W.contents output.new) (standing_of session.new) result.end (reply_to (standing_of session.old) (turn_of turn.entry)) }
     ensures stopped { result.starved ≡ true
-        → (reply : Reply) × Stops (standing_of session.old) line.now reply × Takes (W.contents output.old) (W.contents output.new) (standing_of session.new) result.end reply }
+        → (reply : Reply) × Stops (standing_of session.old) (turn_of turn.entry) reply × Takes (W.contents output.old) (W.contents output.new) (standing_of session.new) result.end reply }
 {
-    let answered = answer(rt, alloc, line, number, session);
+    let answered = answer(rt, alloc, turn, session);
     drop(session.core.take_changes(alloc));
     match answered {
         Ok(reply) => write_reply(reply.text.as_bytes(), reply.goes_on, false, output),
@@ -113,23 +114,23 @@ fn run_commands<Rt: Threads + Wait + Sync, W: Write>(
 ) -> RunEnd
     requires { first + left_in (option_copied lines) ≤ MOST_INPUT + 2 }
     ensures unstarved { result.starved ≡ false
-        → EndsAs (W.contents output.old) (W.contents output.new) result.status (run (standing_of opened) (lines_after first (option_copied lines.entry))) }
+        → EndsAs (W.contents output.old) (W.contents output.new) result.status (run (standing_of opened) (turns_of (lines_after first (option_copied lines.entry)))) }
     ensures starved { result.starved ≡ true
-        → EndsAsOne (W.contents output.old) (W.contents output.new) result.status (StarvedRun (standing_of opened) (lines_after first (option_copied lines.entry))) }
+        → EndsAsOne (W.contents output.old) (W.contents output.new) result.status (StarvedRun (standing_of opened) (turns_of (lines_after first (option_copied lines.entry)))) }
 {
     let mut session = opened;
     let mut starved = false;
     let mut number = first;
     let mut rest = lines;
     while let Some(text) = rest {
-        let (line, more) = split_line(text);
-        let turn = take_turn(rt, alloc, line, number, &mut session, output);
-        starved |= turn.starved;
-        if let Some(status) = turn.end {
+        let cut = split_turn(text, number);
+        let taken = take_turn(rt, alloc, cut.turn, &mut session, output);
+        starved |= taken.starved;
+        if let Some(status) = taken.end {
             return RunEnd { status, starved };
         }
-        number += 1;
-        rest = more;
+        number = cut.first;
+        rest = cut.behind;
     }
     RunEnd {
         status: DONE,

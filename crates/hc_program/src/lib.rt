@@ -12,3 +12,4 @@ mod refusals;
 mod replies;
 mod session;
 mod stops;
+mod turn;

@@ -1,7 +1,8 @@
 //! Faults as they are printed.
 ghost use Rattle.std.specs.Prelude.{◌≡◌, ◌≢◌, ◌++◌, OnOk, string_bytes};
 ghost use Rattle.hc_events.specs.declared.faults.CoreFault.TheVariants.{BadGroup, Memory};
-ghost use Rattle.hc_program.specs.Refusals.{bad_command_text, core_fault_name, project_fault_name, project_fault_text, project_fault_words, refusal_text};
+ghost use Rattle.hc_records.specs.declared.faults.ProjectFault.TheVariants as project;
+ghost use Rattle.hc_program.specs.Refusals.{bad_command_text, core_fault_name, declare_fault_text, project_fault_name, project_fault_text, project_fault_words, refusal_text};
 
 use hc_events::faults::CoreFault;
 use hc_records::faults::ProjectFault;
@@ -33,6 +34,27 @@ pub fn push_project_fault(fault: ProjectFault, out: &mut String) -> Result<(), A
 {
     out.push_str("project fault ")?;
     push_project_fault_words(fault, out)
+}
+
+/// Adds the line of a document that declares no group, as `declare fault 12 NotOneGroup`. `AllocError` where a growth was
+/// refused; `out` may then have a front of the line.
+fn push_declare_fault(fault: ProjectFault, out: &mut String) -> Result<(), AllocError>
+    ensures { OnOk result (string_bytes out.new ≡ string_bytes out.old ++ declare_fault_text fault) }
+{
+    out.push_str("declare fault ")?;
+    push_project_fault_words(fault, out)
+}
+
+/// The same of a fault that may be `Memory`: that one is answered as `AllocError`, and its line is the run's to write
+/// (`memory_refusal`).
+pub fn tell_declare_fault(fault: ProjectFault, out: &mut String) -> Result<(), AllocError>
+    ensures text { OnOk result (string_bytes out.new ≡ string_bytes out.old ++ declare_fault_text fault) }
+    ensures other { OnOk result (fault ≢ project.Memory) }
+{
+    if let ProjectFault::Memory = fault {
+        return Err(AllocError);
+    }
+    push_declare_fault(fault, out)
 }
 
 /// Adds the fault's number and name, and the end of the line.

@@ -1,46 +1,88 @@
-//! The reply to one command line.
-ghost use Rattle.std.specs.Prelude.{◌≡◌, ◌++◌, IfErr, IfOk, OnOk, map, string_bytes};
+//! The reply to one turn: to a command line, or to a declaration.
+ghost use Rattle.std.specs.Prelude.{◌≡◌, ◌++◌, IfErr, IfOk, OnOk, false, map, string_bytes};
+ghost use Rattle.hc_program.specs.Refusals.{bad_command_text};
+ghost use Rattle.hc_program.specs.Declaring.{turn_of};
 ghost use Rattle.hc_program.specs.Runs.{reply_to, reply_to_words};
 ghost use Rattle.hc_program.specs.Sessions.{standing_of};
-ghost use Rattle.hc_program.specs.Starved.{StopsLine, StopsWords};
+ghost use Rattle.hc_program.specs.Starved.{StopsTurn, StopsWords};
 
-use crate::commands::{command_in, obey};
+use crate::commands::{command_in, declare, obey};
 use crate::refusals::push_bad_command;
 use crate::session::Session;
 use crate::stops::Stop;
+use crate::turn::Turn;
 use hc_text::words::split_words;
-use std::alloc::Global;
+use std::alloc::{AllocError, Global};
 use std::sync::Wait;
 use std::thread::Threads;
 
-/// What a line prints, and whether the run goes on behind it.
+/// What a turn prints, and whether the run goes on behind it.
 #[derive(Debug, Drop)]
 pub struct Reply {
-    /// What the line prints.
+    /// What the turn prints.
     pub text: String,
     /// Whether the run goes on; it ends at a line that is no command.
     pub goes_on: bool,
 }
 
-/// The reply to the text of a line with a number; the session is then as the line leaves it. A `Stop` where a growth
-/// was refused: nothing was then carried out, or a command of several calls was stopped (`StopsLine`).
-#[tactic(auto, unfolding(crate::specs::Runs::reply_to))]
+/// The reply to a turn; the session is then as the turn leaves it. A `Stop` where a growth was refused: nothing was then
+/// carried out, or a command of several calls was stopped (`StopsTurn`).
 pub fn answer<R: Threads + Wait + Sync>(
     rt: &R,
     alloc: Global,
-    line: &[u8],
-    number: u32,
+    turn: Turn<'_>,
     session: &mut Session,
 ) -> Result<Reply, Stop>
-    ensures text { IfOk result (λ reply. string_bytes reply.text ≡ (reply_to (standing_of session.old) number line.now).text) }
-    ensures goes_on { IfOk result (λ reply. reply.goes_on ≡ (reply_to (standing_of session.old) number line.now).goes_on) }
-    ensures next { OnOk result (standing_of session.new ≡ (reply_to (standing_of session.old) number line.now).standing) }
-    ensures stops { IfErr result (λ stop. StopsLine (standing_of session.old) line.now stop (standing_of session.new)) }
+    ensures text { IfOk result (λ reply. string_bytes reply.text ≡ (reply_to (standing_of session.old) (turn_of turn.entry)).text) }
+    ensures goes_on { IfOk result (λ reply. reply.goes_on ≡ (reply_to (standing_of session.old) (turn_of turn.entry)).goes_on) }
+    ensures next { OnOk result (standing_of session.new ≡ (reply_to (standing_of session.old) (turn_of turn.entry)).standing) }
+    ensures stops { IfErr result (λ stop. StopsTurn (standing_of session.old) (turn_of turn.entry) stop (standing_of session.new)) }
 {
-    let words = split_words(alloc, line)?;
     let mut text = String::new(alloc);
-    let goes_on = push_reply(rt, alloc, &words, number, session, &mut text)?;
+    let goes_on = push_turn(rt, alloc, turn, session, &mut text)?;
     Ok(Reply { text, goes_on })
+}
+
+/// Adds what a turn prints, and tells whether the run goes on behind it.
+#[tactic(auto, unfolding(crate::specs::Runs::reply_to))]
+fn push_turn<R: Threads + Wait + Sync>(
+    rt: &R,
+    alloc: Global,
+    turn: Turn<'_>,
+    session: &mut Session,
+    out: &mut String,
+) -> Result<bool, Stop>
+    ensures text { OnOk result (string_bytes out.new ≡ string_bytes out.old ++ (reply_to (standing_of session.old) (turn_of turn.entry)).text) }
+    ensures goes_on { IfOk result (λ goes_on. goes_on ≡ (reply_to (standing_of session.old) (turn_of turn.entry)).goes_on) }
+    ensures next { OnOk result (standing_of session.new ≡ (reply_to (standing_of session.old) (turn_of turn.entry)).standing) }
+    ensures stops { IfErr result (λ stop. StopsTurn (standing_of session.old) (turn_of turn.entry) stop (standing_of session.new)) }
+{
+    match turn {
+        Turn::Says { number, line } => {
+            let words = split_words(alloc, line)?;
+            push_reply(rt, alloc, &words, number, session, out)
+        }
+        Turn::Declares {
+            number: _,
+            document: Some(document),
+        } => {
+            declare::reply(alloc, document, session, out)?;
+            Ok(true)
+        }
+        Turn::Declares {
+            number,
+            document: None,
+        } => Ok(push_no_command(number, out)?),
+    }
+}
+
+/// Adds that a line is no command: the run ends behind it.
+fn push_no_command(number: u32, out: &mut String) -> Result<bool, AllocError>
+    ensures text { OnOk result (string_bytes out.new ≡ string_bytes out.old ++ bad_command_text number) }
+    ensures goes_on { IfOk result (λ goes_on. goes_on ≡ false) }
+{
+    push_bad_command(number, out)?;
+    Ok(false)
 }
 
 /// Adds what the words of a line print, and tells whether the run goes on behind it.
@@ -65,9 +107,6 @@ fn push_reply<R: Threads + Wait + Sync>(
             obey(rt, alloc, &command, session, out)?;
             Ok(true)
         }
-        None => {
-            push_bad_command(number, out)?;
-            Ok(false)
-        }
+        None => Ok(push_no_command(number, out)?),
     }
 }

@@ -1,6 +1,7 @@
 -- What is left of an input or of a line while it is cut from the front.
 use Rattle.std.specs.Prelude.{◌≡◌, ℕ, suc, ◌+◌, List, [], ◌∷◌, ◌++◌, length, Option, Some, None}
-use Rattle.hc_text.specs.Lines.{Line, command_lines, lines_from, lines_of, parts_at, project_text}
+use Rattle.std.specs.List.{list_any}
+use Rattle.hc_text.specs.Lines.{Line, command_lines, is_mark, lines_from, parts_at, project_text}
 
 -- the parts of what follows, or none where nothing does
 abbrev pub parts_after : ℕ → Option (List ℕ) → List (List ℕ)
@@ -32,9 +33,10 @@ pub record CutsLine (input text : List ℕ) (rest : Option (List ℕ)) : Type 0 
   pub whole : bytes ++ bytes_after rest ≡ input
   pub lines : (number : ℕ) → lines_from number (parts_at 10 input) ≡ record { number = number; text = text; bytes = bytes } ∷ lines_after (number + 1) rest
 
--- the lines before what follows, the first of which has this number, were passed over: the mark isn't among them
-pub record Skips (input : List ℕ) (number : ℕ) (rest : Option (List ℕ)) : Type 0 where
+-- of the lines of an input those before what follows were passed over, which begins at the line with this number: the mark isn't among them
+pub record Skips (input : List ℕ) (lines : List Line) (number : ℕ) (rest : Option (List ℕ)) : Type 0 where
   pub front : List ℕ
   pub whole : front ++ bytes_after rest ≡ input
-  pub project : front ++ project_text (lines_after number rest) ≡ project_text (lines_of input)
-  pub commands : command_lines (lines_after number rest) ≡ command_lines (lines_of input)
+  pub project : front ++ project_text (lines_after number rest) ≡ project_text lines
+  pub commands : command_lines (lines_after number rest) ≡ command_lines lines
+  pub marked : list_any is_mark (lines_after number rest) ≡ list_any is_mark lines

@@ -1,6 +1,6 @@
 -- The lines of an input, where its project text ends, and the words of a line.
-use Rattle.std.specs.Prelude.{ℕ, ◌+◌, ◌==◌, not, Bool, if◌then◌else◌, List, [], ◌∷◌, ◌++◌, length, filter, codes}
-use Rattle.std.specs.List.{slice_split}
+use Rattle.std.specs.Prelude.{ℕ, ◌+◌, ◌==◌, not, Bool, if◌then◌else◌, List, [], ◌∷◌, ◌++◌, length, filter, Option, Some, None, codes}
+use Rattle.std.specs.List.{list_any, slice_split}
 use Rattle.std.specs.Str.{bytes_eq}
 use Rattle.std.specs.Str.Lines.{strip_carriage_return}
 
@@ -34,7 +34,7 @@ lines_from number (part ∷ parts) =
 abbrev pub lines_of : List ℕ → List Line
 lines_of input = lines_from 1 (parts_at 10 input)
 
--- the line that ends the project text
+-- the line that ends a project text
 abbrev pub is_mark : Line → Bool
 is_mark line = bytes_eq line.text (codes "%%")
 
@@ -48,6 +48,10 @@ abbrev pub command_lines : List Line → List Line
 command_lines [] = []
 command_lines (line ∷ lines) = if is_mark line then lines else command_lines lines
 
+-- these bytes; none where no line ends them
+abbrev pub closed_text : List Line → Option (List ℕ)
+closed_text lines = if list_any is_mark lines then Some (project_text lines) else None
+
 -- a word isn't empty
 abbrev pub is_word : List ℕ → Bool
 is_word part = not (length part == 0)
@@ -55,3 +59,9 @@ is_word part = not (length part == 0)
 -- the words of a line: what stands between its spaces and isn't empty
 abbrev pub words_of : List ℕ → List (List ℕ)
 words_of text = filter is_word (parts_at 32 text)
+
+-- the one word of a line; none where it has no word, or more
+abbrev pub sole : List (List ℕ) → Option (List ℕ)
+sole [] = None
+sole (word ∷ []) = Some word
+sole (word ∷ other ∷ words) = None

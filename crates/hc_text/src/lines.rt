@@ -1,10 +1,10 @@
 //! The lines of an input: where its project text ends, and its command lines.
-ghost use Rattle.std.specs.Prelude.{◌≡◌, ◌≤◌, ◌+◌, ◌==◌, ◌∷◌, length};
+ghost use Rattle.std.specs.Prelude.{◌≡◌, ◌≤◌, ◌<◌, ◌+◌, ◌==◌, [], ◌∷◌, length, option_map, IfNone, IfSome};
 ghost use Rattle.std.specs.List.{position};
 ghost use Rattle.std.specs.Option.{option_copied};
 ghost use Rattle.std.specs.Str.Lines.{strip_carriage_return};
-ghost use Rattle.hc_text.specs.Lines.{command_lines, lines_of, parts_at, project_text, text_of};
-ghost use Rattle.hc_text.specs.Cutting.{CutsLine, joined, left_in, lines_after, parts_after};
+ghost use Rattle.hc_text.specs.Lines.{closed_text, command_lines, lines_of, parts_at, project_text, text_of};
+ghost use Rattle.hc_text.specs.Cutting.{CutsLine, bytes_after, joined, left_in, lines_after, parts_after};
 ghost use Rattle.hc_text.specs.declared.input.TheConstants.{MOST_INPUT};
 
 /// The line that ends the project text.
@@ -58,7 +58,7 @@ pub fn split_line(input: &[u8]) -> (&[u8], Option<&[u8]>)
     (text_of(part, rest), rest)
 }
 
-/// An input cut at its mark.
+/// Lines cut at the mark.
 #[derive(Debug, Drop)]
 pub struct Sections<'a> {
     /// The project text: the bytes before the mark, as they stand; all where there is no mark.
@@ -69,6 +69,33 @@ pub struct Sections<'a> {
     pub first: u32,
 }
 
+/// Cuts lines, the first of which has a number, at the first line `%%`; none where no line is that.
+pub fn split_at_mark(lines: Option<&[u8]>, number: u32) -> Option<Sections<'_>>
+    requires { number + left_in (option_copied lines) ≤ MOST_INPUT + 2 }
+    ensures project { option_map (λ sections. sections.project.now) result ≡ closed_text (lines_after number (option_copied lines.entry)) }
+    ensures commands { IfSome result (λ sections. lines_after sections.first (option_copied sections.commands) ≡ command_lines (lines_after number (option_copied lines.entry))) }
+    ensures few { IfSome result (λ sections. sections.first + left_in (option_copied sections.commands) ≤ MOST_INPUT + 2) }
+    ensures shorter { IfSome result (λ sections. left_in (option_copied sections.commands) < left_in (option_copied lines.entry)) }
+    ensures unmarked { IfNone result ((project_text (lines_after number (option_copied lines.entry)) ≡ bytes_after (option_copied lines.entry)) × (command_lines (lines_after number (option_copied lines.entry)) ≡ [])) }
+{
+    let input = lines?;
+    let mut next = number;
+    let mut rest = Some(input);
+    while let Some(text) = rest {
+        let (line, more) = split_line(text);
+        next += 1;
+        if line == MARK {
+            return Some(Sections {
+                project: &input[..input.len() - text.len()],
+                commands: more,
+                first: next,
+            });
+        }
+        rest = more;
+    }
+    None
+}
+
 /// Cuts an input at its first line `%%`.
 pub fn split_sections(input: &[u8]) -> Sections<'_>
     requires { length input.now ≤ MOST_INPUT }
@@ -76,23 +103,12 @@ pub fn split_sections(input: &[u8]) -> Sections<'_>
     ensures commands { lines_after result.first (option_copied result.commands) ≡ command_lines (lines_of input.now) }
     ensures few { result.first + left_in (option_copied result.commands) ≤ MOST_INPUT + 2 }
 {
-    let mut number = 1u32;
-    let mut rest = Some(input);
-    while let Some(text) = rest {
-        let (line, more) = split_line(text);
-        number += 1;
-        if line == MARK {
-            return Sections {
-                project: &input[..input.len() - text.len()],
-                commands: more,
-                first: number,
-            };
-        }
-        rest = more;
-    }
-    Sections {
-        project: input,
-        commands: None,
-        first: number,
+    match split_at_mark(Some(input), 1) {
+        Some(sections) => sections,
+        None => Sections {
+            project: input,
+            commands: None,
+            first: 1,
+        },
     }
 }

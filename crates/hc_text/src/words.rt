@@ -1,6 +1,7 @@
 //! The words of a line.
 ghost use Rattle.std.specs.Prelude.{◌≡◌, IfOk, map};
-ghost use Rattle.hc_text.specs.Lines.{words_of};
+ghost use Rattle.std.specs.Option.{option_copied};
+ghost use Rattle.hc_text.specs.Lines.{sole, words_of};
 
 use crate::lines::split_at_byte;
 use std::alloc::{AllocError, Global};
@@ -20,4 +21,20 @@ pub fn split_words<'a>(alloc: Global, line: &'a [u8]) -> Result<Vec<&'a [u8]>, A
         rest = more;
     }
     Ok(words)
+}
+
+/// The one word of a line; none where it has no word, or more.
+pub fn sole_word(line: &[u8]) -> Option<&[u8]>
+    ensures { option_copied result ≡ sole (words_of line.now) }
+{
+    let mut found: Option<&[u8]> = None;
+    let mut rest = Some(line);
+    while let Some(text) = rest {
+        let (part, more) = split_at_byte(text, b' ');
+        if !part.is_empty() && found.replace(part).is_some() {
+            return None;
+        }
+        rest = more;
+    }
+    found
 }

@@ -1,32 +1,7 @@
 //! Runs that edit the line.
-use crate::printed::ONE_SLAVE;
+use crate::printed::{ONE_IN_GROUP, ONE_SLAVE};
 use crate::rows::{Run, first_wrong};
 use std::test::Fail;
-
-/// No mandatory slave, and one slave with an output and an input area in a group.
-const ONE_GROUP: &str = r#"[[group]]
-alias = 100
-[[group.slave]]
-station = 1001
-[[group.slave.area]]
-sm = 2
-dir = "out"
-phys = 0x1100
-task = 0
-assigned = [0x1600]
-[[group.slave.area.pdo]]
-index = 0x1600
-entries = [[1, 2]]
-[[group.slave.area]]
-sm = 3
-dir = "in"
-phys = 0x1180
-task = 0
-assigned = [0x1a00]
-[[group.slave.area.pdo]]
-index = 0x1a00
-entries = [[2, 12]]
-"#;
 
 /// A slave with one input area of two PDOs of 4 bits.
 const TWO_PDOS: &str = r#"[[slave]]
@@ -172,13 +147,13 @@ fmmu 0 at 0x0600: 00 00 00 02 01 00 00 00 00 10 00 02 01 00 00 00
 
 /// A seventeenth datagram is refused; a crowded task leaves those before it.
 const RUNS: &[Run] = &[
-    (&[ONE_GROUP, COMES_AND_GOES], 0, &[COMES_AND_GOES_TEXT]),
+    (&[ONE_IN_GROUP, COMES_AND_GOES], 0, &[COMES_AND_GOES_TEXT]),
     (&[ONE_SLAVE, NO_BITS], 0, &[NO_BITS_TEXT]),
     (&[ONE_SLAVE, MOVED], 0, &[MOVED_TEXT]),
     (&[ONE_SLAVE, SAME], 0, &[SAME_TEXT]),
     (&[TWO_PDOS, TURNED], 0, &[TURNED_TEXT]),
     (&[ONE_SLAVE, REFUSED], 0, &[REFUSED_TEXT]),
-    (&[ONE_GROUP, ABSENT], 0, &[ABSENT_TEXT]),
+    (&[ONE_IN_GROUP, ABSENT], 0, &[ABSENT_TEXT]),
     (
         &[NOTHING_ASSIGNED, "%%\nconnect 100\nlayout\n"],
         0,

@@ -8,6 +8,8 @@ mod breaks;
 #[cfg(test)]
 mod checks;
 #[cfg(test)]
+mod declared;
+#[cfg(test)]
 mod devices;
 #[cfg(test)]
 mod edits;

@@ -27,6 +27,27 @@ index = 0x1a00
 entries = [[2, 12]]
 "#;
 
+/// The same slave in a group, no mandatory one.
+pub const ONE_IN_GROUP: &str = r#"[[group]]
+alias = 100
+[[group.slave]]
+station = 1001
+[[group.slave.area]]
+sm = 2
+dir = "out"
+phys = 0x1100
+task = 0
+assigned = [0x1600]
+pdo = [{ index = 0x1600, entries = [[1, 2]] }]
+[[group.slave.area]]
+sm = 3
+dir = "in"
+phys = 0x1180
+task = 0
+assigned = [0x1a00]
+pdo = [{ index = 0x1a00, entries = [[2, 12]] }]
+"#;
+
 /// The commands of the first run.
 pub const FIRST_COMMANDS: &str = "%%\nlayout\nregs 1001\nshow 0 0\n";
 

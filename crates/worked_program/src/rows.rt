@@ -6,8 +6,8 @@ use std::test::Fail;
 use std::thread::Threads;
 
 /// A run: the pieces of its input, its status, and the pieces of its text. A piece may have marks, which are written out:
-/// `<entries N>`, `<pdos N>` and `<slaves A B T N>` have N bits, `<zeros N>` are N bytes 0, and `<sends A B>` and
-/// `<sent A B>` are sendings of the task of `ONE_SLAVE`, and what they print.
+/// `<entries N>`, `<pdos N>` and `<slaves A B T N>` have N bits, `<groups A B>` have a slave each, `<zeros N>` are N bytes
+/// 0, and `<sends A B>` and `<sent A B>` are sendings of the task of `ONE_SLAVE`, and what they print.
 pub type Run = (&'static [&'static str], u8, &'static [&'static str]);
 
 /// Adds gaps that have so many bits together, at most 4,096.
@@ -55,6 +55,17 @@ fn push_slaves(
     Ok(())
 }
 
+/// Adds groups with aliases from one to another, each with a slave without areas at the station address of its alias.
+fn push_groups(text: &mut String, from: u32, to: u32) -> Result<(), AllocError> {
+    for alias in from..=to {
+        write!(
+            text,
+            "[[group]]\nalias = {alias}\n[[group.slave]]\nstation = {alias}\n"
+        )?;
+    }
+    Ok(())
+}
+
 /// Adds so many bytes 0, as a frame's bytes are printed.
 fn push_zeros(text: &mut String, count: u32) -> Result<(), AllocError> {
     for _ in 0..count {
@@ -88,6 +99,7 @@ fn push_mark(text: &mut String, mark: &str) -> Result<(), Fail> {
         Some("entries") => push_entries(text, first)?,
         Some("pdos") => push_pdos(text, first)?,
         Some("slaves") => push_slaves(text, first, second, third, fourth)?,
+        Some("groups") => push_groups(text, first, second)?,
         Some("zeros") => push_zeros(text, first)?,
         Some("sent") => push_sent(text, first, second)?,
         _ => {

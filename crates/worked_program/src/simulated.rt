@@ -1,28 +1,7 @@
 //! Runs along the simulated line.
-use crate::printed::ONE_SLAVE;
+use crate::printed::{ONE_IN_GROUP, ONE_SLAVE};
 use crate::rows::{Run, first_wrong};
 use std::test::Fail;
-
-/// The slave of `ONE_SLAVE` in a group.
-const ONE_IN_GROUP: &str = r#"[[group]]
-alias = 100
-[[group.slave]]
-station = 1001
-[[group.slave.area]]
-sm = 2
-dir = "out"
-phys = 0x1100
-task = 0
-assigned = [0x1600]
-pdo = [{ index = 0x1600, entries = [[1, 2]] }]
-[[group.slave.area]]
-sm = 3
-dir = "in"
-phys = 0x1180
-task = 0
-assigned = [0x1a00]
-pdo = [{ index = 0x1a00, entries = [[2, 12]] }]
-"#;
 
 /// A group that comes again has fresh machines.
 const COMES_AGAIN: &str = "%%

@@ -1,6 +1,7 @@
 use Rattle.std.proofs.Common.{◌≡◌, ◌≤◌, ◌+◌, false}
 use Rattle.std.specs.Option.{option_copied}
 use Rattle.hc_text.specs.Cutting.{left_in, lines_after}
+use Rattle.hc_program.specs.Declaring.{turns_of}
 use Rattle.hc_program.specs.Runs.{run}
 use Rattle.hc_program.specs.Sessions.{standing_of}
 use Rattle.hc_program.specs.Starved.{StarvedRun}
@@ -15,8 +16,8 @@ invariant-loop-rest g l =
     record {
       few : l.number + left_in (option_copied l.rest) ≤ MOST_INPUT + 2;
       runs : l.starved ≡ false
-          → Continues (contents l.fn.output) (contents l.output) (run (standing_of l.session) (lines_after l.number (option_copied l.rest))) (run (standing_of l.fn.opened) (lines_after l.first (option_copied l.fn.lines)));
-      starves : Leads (contents l.fn.output) (contents l.output) (Left l.starved (standing_of l.session) (lines_after l.number (option_copied l.rest))) (StarvedRun (standing_of l.fn.opened) (lines_after l.first (option_copied l.fn.lines)));
+          → Continues (contents l.fn.output) (contents l.output) (run (standing_of l.session) (turns_of (lines_after l.number (option_copied l.rest)))) (run (standing_of l.fn.opened) (turns_of (lines_after l.first (option_copied l.fn.lines))));
+      starves : Leads (contents l.fn.output) (contents l.output) (Left l.starved (standing_of l.session) (turns_of (lines_after l.number (option_copied l.rest)))) (StarvedRun (standing_of l.fn.opened) (turns_of (lines_after l.first (option_copied l.fn.lines))));
     }
 
 abbrev pub decreases-loop-rest : goal.decreases-loop-rest

@@ -3,6 +3,7 @@ use Rattle.std.specs.Prelude.{IsOk}
 use Rattle.std.specs.Option.{option_copied}
 use Rattle.hc_text.specs.Cutting.{lines_after}
 use Rattle.hc_project.specs.Text.{project_in}
+use Rattle.hc_program.specs.Declaring.{turns_of}
 use Rattle.hc_program.specs.Opening.{opening_of}
 use Rattle.hc_program.specs.Runs.{run}
 use Rattle.hc_program.specs.Standings.{Standing, opened_standing}
@@ -17,8 +18,8 @@ returns-in-Ok-clause-unstarved g c unstarved =
     let opens = ap opening_of (sym c.split_sections-sections.ensures.project) ∙ c.in-Ok.ensures.opened.0 in
     let all =
     opened_outcome c.args.input.now past c.requires opens
-    ∙ ap (run (opened_standing past)) (sym c.split_sections-sections.ensures.commands)
-    ∙ ap (λ (s : Standing). run s (lines_after c.split_sections-sections.result.first (option_copied c.split_sections-sections.result.commands))) (sym c.in-Ok.ensures.opened.1) in
+    ∙ ap (λ lines. run (opened_standing past) (turns_of lines)) (sym c.split_sections-sections.ensures.commands)
+    ∙ ap (λ (s : Standing). run s (turns_of (lines_after c.split_sections-sections.result.first (option_copied c.split_sections-sections.result.commands)))) (sym c.in-Ok.ensures.opened.1) in
     subst (EndsAs _ _ _) (sym all) (c.run_commands.ensures.unstarved unstarved)
 
 pub returns-in-Ok-clause-starved : goal.returns-in-Ok-clause-starved

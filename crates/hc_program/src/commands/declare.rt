@@ -1,0 +1,31 @@
+//! `declare`: a group behind the declared ones, read from the lines of its document.
+ghost use Rattle.std.specs.Prelude.{◌≡◌, ◌++◌, OnErr, OnOk, string_bytes};
+ghost use Rattle.hc_project.specs.Text.{group_in};
+ghost use Rattle.hc_program.specs.Runs.{reply_to_document};
+ghost use Rattle.hc_program.specs.Sessions.{standing_of};
+
+use super::edits;
+use crate::refusals::tell_declare_fault;
+use crate::session::Session;
+use hc_project::read_group;
+use hc_records::edit::Edit;
+use std::alloc::{AllocError, Global};
+
+/// Declares the group of a document and adds what became different, or why it is refused, or the fault of the
+/// document. `AllocError` where a growth was refused, while the document was read too; nothing was then accepted,
+/// and `out` may have a front of the line.
+pub fn reply(
+    alloc: Global,
+    document: &[u8],
+    session: &mut Session,
+    out: &mut String,
+) -> Result<(), AllocError>
+    ensures text { OnOk result (string_bytes out.new ≡ string_bytes out.old ++ (reply_to_document (standing_of session.old) (group_in document.now)).text) }
+    ensures next { OnOk result (standing_of session.new ≡ (reply_to_document (standing_of session.old) (group_in document.now)).standing) }
+    ensures unchanged { OnErr result (standing_of session.new ≡ standing_of session.old) }
+{
+    match read_group(alloc, document) {
+        Ok(group) => edits::reply(alloc, &Edit::Declare(group), session, out),
+        Err(fault) => tell_declare_fault(fault, out),
+    }
+}

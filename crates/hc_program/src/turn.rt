@@ -1,0 +1,97 @@
+//! The turns of a run, cut from its command lines one after another: a command line is one, and a line `declare` with
+//! the lines of its document.
+ghost use Rattle.std.specs.Prelude.{◌≡◌, ◌≤◌, ◌+◌, ◌∷◌, length, Some};
+ghost use Rattle.std.specs.Option.{option_copied};
+ghost use Rattle.hc_text.specs.Cutting.{left_in, lines_after};
+ghost use Rattle.hc_text.specs.Lines.{closed_text, command_lines};
+ghost use Rattle.hc_text.specs.declared.input.TheConstants.{MOST_INPUT};
+ghost use Rattle.hc_program.specs.Declaring.{Declares, is_declare, turn_of, turns_of};
+
+use hc_text::lines::{split_at_mark, split_line};
+use hc_text::words::sole_word;
+
+/// One turn of a run.
+#[derive(Clone, Copy, Debug)]
+pub enum Turn<'a> {
+    /// A command line.
+    Says {
+        /// Its number.
+        number: u32,
+        /// Its text.
+        line: &'a [u8],
+    },
+    /// A line `declare`.
+    Declares {
+        /// Its number.
+        number: u32,
+        /// The bytes between it and the line `%%` behind it, as they stand; none where no line is that.
+        document: Option<&'a [u8]>,
+    },
+}
+
+/// A turn that was cut from the front of the command lines.
+#[derive(Debug, Drop)]
+pub struct CutTurn<'a> {
+    /// The turn.
+    pub turn: Turn<'a>,
+    /// The lines behind it; none where nothing follows it.
+    pub behind: Option<&'a [u8]>,
+    /// The number of the first of them.
+    pub first: u32,
+}
+
+/// Whether a line is one word, `declare`.
+fn is_declare(line: &[u8]) -> bool
+    ensures { result ≡ is_declare line.now }
+{
+    match sole_word(line) {
+        Some(word) => word == b"declare".as_slice(),
+        None => false,
+    }
+}
+
+/// The declaration of a line with this number, and what follows its document.
+fn split_declaration(number: u32, lines: Option<&[u8]>) -> CutTurn<'_>
+    requires { number + 1 + left_in (option_copied lines) ≤ MOST_INPUT + 2 }
+    ensures turn { turn_of result.turn ≡ Declares number (closed_text (lines_after (number + 1) (option_copied lines.entry))) }
+    ensures behind { lines_after result.first (option_copied result.behind) ≡ command_lines (lines_after (number + 1) (option_copied lines.entry)) }
+    ensures few { result.first + left_in (option_copied result.behind) ≤ MOST_INPUT + 2 }
+    ensures shorter { left_in (option_copied result.behind) ≤ left_in (option_copied lines.entry) }
+{
+    match split_at_mark(lines, number + 1) {
+        Some(sections) => CutTurn {
+            turn: Turn::Declares {
+                number,
+                document: Some(sections.project),
+            },
+            behind: sections.commands,
+            first: sections.first,
+        },
+        None => CutTurn {
+            turn: Turn::Declares {
+                number,
+                document: None,
+            },
+            behind: None,
+            first: number + 1,
+        },
+    }
+}
+
+/// Cuts the first turn from command lines, the first of which has a number.
+pub fn split_turn(lines: &[u8], number: u32) -> CutTurn<'_>
+    requires { number + left_in (Some lines.now) ≤ MOST_INPUT + 2 }
+    ensures turn { turns_of (lines_after number (Some lines.now)) ≡ turn_of result.turn ∷ turns_of (lines_after result.first (option_copied result.behind)) }
+    ensures few { result.first + left_in (option_copied result.behind) ≤ MOST_INPUT + 2 }
+    ensures shorter { left_in (option_copied result.behind) ≤ length lines.now }
+{
+    let (line, rest) = split_line(lines);
+    if is_declare(line) {
+        return split_declaration(number, rest);
+    }
+    CutTurn {
+        turn: Turn::Says { number, line },
+        behind: rest,
+        first: number + 1,
+    }
+}
