@@ -8,6 +8,7 @@ mod editing;
 mod filling;
 mod goods;
 pub mod keeping;
+mod lending;
 pub mod laws;
 mod opening;
 mod owing;
