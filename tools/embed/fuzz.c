@@ -23,7 +23,7 @@
 
 #define LINES 3
 #define SLAVES 32
-#define KEPT 64
+#define KEPT 8
 #define MOST_SCRIPT 3000000 /* the program reads 4,194,304 bytes at most */
 
 static unsigned long calls, commands;
@@ -54,11 +54,14 @@ static void expect(unsigned number, bool was_open, const char *allowed) {
     if (!memchr(allowed, (int)number, strlen(allowed + 1) + 1)) fail("not an answer of this call", number);
 }
 
-/* A handle, its news, and where its commands and their answers are written, or NULL. */
+/* A handle, its news, frames that it sent, most of them as its slaves made of them, and where its commands and their answers
+ * are written, or NULL. */
 struct line {
     struct zangjulf handle;
-    FILE *script, *told;
     struct news news;
+    uint8_t kept[KEPT][ZANGJULF_FRAME];
+    size_t kept_sizes[KEPT], newest;
+    FILE *script, *told;
 };
 static struct line lines[LINES];
 static const char *folder;
@@ -122,21 +125,17 @@ static uint8_t *machine_of(uint16_t station) {
     return last(&machines[i], ZANGJULF_SLAVE_MEMORY);
 }
 
-/* Frames that were sent, most of them as the slaves of their line made of them. */
-static uint8_t kept[KEPT][ZANGJULF_FRAME];
-static size_t kept_sizes[KEPT];
-
 static void keep(struct line *line, const uint8_t *frame, size_t size) {
-    size_t i = below(KEPT);
+    size_t i = line->newest = (line->newest + 1) % KEPT;
     uint16_t station;
-    memcpy(kept[i], frame, size);
-    kept_sizes[i] = size;
-    if (!below(4)) return;
+    memcpy(line->kept[i], frame, size);
+    line->kept_sizes[i] = size;
+    if (!below(8)) return;
     for (uint32_t k = 0; !zangjulf_station(&line->handle, k, &station); k++) {
         uint8_t *in = last(&ins, size);
-        memcpy(in, kept[i], size);
+        memcpy(in, line->kept[i], size);
         if (zangjulf_slave_process(machine_of(station), ZANGJULF_SLAVE_MEMORY, in, size)) fail("a slave", 0);
-        memcpy(kept[i], in, size);
+        memcpy(line->kept[i], in, size);
     }
 }
 
@@ -230,12 +229,13 @@ static void sending(struct line *line, bool was_open) {
 }
 
 static void arriving(struct line *line, bool was_open) {
-    size_t i = below(KEPT), size = kept_sizes[i], count = 0;
+    const struct line *from = below(8) ? line : &lines[below(LINES)];
+    size_t i = below(3) ? from->newest : below(KEPT), size = from->kept_sizes[i], count = 0;
     size_t room = line->script ? ZANGJULF_OUTCOMES : some_length(ZANGJULF_OUTCOMES);
     if (!below(10)) size = below(size + 1);
     uint8_t *in = last(&ins, size);
-    memcpy(in, kept[i], size);
-    if (!below(4) && size) in[below(size)] = (uint8_t)draw();
+    memcpy(in, from->kept[i], size);
+    if (!below(6) && size) in[below(size)] = (uint8_t)draw();
     struct zangjulf_outcome *outcomes = (void *)last(&words, room * sizeof *outcomes);
     unsigned number = zangjulf_arrive(&line->handle, in, size, outcomes, room, &count);
     expect(number, was_open, "\0\x14\x15\x16\x17\x18\x19\x1a\x1b\x1c\x65\x66\x67");
