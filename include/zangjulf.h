@@ -285,8 +285,7 @@ struct zangjulf_image {
 
 /* What a task reads: of each of its datagrams the data of its last good answer in the present epoch, or none. They stand at the
  * front of `out` one after another, and `sizes` has the bytes of each, 0 where it has none, as many as there is room for.
- * ZANGJULF_DONE, 8, 29, ZANGJULF_MEMORY or ZANGJULF_CLOSED. Unless it is done `out` is as it was. Nothing changes. Takes
- * memory. */
+ * ZANGJULF_DONE, 8, 29 or ZANGJULF_CLOSED. Unless it is done `out` is as it was. Nothing changes. Takes no memory. */
 uint8_t zangjulf_read(struct zangjulf *handle, uint8_t task, uint8_t *out, size_t length, size_t *sizes, size_t room,
                       struct zangjulf_image *image);
 

@@ -284,6 +284,18 @@ class Line:
         self._done(number)
         return [_outcome(it) for it in outcomes[: count.value]]
 
+    def write_all(self, pass_frame):
+        """Writes all owed blocks; `pass_frame` sends a frame and returns the one that comes back. Whether all were taken."""
+        while self.owed:
+            if self.arrive(pass_frame(self.next_write())) != WRITE_DONE:
+                return False
+        return True
+
+    def exchange(self, tasks, pass_frame):
+        """Sends tasks, each frame by `pass_frame`: what each frame that came back was answered, one after another."""
+        told = [self.arrive(pass_frame(frame)) for frame in self.send(*tasks)]
+        return [it for one in told for it in (one if isinstance(one, list) else [one])]
+
     def read(self, task):
         """What a task reads: the epoch, and of each datagram its data or None."""
         sizes, image = (c_size_t * 16)(), _Image()
@@ -301,6 +313,10 @@ class Line:
         told = lambda: SWAPPED if it.kind == 1 else good()
         return self._found(told, "next_change", *_slice(self._out), byref(it))
 
+    def changes(self):
+        """All changes that weren't told yet."""
+        return list(iter(self.next_change, None))
+
 
 def _outcome(it):
     if it.kind == 1:
@@ -309,11 +325,12 @@ def _outcome(it):
 
 
 class Slave:
-    """A simulated slave; `memory` is its 12,288 bytes from register 0 on."""
+    """A simulated slave; `memory` is its 12,288 bytes from register 0 on, fresh but for its alias and station address."""
 
-    def __init__(self, alias=0):
+    def __init__(self, alias=0, station=0):
         self.memory = bytearray(SLAVE_MEMORY)
         _library.zangjulf_slave_start(*_slice(self.memory), alias)
+        self.memory[0x10:0x12] = station.to_bytes(2, "little")
 
     def process(self, frame):
         """It does with a frame what a slave does, in the place of a bytearray."""

@@ -1,21 +1,18 @@
 """The master of master.c in Python, at 100 cycles a second: unshare -n python3 examples/master/master.py PROJECT SECONDS"""
 
-import mmap
-import os
-import signal
 import socket
-import struct
 import subprocess
 import sys
 import time
+from multiprocessing import Process, Value
 from pathlib import Path
 
 sys.path.insert(0, str(Path(__file__).parents[2] / "bindings/python"))
 import zangjulf
 
 RATE, GRIPPER = 100, 100
-is_there = mmap.mmap(-1, 1)  # what both processes know of the gripper
 SLAVES = ((1001, 0, 0, 0), (1002, 0x1100, 0x1180, 6), (1003, 0x1100, 0x1180, 6), (1004, 0x1000, 0x1080, 1), (2001, 0x1100, 0x1180, 1))
+gripper_is_there = Value("b")  # both processes know
 
 
 def device(name):
@@ -32,48 +29,40 @@ def receive(it):
 
 
 def serve_slaves(it):
-    slaves = [zangjulf.Slave() for _ in SLAVES]
-    for slave, (station, *_) in zip(slaves, SLAVES):
-        slave.memory[0x10:0x12] = struct.pack("<H", station)
+    slaves = [zangjulf.Slave(station=station) for station, *_ in SLAVES]
     while True:
         frame = receive(it)
-        for slave, (_, outputs, inputs, count) in zip(slaves[: 4 + is_there[0]], SLAVES):
+        for slave, (_, outputs, inputs, count) in zip(slaves[: 4 + gripper_is_there.value], SLAVES):
             slave.process(frame)
             slave.memory[inputs : inputs + count] = slave.memory[outputs : outputs + count]
         it.send(frame)
 
 
-def run(line, it, seconds):
-    def passed(frame):
+def run(line, it, cycles):
+    def pass_frame(frame):
         it.send(frame)
-        return line.arrive(receive(it))
+        return receive(it)
 
-    before, longest, start = None, 0, time.monotonic()
-    for cycle in range(seconds * RATE):
+    before, edits, longest, start = None, [0], 0, time.monotonic()
+    for cycle in range(cycles):
         time.sleep(max(0, start + cycle / RATE - time.monotonic()))
-        if cycle % RATE == 0:
-            if cycle:
-                line.disconnect(GRIPPER) if is_there[0] else line.connect(GRIPPER)
-                is_there[0] ^= 1
-            while line.owed:
-                assert passed(line.next_write()) == zangjulf.WRITE_DONE
-        began, posted = time.monotonic(), bytes(0 if i == 7 else (cycle * 7 + i) % 256 for i in range(line.part(0).outputs))
+        began = time.monotonic()
+        if cycle and cycle % RATE == 0:
+            gripper_is_there.value ^= 1
+            (line.connect if gripper_is_there.value else line.disconnect)(GRIPPER)
+            edits.append(time.monotonic() - began)
+        assert line.write_all(pass_frame), "a register block isn't taken"
+        posted = bytes(0 if i == 7 else (cycle * 7 + i) % 256 for i in range(line.part(0).outputs))
         line.post(0, line.epoch, posted)
-        told = [outcome for frame in line.send(0, 1) for outcome in passed(frame)]
-        assert told == [zangjulf.Inputs(0, 0), zangjulf.Inputs(1, 0)], told
-        assert before is None or line.read(0).slots[0][14:] == before[:12], "an axis reads another value"
+        told = line.exchange((0, 1), pass_frame)
+        assert told == [zangjulf.Inputs(0, 0), zangjulf.Inputs(1, 0)], "a wrong counter or a stale frame"
+        assert not cycle or line.read(0).slots[0][14:] == before[:12], "an axis reads another value"
+        assert line.changes(), "nothing is news"
         before, longest = posted, max(longest, time.monotonic() - began)
-        while line.next_change():
-            pass
-    print(f"cycles {seconds * RATE}, longest cycle {longest * 1e6:.0f} us")
+    print(f"cycles {cycles}, longest edit {max(edits) * 1e6:.0f} us, longest cycle {longest * 1e6:.0f} us")
 
 
 subprocess.run("ip link add name ecat0 type veth peer name ecat1 && ip link set ecat0 up && ip link set ecat1 up", shell=True, check=True)
-if slaves := os.fork():
-    try:
-        with zangjulf.Line(Path(sys.argv[1]).read_bytes()) as line:
-            run(line, device("ecat0"), int(sys.argv[2]))
-    finally:
-        os.kill(slaves, signal.SIGKILL)
-else:
-    serve_slaves(device("ecat1"))
+Process(target=serve_slaves, args=(device("ecat1"),), daemon=True).start()
+with zangjulf.Line(Path(sys.argv[1]).read_bytes()) as line:
+    run(line, device("ecat0"), int(sys.argv[2]) * RATE)

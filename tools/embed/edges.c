@@ -6,6 +6,9 @@
 #include <stdlib.h>
 #include <string.h>
 
+#ifdef WRAPPED
+#include "growths.h"
+#endif
 #include "zangjulf.h"
 
 #define EXPECT(fact) ((fact) ? (void)0 : fail(__LINE__, #fact))
@@ -211,30 +214,6 @@ static void line_of_slaves(void) {
 }
 
 #ifdef WRAPPED
-static long left = -1, live;
-void *__real_malloc(size_t size);
-void *__real_realloc(void *old, size_t size);
-void __real_free(void *old);
-
-static bool is_refused(void) { return left >= 0 && left-- == 0; }
-
-void *__wrap_malloc(size_t size) {
-    if (is_refused()) return NULL;
-    live++;
-    return __real_malloc(size);
-}
-
-void *__wrap_realloc(void *old, size_t size) {
-    if (is_refused()) return NULL;
-    live += !old;
-    return __real_realloc(old, size);
-}
-
-void __wrap_free(void *old) {
-    live -= !!old;
-    __real_free(old);
-}
-
 /* Each growth of an opening refused in turn: a closed handle, and nothing live. */
 static void refused_openings(void) {
     long before = live, growths = 0;

@@ -1,78 +1,40 @@
 /* Draws calls of the C library: any order, any numbers, any bytes, handles that are open and closed, slices of any length,
- * each of which ends where a page that can't be touched begins. It ends with status 1 at an answer that
- * include/zangjulf.h doesn't allow, at a slice that was written though the call was refused, and where memory is live once
- * all handles are closed. It is given a project, the number of calls and a seed. Linked with --wrap=malloc, --wrap=realloc
- * and --wrap=free, which count what is live and now and then refuse a growth. */
+ * each of which ends where a page that can't be touched begins, growths that are refused. It ends with status 1 at an answer
+ * that include/zangjulf.h doesn't allow, at a slice that was written though the call was refused, at a change that isn't the
+ * next of what happened, and where memory is live once all handles are closed.
+ *
+ *     fuzz PROJECT CALLS SEED [FOLDER [declare]]
+ *
+ * PROJECT is a text, which a line `%%` may end. With FOLDER each opened line leaves two files there: N.in is the script of
+ * those calls for which the program hotline has a command (docs/PROGRAM.md), and N.out what they were answered, in the
+ * program's words. A call that changes nothing and has no command is left out, as one with a short slice, a refused growth or
+ * a question; so what stands must be what the program prints, whatever was called in between. Posts, for which there is no
+ * command, are of zeros there, as if none had been made; a group is declared there only with `declare`. */
 #define _GNU_SOURCE
+#include <stdarg.h>
 #include <stdio.h>
 #include <stdlib.h>
 #include <string.h>
-#include <sys/mman.h>
 
-#include "zangjulf.h"
+#include "draws.h"
+#include "growths.h"
+#include "news.h"
+#include "words.h"
 
-#define PAGE 4096
 #define LINES 3
-#define SLAVES 6
-#define KEPT 64
+#define SLAVES 32
+#define KEPT 8
+#define MOST_SCRIPT 3000000 /* the program reads 4,194,304 bytes at most */
 
-static long live, left = -1;
-void *__real_malloc(size_t size);
-void *__real_realloc(void *old, size_t size);
-void __real_free(void *old);
-
-static bool is_refused(void) { return left >= 0 && left-- == 0; }
-
-void *__wrap_malloc(size_t size) {
-    if (is_refused()) return NULL;
-    live++;
-    return __real_malloc(size);
-}
-
-void *__wrap_realloc(void *old, size_t size) {
-    if (is_refused()) return NULL;
-    live += !old;
-    return __real_realloc(old, size);
-}
-
-void __wrap_free(void *old) {
-    live -= !!old;
-    __real_free(old);
-}
-
-static uint64_t state;
-static unsigned long calls;
+static unsigned long calls, commands;
 static const char *call = "";
-
-static uint64_t draw(void) {
-    state ^= state << 13;
-    state ^= state >> 7;
-    state ^= state << 17;
-    return state * 0x2545f4914f6cdd1dULL >> 11;
-}
-
-static uint64_t below(uint64_t n) { return draw() % n; }
 
 static void fail(const char *what, unsigned number) {
     printf("fuzz: call %lu, %s: %s, answer %u\n", calls, call, what, number);
     exit(1);
 }
 
-/* Room whose end is that of its last page that can be touched. */
-struct guarded {
-    uint8_t *end;
-    size_t size;
-};
-static struct guarded texts, outs, ins, counts, words, slaves[SLAVES];
-
-static struct guarded guard(size_t size) {
-    size_t whole = (size + PAGE - 1) / PAGE * PAGE;
-    uint8_t *at = mmap(NULL, whole + PAGE, PROT_READ | PROT_WRITE, MAP_PRIVATE | MAP_ANONYMOUS, -1, 0);
-    if (at == MAP_FAILED || mprotect(at + whole, PAGE, PROT_NONE)) exit(2);
-    return (struct guarded){at + whole, size};
-}
-
-static uint8_t *last(const struct guarded *room, size_t size) { return room->end - size; }
+static struct guarded texts, outs, ins, counts, words;
 
 /* A slice to be written, filled so that a write of a refused call is seen. */
 static uint8_t *fresh(size_t size) { return memset(last(&outs, size), 0xa5, size); }
@@ -82,7 +44,7 @@ static void expect_untouched(const uint8_t *out, size_t size, unsigned number) {
         if (out[i] != 0xa5) fail("a refused call wrote into its slice", number);
 }
 
-/* One of the allowed answers; 28 only where a growth was refused; 255 just of a closed handle. */
+/* One of the allowed answers; 255 just of a closed handle. */
 static unsigned long answers[256];
 
 static void expect(unsigned number, bool was_open, const char *allowed) {
@@ -92,243 +54,375 @@ static void expect(unsigned number, bool was_open, const char *allowed) {
     if (!memchr(allowed, (int)number, strlen(allowed + 1) + 1)) fail("not an answer of this call", number);
 }
 
-static struct zangjulf lines[LINES];
-static uint8_t kept[KEPT][ZANGJULF_FRAME];
-static size_t kept_sizes[KEPT], text_size;
+/* A handle, its news, frames that it sent, most of them as its slaves made of them, and where its commands and their answers
+ * are written, or NULL. */
+struct line {
+    struct zangjulf handle;
+    struct news news;
+    uint8_t kept[KEPT][ZANGJULF_FRAME];
+    size_t kept_sizes[KEPT], newest;
+    FILE *script, *told;
+};
+static struct line lines[LINES];
+static const char *folder;
+static bool declares;
 
-static void keep(const uint8_t *frame, size_t size) {
-    size_t i = below(KEPT);
-    memcpy(kept[i], frame, size);
-    kept_sizes[i] = size;
-    if (below(4))
-        for (int k = 0; k < SLAVES; k++) {
-            uint8_t *in = last(&ins, size);
-            memcpy(in, kept[i], size);
-            if (zangjulf_slave_process(last(&slaves[k], ZANGJULF_SLAVE_MEMORY), ZANGJULF_SLAVE_MEMORY, in, size)) fail("a slave", 0);
-            memcpy(kept[i], in, size);
-        }
+static void end_script(struct line *line) {
+    if (line->script && (fclose(line->script) || fclose(line->told))) exit(2);
+    line->script = line->told = NULL;
 }
 
-/* A length: mostly small or enough, sometimes any. */
-static size_t some_length(size_t most) {
-    switch (below(6)) {
-    case 0: return 0;
-    case 1: return below(most + 1);
-    case 2: return below(80) % (most + 1);
-    default: return most;
+static FILE *created(unsigned number, const char *kind) {
+    char name[4096];
+    snprintf(name, sizeof name, "%s/%u.%s", folder, number, kind);
+    FILE *file = fopen(name, "wb");
+    if (!file) exit(2);
+    return file;
+}
+
+static void begin_script(struct line *line, const uint8_t *text, size_t size, unsigned number, unsigned task) {
+    static unsigned scripts;
+    if (!folder || number == ZANGJULF_MEMORY) return;
+    line->script = created(scripts, "in");
+    line->told = created(scripts++, "out");
+    fwrite(text, 1, size, line->script);
+    fprintf(line->script, "%%%%\n");
+    if (!number) return;
+    tell_opening(line->told, number, task);
+    end_script(line);
+}
+
+/* Whether an answered call stands in the line's script: not one that changed nothing and for which the program has no word. */
+static bool is_told(struct line *line, unsigned number) {
+    if (line->script && ftell(line->script) > MOST_SCRIPT) end_script(line);
+    return line->script && number != ZANGJULF_MEMORY && number != ZANGJULF_ROOM && number < ZANGJULF_MISUSED;
+}
+
+/* Writes a command. */
+static void say(struct line *line, const char *format, ...) {
+    va_list arguments;
+    va_start(arguments, format);
+    vfprintf(line->script, format, arguments);
+    va_end(arguments);
+    commands++;
+}
+
+/* The machine of a slave, by its station address: a new one at first; one of others where there are too many. */
+static uint8_t *machine_of(uint16_t station) {
+    static struct guarded machines[SLAVES];
+    static uint16_t each[SLAVES];
+    static int count;
+    int i = 0;
+    while (i < count && each[i] != station) i++;
+    if (i == SLAVES) i = station % SLAVES;
+    if (i == count) {
+        machines[count] = guard(ZANGJULF_SLAVE_MEMORY);
+        each[count++] = station;
+        uint8_t *memory = last(&machines[i], ZANGJULF_SLAVE_MEMORY);
+        if (zangjulf_slave_start(memory, ZANGJULF_SLAVE_MEMORY, (uint16_t)i)) fail("a fresh slave", 0);
+        memcpy(memory + 0x10, &station, 2);
+    }
+    return last(&machines[i], ZANGJULF_SLAVE_MEMORY);
+}
+
+static void keep(struct line *line, const uint8_t *frame, size_t size) {
+    size_t i = line->newest = (line->newest + 1) % KEPT;
+    uint16_t station;
+    memcpy(line->kept[i], frame, size);
+    line->kept_sizes[i] = size;
+    if (!below(8)) return;
+    for (uint32_t k = 0; !zangjulf_station(&line->handle, k, &station); k++) {
+        uint8_t *in = last(&ins, size);
+        memcpy(in, line->kept[i], size);
+        if (zangjulf_slave_process(machine_of(station), ZANGJULF_SLAVE_MEMORY, in, size)) fail("a slave", 0);
+        memcpy(line->kept[i], in, size);
     }
 }
 
-static uint16_t some_station(void) {
-    static const uint16_t stations[] = {1001, 1002, 1003, 1004, 2001, 2101, 2201, 3001};
-    return below(5) ? stations[below(8)] : (uint16_t)draw();
-}
-
-static uint16_t some_alias(void) {
-    static const uint16_t aliases[] = {0, 100, 101, 102, 200};
-    return below(8) ? aliases[below(5)] : (uint16_t)draw();
-}
-
-static void opening(struct zangjulf *line) {
+static void opening(struct line *line) {
     uint8_t task = 0;
     size_t size = below(3) ? text_size : below(text_size);
-    uint8_t *text = last(&texts, text_size);
     uint8_t *moved = last(&ins, size);
     memcpy(moved, text, size);
     if (!below(3) && size) moved[below(size)] = (uint8_t)draw();
-    unsigned number = zangjulf_open(line, moved, size, &task);
-    if (line->is_open != !number || (number > 12 && number != ZANGJULF_MEMORY)) fail("an opening", number);
+    if (size) moved[size - 1] = '\n';
+    end_script(line);
+    forget_news(&line->news);
+    unsigned number = zangjulf_open(&line->handle, moved, size, &task);
+    if (line->handle.is_open != !number || (number > 12 && number != ZANGJULF_MEMORY)) fail("an opening", number);
+    begin_script(line, moved, size, number, task);
 }
 
-static void telling(struct zangjulf *line, bool was_open) {
+static void closing(struct line *line) {
+    zangjulf_close(&line->handle);
+    end_script(line);
+    forget_news(&line->news);
+}
+
+static void telling(struct line *line, bool was_open) {
     uint32_t word = 0;
     uint64_t serial = 0;
-    expect(zangjulf_epoch(line, &word), was_open, "\0");
-    expect(zangjulf_owed(line, &word), was_open, "\0");
-    expect(zangjulf_next_serial(line, &serial), was_open, "\0");
+    expect(zangjulf_epoch(&line->handle, &word), was_open, "\0");
+    expect(zangjulf_owed(&line->handle, &word), was_open, "\0");
+    expect(zangjulf_next_serial(&line->handle, &serial), was_open, "\0");
 }
 
-static void posting(struct zangjulf *line, bool was_open) {
+static void posting(struct line *line, bool was_open) {
     uint32_t epoch = 0;
     struct zangjulf_part part = {0, 0};
     uint8_t task = (uint8_t)below(9);
-    zangjulf_epoch(line, &epoch);
-    zangjulf_part(line, task, &part);
+    zangjulf_epoch(&line->handle, &epoch);
+    zangjulf_part(&line->handle, task, &part);
     size_t size = below(4) ? part.outputs : below(40);
     uint8_t *in = last(&ins, size);
     for (size_t i = 0; i < size; i++) in[i] = (uint8_t)draw();
+    if (folder) memset(in, 0, size);
     bool is_present = below(4);
-    unsigned number = zangjulf_post(line, task, is_present ? epoch : (uint32_t)draw(), in, size);
+    unsigned number = zangjulf_post(&line->handle, task, is_present ? epoch : (uint32_t)draw(), in, size);
     expect(number, was_open, "\0\x08\x0f\x10");
     if (was_open && task < 8 && is_present && (number == 0) != (size == part.outputs)) fail("a post's length", number);
 }
 
-static void writing(struct zangjulf *line, bool was_open) {
+static void writing(struct line *line, bool was_open) {
     size_t room = below(3) ? 60 : below(70), size = 0;
+    uint64_t serial = 0;
     uint8_t *out = fresh(room);
-    unsigned number = zangjulf_next_write(line, out, room, &size);
+    zangjulf_next_serial(&line->handle, &serial);
+    unsigned number = zangjulf_next_write(&line->handle, out, room, &size);
     expect(number, was_open, "\0\x12\x13\x1d");
     if (number) expect_untouched(out, room, number);
-    else keep(out, size);
+    else keep(line, out, size);
     if (number == ZANGJULF_ROOM && (size != 60 || room >= 60)) fail("a write's room", number);
+    if (!is_told(line, number)) return;
+    say(line, "write\n");
+    tell_write(line->told, number, serial, out, size);
 }
 
-static void sending(struct zangjulf *line, bool was_open) {
+static void sending(struct line *line, bool was_open) {
     uint8_t *tasks = last(&ins, 9);
-    size_t count = below(10), room = some_length(2000);
+    size_t count = below(10), room = below(8) ? some_length(30000) : ZANGJULF_FRAMES;
     struct zangjulf_sent sent = {0, 0};
+    uint64_t serial = 0;
+    uint32_t owed = 0;
     for (size_t i = 0; i < count; i++) tasks[i + 9 - count] = below(6) ? (uint8_t)i : (uint8_t)below(10);
     tasks = last(&ins, count);
     uint8_t *out = fresh(room);
-    unsigned number = zangjulf_send(line, tasks, count, out, room, &sent);
+    zangjulf_next_serial(&line->handle, &serial);
+    zangjulf_owed(&line->handle, &owed);
+    unsigned number = zangjulf_send(&line->handle, tasks, count, out, room, &sent);
     expect(number, was_open, "\0\x08\x11\x13\x1c\x1d\xfe");
     if (number) expect_untouched(out, room, number);
-    for (size_t i = 0; !number && i < sent.frames; i++) {
-        keep(out, zangjulf_frame_size(out));
-        out += zangjulf_frame_size(out);
+    if (number == ZANGJULF_ROOM && sent.size <= room) fail("a sending's room", number);
+    if (is_told(line, number)) {
+        say(line, "send");
+        for (size_t i = 0; i < count; i++) fprintf(line->script, " %u", tasks[i]);
+        fprintf(line->script, "\n");
+        tell_sending(line->told, number, owed, serial, out, &sent);
     }
-    if (!number && out != last(&outs, room) + sent.size) fail("frames and their bytes", number);
+    const uint8_t *frame = out;
+    for (size_t i = 0; !number && i < sent.frames; i++, frame += zangjulf_frame_size(frame)) {
+        static uint8_t copy[ZANGJULF_FRAME];
+        memcpy(copy, frame, zangjulf_frame_size(frame));
+        keep(line, copy, zangjulf_frame_size(frame));
+    }
+    if (!number && frame != out + sent.size) fail("frames and their bytes", number);
 }
 
-static void arriving(struct zangjulf *line, bool was_open) {
-    size_t i = below(KEPT), size = kept_sizes[i], room = some_length(ZANGJULF_OUTCOMES), count = 0;
+static void arriving(struct line *line, bool was_open) {
+    const struct line *from = below(8) ? line : &lines[below(LINES)];
+    size_t i = below(3) ? from->newest : below(KEPT), size = from->kept_sizes[i], count = 0;
+    size_t room = line->script ? ZANGJULF_OUTCOMES : some_length(ZANGJULF_OUTCOMES);
     if (!below(10)) size = below(size + 1);
     uint8_t *in = last(&ins, size);
-    memcpy(in, kept[i], size);
-    if (!below(4) && size) in[below(size)] = (uint8_t)draw();
+    memcpy(in, from->kept[i], size);
+    if (!below(6) && size) in[below(size)] = (uint8_t)draw();
     struct zangjulf_outcome *outcomes = (void *)last(&words, room * sizeof *outcomes);
-    unsigned number = zangjulf_arrive(line, in, size, outcomes, room, &count);
+    unsigned number = zangjulf_arrive(&line->handle, in, size, outcomes, room, &count);
     expect(number, was_open, "\0\x14\x15\x16\x17\x18\x19\x1a\x1b\x1c\x65\x66\x67");
     if (number && number != ZANGJULF_CLOSED && count) fail("outcomes of no frame of tasks", number);
     for (size_t k = 0; !number && k < count && k < room; k++)
         if (outcomes[k].kind < 1 || outcomes[k].kind > 3 || outcomes[k].task > 7 || outcomes[k].datagram > 15) fail("an outcome", number);
+    if (!number) add_answers(&line->news, in, outcomes, count, room);
+    if (!size || !is_told(line, number)) return;
+    say(line, "arrive ");
+    tell_hex(line->script, in, size);
+    fprintf(line->script, "\n");
+    tell_arrival(line->told, number, outcomes, count);
 }
 
-static void reading(struct zangjulf *line, bool was_open) {
+static void reading(struct line *line, bool was_open) {
     size_t room = some_length(ZANGJULF_IMAGE), many = some_length(16), sum = 0;
     size_t *sizes = (void *)last(&counts, many * sizeof *sizes);
     struct zangjulf_image image = {0, 0, 0};
-    uint8_t *out = fresh(room);
-    unsigned number = zangjulf_read(line, (uint8_t)below(9), out, room, sizes, many, &image);
-    expect(number, was_open, "\0\x08\x1c\x1d");
+    uint8_t *out = fresh(room), task = (uint8_t)below(9);
+    unsigned number = zangjulf_read(&line->handle, task, out, room, sizes, many, &image);
+    expect(number, was_open, "\0\x08\x1d");
     if (number) expect_untouched(out, room, number);
     for (size_t i = 0; !number && i < image.datagrams && i < many; i++) sum += sizes[i];
     if (!number && (many >= image.datagrams ? sum != image.size : sum > image.size)) fail("sizes of an image", number);
     if (!number) expect_untouched(out + image.size, room - image.size, number);
+    if (many < image.datagrams || !is_told(line, number)) return;
+    say(line, "read %u\n", task);
+    tell_image(line->told, number, &image, sizes, out);
 }
 
-static void changing(struct zangjulf *line, bool was_open) {
+static void changing(struct line *line, bool was_open) {
     size_t room = some_length(ZANGJULF_DATA);
     struct zangjulf_change change = {0, 0, 0, 0};
     uint8_t *out = fresh(room);
-    unsigned number = zangjulf_next_change(line, out, room, &change);
+    unsigned number = zangjulf_next_change(&line->handle, out, room, &change);
     expect(number, was_open, "\0\x1d\x64");
     if (number) expect_untouched(out, room, number);
-    if (number == ZANGJULF_ROOM && change.size <= room) fail("room for a change", number);
-    if (!number && (change.kind < 1 || change.kind > 2 || change.size > room)) fail("a change", number);
+    if (was_open && !is_next(&line->news, number, &change, out, room)) fail("not the next change", number);
 }
 
-static void looking(struct zangjulf *line, bool was_open) {
+static void previewing(struct line *line, bool was_open) {
+    size_t room = some_length(ZANGJULF_FRAME), size = 0;
+    uint8_t *out = fresh(room), task = (uint8_t)below(9), datagram = (uint8_t)below(3);
+    uint64_t serial = 0;
+    zangjulf_next_serial(&line->handle, &serial);
+    unsigned number = zangjulf_preview(&line->handle, task, datagram, out, room, &size);
+    expect(number, was_open, "\0\x64\x1d");
+    if (number) expect_untouched(out, room, number);
+    if (!is_told(line, number)) return;
+    say(line, "show %u %u\n", task, datagram);
+    tell_preview(line->told, number, task, serial, out, size);
+}
+
+static void looking(struct line *line, bool was_open) {
+    struct zangjulf *handle = &line->handle;
     struct zangjulf_place place;
     struct zangjulf_datagram datagram;
     struct zangjulf_part part;
     struct zangjulf_block block = {0, 0};
-    uint16_t station;
-    uint32_t position;
-    size_t room = some_length(16), size = 0;
+    uint16_t station = some_station();
+    uint32_t position, variable = below(3) ? (uint32_t)below(130) : (uint32_t)draw();
+    size_t room = some_length(16);
     uint8_t *out = fresh(room);
-    expect(zangjulf_place(line, below(3) ? (uint32_t)below(60) : (uint32_t)draw(), &place), was_open, "\0\x64");
-    expect(zangjulf_datagram(line, (uint8_t)below(9), (uint8_t)below(17), &datagram), was_open, "\0\x64");
-    expect(zangjulf_part(line, (uint8_t)draw(), &part), was_open, "\0");
-    expect(zangjulf_station(line, (uint32_t)below(9), &station), was_open, "\0\x64");
-    expect(zangjulf_position(line, some_station(), &position), was_open, "\0\x05\x06");
-    unsigned number = zangjulf_block(line, some_station(), (uint8_t)below(6), out, room, &block);
+    unsigned number = zangjulf_place(handle, variable, &place);
+    expect(number, was_open, "\0\x64");
+    if (is_told(line, number)) {
+        say(line, "place %u\n", variable);
+        tell_place(line->told, number, variable, &place);
+    }
+    expect(zangjulf_datagram(handle, (uint8_t)below(9), (uint8_t)below(17), &datagram), was_open, "\0\x64");
+    expect(zangjulf_part(handle, (uint8_t)draw(), &part), was_open, "\0");
+    expect(zangjulf_position(handle, station, &position), was_open, "\0\x05\x06");
+    number = zangjulf_block(handle, station, (uint8_t)below(6), out, room, &block);
     expect(number, was_open, "\0\x64\x1d");
     if (number) expect_untouched(out, room, number);
-    room = some_length(ZANGJULF_FRAME);
-    out = fresh(room);
-    number = zangjulf_preview(line, (uint8_t)below(9), (uint8_t)below(3), out, room, &size);
-    expect(number, was_open, "\0\x64\x1d");
-    if (number) expect_untouched(out, room, number);
+    if (is_told(line, ZANGJULF_DONE)) {
+        say(line, "regs %u\n", station);
+        tell_blocks(line->told, handle, station);
+        say(line, "layout\n");
+        tell_layout(line->told, handle);
+    }
+    expect(zangjulf_station(handle, (uint32_t)below(9), &station), was_open, "\0\x64");
+}
+
+/* What an edit was drawn to be. */
+struct edit {
+    unsigned kind;
+    uint16_t alias, station;
+    uint8_t area, task, fault;
+    const uint16_t *pdos;
+    size_t count, size;
+    const uint8_t *text;
+};
+
+static unsigned asked_for(struct line *line, struct edit *edit, bool asks, struct zangjulf_cost *cost) {
+    struct zangjulf *handle = &line->handle;
+    switch (edit->kind) {
+    case 0: return zangjulf_connect(handle, edit->alias, asks, cost);
+    case 1: return zangjulf_disconnect(handle, edit->alias, asks, cost);
+    case 2: return zangjulf_remap(handle, edit->station, edit->area, edit->pdos, edit->count, asks, cost);
+    case 3: return zangjulf_move(handle, edit->station, edit->area, edit->task, asks, cost);
+    default: return zangjulf_declare(handle, edit->text, edit->size, asks, &edit->fault, cost);
+    }
+}
+
+static void tell_edited(struct line *line, const struct edit *edit, unsigned number, const struct zangjulf_cost *cost) {
+    switch (edit->kind) {
+    case 0: say(line, "connect %u\n", edit->alias); break;
+    case 1: say(line, "disconnect %u\n", edit->alias); break;
+    case 2:
+        say(line, "remap %u %u", edit->station, edit->area);
+        for (size_t i = 0; i < edit->count; i++) fprintf(line->script, " %u", edit->pdos[i]);
+        fprintf(line->script, "\n");
+        break;
+    case 3: say(line, "move %u %u %u\n", edit->station, edit->area, edit->task); break;
+    default:
+        say(line, "declare\n");
+        fwrite(edit->text, 1, edit->size, line->script);
+        fprintf(line->script, "%%%%\n");
+        tell_declaration(line->told, number, edit->fault, cost);
+        return;
+    }
+    tell_edit(line->told, number, cost);
 }
 
 /* An edit asked for and then carried out: unless a growth was refused both answer the same. */
-static unsigned edit(struct zangjulf *line, unsigned kind, const uint16_t *pdos, size_t count, const uint64_t *drawn, bool asks,
-                     struct zangjulf_cost *cost) {
-    uint16_t alias = (uint16_t)drawn[0], station = (uint16_t)drawn[1];
-    uint8_t area = (uint8_t)drawn[2], task = (uint8_t)drawn[3];
-    switch (kind) {
-    case 0: return zangjulf_connect(line, alias, asks, cost);
-    case 1: return zangjulf_disconnect(line, alias, asks, cost);
-    case 2: return zangjulf_remap(line, station, area, pdos, count, asks, cost);
-    default: return zangjulf_move(line, station, area, task, asks, cost);
-    }
+static void editing(struct line *line, bool was_open) {
+    struct edit edit = {.kind = (unsigned)below(5), .alias = some_alias(), .station = some_station(), .area = (uint8_t)below(4), .task = (uint8_t)below(9)};
+    edit.count = below(4);
+    uint16_t *pdo = (void *)last(&words, edit.count * sizeof *pdo);
+    for (size_t i = 0; i < edit.count; i++) pdo[i] = some_pdo();
+    edit.pdos = pdo;
+    edit.text = some_group(&texts, &edit.size);
+    struct zangjulf_cost would = {0}, cost = {0};
+    uint32_t before = 0, epoch = 0;
+    zangjulf_epoch(&line->handle, &before);
+    unsigned asked = asked_for(line, &edit, true, &would);
+    zangjulf_epoch(&line->handle, &epoch);
+    if (epoch != before) fail("an edit that was only asked for", asked);
+    bool is_left_out = edit.kind == 4 && folder && !declares;
+    unsigned number = asked_for(line, &edit, is_left_out, &cost);
+    const char *allowed = "\0\x01\x02\x03\x04\x05\x06\x07\x08\x09\x0a\x0b\x0c\x0d\x1c";
+    expect(number, was_open, edit.kind == 4 ? "\0\x0d\x1c\x1f\x20\x21\x22\x23\x68" : allowed);
+    zangjulf_epoch(&line->handle, &epoch);
+    if (was_open && epoch != before + (!number && !is_left_out)) fail("an edit's epoch", number);
+    if (asked != ZANGJULF_MEMORY && number != ZANGJULF_MEMORY && (asked != number || would.moved != cost.moved)) fail("what an edit was told to do", number);
+    if (is_left_out) return;
+    if (!number) add_edit(&line->news);
+    if (is_told(line, number)) tell_edited(line, &edit, number, &cost);
 }
 
-static void editing(struct zangjulf *line, bool was_open) {
-    uint64_t drawn[4] = {some_alias(), some_station(), below(4), below(9)};
-    size_t count = below(4);
-    uint16_t *pdos = (void *)last(&words, count * sizeof *pdos);
-    struct zangjulf_cost would = {0}, cost = {0};
-    unsigned kind = (unsigned)below(4);
-    uint32_t before = 0, epoch = 0;
-    for (size_t i = 0; i < count; i++) pdos[i] = (uint16_t)((below(2) ? 0x1600 : 0x1a00) + below(4));
-    zangjulf_epoch(line, &before);
-    unsigned asked = edit(line, kind, pdos, count, drawn, true, &would);
-    zangjulf_epoch(line, &epoch);
-    if (epoch != before) fail("an edit that was only asked for", asked);
-    unsigned number = edit(line, kind, pdos, count, drawn, false, &cost);
-    expect(number, was_open, "\0\x01\x02\x03\x04\x05\x06\x07\x08\x09\x0a\x0b\x0c\x0d\x1c");
-    zangjulf_epoch(line, &epoch);
-    if (was_open && epoch != before + !number) fail("an edit's epoch", number);
-    if (asked != ZANGJULF_MEMORY && number != ZANGJULF_MEMORY && (asked != number || would.moved != cost.moved)) fail("what an edit was told to do", number);
+static void call_once(struct line *line) {
+    bool was_open = line->handle.is_open;
+    left = below(12) ? -1 : (long)below(6);
+    switch (below(was_open ? 2000 : 20) ? below(10) : 10) {
+    case 0: call = "telling"; telling(line, was_open); break;
+    case 1: call = "post"; posting(line, was_open); break;
+    case 2: case 3: call = "next_write"; writing(line, was_open); break;
+    case 4: call = "send"; sending(line, was_open); break;
+    case 5: case 6: call = "arrive"; arriving(line, was_open); break;
+    case 7: call = "read"; reading(line, was_open); break;
+    case 8: call = "next_change"; changing(line, was_open); break;
+    case 9:
+        if (!below(3)) call = "edit", editing(line, was_open);
+        else if (below(2)) call = "looking", looking(line, was_open);
+        else call = "preview", previewing(line, was_open);
+        break;
+    default:
+        if (below(4)) call = "open", opening(line);
+        else call = "close", closing(line);
+    }
 }
 
 int main(int count, char **arguments) {
-    if (count != 4) return 2;
+    if (count < 4 || count > 6 || !read_project(arguments[1])) return 2;
+    folder = count > 4 ? arguments[4] : NULL;
+    declares = count > 5 && !strcmp(arguments[5], "declare");
     texts = guard(1 << 16), outs = guard(ZANGJULF_FRAMES), ins = guard(1 << 16), counts = guard(PAGE), words = guard(PAGE);
-    for (int i = 0; i < SLAVES; i++) slaves[i] = guard(ZANGJULF_SLAVE_MEMORY);
-    FILE *in = fopen(arguments[1], "rb");
-    if (!in) return 2;
-    static uint8_t text[1 << 16];
-    text_size = fread(text, 1, sizeof text, in);
-    fclose(in);
-    memcpy(last(&texts, text_size), text, text_size);
-    state = strtoull(arguments[3], NULL, 0) * 2 + 1;
-    for (int i = 0; i < SLAVES; i++) {
-        static const uint16_t stations[SLAVES] = {1001, 1002, 1003, 1004, 2001, 3001};
-        uint8_t *memory = last(&slaves[i], ZANGJULF_SLAVE_MEMORY);
-        zangjulf_slave_start(memory, ZANGJULF_SLAVE_MEMORY, (uint16_t)i);
-        memcpy(memory + 0x10, &stations[i], 2);
-    }
+    begin_draws(strtoull(arguments[3], NULL, 0));
     unsigned long most = strtoul(arguments[2], NULL, 0);
     long before = live;
-    for (calls = 0; calls < most; calls++) {
-        struct zangjulf *line = &lines[below(LINES)];
-        bool was_open = line->is_open;
-        left = below(12) ? -1 : (long)below(6);
-        switch (below(was_open ? 2000 : 20) ? below(10) : 10) {
-        case 0: call = "telling"; telling(line, was_open); break;
-        case 1: call = "post"; posting(line, was_open); break;
-        case 2: case 3: call = "next_write"; writing(line, was_open); break;
-        case 4: call = "send"; sending(line, was_open); break;
-        case 5: case 6: call = "arrive"; arriving(line, was_open); break;
-        case 7: call = "read"; reading(line, was_open); break;
-        case 8: call = "next_change"; changing(line, was_open); break;
-        case 9:
-            if (below(3)) call = "looking", looking(line, was_open);
-            else call = "edit", editing(line, was_open);
-            break;
-        default:
-            call = "open";
-            if (below(4)) opening(line);
-            else zangjulf_close(line);
-        }
-    }
+    for (int i = 0; i < LINES; i++) forget_news(&lines[i].news);
+    for (calls = 0; calls < most; calls++) call_once(&lines[below(LINES)]);
     left = -1;
-    for (int i = 0; i < LINES; i++) zangjulf_close(&lines[i]);
+    for (int i = 0; i < LINES; i++) closing(&lines[i]);
     if (live != before) fail("memory is live behind the last close", (unsigned)(live - before));
-    printf("fuzz: %lu calls drawn; answers:", calls);
+    printf("fuzz: %lu calls drawn, %lu of them written as commands; answers:", calls, commands);
     for (unsigned i = 0; i < 256; i++)
         if (answers[i]) printf(" %u: %lu", i, answers[i]);
     printf("\n");

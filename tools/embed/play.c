@@ -5,39 +5,12 @@
 #include <stdlib.h>
 #include <string.h>
 
-#include "zangjulf.h"
+#include "words.h"
 
 #define MOST_INPUT 4194304
 
-static const char *const NAMES[] = {
-    "", "UnknownAlias", "AlreadyPresent", "NotPresent", "Mandatory", "UnknownStation", "Absent", "NoSuchArea", "NoSuchTask",
-    "UnknownPdo", "RepeatedPdo", "AreaTooBig", "TooManyDatagrams", "EpochsSpent", "", "StalePost", "PostLength",
-    "Unprogrammed", "NothingOwed", "SerialsSpent", "Short", "NotEtherCat", "BadType", "BadLength", "Circulating",
-    "MoreFollows", "UnknownCommand", "IndexMismatch", "Memory", "Room",
-};
-
 static struct zangjulf line;
 static uint8_t out[ZANGJULF_FRAMES];
-
-static void print_refusal(unsigned number) {
-    printf("refused %u %s", number, NAMES[number]);
-}
-
-/* A fault without a number of its own. */
-static void refuse(unsigned number) {
-    print_refusal(number);
-    printf("\n");
-}
-
-static void print_hex(const uint8_t *bytes, size_t size) {
-    for (size_t i = 0; i < size; i++) printf("%02x", bytes[i]);
-}
-
-static void print_frame(const char *word, uint64_t serial, const uint8_t *frame, size_t size) {
-    printf("%s %llu: ", word, (unsigned long long)serial);
-    print_hex(frame, size);
-    printf("\n");
-}
 
 static unsigned long number_in(const char *word) {
     char *end;
@@ -51,41 +24,20 @@ static void write_block(void) {
     size_t size = 0;
     zangjulf_next_serial(&line, &serial);
     unsigned number = zangjulf_next_write(&line, out, sizeof out, &size);
-    if (number) refuse(number);
-    else print_frame("sent", serial, out, size);
+    tell_write(stdout, number, serial, out, size);
 }
 
 static void send_tasks(char **words, size_t count) {
     uint8_t tasks[ZANGJULF_TASKS];
     uint64_t serial = 0;
+    uint32_t owed = 0;
     struct zangjulf_sent sent = {0, 0};
     if (count > ZANGJULF_TASKS) exit(2);
     for (size_t i = 0; i < count; i++) tasks[i] = (uint8_t)number_in(words[i]);
     zangjulf_next_serial(&line, &serial);
+    zangjulf_owed(&line, &owed);
     unsigned number = zangjulf_send(&line, tasks, count, out, sizeof out, &sent);
-    if (number == ZANGJULF_UNPROGRAMMED) {
-        uint32_t owed = 0;
-        zangjulf_owed(&line, &owed);
-        print_refusal(number);
-        printf(" %u\n", owed);
-    } else if (number) {
-        refuse(number);
-    } else if (!sent.frames) {
-        printf("no frame\n");
-    }
-    const uint8_t *frame = out;
-    for (size_t i = 0; !number && i < sent.frames; i++) {
-        print_frame("sent", serial + i, frame, zangjulf_frame_size(frame));
-        frame += zangjulf_frame_size(frame);
-    }
-}
-
-static void print_outcome(const struct zangjulf_outcome *outcome) {
-    switch (outcome->kind) {
-    case ZANGJULF_INPUTS: printf("inputs %u %u\n", outcome->task, outcome->datagram); break;
-    case ZANGJULF_WRONG_COUNT: printf("wrong count %u %u\n", outcome->expected, outcome->got); break;
-    default: printf("stale\n");
-    }
+    tell_sending(stdout, number, owed, serial, out, &sent);
 }
 
 static void arrive(const char *word) {
@@ -97,87 +49,28 @@ static void arrive(const char *word) {
         out[i] = (uint8_t)byte;
     }
     unsigned number = zangjulf_arrive(&line, out, size, outcomes, ZANGJULF_OUTCOMES, &count);
-    switch (number) {
-    case ZANGJULF_DONE:
-        for (size_t i = 0; i < count; i++) print_outcome(&outcomes[i]);
-        break;
-    case ZANGJULF_WRITE_DONE: printf("write done\n"); break;
-    case ZANGJULF_WRITE_MISSED: printf("write missed\n"); break;
-    case ZANGJULF_STALE: printf("stale\n"); break;
-    default: refuse(number);
-    }
+    tell_arrival(stdout, number, outcomes, count);
 }
 
 static void read_task(unsigned long task) {
     size_t sizes[ZANGJULF_DATAGRAMS];
     struct zangjulf_image image = {0, 0, 0};
     unsigned number = zangjulf_read(&line, (uint8_t)task, out, sizeof out, sizes, ZANGJULF_DATAGRAMS, &image);
-    if (number) {
-        refuse(number);
-        return;
-    }
-    printf("epoch %u\n", image.epoch);
-    const uint8_t *bytes = out;
-    for (size_t i = 0; i < image.datagrams; i++) {
-        printf("slot %zu ", i);
-        if (!sizes[i]) printf("none");
-        print_hex(bytes, sizes[i]);
-        printf("\n");
-        bytes += sizes[i];
-    }
-}
-
-static void print_layout(void) {
-    uint32_t epoch = 0;
-    zangjulf_epoch(&line, &epoch);
-    printf("epoch %u\n", epoch);
-    for (unsigned task = 0; task < ZANGJULF_TASKS; task++) {
-        struct zangjulf_part part;
-        struct zangjulf_datagram datagram;
-        if (zangjulf_datagram(&line, (uint8_t)task, 0, &datagram)) continue;
-        zangjulf_part(&line, (uint8_t)task, &part);
-        printf("task %u parts %u %u\n", task, part.outputs, part.inputs);
-        for (unsigned i = 0; !zangjulf_datagram(&line, (uint8_t)task, (uint8_t)i, &datagram); i++)
-            printf("datagram %u address 0x%08x length %u expected %u\n", i, datagram.address, datagram.length, datagram.expected);
-    }
-}
-
-static void print_blocks(unsigned long station) {
-    uint32_t position = 0;
-    unsigned number = zangjulf_position(&line, (uint16_t)station, &position);
-    if (number) {
-        refuse(number);
-        return;
-    }
-    struct zangjulf_block block;
-    uint8_t bytes[16];
-    for (unsigned i = 0; !zangjulf_block(&line, (uint16_t)station, (uint8_t)i, bytes, sizeof bytes, &block); i++) {
-        /* sync managers begin at 0x0800, 8 bytes each; FMMUs at 0x0600, 16 bytes each */
-        if (i % 2 == 0) printf("sm %u at 0x%04x:", (block.start - 0x0800) / 8, block.start);
-        else printf("fmmu %u at 0x%04x:", (block.start - 0x0600) / 16, block.start);
-        for (size_t k = 0; k < block.size; k++) printf(" %02x", bytes[k]);
-        printf("\n");
-    }
+    tell_image(stdout, number, &image, sizes, out);
 }
 
 static void show(unsigned long task, unsigned long datagram) {
     uint64_t serial = 0;
     size_t size = 0;
-    if (task >= ZANGJULF_TASKS) {
-        refuse(ZANGJULF_NO_SUCH_TASK);
-        return;
-    }
     zangjulf_next_serial(&line, &serial);
-    if (zangjulf_preview(&line, (uint8_t)task, (uint8_t)datagram, out, sizeof out, &size)) printf("none\n");
-    else print_frame("frame", serial, out, size);
+    unsigned number = zangjulf_preview(&line, (uint8_t)task, (uint8_t)datagram, out, sizeof out, &size);
+    tell_preview(stdout, number, (unsigned)task, serial, out, size);
 }
 
-static void print_place(unsigned long variable) {
+static void find(unsigned long variable) {
     struct zangjulf_place place;
-    if (zangjulf_place(&line, (uint32_t)variable, &place)) printf("none\n");
-    else
-        printf("var %lu task %u datagram %u bit %u bits %u dir %s\n", variable, place.task, place.datagram, place.bit,
-               place.bits, place.is_input ? "in" : "out");
+    unsigned number = zangjulf_place(&line, (uint32_t)variable, &place);
+    tell_place(stdout, number, (uint32_t)variable, &place);
 }
 
 static bool same_cost(const struct zangjulf_cost *a, const struct zangjulf_cost *b) {
@@ -190,14 +83,7 @@ static void print_edit(unsigned asked, const struct zangjulf_cost *would, unsign
         printf("asked %u, answered %u\n", asked, number);
         exit(1);
     }
-    if (number == ZANGJULF_TOO_MANY_DATAGRAMS) {
-        print_refusal(number);
-        printf(" %u\n", cost->crowded);
-    } else if (number) {
-        refuse(number);
-    } else {
-        printf("epoch %u recut %u moved %u\n", cost->epoch, cost->recut, cost->moved);
-    }
+    tell_edit(stdout, number, cost);
 }
 
 static unsigned edit(char **words, size_t count, bool asks, struct zangjulf_cost *cost) {
@@ -214,10 +100,10 @@ static unsigned edit(char **words, size_t count, bool asks, struct zangjulf_cost
 
 static void run(char **words, size_t count) {
     const char *name = words[0];
-    if (!strcmp(name, "layout") && count == 1) print_layout();
-    else if (!strcmp(name, "regs") && count == 2) print_blocks(number_in(words[1]));
+    if (!strcmp(name, "layout") && count == 1) tell_layout(stdout, &line);
+    else if (!strcmp(name, "regs") && count == 2) tell_blocks(stdout, &line, (uint16_t)number_in(words[1]));
     else if (!strcmp(name, "show") && count == 3) show(number_in(words[1]), number_in(words[2]));
-    else if (!strcmp(name, "place") && count == 2) print_place(number_in(words[1]));
+    else if (!strcmp(name, "place") && count == 2) find(number_in(words[1]));
     else if (!strcmp(name, "write") && count == 1) write_block();
     else if (!strcmp(name, "send") && count > 1) send_tasks(words + 1, count - 1);
     else if (!strcmp(name, "arrive") && count == 2) arrive(words[1]);
@@ -245,7 +131,7 @@ int main(void) {
     uint8_t task = 0;
     unsigned number = zangjulf_open(&line, (const uint8_t *)input, (size_t)(end - input), &task);
     if (number) {
-        printf("not opened: %u\n", number);
+        tell_opening(stdout, number, task);
         return 3;
     }
     char *rest;

@@ -1,3 +1,5 @@
 mod Boxed
+mod Images
 mod Projects
 mod Refusals
+mod Rooms

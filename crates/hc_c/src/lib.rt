@@ -22,5 +22,6 @@ mod reading;
 mod sending;
 mod slave;
 mod telling;
+mod too_short;
 mod untold;
 mod writing;

@@ -1,17 +1,17 @@
 //! Tasks are sent.
 ghost use Rattle.std.specs.Prelude.{◌≡◌, ◌≢◌, ◌↔◌, IfSome, IsTrue, None, Some, length};
 ghost use Rattle.hc_records.specs.Lists.{has_repeat, lowest};
-ghost use Rattle.hc_events.specs.Calls.{AreSentTogether, send_into_faults};
+ghost use Rattle.hc_events.specs.Calls.{AreSentTogether, frames_size, send_into_faults};
 ghost use Rattle.hc_events.specs.Steps.{SendsTasks, entries_after};
 ghost use Rattle.hc_c.specs.Embedded.{past_of, with_past};
 ghost use Rattle.hc_c.specs.Numbers.{number_of};
-ghost use Rattle.hc_c.specs.declared.numbers.TheConstants.{MEMORY};
+ghost use Rattle.hc_c.specs.declared.numbers.TheConstants.{MEMORY, ROOM};
 ghost use Rattle.hc_c.specs.Sends.{HoldsFrames};
 
 use crate::arena::send_into;
 use crate::handle::Handle;
 use crate::numbers::{CLOSED, DONE, MISUSED};
-use hc_events::faults::CoreFault;
+use crate::too_short::refuse;
 use hc_records::limits::TASKS;
 use std::alloc::Global;
 
@@ -50,6 +50,7 @@ fn are_sent_together(tasks: &[u8]) -> bool
 /// `sent` tells their bytes and their number, which is 0 where the tasks have no datagram. `DONE`; else the first of the
 /// faults 8, 17, 19 and 29 that holds, `MEMORY`, `MISUSED` where they aren't 1 to 8 tasks, none twice, or `CLOSED`; and
 /// nothing is sent, and nothing changed, `out` neither. With 29 `sent.size` is the bytes that are needed.
+#[tactic(auto, using(crate::proofs::Rooms::frames_need))]
 #[unsafe(no_mangle)]
 pub extern "C" fn zangjulf_send(
     alloc: Global,
@@ -61,6 +62,7 @@ pub extern "C" fn zangjulf_send(
     ensures told { IfSome handle.old.holding.value (λ old. AreSentTogether tasks.now → result ≢ MEMORY → result ≡ number_of (lowest (send_into_faults (past_of old) tasks.now (length out.old)))) }
     ensures sent { result ≡ DONE → IfSome handle.old.holding.value (λ old. HoldsFrames (past_of old) tasks.now out.old out.new sent.new) }
     ensures entries { result ≡ DONE → IfSome handle.old.holding.value (λ old. handle.new.holding.value ≡ Some (with_past old (entries_after (past_of old) (SendsTasks tasks.now)))) }
+    ensures needed { result ≡ ROOM → IfSome handle.old.holding.value (λ old. sent.new.size ≡ frames_size (past_of old) tasks.now) }
     ensures misused { IfSome handle.old.holding.value (λ old. ¬ AreSentTogether tasks.now → result ≡ MISUSED) }
     ensures unchanged { result ≢ DONE → handle.new.holding.value ≡ handle.old.holding.value }
     ensures untouched { result ≢ DONE → out.new ≡ out.old }
@@ -75,15 +77,7 @@ pub extern "C" fn zangjulf_send(
                 *sent = Sent { size, frames };
                 DONE
             }
-            Err(fault) => {
-                if let CoreFault::Room(needed) = fault {
-                    *sent = Sent {
-                        size: needed,
-                        frames: 0,
-                    };
-                }
-                fault.number()
-            }
+            Err(fault) => refuse(fault, &mut sent.size),
         }
     } else {
         MISUSED

@@ -1,0 +1,177 @@
+#!/bin/sh
+# Writes the part of the library that plays events inside the language, into the folder that it is given.
+set -eu
+mkdir -p "$1/src"
+cat > "$1/src/lib.rt" <<'END_OF_CODE'
+//! The calls of the core inside the language, as the benchmark asks for them: each export opens a project's line. Frames go
+//! into a slice by the code of the library for C.
+#![tactic(auto)]
+
+mod arena;
+mod clock;
+mod playing;
+mod telling;
+mod timing;
+END_OF_CODE
+cat > "$1/src/playing.rt" <<'END_OF_CODE'
+//! Drawn events, each told as a number.
+
+use crate::telling::{told_of, told_of_answer};
+use hc_core::keeping::Core;
+use hc_events::answer::Answer;
+use hc_events::change::Change;
+use hc_events::event::Event;
+use hc_events::faults::CoreFault;
+use hc_project::read_project;
+use hc_records::edit::Edit;
+use hc_records::items::Items;
+use std::alloc::Global;
+
+/// An event. Its bytes stand among those of all, from a place on.
+#[repr(C)]
+pub struct Asked {
+    pub kind: u8,
+    pub task: u8,
+    pub area: u8,
+    pub count: u8,
+    pub name: u16,
+    pub first: u16,
+    pub second: u16,
+    pub epoch: u32,
+    pub from: u32,
+    pub size: u32,
+}
+
+const POST: u8 = 0;
+
+const TASKS: u8 = 1;
+
+const WRITE: u8 = 2;
+
+const ARRIVE: u8 = 3;
+
+const CONNECT: u8 = 4;
+
+const DISCONNECT: u8 = 5;
+
+const REMAP: u8 = 6;
+
+const MOVE: u8 = 7;
+
+/// The core of a project's text at its opening.
+pub fn opened(alloc: Global, text: &[u8]) -> Option<Core> {
+    let Ok(project) = read_project(alloc, text) else {
+        return None;
+    };
+    let Ok(core) = Core::new(alloc, project) else {
+        return None;
+    };
+    Some(core)
+}
+
+/// The bytes of an event.
+fn bytes_of<'a>(asked: &Asked, bytes: &'a [u8]) -> &'a [u8] {
+    let Some(rest) = bytes.get(asked.from as usize..) else {
+        return &[];
+    };
+    match rest.get(..asked.size as usize) {
+        Some(own) => own,
+        None => &[],
+    }
+}
+
+/// One of the lists of tasks that the benchmark sends is sent.
+fn send(alloc: Global, core: &mut Core, list: u8) -> Answer {
+    match list {
+        0 => core.step(alloc, Event::SendTasks(&[0])),
+        1 => core.step(alloc, Event::SendTasks(&[1])),
+        2 => core.step(alloc, Event::SendTasks(&[2])),
+        3 => core.step(alloc, Event::SendTasks(&[3, 4, 5, 6, 7])),
+        _ => core.step(alloc, Event::SendTasks(&[7, 1, 0])),
+    }
+}
+
+fn remap(alloc: Global, core: &mut Core, asked: &Asked) -> Answer {
+    let pdos = [asked.first, asked.second];
+    let Ok(pdos) = Vec::from_slice(alloc, &pdos[..usize::from(asked.count % 3)]) else {
+        return Answer::Refused(CoreFault::Memory);
+    };
+    let edit = Edit::Remap {
+        station: asked.name,
+        area: asked.area,
+        pdos: Items::of(pdos),
+    };
+    core.step(alloc, Event::Edit(&edit))
+}
+
+fn serve(alloc: Global, core: &mut Core, asked: &Asked, bytes: &[u8]) -> Answer {
+    match asked.kind {
+        POST => {
+            let bytes = bytes_of(asked, bytes);
+            let (task, epoch) = (asked.task, asked.epoch);
+            core.step(alloc, Event::Post { task, epoch, bytes })
+        }
+        TASKS => send(alloc, core, asked.task),
+        WRITE => core.step(alloc, Event::SendWrite),
+        ARRIVE => core.step(alloc, Event::Arrive(bytes_of(asked, bytes))),
+        CONNECT => core.step(alloc, Event::Edit(&Edit::Connect(asked.name))),
+        DISCONNECT => core.step(alloc, Event::Edit(&Edit::Disconnect(asked.name))),
+        REMAP => remap(alloc, core, asked),
+        MOVE => {
+            let edit = Edit::Move {
+                station: asked.name,
+                area: asked.area,
+                task: asked.task,
+            };
+            core.step(alloc, Event::Edit(&edit))
+        }
+        _ => core.step(alloc, Event::Read(asked.task)),
+    }
+}
+
+fn told_of_change(told: u64, change: &Change) -> u64 {
+    match change {
+        Change::Swapped(_) => told_of(told, 32),
+        Change::Good(good) => {
+            let told = told_of(told_of(told, 31), u64::from(good.task()));
+            let mut told = told_of(told, u64::from(good.datagram()));
+            for byte in good.bytes() {
+                told = told_of(told, u64::from(*byte));
+            }
+            told
+        }
+    }
+}
+
+/// What a core tells of an event: its answer, the changes, how many blocks are owed, and the next serial.
+fn told_by(alloc: Global, core: &mut Core, asked: &Asked, bytes: &[u8]) -> u64 {
+    let answer = serve(alloc, core, asked, bytes);
+    let mut told = told_of_answer(0, &answer);
+    for change in core.take_changes(alloc).as_slice() {
+        told = told_of_change(told, change);
+    }
+    told_of(told_of(told, u64::from(core.owed())), core.next_serial())
+}
+
+/// Plays events on a project's line, and tells of each. How many were played.
+#[unsafe(no_mangle)]
+pub extern "C" fn inside_told(
+    alloc: Global,
+    text: &[u8],
+    events: &[Asked],
+    bytes: &[u8],
+    told: &mut [u64],
+) -> usize {
+    let Some(mut core) = opened(alloc, text) else {
+        return 0;
+    };
+    let mut count = 0;
+    for asked in events {
+        if count < told.len() {
+            told[count] = told_by(alloc, &mut core, asked, bytes);
+            count += 1;
+        }
+    }
+    count
+}
+END_OF_CODE

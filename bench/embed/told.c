@@ -1,0 +1,195 @@
+/* Drawn events, played through the library and inside the language, which must tell the same of each: the answer, byte by
+ * byte, the changes, how many blocks are owed and the next serial. */
+#include <stdio.h>
+#include <string.h>
+
+#include "bench.h"
+
+#define MOST 20000
+#define MOST_BYTES (1 << 24)
+#define KEPT 16
+
+enum { POST, TASKS, WRITE, ARRIVE, CONNECT, DISCONNECT, REMAP, MOVE, READ };
+
+static struct zangjulf line;
+static struct asked events[MOST];
+static uint64_t told[MOST], inside[MOST];
+static uint8_t bytes[MOST_BYTES], out[ZANGJULF_FRAMES], kept[KEPT][ZANGJULF_FRAME];
+static size_t used, kept_sizes[KEPT];
+static uint64_t state = 0x9e3779b97f4a7c15;
+
+static uint64_t below(uint64_t n) {
+    state ^= state << 13, state ^= state >> 7, state ^= state << 17;
+    return (state >> 20) % n;
+}
+
+/* Mixed as inside the language. */
+static uint64_t mixed(uint64_t told, uint64_t number) {
+    told = (told ^ number) * 0x9e3779b97f4a7c15;
+    return told << 29 | told >> 35;
+}
+
+static uint64_t mixed_bytes(uint64_t told, const uint8_t *own, size_t size) {
+    for (size_t i = 0; i < size; i++) told = mixed(told, own[i]);
+    return told;
+}
+
+static uint64_t refused(unsigned number) { return mixed(mixed(0, 20), number); }
+
+/* A frame comes back as the line leaves it: its counters as they are expected, or another one. */
+static void keep(const uint8_t *frame, size_t size, bool is_write) {
+    size_t i = below(KEPT), at = 16;
+    memcpy(kept[i], frame, size);
+    kept_sizes[i] = size;
+    uint8_t *own = kept[i];
+    for (bool is_last = false; !is_last;) {
+        size_t length = (size_t)(own[at + 6] | own[at + 7] << 8) & 0x7ff;
+        struct zangjulf_datagram datagram = {.expected = 1};
+        uint32_t address = (uint32_t)(own[at + 2] | own[at + 3] << 8 | own[at + 4] << 16) | (uint32_t)own[at + 5] << 24;
+        for (unsigned slot = 0; !is_write && slot < 128; slot++)
+            if (!zangjulf_datagram(&line, (uint8_t)(slot / 16), (uint8_t)(slot % 16), &datagram) && datagram.address == address) break;
+        is_last = !(own[at + 7] & 0x80);
+        own[at + 10 + length] = (uint8_t)(below(8) ? datagram.expected : below(4));
+        if (length) own[at + 10 + below(length)] = (uint8_t)below(256);
+        at += 12 + length;
+    }
+}
+
+static void copy_bytes(struct asked *asked, const uint8_t *own, size_t size) {
+    if (used + size > MOST_BYTES) give_up("there are too many bytes");
+    asked->from = (uint32_t)used, asked->size = (uint32_t)size;
+    memcpy(bytes + used, own, size);
+    used += size;
+}
+
+static uint64_t post(struct asked *asked) {
+    struct zangjulf_part part = {0, 0};
+    uint8_t own[ZANGJULF_DATA];
+    asked->task = (uint8_t)below(9);
+    zangjulf_part(&line, asked->task, &part);
+    zangjulf_epoch(&line, &asked->epoch);
+    size_t size = below(8) ? part.outputs : below(8);
+    if (!below(8)) asked->epoch++;
+    for (size_t i = 0; i < size; i++) own[i] = (uint8_t)below(256);
+    copy_bytes(asked, own, size);
+    unsigned number = zangjulf_post(&line, asked->task, asked->epoch, own, size);
+    return number ? refused(number) : mixed(0, 12);
+}
+
+static uint64_t send(struct asked *asked) {
+    struct zangjulf_sent sent = {0, 0};
+    unsigned list = asked->task = (uint8_t)below(5);
+    unsigned number = zangjulf_send(&line, LISTS[list], LIST_SIZES[list], out, sizeof out, &sent);
+    if (number) return refused(number);
+    uint64_t mix = mixed(mixed(0, 13), sent.frames);
+    const uint8_t *frame = out;
+    for (size_t i = 0; i < sent.frames; i++, frame += zangjulf_frame_size(frame)) {
+        mix = mixed_bytes(mixed(mix, zangjulf_frame_size(frame)), frame, zangjulf_frame_size(frame));
+        keep(frame, zangjulf_frame_size(frame), false);
+    }
+    return mix;
+}
+
+static uint64_t write(void) {
+    size_t size = 0;
+    unsigned number = zangjulf_next_write(&line, out, sizeof out, &size);
+    if (number) return refused(number);
+    keep(out, size, true);
+    return mixed_bytes(mixed(mixed(0, 14), size), out, size);
+}
+
+static uint64_t outcome(uint64_t mix, const struct zangjulf_outcome *one) {
+    switch (one->kind) {
+    case ZANGJULF_INPUTS: return mixed(mixed(mixed(mix, 1), one->task), one->datagram);
+    case ZANGJULF_WRONG_COUNT: return mixed(mixed(mixed(mix, 2), one->expected), one->got);
+    default: return mixed(mix, 3);
+    }
+}
+
+static uint64_t arrive(struct asked *asked) {
+    struct zangjulf_outcome outcomes[ZANGJULF_OUTCOMES];
+    size_t i = below(KEPT), size = below(16) ? kept_sizes[i] : below(60), count = 0;
+    if (!below(8)) kept[i][below(ZANGJULF_FRAME)] = (uint8_t)below(256);
+    copy_bytes(asked, kept[i], size);
+    unsigned number = zangjulf_arrive(&line, kept[i], size, outcomes, ZANGJULF_OUTCOMES, &count);
+    uint64_t mix = mixed(mixed(0, 15), count);
+    switch (number) {
+    case ZANGJULF_DONE:
+        for (size_t k = 0; k < count; k++) mix = outcome(mix, &outcomes[k]);
+        return mix;
+    case ZANGJULF_WRITE_DONE: return mixed(0, 16);
+    case ZANGJULF_WRITE_MISSED: return mixed(0, 17);
+    case ZANGJULF_STALE: return mixed(0, 18);
+    default: return refused(number);
+    }
+}
+
+static uint64_t read(struct asked *asked) {
+    struct zangjulf_image image = {0, 0, 0};
+    size_t sizes[ZANGJULF_DATAGRAMS];
+    asked->task = (uint8_t)below(9);
+    unsigned number = zangjulf_read(&line, asked->task, out, sizeof out, sizes, ZANGJULF_DATAGRAMS, &image);
+    if (number) return refused(number);
+    uint64_t mix = mixed(mixed(mixed(0, 19), image.epoch), image.datagrams);
+    const uint8_t *own = out;
+    for (size_t i = 0; i < image.datagrams; own += sizes[i++])
+        mix = sizes[i] ? mixed_bytes(mixed(mix, sizes[i]), own, sizes[i]) : mixed(mix, 99);
+    return mix;
+}
+
+static uint64_t edit(struct asked *asked) {
+    struct zangjulf_cost cost;
+    unsigned number;
+    if (asked->kind == CONNECT || asked->kind == DISCONNECT) {
+        asked->name = (uint16_t)(below(4) ? 7 : below(9));
+        number = (asked->kind == CONNECT ? zangjulf_connect : zangjulf_disconnect)(&line, asked->name, false, &cost);
+    } else {
+        asked->name = (uint16_t)(below(8) ? 1001 + below(7) : 2001), asked->area = (uint8_t)below(6), asked->task = (uint8_t)below(9);
+        asked->count = (uint8_t)below(3), asked->first = (uint16_t)(0x1600 + below(3)), asked->second = (uint16_t)(0x1600 + below(3));
+        const uint16_t pdos[2] = {asked->first, asked->second};
+        number = asked->kind == MOVE ? zangjulf_move(&line, asked->name, asked->area, asked->task, false, &cost)
+                                     : zangjulf_remap(&line, asked->name, asked->area, pdos, asked->count, false, &cost);
+    }
+    return number ? refused(number) : mixed(mixed(mixed(mixed(0, 11), cost.epoch), cost.recut), cost.moved);
+}
+
+static uint64_t serve(struct asked *asked) {
+    /* edits are few: each makes stale what is under way */
+    static const uint8_t KINDS[] = {POST, TASKS, TASKS, WRITE, WRITE, WRITE, WRITE, ARRIVE, ARRIVE, ARRIVE, ARRIVE, ARRIVE, READ, READ};
+    asked->kind = below(60) ? KINDS[below(sizeof KINDS)] : (uint8_t)(CONNECT + below(4));
+    switch (asked->kind) {
+    case POST: return post(asked);
+    case TASKS: return send(asked);
+    case WRITE: return write();
+    case ARRIVE: return arrive(asked);
+    case READ: return read(asked);
+    default: return edit(asked);
+    }
+}
+
+static uint64_t with_changes(uint64_t mix) {
+    struct zangjulf_change change;
+    while (!zangjulf_next_change(&line, out, sizeof out, &change))
+        mix = change.kind == ZANGJULF_SWAPPED ? mixed(mix, 32)
+                                              : mixed_bytes(mixed(mixed(mixed(mix, 31), change.task), change.datagram), out, change.size);
+    uint32_t owed = 0;
+    uint64_t serial = 0;
+    zangjulf_owed(&line, &owed);
+    zangjulf_next_serial(&line, &serial);
+    return mixed(mixed(mix, owed), serial);
+}
+
+void compare(size_t count) {
+    size_t size;
+    uint8_t task;
+    const uint8_t *text = project(&size);
+    if (count > MOST || zangjulf_open(&line, text, size, &task)) give_up("nothing can be compared");
+    for (size_t i = 0; i < count; i++) told[i] = with_changes(serve(&events[i]));
+    zangjulf_close(&line);
+    if (inside_told(text, size, events, count, bytes, used, inside, count) != count) give_up("not all events were played");
+    for (size_t i = 0; i < count; i++)
+        if (told[i] != inside[i]) {
+            printf("event %zu of kind %u is told otherwise\n", i, events[i].kind);
+            give_up("the library and the language differ");
+        }
+}

@@ -1,0 +1,90 @@
+-- What is needed where a slice is too short.
+use Rattle.std.proofs.Common.{◌≡◌, ◌≢◌, ℕ, Bool, true, false, if◌then◌else◌, List, [], ◌∷◌, ◌++◌, length, Option, Some, None, ◌==◌, nat_lt, refl, arith}
+use Rattle.std.proofs.lemmas.Bool.Decides.{nat_tests}
+use Rattle.std.proofs.lemmas.Option.{same_Some}
+use Rattle.hc_records.specs.Lists.{lowest}
+use Rattle.hc_events.specs.declared.faults.CoreFault.{CoreFault}
+use Rattle.hc_events.specs.declared.faults.CoreFault.TheVariants.{UnknownAlias, AlreadyPresent, NotPresent, Mandatory, UnknownStation, Absent, NoSuchArea, NoSuchTask, UnknownPdo, RepeatedPdo, AreaTooBig, TooManyDatagrams, EpochsSpent, StalePost, PostLength, Unprogrammed, NothingOwed, SerialsSpent, Short, NotEtherCat, BadType, BadLength, Circulating, MoreFollows, UnknownCommand, IndexMismatch, Memory, Room, BadGroup, AliasTaken, StationTaken, VariableTaken, TooManyGroups, TooManySlaves}
+use Rattle.hc_events.specs.Calls.{frames_size, room_faults, send_into_faults, write_into_faults, write_size}
+use Rattle.hc_events.specs.Entries.{Record}
+use Rattle.hc_events.specs.Faults.{core_fault_number}
+use Rattle.hc_events.specs.Owed.{owed_blocks}
+use Rattle.hc_events.specs.Steps.{task_faults, write_faults}
+
+-- its number is that of no other fault
+numbered_room : (fault : CoreFault) → (core_fault_number fault == 29) ≡ true → (needed : ℕ) × (fault ≡ Room needed)
+numbered_room UnknownAlias e = cc
+numbered_room AlreadyPresent e = cc
+numbered_room NotPresent e = cc
+numbered_room Mandatory e = cc
+numbered_room UnknownStation e = cc
+numbered_room Absent e = cc
+numbered_room NoSuchArea e = cc
+numbered_room NoSuchTask e = cc
+numbered_room UnknownPdo e = cc
+numbered_room RepeatedPdo e = cc
+numbered_room AreaTooBig e = cc
+numbered_room (TooManyDatagrams task) e = cc
+numbered_room EpochsSpent e = cc
+numbered_room StalePost e = cc
+numbered_room PostLength e = cc
+numbered_room (Unprogrammed owed) e = cc
+numbered_room NothingOwed e = cc
+numbered_room SerialsSpent e = cc
+numbered_room Short e = cc
+numbered_room NotEtherCat e = cc
+numbered_room BadType e = cc
+numbered_room BadLength e = cc
+numbered_room Circulating e = cc
+numbered_room MoreFollows e = cc
+numbered_room UnknownCommand e = cc
+numbered_room IndexMismatch e = cc
+numbered_room Memory e = cc
+numbered_room (Room needed) e = (needed, refl)
+numbered_room (BadGroup bad) e = cc
+numbered_room AliasTaken e = cc
+numbered_room StationTaken e = cc
+numbered_room VariableTaken e = cc
+numbered_room TooManyGroups e = cc
+numbered_room TooManySlaves e = cc
+
+is_equal : (m n : ℕ) → m ≡ n → (m == n) ≡ true
+is_equal m n e = grind (arith, nat_tests)
+
+pub room_alone : (fault : CoreFault) → core_fault_number fault ≡ 29 → (needed : ℕ) × (fault ≡ Room needed)
+room_alone fault e = numbered_room fault (is_equal (core_fault_number fault) 29 e)
+
+same_needed : {one other : ℕ} → Room one ≡ Room other → other ≡ one
+same_needed e = cc
+
+-- a slice's own fault
+at_room : (short : Bool) (size needed : ℕ) → (if short then Some (Room size) else None) ≡ Some (Room needed) → needed ≡ size
+at_room true size needed is = same_needed (same_Some (Room size) (Room needed) is)
+at_room false size needed is = cc
+
+-- each of the faults is another one
+abbrev AreOther : List (Bool × CoreFault) → Type 0
+AreOther [] = Unit {0}
+AreOther (judged ∷ rest) = ((needed : ℕ) → judged.1 ≢ Room needed) × AreOther rest
+
+behind : (judged : Bool) (one : CoreFault) (rest : List (Bool × CoreFault)) (size needed : ℕ) → ((bytes : ℕ) → one ≢ Room bytes) → (lowest rest ≡ Some (Room needed) → needed ≡ size)
+    → (if judged then Some one else lowest rest) ≡ Some (Room needed) → needed ≡ size
+behind true one rest size needed other later is = absurd (other needed (same_Some one (Room needed) is))
+behind false one rest size needed other later is = later is
+
+needed_behind : (faults : List (Bool × CoreFault)) (size bytes needed : ℕ) → AreOther faults → lowest (faults ++ room_faults size bytes) ≡ Some (Room needed) → needed ≡ size
+needed_behind [] size bytes needed other is = at_room (nat_lt bytes size) size needed is
+needed_behind (judged ∷ rest) size bytes needed other is =
+    behind judged.0 judged.1 (rest ++ room_faults size bytes) size needed other.0 (needed_behind rest size bytes needed other.1) is
+
+-- those of a register write
+pub write_needs : (past : Record) (bytes needed : ℕ) → lowest (write_into_faults past bytes) ≡ Some (Room needed) → needed ≡ write_size (owed_blocks past)
+write_needs past bytes needed is =
+    let apart : AreOther (write_faults past (owed_blocks past)) = (λ one e. cc, (λ one e. cc, tt)) in
+    needed_behind (write_faults past (owed_blocks past)) (write_size (owed_blocks past)) bytes needed apart is
+
+-- those of tasks that are sent
+pub frames_need : (past : Record) (tasks : List ℕ) (bytes needed : ℕ) → lowest (send_into_faults past tasks bytes) ≡ Some (Room needed) → needed ≡ frames_size past tasks
+frames_need past tasks bytes needed is =
+    let apart : AreOther (task_faults past tasks) = (λ one e. cc, (λ one e. cc, (λ one e. cc, tt))) in
+    needed_behind (task_faults past tasks) (frames_size past tasks) bytes needed apart is

@@ -1,0 +1,19 @@
+//! Refusals of calls that write into a slice of C's.
+ghost use Rattle.std.specs.Prelude.{◌≡◌};
+ghost use Rattle.hc_events.specs.declared.faults.CoreFault.TheVariants.{Room};
+ghost use Rattle.hc_events.specs.Faults.{core_fault_number};
+
+use crate::numbers::ROOM;
+use hc_events::faults::CoreFault;
+
+/// The number of a refusal; with `ROOM` the bytes that are needed are told.
+#[tactic(auto, using(crate::proofs::Rooms::room_alone))]
+pub fn refuse(fault: CoreFault, needed: &mut usize) -> u8
+    ensures number { result ≡ core_fault_number fault }
+    ensures room { result ≡ ROOM → fault ≡ Room needed.new }
+{
+    if let CoreFault::Room(bytes) = fault {
+        *needed = bytes;
+    }
+    fault.number()
+}

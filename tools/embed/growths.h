@@ -1,0 +1,11 @@
+/* Growths of memory, counted and refused, in a caller that is linked with --wrap=malloc, --wrap=realloc and --wrap=free. */
+#ifndef GROWTHS_H
+#define GROWTHS_H
+
+/* How many pieces of memory are live. */
+extern long live;
+
+/* So many growths succeed before one is refused; none is refused where it is below 0, which it is behind the refusal. */
+extern long left;
+
+#endif

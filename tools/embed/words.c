@@ -1,0 +1,157 @@
+#include "words.h"
+
+static const char *const FAULTS[] = {
+    "", "UnknownAlias", "AlreadyPresent", "NotPresent", "Mandatory", "UnknownStation", "Absent", "NoSuchArea", "NoSuchTask",
+    "UnknownPdo", "RepeatedPdo", "AreaTooBig", "TooManyDatagrams", "EpochsSpent", "", "StalePost", "PostLength",
+    "Unprogrammed", "NothingOwed", "SerialsSpent", "Short", "NotEtherCat", "BadType", "BadLength", "Circulating",
+    "MoreFollows", "UnknownCommand", "IndexMismatch", "Memory", "Room", "", "AliasTaken", "StationTaken", "VariableTaken",
+    "TooManyGroups", "TooManySlaves",
+};
+
+static const char *const PROJECT_FAULTS[] = {
+    "", "NotToml", "MissingField", "OutOfRange", "RepeatedAlias", "RepeatedStation", "RepeatedSyncManager", "OverlappingAreas",
+    "RepeatedVariable", "UnknownPdo", "AreaTooBig", "Memory", "NotOneGroup",
+};
+
+void tell_opening(FILE *to, unsigned number, unsigned task) {
+    if (number == ZANGJULF_TOO_MANY_DATAGRAMS) fprintf(to, "open fault 1 %s %u\n", FAULTS[number], task);
+    else if (number == ZANGJULF_MEMORY) fprintf(to, "open fault 2 %s\n", FAULTS[number]);
+    else fprintf(to, "project fault %u %s\n", number, PROJECT_FAULTS[number]);
+}
+
+/* The front of a refusal's line. */
+static void tell_fault(FILE *to, unsigned number) { fprintf(to, "refused %u %s", number, FAULTS[number]); }
+
+void tell_refusal(FILE *to, unsigned number) {
+    tell_fault(to, number);
+    fprintf(to, "\n");
+}
+
+void tell_hex(FILE *to, const uint8_t *bytes, size_t size) {
+    for (size_t i = 0; i < size; i++) fprintf(to, "%02x", bytes[i]);
+}
+
+static void tell_frame(FILE *to, const char *word, uint64_t serial, const uint8_t *frame, size_t size) {
+    fprintf(to, "%s %llu: ", word, (unsigned long long)serial);
+    tell_hex(to, frame, size);
+    fprintf(to, "\n");
+}
+
+void tell_edit(FILE *to, unsigned number, const struct zangjulf_cost *cost) {
+    if (number == ZANGJULF_TOO_MANY_DATAGRAMS) {
+        tell_fault(to, number);
+        fprintf(to, " %u\n", cost->crowded);
+    } else if (number) {
+        tell_refusal(to, number);
+    } else {
+        fprintf(to, "epoch %u recut %u moved %u\n", cost->epoch, cost->recut, cost->moved);
+    }
+}
+
+void tell_declaration(FILE *to, unsigned number, unsigned fault, const struct zangjulf_cost *cost) {
+    if (number == ZANGJULF_NO_GROUP) fprintf(to, "declare fault %u %s\n", fault, PROJECT_FAULTS[fault]);
+    else tell_edit(to, number, cost);
+}
+
+void tell_write(FILE *to, unsigned number, uint64_t serial, const uint8_t *frame, size_t size) {
+    if (number) tell_refusal(to, number);
+    else tell_frame(to, "sent", serial, frame, size);
+}
+
+void tell_sending(FILE *to, unsigned number, uint32_t owed, uint64_t serial, const uint8_t *frames, const struct zangjulf_sent *sent) {
+    if (number == ZANGJULF_UNPROGRAMMED) {
+        tell_fault(to, number);
+        fprintf(to, " %u\n", owed);
+    } else if (number) {
+        tell_refusal(to, number);
+    } else if (!sent->frames) {
+        fprintf(to, "no frame\n");
+    }
+    for (size_t i = 0; !number && i < sent->frames; i++) {
+        tell_frame(to, "sent", serial + i, frames, zangjulf_frame_size(frames));
+        frames += zangjulf_frame_size(frames);
+    }
+}
+
+static void tell_outcome(FILE *to, const struct zangjulf_outcome *outcome) {
+    switch (outcome->kind) {
+    case ZANGJULF_INPUTS: fprintf(to, "inputs %u %u\n", outcome->task, outcome->datagram); break;
+    case ZANGJULF_WRONG_COUNT: fprintf(to, "wrong count %u %u\n", outcome->expected, outcome->got); break;
+    default: fprintf(to, "stale\n");
+    }
+}
+
+void tell_arrival(FILE *to, unsigned number, const struct zangjulf_outcome *outcomes, size_t count) {
+    switch (number) {
+    case ZANGJULF_DONE:
+        for (size_t i = 0; i < count; i++) tell_outcome(to, &outcomes[i]);
+        break;
+    case ZANGJULF_WRITE_DONE: fprintf(to, "write done\n"); break;
+    case ZANGJULF_WRITE_MISSED: fprintf(to, "write missed\n"); break;
+    case ZANGJULF_STALE: fprintf(to, "stale\n"); break;
+    default: tell_refusal(to, number);
+    }
+}
+
+void tell_image(FILE *to, unsigned number, const struct zangjulf_image *image, const size_t *sizes, const uint8_t *data) {
+    if (number) {
+        tell_refusal(to, number);
+        return;
+    }
+    fprintf(to, "epoch %u\n", image->epoch);
+    for (size_t i = 0; i < image->datagrams; i++) {
+        fprintf(to, "slot %zu ", i);
+        if (!sizes[i]) fprintf(to, "none");
+        tell_hex(to, data, sizes[i]);
+        fprintf(to, "\n");
+        data += sizes[i];
+    }
+}
+
+void tell_preview(FILE *to, unsigned number, unsigned task, uint64_t serial, const uint8_t *frame, size_t size) {
+    if (task >= ZANGJULF_TASKS) tell_refusal(to, ZANGJULF_NO_SUCH_TASK);
+    else if (number) fprintf(to, "none\n");
+    else tell_frame(to, "frame", serial, frame, size);
+}
+
+void tell_place(FILE *to, unsigned number, uint32_t variable, const struct zangjulf_place *place) {
+    if (number) {
+        fprintf(to, "none\n");
+        return;
+    }
+    const char *way = place->is_input ? "in" : "out";
+    fprintf(to, "var %u task %u datagram %u bit %u bits %u dir %s\n", variable, place->task, place->datagram, place->bit, place->bits, way);
+}
+
+void tell_layout(FILE *to, struct zangjulf *line) {
+    uint32_t epoch = 0;
+    zangjulf_epoch(line, &epoch);
+    fprintf(to, "epoch %u\n", epoch);
+    for (unsigned task = 0; task < ZANGJULF_TASKS; task++) {
+        struct zangjulf_part part = {0, 0};
+        struct zangjulf_datagram datagram;
+        if (zangjulf_datagram(line, (uint8_t)task, 0, &datagram)) continue;
+        zangjulf_part(line, (uint8_t)task, &part);
+        fprintf(to, "task %u parts %u %u\n", task, part.outputs, part.inputs);
+        for (unsigned i = 0; !zangjulf_datagram(line, (uint8_t)task, (uint8_t)i, &datagram); i++)
+            fprintf(to, "datagram %u address 0x%08x length %u expected %u\n", i, datagram.address, datagram.length, datagram.expected);
+    }
+}
+
+void tell_blocks(FILE *to, struct zangjulf *line, uint16_t station) {
+    uint32_t position = 0;
+    unsigned number = zangjulf_position(line, station, &position);
+    if (number) {
+        tell_refusal(to, number);
+        return;
+    }
+    struct zangjulf_block block;
+    uint8_t bytes[16];
+    for (unsigned i = 0; !zangjulf_block(line, station, (uint8_t)i, bytes, sizeof bytes, &block); i++) {
+        /* sync managers begin at 0x0800, 8 bytes each; FMMUs at 0x0600, 16 bytes each */
+        if (i % 2 == 0) fprintf(to, "sm %u at 0x%04x:", (block.start - 0x0800) / 8, block.start);
+        else fprintf(to, "fmmu %u at 0x%04x:", (block.start - 0x0600) / 16, block.start);
+        for (size_t k = 0; k < block.size; k++) fprintf(to, " %02x", bytes[k]);
+        fprintf(to, "\n");
+    }
+}
