@@ -1,8 +1,8 @@
 pub mod AtOnce
 pub mod Ends
-pub mod Images
 pub mod Kept
 pub mod Lists
 pub mod Seatings
 pub mod Takings
+pub mod Waiting
 pub mod lemmas

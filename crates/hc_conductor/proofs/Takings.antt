@@ -1,8 +1,9 @@
 -- Posts that are taken, one after another.
 use Rattle.std.proofs.Common.{◌≡◌, ℕ, ◌+◌, ◌*◌, ◌≤◌, Bool, true, false, List, [], ◌∷◌, ◌++◌, filter, length, refl, sym, take, ap, subst, ◌∙◌, arith, append_assoc}
+use Rattle.std.specs.Prelude.{All}
 use Rattle.std.proofs.Math.Seq.{take-append_seam}
 use Rattle.std.proofs.lemmas.List.{append-nil, length-append, length-map}
-use Rattle.std.proofs.lemmas.List.Elements.{filter-append}
+use Rattle.std.proofs.lemmas.List.Elements.{All-head, filter-append}
 use Rattle.hc_events.specs.Entries.{Record}
 use Rattle.hc_events.specs.Steps.{Step, answer_to, answers_to, entries_after, entries_after_all}
 use Rattle.hc_rings.specs.declared.posts.TheConstants.{POSTS_WAITING}
@@ -47,6 +48,16 @@ one-taken task most before middle after old mid new told rest post ok core judge
         accepted = accepted ∙ ap (λ n. one_if ok + n) (others.counts.accepted ∙ behind) ∙ sym (posted_first before.past (event_of task post) (events_of task others.posts) ok judged);
         all = omega (arith, all, others.counts.all);
       };
+}
+
+-- four at most
+pub four-taken : (task most : ℕ) (before after : CoreState) (old new : PostReceiver) (told : Taken) → most ≤ POSTS_WAITING → TakesFrom task most before after old new told
+    → TakesFrom task POSTS_WAITING before after old new told
+four-taken task most before after old new told few takes = record {
+  posts = takes.posts;
+  ring = record { few = let own = takes.ring.few in omega (arith, own, few); ring = takes.ring.ring; taken = takes.ring.taken };
+  core = takes.core;
+  counts = takes.counts;
 }
 
 -- ---- one ring in front of the others
@@ -100,6 +111,10 @@ rings-taken task before middle after old new olds news told first rest one other
     }
 
 -- ---- how many there are at most
+
+pub first-few : (most rest : List ℕ) (n : ℕ) → most ≡ n ∷ rest → All (λ m. m ≤ POSTS_WAITING) most → n ≤ POSTS_WAITING
+first-few most rest n is few =
+    All-head (λ (m : ℕ). m ≤ POSTS_WAITING) n rest (subst (All (λ (m : ℕ). m ≤ POSTS_WAITING)) is few)
 
 pub few-events : (task : ℕ) (olds news : List PostReceiver) (posts : List (List Post)) → AreTaken olds news posts → length (events_of_all task posts) ≤ POSTS_WAITING * length olds
 few-events task [] [] [] are = omega arith

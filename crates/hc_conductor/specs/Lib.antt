@@ -4,5 +4,6 @@ pub mod Seats
 pub mod Views
 pub mod Outputs
 pub mod Taking
+pub mod Together
 pub mod Openings
 pub mod AtOnce

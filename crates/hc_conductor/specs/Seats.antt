@@ -8,6 +8,11 @@ use Rattle.hc_rings.specs.declared.posts.PostSender.{PostSender}
 use Rattle.hc_rings.specs.Post.{Post}
 use Rattle.hc_rings.specs.Ring as ring
 use Rattle.hc_conductor.specs.declared.seat.TaskSeat.{TaskSeat}
+use Rattle.hc_conductor.specs.declared.viewer.Viewer.{Viewer}
+
+-- its seat at the published copies, with the epoch that it viewed last and the bytes of its task's outputs in that epoch
+abbrev pub viewer_of : TaskSeat → Viewer
+viewer_of s = s.viewer
 
 -- its seat at the published copies
 abbrev pub seat_of : TaskSeat → Seat

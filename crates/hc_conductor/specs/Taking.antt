@@ -1,5 +1,5 @@
 -- What is taken of the tasks' posts.
-use Rattle.std.specs.Prelude.{◌≡◌, ℕ, ◌+◌, ◌≤◌, Bool, true, false, if◌then◌else◌, List, [], ◌∷◌, ◌++◌, filter, length, map}
+use Rattle.std.specs.Prelude.{◌≡◌, ℕ, ◌+◌, ◌≤◌, Bool, true, false, if◌then◌else◌, List, [], ◌∷◌, ◌++◌, filter, length, map, take}
 use Rattle.hc_events.specs.declared.answer.Answer.{Answer}
 use Rattle.hc_events.specs.declared.answer.Answer.TheVariants as answer
 use Rattle.hc_events.specs.Entries.{Record}
@@ -7,7 +7,7 @@ use Rattle.hc_events.specs.Steps.{Posts, Step, answers_to, entries_after_all}
 use Rattle.hc_rings.specs.declared.posts.TheConstants.{POSTS_WAITING}
 use Rattle.hc_rings.specs.declared.posts.PostReceiver.{PostReceiver}
 use Rattle.hc_rings.specs.Post.{Post}
-use Rattle.hc_rings.specs.Ring.{SameReceiver, taken}
+use Rattle.hc_rings.specs.Ring.{SameReceiver, given_back, left, spare_places, taken}
 use Rattle.hc_core.specs.State.{CoreState}
 use Rattle.hc_conductor.specs.declared.taking.Taken.{Taken}
 use Rattle.hc_conductor.specs.Conducting.{Conducting, past_of}
@@ -48,6 +48,18 @@ pub record AreTakenFrom (most : ℕ) (old new : PostReceiver) (posts : List Post
   pub few : length posts ≤ most
   pub ring : SameReceiver old new
   pub taken : taken new ≡ taken old ++ posts
+
+-- where so many are known to be left, and so many places for their buffers, just these come out of the ring, and their buffers go back
+abbrev pub TakesKnown : ℕ → PostReceiver → PostReceiver → Type 0
+TakesKnown n old new =
+    n ≤ length (left old) → n ≤ spare_places old
+    → (taken new ≡ taken old ++ take n (left old)) × (length (given_back new) ≡ length (given_back old) + n)
+
+-- of each ring so many, where they are known
+abbrev pub EachTakesKnown : List ℕ → List PostReceiver → List PostReceiver → Type 0
+EachTakesKnown [] [] [] = Unit {0}
+EachTakesKnown (n ∷ ns) (old ∷ olds) (new ∷ news) = TakesKnown n old new × EachTakesKnown ns olds news
+EachTakesKnown ns olds news = ⊥
 
 -- of each ring these, at most four
 abbrev pub AreTaken : List PostReceiver → List PostReceiver → List (List Post) → Type 0

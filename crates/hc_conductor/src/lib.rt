@@ -10,6 +10,7 @@ mod publishing;
 pub mod seat;
 mod sending;
 pub mod taking;
+mod together;
 pub mod view;
 mod viewer;
 

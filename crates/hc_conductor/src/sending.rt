@@ -101,8 +101,8 @@ impl Conductor {
         Ok(needed)
     }
 
-    // The present proposal is sent.
-    pub(crate) fn commit(&mut self, frames: &[Sending])
+    /// The frames of the present proposal, as the core's `propose` gave it, are sent. It takes no memory.
+    pub fn commit(&mut self, frames: &[Sending])
         requires { IsProposal (past_of self.old) frames.now }
         ensures entries { past_of self.new ≡ with_sent (past_of self.old) frames.now }
         ensures lists { SameLists self.old self.new }

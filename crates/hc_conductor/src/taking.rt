@@ -1,13 +1,14 @@
 //! What tasks posted goes to the core.
-ghost use Rattle.std.specs.Prelude.{◌≡◌, ◌+◌, ◌<◌, ◌≤◌, length};
+ghost use Rattle.std.specs.Prelude.{◌≡◌, ◌+◌, ◌<◌, ◌≤◌, All, length};
 ghost use Rattle.hc_records.specs.declared.limits.TheConstants.{TASKS};
 ghost use Rattle.hc_events.specs.Steps.{answer_to, entries_after};
 ghost use Rattle.hc_rings.specs.declared.posts.TheConstants.{POSTS_WAITING};
 ghost use Rattle.hc_conductor.specs.Conducting.{SameChanges};
-ghost use Rattle.hc_conductor.specs.Taking.{TakesFrom, TakesFromAll, TakesPosts, event_of, is_posted, one_if};
+ghost use Rattle.hc_conductor.specs.Taking.{EachTakesKnown, TakesFrom, TakesFromAll, TakesKnown, TakesPosts, event_of, is_posted, one_if};
 
 use crate::conductor::Conductor;
 use hc_core::keeping::Core;
+use hc_records::limits::TASKS;
 use hc_rings::{POSTS_WAITING, PostBuffer, PostReceiver};
 
 /// How many posts were taken of the rings, by what the core made of them.
@@ -59,7 +60,8 @@ fn is_accepted(core: &mut Core, task: u8, post: &PostBuffer) -> bool
 // Hands the core posts of a task's ring, so many at most; so deep is this recursion.
 fn take_some(core: &mut Core, task: u8, ring: &mut PostReceiver, most: u32) -> Taken
     requires { most ≤ POSTS_WAITING }
-    ensures { TakesFrom task most core.old core.new ring.old ring.new result }
+    ensures taken { TakesFrom task most core.old core.new ring.old ring.new result }
+    ensures known { TakesKnown most ring.old ring.new }
 {
     if most == 0 {
         return NOTHING;
@@ -72,16 +74,23 @@ fn take_some(core: &mut Core, task: u8, ring: &mut PostReceiver, most: u32) -> T
     with_one(take_some(core, task, ring, most - 1), accepted)
 }
 
-// Hands the core posts of each ring, the first of which is this task's; there are eight, so deep is this recursion.
-fn take_all(core: &mut Core, task: u8, rings: &mut [PostReceiver]) -> Taken
-    requires { task + length rings.old ≤ TASKS }
-    ensures { TakesFromAll task core.old core.new rings.old rings.new result }
+// Hands the core posts of each ring, of each so many at most, the first ring being this task's; there are eight, so deep
+// is this recursion.
+pub(crate) fn take_all(core: &mut Core, task: u8, rings: &mut [PostReceiver], most: &[u32]) -> Taken
+    requires tasks { task + length rings.old ≤ TASKS }
+    requires each { length most.now ≡ length rings.old }
+    requires few { All (λ n. n ≤ POSTS_WAITING) most.now }
+    ensures taken { TakesFromAll task core.old core.new rings.old rings.new result }
+    ensures known { EachTakesKnown most.now rings.old rings.new }
 {
     let Some((ring, others)) = rings.split_first_mut() else {
         return NOTHING;
     };
-    let first = take_some(core, task, ring, POSTS_WAITING as u32);
-    let rest = take_all(core, task + 1, others);
+    let Some((count, counts)) = most.split_first() else {
+        unreachable!()
+    };
+    let first = take_some(core, task, ring, *count);
+    let rest = take_all(core, task + 1, others, counts);
     Taken {
         accepted: first.accepted + rest.accepted,
         refused: first.refused + rest.refused,
@@ -97,6 +106,7 @@ impl Conductor {
         ensures taken { TakesPosts self.old self.new result }
         ensures changes { SameChanges self.old self.new }
     {
-        take_all(&mut self.core, 0, &mut self.rings)
+        let most = [POSTS_WAITING as u32; TASKS as usize];
+        take_all(&mut self.core, 0, &mut self.rings, &most)
     }
 }

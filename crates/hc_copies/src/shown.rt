@@ -9,7 +9,7 @@ use hc_bits::laws::reading_takes_list;
 use hc_events::change::{Change, GoodAnswer};
 use hc_inputs::inputs::Inputs;
 use hc_places::swap::Swap;
-use hc_places::table::{Place, Places};
+use hc_places::table::{Datagram, Place, Places};
 use hc_plan::plan::Plan;
 use hc_records::limits::{MOST_DATAGRAMS, TASKS};
 use hc_records::records::{Dir, VarId};
@@ -63,12 +63,13 @@ fn read_number(bytes: &[u8], place: Place) -> u64
 }
 
 impl Shown {
-    ghost use Rattle.std.specs.Prelude.{◌≡◌, ◌++◌, ◌∷◌, [], IfOk, IsOk, MatchResult, min};
+    ghost use Rattle.std.specs.Prelude.{◌≡◌, ◌++◌, ◌∷◌, [], IfOk, IfSome, IsOk, MatchResult, min};
     ghost use Rattle.std.specs.Option.{option_copied};
     ghost use Rattle.hc_records.specs.declared.limits.TheConstants.{LAST_EPOCH};
     ghost use Rattle.hc_records.specs.Line.{groups_of};
     ghost use Rattle.hc_places.specs.Swap.{KeepRows};
-    ghost use Rattle.hc_places.specs.Table.{part_in, place_in};
+    ghost use Rattle.hc_places.specs.Ranges.{IsDatagram};
+    ghost use Rattle.hc_places.specs.Table.{datagram_in, part_in, place_in};
     ghost use Rattle.hc_events.specs.declared.change.Change.TheVariants as change;
     ghost use Rattle.hc_copies.specs.Told.{IsLegal, IsOpening, TakesNoMemory, data_shown, epoch_shown, just_told, table_shown, with_change};
     ghost use Rattle.hc_copies.specs.Values.{value_shown};
@@ -145,6 +146,14 @@ impl Shown {
         ensures { result ≡ part_in (table_shown self.now) task }
     {
         self.places.part(task)
+    }
+
+    /// The datagram of a task with a number; none where the task has fewer, or there is no such task.
+    pub fn datagram(&self, task: u8, number: u8) -> Option<Datagram>
+        ensures datagram { result ≡ datagram_in (table_shown self.now) task number }
+        ensures ranges { IfSome result IsDatagram }
+    {
+        self.places.datagram(task, number)
     }
 
     /// Where a variable stands; none where it has no place in the line. It takes no memory.

@@ -55,6 +55,10 @@ extends_same x y e = subst (λ z. Extends x z) e (extends_self x)
 pub extends_trans : (x y z : Told) → Extends x y → Extends y z → Extends x z
 extends_trans x y z p q = record { groups = q.groups ∙ p.groups; changes = prefix_trans x.changes y.changes z.changes p.changes q.changes }
 
+-- of two that extend each other the changes are the same
+pub extends_both : (x y : Told) → Extends x y → Extends y x → x.changes ≡ y.changes
+extends_both x y p q = prefix_whole x.changes y.changes p.changes (prefix_longer y.changes x.changes q.changes)
+
 last-append : (x : Told) (log : List Told) (e : Told) → last_of x (log ++ e ∷ []) ≡ e
 last-append x [] e = refl
 last-append x (y ∷ log) e = last-append y log e

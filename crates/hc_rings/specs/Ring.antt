@@ -1,6 +1,6 @@
 -- What contracts see of the two ends of a ring of posts: what was posted, what was taken, and what is left.
 use Rattle.std.specs.Prelude.{◌≡◌, ◌+◌, ℕ, List, ◌++◌, length, true, Option, Some, None}
-use Rattle.rtrb.specs.Ring.{sent, received, known_free, IsPair, SameProducer, SameConsumer}
+use Rattle.rtrb.specs.Ring.{sent, received, known_free, known_items, IsPair, SameProducer, SameConsumer}
 use Rattle.hc_rings.specs.Post.{Post, count_of}
 use Rattle.hc_rings.specs.Items.{items_of}
 use Rattle.hc_rings.specs.Ends.{put_in, known_ahead}
@@ -11,6 +11,14 @@ use Rattle.hc_rings.specs.declared.posts.PostReceiver.{PostReceiver}
 -- every post that the sender has posted, oldest first
 abbrev pub posted : PostSender → List Post
 posted s = put_in s.posts
+
+-- how many posts the sender knows a place for, with the place of the end that it leaves
+abbrev pub known_places : PostSender → ℕ
+known_places s = known_free s.posts.ring
+
+-- how many spare buffers it knows of
+abbrev pub known_spares : PostSender → ℕ
+known_spares s = length (known_items s.spares.ring)
 
 -- how many buffers were handed out to be filled
 abbrev pub handed_out : PostSender → ℕ

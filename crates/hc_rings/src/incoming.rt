@@ -21,9 +21,9 @@ pub(crate) struct IncomingPosts {
 }
 
 impl IncomingPosts {
-    ghost use Rattle.std.specs.Prelude.{◌≡◌, ◌≤◌, [], ◌∷◌, ◌++◌, length, IfSome, IfNone, true};
+    ghost use Rattle.std.specs.Prelude.{◌≡◌, ◌+◌, ◌≤◌, [], ◌∷◌, ◌++◌, length, IfSome, IfNone, true};
     ghost use mathlib.Core.List.{IsPrefix};
-    ghost use Rattle.rtrb.specs.Ring.{sent, all_sent, received, IsPair, IsFinishedOf, SameProducer, SameConsumer};
+    ghost use Rattle.rtrb.specs.Ring.{sent, all_sent, known_free, received, IsPair, IsFinishedOf, SameProducer, SameConsumer};
     ghost use Rattle.hc_rings.specs.Items.{posts_of};
     ghost use Rattle.hc_rings.specs.Ends.{put_in, came_out, known_ahead};
 
@@ -69,9 +69,11 @@ impl IncomingPosts {
         ensures came { received self.new.ring ≡ received self.old.ring }
         ensures known { IsPrefix (known_ahead self.old) (known_ahead self.new) }
         ensures sent { sent outgoing.new.ring ≡ sent outgoing.old.ring }
+        ensures places { 5 ≤ known_free outgoing.new.ring + length (known_ahead self.new) }
         ensures split { came_out self.new ++ known_ahead self.new ≡ put_in outgoing.new }
         ensures count { (result ≡ length (known_ahead self.new)) × (result ≤ 5) }
     {
+        outgoing.ring.slots_beside(&mut self.ring);
         self.ring.slots_beside(&mut outgoing.ring)
     }
 

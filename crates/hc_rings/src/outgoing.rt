@@ -1,6 +1,6 @@
 //! The end of a ring that posts go into. A `PostSender` owns it; as it is dropped it leaves the end behind the last post.
 ghost use Rattle.std.specs.Prelude.{◌≡◌, ◌+◌, ◌≤◌, true, length};
-ghost use Rattle.rtrb.specs.Ring.{sent, known_free};
+ghost use Rattle.rtrb.specs.Ring.{sent, known_free, producer_capacity};
 ghost use Rattle.hc_rings.specs.Items.{is_open};
 
 use crate::item::{EndComesLast, Item};
@@ -15,6 +15,7 @@ pub(crate) struct OutgoingPosts {
     ghost not_ended: { is_open (sent ring) ≡ true },
     ghost place_for_end: { 1 ≤ known_free ring },
     ghost places: { 5 ≤ known_free ring + length (sent ring) },
+    ghost five: { producer_capacity ring ≡ 5 },
 }
 
 impl OutgoingPosts {
@@ -31,6 +32,7 @@ impl OutgoingPosts {
         ensures ok { OnOk result (put_in self.new ≡ put_in self.old ++ buffer ∷ []) }
         ensures full { IfErr result (λ back. (back ≡ buffer) × (put_in self.new ≡ put_in self.old)) }
         ensures full_only_after_four { OnErr result (POSTS_WAITING ≤ length (put_in self.old)) }
+        ensures full_where_no_place { OnErr result (known_free self.old.ring ≤ 1) }
     {
         if self.ring.slots() < 2 {
             return Err(buffer);

@@ -1,7 +1,7 @@
 //! The two ends of a ring of posts: a task seat posts at one, and the conductor takes at the other and gives the buffers back.
 ghost use Rattle.std.specs.Prelude.{◌≡◌, ◌≤◌, ◌++◌};
 ghost use Rattle.std.specs.VecDeque.{deque_len, deque_capacity};
-ghost use Rattle.rtrb.specs.Ring.{received};
+ghost use Rattle.rtrb.specs.Ring.{received, producer_capacity};
 ghost use Rattle.hc_rings.specs.Items.{posts_of};
 ghost use Rattle.hc_rings.specs.Taken.{posts_taken};
 
@@ -48,6 +48,7 @@ pub struct PostReceiver {
     // The posts that were taken, for contracts alone.
     took: Taken,
     spares: Producer<PostBuffer>,
+    ghost four: { producer_capacity spares ≡ 4 },
     ghost room: { (deque_len rest ≤ 5) × (5 ≤ deque_capacity rest) },
     ghost in_order: { posts_taken took ++ rest.items ≡ posts_of (received posts.ring) },
 }

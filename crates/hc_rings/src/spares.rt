@@ -13,8 +13,8 @@ pub(crate) struct SpareBuffers {
 }
 
 impl SpareBuffers {
-    ghost use Rattle.std.specs.Prelude.{◌≡◌, ◌+◌, ◌≤◌, length, OnSome, IfNone};
-    ghost use Rattle.rtrb.specs.Ring.{received, SameConsumer};
+    ghost use Rattle.std.specs.Prelude.{◌≡◌, ◌+◌, ◌<◌, ◌≤◌, length, IsSome, OnSome, IfNone};
+    ghost use Rattle.rtrb.specs.Ring.{known_items, received, SameConsumer};
 
     /// A spare buffer, or `None` where none is found.
     pub(crate) fn next(&mut self) -> Option<PostBuffer>
@@ -22,6 +22,7 @@ impl SpareBuffers {
         ensures some { OnSome result (length (received self.new.ring) ≡ length (received self.old.ring) + 1) }
         ensures none { IfNone result (length (received self.new.ring) ≡ length (received self.old.ring)) }
         ensures none_only_after_four { IfNone result (4 ≤ length (received self.old.ring)) }
+        ensures known { 0 < length (known_items self.old.ring) → IsSome result }
     {
         if self.ring.is_empty() {
             return None;

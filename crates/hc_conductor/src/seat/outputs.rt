@@ -1,8 +1,8 @@
 //! What a task posts.
-ghost use Rattle.std.specs.Prelude.{◌≡◌, ◌≤◌, ◌↔◌, [], ◌∷◌, ◌++◌, IfOk, IfSome, IsErrOf, IsSome, None, OnErr, OnOk, false, length, replicate, true};
+ghost use Rattle.std.specs.Prelude.{◌≡◌, ◌<◌, ◌≤◌, ◌↔◌, [], ◌∷◌, ◌++◌, IfOk, IfSome, IsErrOf, IsOk, IsSome, None, OnErr, OnOk, false, length, replicate, true};
 ghost use Rattle.std.specs.Borrow.{sem};
 ghost use Rattle.hc_rings.specs.declared.posts.TheConstants.{POSTS_WAITING};
-ghost use Rattle.hc_rings.specs.Ring.{SameSender};
+ghost use Rattle.hc_rings.specs.Ring.{SameSender, known_places, known_spares};
 ghost use Rattle.hc_rings.specs.declared.posts.holding.PostFault.TheVariants.{Full, NoBuffer};
 ghost use Rattle.hc_conductor.specs.Outputs.{HoldsNone, HoldsOutputs, LendsHeld, LendsOutputs, SameSeat, blank_outputs};
 ghost use Rattle.hc_conductor.specs.Seats.{PostsEach, held, posted, sender, size_of};
@@ -13,11 +13,14 @@ use hc_rings::{NoSpare, PostFault};
 impl TaskSeat {
     /// Holds so many zeros for the next post as the task has output bytes in the epoch that was viewed last, in the
     /// opening's before any view: in the buffer that is held already, or in a free one. `NoSpare` where none is held and
-    /// no buffer is free: only after four posts that were made. It waits for nobody and takes no memory.
+    /// no buffer is free: only after four posts that were made, and never where a spare is known. It waits for nobody and
+    /// takes no memory.
     pub fn hold(&mut self) -> Result<(), NoSpare>
         ensures held { OnOk result (HoldsOutputs self.old self.new (blank_outputs self.old) × IsSome (held self.new)) }
         ensures none_held { OnErr result (HoldsNone self.old self.new) }
         ensures posts_each { PostsEach self.old → OnErr result (POSTS_WAITING ≤ length (posted self.old)) }
+        ensures known { 0 < known_spares (sender self.old) → IsOk result }
+        ensures places { known_places (sender self.new) ≡ known_places (sender self.old) }
     {
         self.posts
             .hold(self.viewer.epoch, usize::from(self.viewer.size))
@@ -61,8 +64,8 @@ impl TaskSeat {
     }
 
     /// Posts the outputs that are held as they were left, for the epoch for which they are held. `NoBuffer` exactly where
-    /// none are held; `Full` only after four posts that were made, and the outputs stay held. It waits for nobody and
-    /// takes no memory.
+    /// none are held; `Full` only after four posts that were made, and never where a place is known; the outputs then stay
+    /// held. It waits for nobody and takes no memory.
     pub fn post(&mut self) -> Result<(), PostFault>
         ensures seat { SameSeat self.old self.new }
         ensures ring { SameSender (sender self.old) (sender self.new) }
@@ -70,6 +73,7 @@ impl TaskSeat {
         ensures ok { OnOk result (IfSome (held self.old) (λ post. posted self.new ≡ posted self.old ++ post ∷ []) × (held self.new ≡ None)) }
         ensures err { OnErr result ((posted self.new ≡ posted self.old) × (held self.new ≡ held self.old)) }
         ensures full_only_after_four { IsErrOf result Full → POSTS_WAITING ≤ length (posted self.old) }
+        ensures full_where_no_place { IsErrOf result Full → known_places (sender self.old) ≤ 1 }
         ensures posts_each { PostsEach self.old → PostsEach self.new }
     {
         self.posts.post_held()

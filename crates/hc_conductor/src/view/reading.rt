@@ -1,7 +1,8 @@
 //! What a task sees: of its own datagrams, at the end of the changes of the copy that it looks at.
-ghost use Rattle.std.specs.Prelude.{◌≡◌};
+ghost use Rattle.std.specs.Prelude.{◌≡◌, IfSome};
 ghost use Rattle.std.specs.Option.{option_copied};
-ghost use Rattle.hc_places.specs.Table.{part_in, place_in};
+ghost use Rattle.hc_places.specs.Ranges.{IsDatagram};
+ghost use Rattle.hc_places.specs.Table.{datagram_in, part_in, place_in};
 ghost use Rattle.hc_copies.specs.Told.{data_shown, epoch_shown, table_shown};
 ghost use Rattle.hc_copies.specs.Values.{value_shown};
 ghost use Rattle.hc_conductor.specs.Seats as seats;
@@ -13,7 +14,7 @@ use super::TaskView;
 use crate::seat::TaskSeat;
 use crate::viewer::Viewer;
 use hc_copies::faults::ViewFault;
-use hc_places::table::Place;
+use hc_places::table::{Datagram, Place};
 use hc_records::records::VarId;
 
 impl TaskView {
@@ -29,6 +30,15 @@ impl TaskView {
         ensures { result ≡ part_in (table_shown (told_to self.now)) (task_of self.now) }
     {
         self.view.part()
+    }
+
+    /// A datagram of the task by its number; none where the task has fewer. Its offset is where its data, and so its
+    /// outputs, stand in the bytes that `outputs` lends for the epoch.
+    pub fn datagram(&self, number: u8) -> Option<Datagram>
+        ensures datagram { result ≡ datagram_in (table_shown (told_to self.now)) (task_of self.now) number }
+        ensures ranges { IfSome result IsDatagram }
+    {
+        self.view.datagram(number)
     }
 
     /// Where a variable stands, of any task; none where it has no place in the line.

@@ -73,7 +73,7 @@ byte_bit bit small n i below =
     spelled (map (λ k. bit (8 * n + k)) (range_with_len 0 8)) i (eight_small bit small n 0 8)
     ∙ get_or-map-range_with_len (λ k. bit (8 * n + k)) 0 8 i i 0 below (omega arith)
 
-made_bit : (bit : ℕ → ℕ) → ((k : ℕ) → bit k < 2) → (size k : ℕ) → k < 8 * size → bit_of (bytes_of bit size) k ≡ bit k
+pub made_bit : (bit : ℕ → ℕ) → ((k : ℕ) → bit k < 2) → (size k : ℕ) → k < 8 * size → bit_of (bytes_of bit size) k ≡ bit k
 unfolding bit_of
 made_bit bit small size k below =
     let inside : k / 8 < size = omega arith in

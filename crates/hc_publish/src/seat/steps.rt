@@ -44,6 +44,34 @@ impl Seat {
         }
     }
 
+    /// Looks at just what a note carries, which is published still where the publisher has not published since. The seat
+    /// comes back as it was where there was no entry, or where something else is published. It waits for nobody and takes
+    /// no memory.
+    pub fn view_of(self, note: &Note) -> Result<View, Seat>
+        requires { note_origin note.now ≡ seat_origin self }
+        ensures exact { MatchResult result (λ view. shown view ≡ carried note.now) (λ seat. known seat ≡ known self) }
+        ensures begins { IfOk result (λ view. IsPrefix (known self) (shown view)) }
+        ensures legal { IfOk result (λ view. IsLegal view.told) }
+        ensures origin { MatchResult result (λ view. view_origin view ≡ seat_origin self) (λ seat. seat_origin seat ≡ seat_origin self) }
+        ensures task { MatchResult result (λ view. view.task ≡ self.task) (λ seat. seat.task ≡ self.task) }
+    {
+        let front = self.front.again();
+        let view = self.view()?;
+        if view.is_of(note) {
+            return Ok(view);
+        }
+        let Seat {
+            task,
+            reader,
+            front: _,
+        } = view.leave();
+        Err(Seat {
+            task,
+            reader,
+            front,
+        })
+    }
+
     /// Takes in what a note of the seat's publisher carries: the seat then knows the longer of the two lists, which
     /// begins with the other. It waits for nobody and takes no memory.
     pub fn learn(&mut self, note: Note)

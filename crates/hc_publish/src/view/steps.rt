@@ -1,16 +1,18 @@
 //! What a view shows: of its seat's task, at the end of the changes of the copy that it looks at.
-ghost use Rattle.std.specs.Prelude.{◌≡◌};
+ghost use Rattle.std.specs.Prelude.{◌≡◌, IfSome, true};
 ghost use Rattle.std.specs.Option.{option_copied};
-ghost use Rattle.hc_places.specs.Table.{part_in, place_in};
+ghost use Rattle.hc_places.specs.Ranges.{IsDatagram};
+ghost use Rattle.hc_places.specs.Table.{datagram_in, part_in, place_in};
 ghost use Rattle.hc_copies.specs.Told.{data_shown, epoch_shown, table_shown};
 ghost use Rattle.hc_copies.specs.Values.{value_shown};
-ghost use Rattle.hc_publish.specs.Seats.{known, seat_origin};
+ghost use Rattle.hc_publish.specs.Seats.{carried, known, note_origin, seat_origin};
 ghost use Rattle.hc_publish.specs.Looks.{shown, view_origin};
 
 use super::View;
+use crate::publisher::Note;
 use crate::seat::Seat;
 use hc_copies::faults::ViewFault;
-use hc_places::table::Place;
+use hc_places::table::{Datagram, Place};
 use hc_records::records::VarId;
 
 impl View {
@@ -26,6 +28,14 @@ impl View {
         ensures { result ≡ part_in (table_shown self.now.told) self.now.task }
     {
         self.reading.get().shown.part(self.task)
+    }
+
+    /// A datagram of the task by its number; none where the task has fewer.
+    pub fn datagram(&self, number: u8) -> Option<Datagram>
+        ensures datagram { result ≡ datagram_in (table_shown self.now.told) self.now.task number }
+        ensures ranges { IfSome result IsDatagram }
+    {
+        self.reading.get().shown.datagram(self.task, number)
     }
 
     /// Where a variable stands, of any task; none where it has no place in the line.
@@ -50,6 +60,16 @@ impl View {
         ensures { result ≡ value_shown self.now.told self.now.task variable }
     {
         self.reading.get().shown.value(self.task, variable)
+    }
+
+    /// Whether it shows just what a note of its publisher carries: so it does where the publisher has not published since
+    /// it made the note. Where it says no, nothing is known.
+    pub fn is_of(&self, note: &Note) -> bool
+        requires { note_origin note.now ≡ view_origin self.now }
+        ensures { result ≡ true → shown self.now ≡ carried note.now }
+    {
+        let front = &self.reading.get().front;
+        front.is_within(&note.front) && note.front.is_within(front)
     }
 
     /// Gives the seat back, which has seen what the view showed.

@@ -1,8 +1,8 @@
 //! The buffer that a task seat holds for its next post: its bytes are lent for writing, and then it is posted.
-ghost use Rattle.std.specs.Prelude.{◌≡◌, ◌≤◌, ◌↔◌, [], ◌∷◌, ◌++◌, length, None, Some, IsSome, IfSome, OnOk, OnErr, IsErrOf, IfOk, replicate, true, false};
+ghost use Rattle.std.specs.Prelude.{◌≡◌, ◌<◌, ◌≤◌, ◌↔◌, [], ◌∷◌, ◌++◌, length, None, Some, IsOk, IsSome, IfSome, OnOk, OnErr, IsErrOf, IfOk, replicate, true, false};
 ghost use Rattle.std.specs.Borrow.{sem};
 ghost use Rattle.hc_rings.specs.Post.{blank_post};
-ghost use Rattle.hc_rings.specs.Ring.{posted, handed_out, held, PostsEach, Holds, HoldsPost, HoldsNothing, SameSender};
+ghost use Rattle.hc_rings.specs.Ring.{posted, handed_out, held, known_places, known_spares, PostsEach, Holds, HoldsPost, HoldsNothing, SameSender};
 ghost use Rattle.hc_rings.specs.Lending.{LendsBuffer, LendsBytes, LendsHeld, LendsOutputs};
 
 use super::{NoSpare, POSTS_WAITING, PostSender, SPARE_BUFFERS};
@@ -28,6 +28,8 @@ impl PostSender {
         ensures ok { OnOk result (Holds self.old self.new (blank_post epoch size)) }
         ensures no_spare { OnErr result ((held self.old ≡ None) × (held self.new ≡ None) × (handed_out self.new ≡ handed_out self.old)) }
         ensures no_spare_only_after_four { OnErr result (SPARE_BUFFERS ≤ handed_out self.old) }
+        ensures known { 0 < known_spares self.old → IsOk result }
+        ensures places { known_places self.new ≡ known_places self.old }
         ensures posts_each { PostsEach self.old → PostsEach self.new × OnErr result (SPARE_BUFFERS ≤ length (posted self.old)) }
     {
         let mut buffer = match self.held.take() {
@@ -83,6 +85,7 @@ impl PostSender {
         ensures ok { OnOk result (IfSome (held self.old) (λ post. posted self.new ≡ posted self.old ++ post ∷ []) × (held self.new ≡ None)) }
         ensures err { OnErr result ((posted self.new ≡ posted self.old) × (held self.new ≡ held self.old)) }
         ensures full_only_after_four { IsErrOf result PostFault.Full → POSTS_WAITING ≤ length (posted self.old) }
+        ensures full_where_no_place { IsErrOf result PostFault.Full → known_places self.old ≤ 1 }
         ensures posts_each { PostsEach self.old → PostsEach self.new }
     {
         let Some(buffer) = self.held.take() else {

@@ -1,6 +1,6 @@
 //! Makes a ring of posts with its spare buffers.
 ghost use Rattle.std.specs.Prelude.{◌≡◌, [], length, IfOk, None};
-ghost use Rattle.rtrb.specs.Ring.{sent, received, known_items, IsPair};
+ghost use Rattle.rtrb.specs.Ring.{sent, received, known_items, producer_capacity, IsPair};
 ghost use Rattle.hc_rings.specs.Ring.{posted, handed_out, held, taken, left, given_back, ArePostEnds};
 
 use super::{POSTS_WAITING, PostReceiver, PostSender, SPARE_BUFFERS};
@@ -48,6 +48,7 @@ pub fn post_ring(alloc: Global) -> Result<(PostSender, PostReceiver), AllocError
 /// A ring that is full of spare buffers, all of which its consumer knows.
 fn spares(alloc: Global) -> Result<(Producer<PostBuffer>, Consumer<PostBuffer>), AllocError>
     ensures pair { IfOk result (λ r. IsPair r.0 r.1) }
+    ensures four { IfOk result (λ r. producer_capacity r.0 ≡ SPARE_BUFFERS) }
     ensures full { IfOk result (λ r. (length (sent r.0) ≡ SPARE_BUFFERS) × (received r.1 ≡ []) × (length (known_items r.1) ≡ SPARE_BUFFERS)) }
 {
     let (mut spares, mut taken) = RingBuffer::new(alloc, SPARE_BUFFERS)?;

@@ -1,10 +1,10 @@
 //! What the conductor does with its end of a ring of posts.
-ghost use Rattle.std.specs.Prelude.{◌≡◌, ◌<◌, ◌⊎◌, [], ◌∷◌, ◌++◌, List, length, IsSome, IfSome, IfNone};
+ghost use Rattle.std.specs.Prelude.{◌≡◌, ◌+◌, ◌<◌, ◌≤◌, ◌⊎◌, [], ◌∷◌, ◌++◌, List, length, IsSome, IfSome, IfNone};
 ghost use mathlib.Core.List.{IsPrefix};
 ghost use Rattle.hc_rings.specs.Post.{Post};
-ghost use Rattle.hc_rings.specs.Ring.{posted, handed_out, taken, left, given_back, spare_places, EndCameAfter, ArePostEnds, SameSender, SameReceiver};
+ghost use Rattle.hc_rings.specs.Ring.{posted, handed_out, held, known_places, known_spares, taken, left, given_back, spare_places, EndCameAfter, ArePostEnds, SameSender, SameReceiver};
 
-use super::{POSTS_WAITING, PostReceiver, PostSender};
+use super::{POSTS_WAITING, PostReceiver, PostSender, SPARE_BUFFERS};
 use crate::post_buffer::PostBuffer;
 
 impl PostReceiver {
@@ -20,6 +20,7 @@ impl PostReceiver {
         ensures none { IfNone result (taken self.new ≡ taken self.old) }
         ensures none_left { IfNone result ((left self.old ≡ []) × (left self.new ≡ [])) }
 
+        ensures places { spare_places self.new ≡ spare_places self.old }
         ensures end { (posts : List Post) → EndCameAfter self.old posts → EndCameAfter self.new posts }
         ensures given_back { given_back self.new ≡ given_back self.old }
     {
@@ -42,6 +43,7 @@ impl PostReceiver {
         ensures given_back { (given_back self.new ≡ given_back self.old ++ buffer ∷ [])
             ⊎ ((given_back self.new ≡ given_back self.old) × (spare_places self.new ≡ 0)) }
         ensures kept { 0 < spare_places self.old → given_back self.new ≡ given_back self.old ++ buffer ∷ [] }
+        ensures places { spare_places self.old ≤ spare_places self.new + 1 }
     {
         let _ = self.spares.push(buffer);
     }
@@ -65,15 +67,23 @@ impl PostReceiver {
     }
 
     /// How many posts are left, for a thread that holds both ends: what was taken and what is left is all that was posted.
+    /// Each end then knows what the other did: the sender of a place for each post that isn't left, and of each spare buffer
+    /// that isn't handed out; the receiver of a place for each buffer that is.
     pub fn beside(&mut self, sender: &mut PostSender) -> u32
         requires { ArePostEnds sender.old self.old }
         ensures ring { SameReceiver self.old self.new × SameSender sender.old sender.new }
         ensures taken { (taken self.new ≡ taken self.old) × IsPrefix (left self.old) (left self.new) }
         ensures posted { (posted sender.new ≡ posted sender.old) × (handed_out sender.new ≡ handed_out sender.old) }
+        ensures held { held sender.new ≡ held sender.old }
         ensures split { taken self.new ++ left self.new ≡ posted sender.new }
+        ensures places { POSTS_WAITING + 1 ≤ known_places sender.new + length (left self.new) }
+        ensures spares { known_spares sender.new + handed_out sender.new ≡ length (given_back self.new) }
+        ensures spare_places { SPARE_BUFFERS + handed_out sender.new ≤ spare_places self.new + length (given_back self.new) }
         ensures count { result ≡ length (left self.new) }
         ensures given_back { given_back self.new ≡ given_back self.old }
     {
+        self.spares.slots_beside(&mut sender.spares.ring);
+        sender.spares.ring.slots_beside(&mut self.spares);
         let waiting = self.posts.beside(&mut sender.posts);
         (self.rest.len() + waiting) as u32
     }

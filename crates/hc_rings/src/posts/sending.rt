@@ -1,6 +1,6 @@
 //! What a task seat does with its end of a ring of posts.
-ghost use Rattle.std.specs.Prelude.{◌≡◌, ◌+◌, ◌≤◌, [], ◌∷◌, ◌++◌, length, OnOk, OnErr, IfErr};
-ghost use Rattle.hc_rings.specs.Ring.{posted, handed_out, held, SameSender};
+ghost use Rattle.std.specs.Prelude.{◌≡◌, ◌+◌, ◌<◌, ◌≤◌, [], ◌∷◌, ◌++◌, length, IsOk, OnOk, OnErr, IfErr};
+ghost use Rattle.hc_rings.specs.Ring.{posted, handed_out, held, known_places, known_spares, SameSender};
 
 use super::{POSTS_WAITING, PostSender, SPARE_BUFFERS};
 use crate::post_buffer::PostBuffer;
@@ -22,6 +22,8 @@ impl PostSender {
         ensures ok { OnOk result (handed_out self.new ≡ handed_out self.old + 1) }
         ensures no_spare { OnErr result (handed_out self.new ≡ handed_out self.old) }
         ensures no_spare_only_after_four { OnErr result (SPARE_BUFFERS ≤ handed_out self.old) }
+        ensures known { 0 < known_spares self.old → IsOk result }
+        ensures places { known_places self.new ≡ known_places self.old }
     {
         self.spares.next().ok_or(NoSpare)
     }
@@ -32,6 +34,7 @@ impl PostSender {
         ensures ok { OnOk result (posted self.new ≡ posted self.old ++ buffer ∷ []) }
         ensures full { IfErr result (λ full. (full.0 ≡ buffer) × (posted self.new ≡ posted self.old)) }
         ensures full_only_after_four { OnErr result (POSTS_WAITING ≤ length (posted self.old)) }
+        ensures full_where_no_place { OnErr result (known_places self.old ≤ 1) }
         ensures handed_out { (handed_out self.new ≡ handed_out self.old) × (held self.new ≡ held self.old) }
     {
         match self.posts.post(buffer) {

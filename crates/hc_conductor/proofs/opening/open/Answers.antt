@@ -14,7 +14,7 @@ use Rattle.hc_publish.specs.Board as board
 use Rattle.hc_publish.specs.Seats.{IsFresh, seat_origin, task_of}
 use Rattle.hc_rings.specs.declared.post_buffer.TheConstants.{LARGEST_IMAGE}
 use Rattle.hc_conductor.specs.Openings.{AreEnds, IsOpenable, IsUnused, output_bytes}
-use Rattle.hc_conductor.proofs.Images.{opened-short}
+use Rattle.hc_conductor.proofs.lemmas.Images.{opened-short}
 use Rattle.hc_conductor.proofs.Lists.{stands-opened}
 use Rattle.hc_conductor.proofs.opening.open.Goals as goal
 

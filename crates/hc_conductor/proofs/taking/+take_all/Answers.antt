@@ -3,28 +3,30 @@ use Rattle.std.proofs.lemmas.List.{length-map}
 use Rattle.hc_rings.specs.declared.posts.PostReceiver.{PostReceiver}
 use Rattle.hc_conductor.specs.declared.taking.Taken.{Taken}
 use Rattle.hc_conductor.specs.Taking.{TakesFromAll, event_of}
-use Rattle.hc_conductor.proofs.Takings.{few-events, rings-taken}
+use Rattle.hc_conductor.proofs.Takings.{few-events, first-few, four-taken, rings-taken}
 use Rattle.hc_conductor.proofs.taking.+take_all.Goals as goal
 
 pub overflow_add-result : goal.overflow_add-result
 overflow_add-result t c =
-    let one = c.take_some-first.ensures in
-    let rest = c.take_all-rest.ensures in
+    let one = c.take_some-first.ensures.taken in
+    let rest = c.take_all-rest.ensures.taken in
+    let most = first-few _ _ _ c.in-Some-split_first.ensures.cases.0 c.requires.few in
     let few = few-events (c.args.task + 1) c.in-Some.others.now c.take_all-rest.new.rings rest.posts rest.rings in
-    omega (arith, one.ring.few, length-map one.posts (event_of c.args.task), one.counts.all, rest.counts.all, few, ap length c.in-Some.ensures.cases.0, c.requires)
+    omega (arith, one.ring.few, length-map one.posts (event_of c.args.task), one.counts.all, rest.counts.all, few, ap length c.in-Some.ensures.cases.0, c.requires.tasks, most)
 
 pub overflow_add-result-2 : goal.overflow_add-result-2
 overflow_add-result-2 t c =
-    let one = c.take_some-first.ensures in
-    let rest = c.take_all-rest.ensures in
+    let one = c.take_some-first.ensures.taken in
+    let rest = c.take_all-rest.ensures.taken in
+    let most = first-few _ _ _ c.in-Some-split_first.ensures.cases.0 c.requires.few in
     let few = few-events (c.args.task + 1) c.in-Some.others.now c.take_all-rest.new.rings rest.posts rest.rings in
-    omega (arith, one.ring.few, length-map one.posts (event_of c.args.task), one.counts.all, rest.counts.all, few, ap length c.in-Some.ensures.cases.0, c.requires)
+    omega (arith, one.ring.few, length-map one.posts (event_of c.args.task), one.counts.all, rest.counts.all, few, ap length c.in-Some.ensures.cases.0, c.requires.tasks, most)
 
-pub returns : goal.returns
-returns t c =
+pub returns-clause-taken : goal.returns-clause-taken
+returns-clause-taken t c =
     let first = c.take_some-first.result in
     let rest = c.take_all-rest.result in
     let told : Taken = record { accepted = first.accepted + rest.accepted; refused = first.refused + rest.refused } in
     subst (λ (rings : List PostReceiver). TakesFromAll c.args.task c.args.core.now c.take_all-rest.new.core rings (c.take_some-first.new.ring ∷ c.take_all-rest.new.rings) told) (sym c.in-Some.ensures.cases.0)
     (rings-taken c.args.task c.args.core.now c.take_some-first.new.core c.take_all-rest.new.core c.in-Some.ring.now c.take_some-first.new.ring c.in-Some.others.now c.take_all-rest.new.rings told first rest
-    c.take_some-first.ensures c.take_all-rest.ensures refl refl)
+    (four-taken _ _ _ _ _ _ _ (first-few _ _ _ c.in-Some-split_first.ensures.cases.0 c.requires.few) c.take_some-first.ensures.taken) c.take_all-rest.ensures.taken refl refl)

@@ -9,7 +9,7 @@ use Rattle.hc_conductor.proofs.conductor.Conductor.take_posts.Goals as goal
 pub invariant_of-self : goal.invariant_of-self
 invariant_of-self c =
     let i = c.self.invariant in
-    let took = c.take_all.ensures in
+    let took = c.take_all.ensures.taken in
     let after = sym took.core in
     let many = as-many-rings _ _ took.posts took.rings ∙ ap length c.deref_mut.ensures.value in
     let all = whole-list c.take_all.new.rings _ _ (many ∙ sym c.self.inside.rings.ok.0) in

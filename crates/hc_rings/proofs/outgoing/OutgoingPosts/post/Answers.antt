@@ -15,4 +15,5 @@ invariant_of-self-2 c =
       not_ended = ap is_open grown ∙ is_open_post before c.args.buffer c.args.self.now.not_ended;
       place_for_end = omega arith;
       places = omega (arith, ap length grown, length-append before post);
+      five = c.push_reserved.ensures.ring.1 ∙ (c.slots.ensures.looked.0.1 ∙ c.args.self.now.five);
     }

@@ -29,9 +29,9 @@ use Rattle.hc_rings.specs.declared.post_buffer.TheConstants.{LARGEST_IMAGE}
 use Rattle.hc_conductor.specs.Openings.{IsOpenable, output_bytes}
 
 -- a line of a project that crowds no task
-record IsFit (state : State) : Type 0 where
-  project : lowest_fault (groups_of state.groups) ≡ None
-  uncrowded : crowded_task (line state) ≡ None
+pub record IsFit (state : State) : Type 0 where
+  pub project : lowest_fault (groups_of state.groups) ≡ None
+  pub uncrowded : crowded_task (line state) ≡ None
 
 -- ---- each state to which legal changes lead has such a line
 
@@ -60,7 +60,7 @@ fit_after state edit fit ok =
     } in
     subst IsFit (sym (one-epoch (lowest (edit_faults state edit)) state (changed state edit) ok)) next
 
-fit_behind : (state : State) (changes : List Change) → IsFit state → AreLegalFrom state changes → IsFit (state_behind state changes)
+pub fit_behind : (state : State) (changes : List Change) → IsFit state → AreLegalFrom state changes → IsFit (state_behind state changes)
 fit_behind state [] fit legal = fit
 fit_behind state (change.Swapped swap ∷ changes) fit legal = fit_behind (state_after state swap.edit) changes (fit_after state swap.edit fit legal.0.accepted) legal.1
 fit_behind state (change.Good good ∷ changes) fit legal = fit_behind state changes fit legal.1
@@ -89,7 +89,7 @@ each_task members most short (suc (suc (suc (suc (suc (suc (suc (suc task)))))))
 table_short : (state : State) → IsFit state → (task : ℕ) → output_bytes (table_of (line state)) task ≤ LARGEST_IMAGE
 table_short state fit = each_task (line state) LARGEST_IMAGE (outputs_short state fit)
 
-fit_opened : (groups : List Group) → IsOpenable groups → IsFit (opened groups)
+pub fit_opened : (groups : List Group) → IsOpenable groups → IsFit (opened groups)
 fit_opened groups is = record {
   project = ap lowest_fault (opened-groups groups) ∙ is.project;
   uncrowded = is.uncrowded;

@@ -1,0 +1,167 @@
+-- What waits between a conductor and its seats, where both ends of each ring are in one hand.
+use Rattle.std.proofs.Common.{◌≡◌, ℕ, zero, suc, ◌+◌, ◌<◌, ◌≤◌, List, [], ◌∷◌, ◌++◌, length, map, take, drop, refl, sym, ap, subst, ◌∙◌, arith, append_assoc}
+use Rattle.std.specs.Prelude.{All, Option}
+use Rattle.std.proofs.Math.Seq.{drop-append_seam, take-append_seam}
+use Rattle.std.proofs.lemmas.List.{append-nil, append_cancel_left, length-append, take-append-le}
+use Rattle.std.proofs.lemmas.List.Elements.{All-cons, All-nil}
+use mathlib.Core.List.{IsPrefix}
+use Rattle.hc_rings.specs.declared.posts.TheConstants.{POSTS_WAITING}
+use Rattle.hc_rings.specs.declared.posts.PostReceiver.{PostReceiver}
+use Rattle.hc_rings.specs.declared.posts.PostSender.{PostSender}
+use Rattle.hc_rings.specs.Post.{Post, count_of}
+use Rattle.hc_rings.specs.Ring.{PostsEach, SameReceiver, SameSender, given_back, handed_out, held, known_places, known_spares, left, posted, spare_places, taken}
+use Rattle.hc_rings.proofs.lemmas.Same.{ends-still, sender-same}
+use Rattle.hc_conductor.specs.Taking.{AreTaken, AreTakenFrom, EachTakesKnown, TakesKnown}
+use Rattle.hc_conductor.specs.Together.{EachRing, IsWhole, KnowAll, posts_waiting, waiting_between}
+
+-- ---- one post that is known comes out
+
+first_known : {X : Type 0} (n : ℕ) (l m : List X) (b : X) → suc n ≤ length l → IsPrefix l (b ∷ m) → (n ≤ length m) × (take (suc n) l ≡ b ∷ take n m)
+first_known n [] m b few p = absurd (omega arith)
+first_known n (x ∷ l) m b few p =
+    let head : x ≡ b = cc (p.1) in
+    let rest : l ++ p.0 ≡ m = cc (p.1) in
+    let short : n ≤ length l = omega arith in (
+      omega (arith, short, ap length rest, length-append l p.0),
+      ap (λ y. y ∷ take n l) head ∙ ap (λ ys. b ∷ ys) (sym (take-append-le n l p.0 short) ∙ ap (take n) rest),
+    )
+
+pub none-known : (r : PostReceiver) → TakesKnown 0 r r
+none-known r few room = (sym (append-nil (taken r)), omega arith)
+
+pub one-known : (n : ℕ) (old mid back new : PostReceiver) (post : Post) → IsPrefix (left old) (post ∷ left mid) → taken mid ≡ taken old ++ post ∷ []
+    → given_back mid ≡ given_back old → spare_places mid ≡ spare_places old → taken back ≡ taken mid → left back ≡ left mid
+    → (0 < spare_places mid → given_back back ≡ given_back mid ++ post ∷ []) → spare_places mid ≤ spare_places back + 1
+    → TakesKnown n back new → TakesKnown (suc n) old new
+one-known n old mid back new post first one same places behind still kept fewer others few room =
+    let known = first_known n (left old) (left mid) post few first in
+    let place : 0 < spare_places mid = omega (arith, places) in
+    let rest = others (omega (arith, known.0, ap length still)) (omega (arith, places)) in
+    let grown = kept place in (
+      rest.0
+          ∙ (ap (λ ps. ps ++ take n (left back)) (behind ∙ one)
+          ∙ (append_assoc (taken old) (post ∷ []) (take n (left back))
+          ∙ ap (λ ps. taken old ++ ps) (ap (λ l. post ∷ take n l) still ∙ sym known.1))),
+      omega (arith, rest.1, ap length grown, length-append (given_back mid) (post ∷ []), ap length same),
+    )
+
+-- ---- a ring whose ends look at each other
+
+pub ring-known : (s s' : PostSender) (r r' : PostReceiver) → IsWhole s r → SameReceiver r r' → SameSender s s' → taken r' ≡ taken r → posted s' ≡ posted s
+    → handed_out s' ≡ handed_out s → held s' ≡ held s → taken r' ++ left r' ≡ posted s' → POSTS_WAITING + 1 ≤ known_places s' + length (left r')
+    → known_spares s' + handed_out s' ≡ length (given_back r') → 4 + handed_out s' ≤ spare_places r' + length (given_back r') → given_back r' ≡ given_back r
+    → KnowAll s' r'
+ring-known s s' r r' is receiver sender took made out holds split places spares room back =
+    let long : length (taken r') + length (left r') ≡ length (posted s') = sym (length-append (taken r') (left r')) ∙ ap length split in
+    let each : PostsEach s' =
+    out ∙ (is.each ∙ (ap (λ (ps : List Post). length ps + count_of (held s)) (sym made) ∙ ap (λ (h : Option Post). length (posted s') + count_of h) (sym holds))) in
+    let came : length (given_back r') ≡ 4 + length (taken r') = ap length back ∙ (is.back ∙ ap (λ (ps : List Post). 4 + length ps) (sym took)) in
+    record {
+      whole = record {
+        ends = ends-still s s' r r' is.ends sender receiver;
+        each = each;
+        back = came;
+        order = (left r', split);
+      };
+      left_are = sym (ap (drop (length (taken r'))) (sym split) ∙ drop-append_seam (taken r') (left r'));
+      spares = omega (arith, long, each, came, spares);
+      places = places;
+      room = omega (arith, long, each, came, room);
+    }
+
+pub same-waiting : (s s' : PostSender) (r r' : PostReceiver) → taken r' ≡ taken r → posted s' ≡ posted s → waiting_between s' r' ≡ waiting_between s r
+same-waiting s s' r r' took made = ap (λ (ps : List Post). drop (length ps) (posted s')) took ∙ ap (drop (length (taken r))) made
+
+-- ---- all that waits comes out
+
+pub record AllTaken (s : PostSender) (r r' : PostReceiver) (posts : List Post) : Type 0 where
+  pub posts_are : posts ≡ waiting_between s r
+  pub whole : IsWhole s r'
+  pub none : waiting_between s r' ≡ []
+
+drop_all : {X : Type 0} (xs : List X) → drop (length xs) xs ≡ []
+drop_all xs = ap (drop (length xs)) (sym (append-nil xs)) ∙ drop-append_seam xs []
+
+take_all : {X : Type 0} (xs : List X) → take (length xs) xs ≡ xs
+take_all xs = ap (take (length xs)) (sym (append-nil xs)) ∙ take-append_seam xs []
+
+-- what begins a list, and the rest of it
+rest_of : {X : Type 0} (xs ys : List X) → IsPrefix xs ys → xs ++ drop (length xs) ys ≡ ys
+rest_of {X = X} xs ys p = ap (λ (zs : List X). xs ++ drop (length xs) zs) (sym p.1) ∙ (ap (λ (zs : List X). xs ++ zs) (drop-append_seam xs p.0) ∙ p.1)
+
+ring-taken : (n most : ℕ) (s : PostSender) (r r' : PostReceiver) (posts : List Post) → KnowAll s r → n ≡ length (waiting_between s r) → TakesKnown n r r' → AreTakenFrom most r r' posts
+    → AllTaken s r r' posts
+ring-taken n most s r r' posts all count takes came =
+    let many : n ≡ length (left r) = count ∙ ap length (sym all.left_are) in
+    let got = takes (omega (arith, many)) (omega (arith, many, all.room)) in
+    let whole-left : take n (left r) ≡ waiting_between s r = ap (λ (k : ℕ). take k (left r)) many ∙ (take_all (left r) ∙ all.left_are) in
+    let reach : taken r' ≡ taken r ++ waiting_between s r = got.0 ∙ ap (λ ps. taken r ++ ps) whole-left in
+    let end : taken r' ≡ posted s = reach ∙ rest_of (taken r) (posted s) all.whole.order in
+    let long = ap length reach ∙ length-append (taken r) (waiting_between s r) in
+    record {
+      posts_are = append_cancel_left (taken r) posts (waiting_between s r) (sym came.taken ∙ reach);
+      whole = record {
+        ends = ends-still s s r r' all.whole.ends (sender-same s) came.ring;
+        each = all.whole.each;
+        back = omega (arith, got.1, all.whole.back, long, count);
+        order = ([], append-nil (taken r') ∙ end);
+      };
+      none = ap (λ (ps : List Post). drop (length ps) (posted s)) end ∙ drop_all (posted s);
+    }
+
+-- so it is of each ring
+pub record EachTaken (ss : List PostSender) (rs rs' : List PostReceiver) (posts : List (List Post)) : Type 0 where
+  pub posts_are : posts ≡ posts_waiting ss rs
+  pub whole : EachRing IsWhole ss rs'
+  pub none : All (λ ps. ps ≡ []) (posts_waiting ss rs')
+
+abbrev IsEmpty : List Post → Type 0
+IsEmpty posts = posts ≡ []
+
+pub all-taken : (ss : List PostSender) (ns : List ℕ) (rs rs' : List PostReceiver) (posts : List (List Post)) → EachRing KnowAll ss rs → ns ≡ map length (posts_waiting ss rs)
+    → EachTakesKnown ns rs rs' → AreTaken rs rs' posts → EachTaken ss rs rs' posts
+all-taken [] [] [] [] [] know count takes came = record { posts_are = refl; whole = tt; none = All-nil IsEmpty }
+all-taken (s ∷ ss) (n ∷ ns) (r ∷ rs) (r' ∷ rs') (ps ∷ posts) know count takes came =
+    let head : n ≡ length (waiting_between s r) = cc (count) in
+    let tail : ns ≡ map length (posts_waiting ss rs) = cc (count) in
+    let one = ring-taken n POSTS_WAITING s r r' ps know.0 head takes.0 came.0 in
+    let others = all-taken ss ns rs rs' posts know.1 tail takes.1 came.1 in
+    record {
+      posts_are = ap (λ (qs : List Post). qs ∷ posts) one.posts_are ∙ ap (λ (qs : List (List Post)). waiting_between s r ∷ qs) others.posts_are;
+      whole = (one.whole, others.whole);
+      none = All-cons IsEmpty (waiting_between s r') (posts_waiting ss rs') one.none others.none;
+    }
+all-taken [] (n ∷ ns) [] rs' posts know count takes came = cc
+all-taken [] ns (r ∷ rs) rs' posts know count takes came = absurd know
+all-taken [] [] [] (r' ∷ rs') posts know count takes came = absurd takes
+all-taken [] [] [] [] (ps ∷ posts) know count takes came = absurd came
+all-taken (s ∷ ss) ns [] rs' posts know count takes came = absurd know
+all-taken (s ∷ ss) [] (r ∷ rs) rs' posts know count takes came = cc
+all-taken (s ∷ ss) (n ∷ ns) (r ∷ rs) [] posts know count takes came = absurd takes
+all-taken (s ∷ ss) (n ∷ ns) (r ∷ rs) (r' ∷ rs') [] know count takes came = absurd came
+
+-- where each two ends have looked at each other, and just what then waits is taken
+pub waiting-taken : (ss0 ss : List PostSender) (ns : List ℕ) (rs0 rs1 rs rs' : List PostReceiver) (posts : List (List Post)) → EachRing KnowAll ss rs1 → rs1 ≡ rs
+    → posts_waiting ss rs1 ≡ posts_waiting ss0 rs0 → ns ≡ map length (posts_waiting ss0 rs0) → EachTakesKnown ns rs rs' → AreTaken rs rs' posts
+    → (posts ≡ posts_waiting ss0 rs0) × EachTaken ss rs rs' posts
+waiting-taken ss0 ss ns rs0 rs1 rs rs' posts know same waits count takes came =
+    let kept = sym waits ∙ ap (posts_waiting ss) same in
+    let all = all-taken ss ns rs rs' posts (subst (EachRing KnowAll ss) same know) (count ∙ ap (λ (pss : List (List Post)). map length pss) kept) takes came in (
+      all.posts_are ∙ sym kept,
+      all,
+    )
+
+-- ---- the lengths of lists that go together
+
+pub as-many : (P : PostSender → PostReceiver → Type 0) (ss : List PostSender) (rs : List PostReceiver) → EachRing P ss rs → length ss ≡ length rs
+as-many P [] [] each = refl
+as-many P (s ∷ ss) (r ∷ rs) each = ap suc (as-many P ss rs each.1)
+as-many P [] (r ∷ rs) each = absurd each
+as-many P (s ∷ ss) [] each = absurd each
+
+pub few-waiting : (ss : List PostSender) (rs : List PostReceiver) → EachRing KnowAll ss rs → All (λ n. n ≤ POSTS_WAITING) (map length (posts_waiting ss rs))
+few-waiting [] [] each = All-nil (λ (n : ℕ). n ≤ POSTS_WAITING)
+few-waiting (s ∷ ss) (r ∷ rs) each =
+    All-cons (λ (n : ℕ). n ≤ POSTS_WAITING) (length (waiting_between s r)) (map length (posts_waiting ss rs)) (let spares = each.0.spares in omega (arith, spares, ap length each.0.left_are)) (few-waiting ss rs each.1)
+few-waiting [] (r ∷ rs) each = absurd each
+few-waiting (s ∷ ss) [] each = absurd each

@@ -1,0 +1,39 @@
+-- A conductor and all its seats in one hand: what waits between them is known.
+use Rattle.std.specs.Prelude.{◌≡◌, ◌+◌, ◌≤◌, List, [], ◌∷◌, drop, length}
+use mathlib.Core.List.{IsPrefix}
+use Rattle.hc_rings.specs.declared.posts.TheConstants.{POSTS_WAITING, SPARE_BUFFERS}
+use Rattle.hc_rings.specs.declared.posts.PostReceiver.{PostReceiver}
+use Rattle.hc_rings.specs.declared.posts.PostSender.{PostSender}
+use Rattle.hc_rings.specs.Post.{Post, count_of}
+use Rattle.hc_rings.specs.Ring.{ArePostEnds, PostsEach, given_back, held, known_places, known_spares, left, posted, spare_places, taken}
+
+-- the posts that wait to be taken, the oldest first
+abbrev pub waiting_between : PostSender → PostReceiver → List Post
+waiting_between s r = drop (length (taken r)) (posted s)
+
+-- those of each ring
+abbrev pub posts_waiting : List PostSender → List PostReceiver → List (List Post)
+posts_waiting [] rs = []
+posts_waiting (s ∷ ss) [] = []
+posts_waiting (s ∷ ss) (r ∷ rs) = waiting_between s r ∷ posts_waiting ss rs
+
+-- the two ends of one ring, of which no buffer was lost: each that was handed out was posted or is held, and each that was taken came back
+pub record IsWhole (s : PostSender) (r : PostReceiver) : Type 0 where
+  pub ends : ArePostEnds s r
+  pub each : PostsEach s
+  pub back : length (given_back r) ≡ SPARE_BUFFERS + length (taken r)
+  pub order : IsPrefix (taken r) (posted s)
+
+-- each end knows what the other did: what waits is known to be left, and each other buffer and each place is known
+pub record KnowAll (s : PostSender) (r : PostReceiver) : Type 0 where
+  pub whole : IsWhole s r
+  pub left_are : left r ≡ waiting_between s r
+  pub spares : known_spares s + count_of (held s) + length (left r) ≡ SPARE_BUFFERS
+  pub places : POSTS_WAITING + 1 ≤ known_places s + length (left r)
+  pub room : length (left r) ≤ spare_places r
+
+-- one by one the two ends of rings
+abbrev pub EachRing : (PostSender → PostReceiver → Type 0) → List PostSender → List PostReceiver → Type 0
+EachRing P [] [] = Unit {0}
+EachRing P (s ∷ ss) (r ∷ rs) = P s r × EachRing P ss rs
+EachRing P ss rs = ⊥

@@ -1,0 +1,76 @@
+//! Posts, where one thread holds the conductor and all its seats: what waits is known, and all of it is taken.
+ghost use Rattle.std.specs.Prelude.{◌≡◌, All, [], length, map};
+ghost use Rattle.hc_events.specs.Steps.{entries_after_all};
+ghost use Rattle.hc_rings.specs.Ring as ring;
+ghost use Rattle.hc_conductor.specs.Conducting.{SameChanges, past_of};
+ghost use Rattle.hc_conductor.specs.Seats.{sender, viewer_of};
+ghost use Rattle.hc_conductor.specs.Taking.{Counts, events_of_all};
+ghost use Rattle.hc_conductor.specs.Together.{EachRing, IsWhole, KnowAll, posts_waiting};
+
+use crate::conductor::Conductor;
+use crate::seat::TaskSeat;
+use crate::taking::{Taken, take_all};
+use hc_records::limits::TASKS;
+use hc_rings::PostReceiver;
+
+// Lets both ends of each ring know what the other did, and counts what waits; there are eight, so deep is this recursion.
+fn look(rings: &mut [PostReceiver], seats: &mut [TaskSeat], counts: &mut [u32])
+    requires whole { EachRing IsWhole (map sender seats.old) rings.old }
+    requires each { length counts.old ≡ length seats.old }
+    ensures known { EachRing KnowAll (map sender seats.new) rings.new }
+    ensures viewers { map viewer_of seats.new ≡ map viewer_of seats.old }
+    ensures held { map ring.held (map sender seats.new) ≡ map ring.held (map sender seats.old) }
+    ensures waiting { posts_waiting (map sender seats.new) rings.new ≡ posts_waiting (map sender seats.old) rings.old }
+    ensures counts { counts.new ≡ map length (posts_waiting (map sender seats.old) rings.old) }
+{
+    let Some((seat, other_seats)) = seats.split_first_mut() else {
+        return;
+    };
+    let Some((ring, other_rings)) = rings.split_first_mut() else {
+        unreachable!()
+    };
+    let Some((count, other_counts)) = counts.split_first_mut() else {
+        unreachable!()
+    };
+    *count = ring.beside(&mut seat.posts);
+    look(other_rings, other_seats, other_counts);
+}
+
+impl Conductor {
+    /// How many posts of each task wait to be taken, task i's at place i, for a thread that holds the conductor and all
+    /// its seats, in the order of their tasks. Each seat then knows of a place for every post that doesn't wait, and of
+    /// every buffer that is free: so its next `hold` is refused just where four of its posts wait, and its next `post`
+    /// for no want of a place. It waits for nobody and takes no memory.
+    pub fn posts_waiting(&mut self, seats: &mut [TaskSeat]) -> [u32; TASKS as usize]
+        requires { EachRing IsWhole (map sender seats.old) self.old.rings }
+        ensures known { EachRing KnowAll (map sender seats.new) self.new.rings }
+        ensures viewers { map viewer_of seats.new ≡ map viewer_of seats.old }
+        ensures held { map ring.held (map sender seats.new) ≡ map ring.held (map sender seats.old) }
+        ensures waiting { posts_waiting (map sender seats.new) self.new.rings ≡ posts_waiting (map sender seats.old) self.old.rings }
+        ensures counts { result ≡ map length (posts_waiting (map sender seats.old) self.old.rings) }
+        ensures record { past_of self.new ≡ past_of self.old }
+        ensures changes { SameChanges self.old self.new }
+    {
+        let mut counts = [0; TASKS as usize];
+        look(&mut self.rings, seats, &mut counts);
+        counts
+    }
+
+    /// Takes all that the tasks posted, for a thread that holds the conductor and all its seats, in the order of their
+    /// tasks, and hands each post to the core as a post of its task, for its epoch: the tasks ascending, each one's posts
+    /// in order. A post that the core refuses leaves nothing. Buffers go back to the seats. It waits for nobody and takes
+    /// no memory.
+    pub fn take_all_posts(&mut self, seats: &mut [TaskSeat]) -> Taken
+        requires { EachRing IsWhole (map sender seats.old) self.old.rings }
+        ensures entries { past_of self.new ≡ entries_after_all (past_of self.old) (events_of_all 0 (posts_waiting (map sender seats.old) self.old.rings)) }
+        ensures counts { Counts (past_of self.old) (events_of_all 0 (posts_waiting (map sender seats.old) self.old.rings)) result }
+        ensures changes { SameChanges self.old self.new }
+        ensures whole { EachRing IsWhole (map sender seats.new) self.new.rings }
+        ensures none { All (λ posts. posts ≡ []) (posts_waiting (map sender seats.new) self.new.rings) }
+        ensures viewers { map viewer_of seats.new ≡ map viewer_of seats.old }
+        ensures held { map ring.held (map sender seats.new) ≡ map ring.held (map sender seats.old) }
+    {
+        let counts = self.posts_waiting(seats);
+        take_all(&mut self.core, 0, &mut self.rings, &counts)
+    }
+}
