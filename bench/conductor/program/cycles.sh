@@ -8,7 +8,7 @@ cat > "$1/src/master.rt" <<'END_OF_CODE'
 use hc_conductor::conductor::Conductor;
 use hc_conductor::open;
 use hc_conductor::seat::TaskSeat;
-use hc_events::answer::Answer;
+use hc_events::answer::{Arrived, Outcome};
 use hc_events::faults::CoreFault;
 use hc_events::sending::Sending;
 use hc_project::read_project;
@@ -21,12 +21,15 @@ const DATA: usize = 26;
 /// Room for the frames of eight tasks.
 pub const ARENA: usize = 8 * 1514;
 
-/// What a master has beside its conductor: the frames that come back, of as many tasks, and room for those that go.
+/// What a master has beside its conductor: the frames that come back, of as many tasks, room for those that go, and the
+/// lists that it uses again.
 #[derive(Drop)]
 pub struct Frames {
     count: u32,
     arena: Vec<u8>,
     returned: Vec<Vec<u8>>,
+    sent: Vec<Sending>,
+    outcomes: Vec<Outcome>,
 }
 
 /// Puts a byte at a place, where there is one.
@@ -73,6 +76,20 @@ pub fn send(
         1 => conductor.send(alloc, &[0], arena),
         4 => conductor.send(alloc, &[0, 1, 2, 3], arena),
         _ => conductor.send(alloc, &[0, 1, 2, 3, 4, 5, 6, 7], arena),
+    }
+}
+
+/// The same, into a list that is used again.
+fn send_into(
+    conductor: &mut Conductor,
+    count: u32,
+    arena: &mut [u8],
+    sent: &mut Vec<Sending>,
+) -> Result<(), CoreFault> {
+    match count {
+        1 => conductor.send_into(&[0], arena, sent),
+        4 => conductor.send_into(&[0, 1, 2, 3], arena, sent),
+        _ => conductor.send_into(&[0, 1, 2, 3, 4, 5, 6, 7], arena, sent),
     }
 }
 
@@ -153,6 +170,8 @@ impl Frames {
             count,
             arena,
             returned,
+            sent: frames,
+            outcomes: Vec::new(alloc),
         })
     }
 
@@ -172,12 +191,10 @@ impl Frames {
     }
 
     /// The tasks are sent. None where that was refused.
-    pub fn send_only(&mut self, alloc: Global, conductor: &mut Conductor) -> Option<()> {
-        let Ok(frames) = send(alloc, conductor, self.count, &mut self.arena) else {
-            return None;
-        };
+    fn send_only(&mut self, conductor: &mut Conductor) -> Option<()> {
+        send_into(conductor, self.count, &mut self.arena, &mut self.sent).ok()?;
         let mut back = self.returned.iter_mut();
-        for sent in frames.as_slice() {
+        for sent in self.sent.as_slice() {
             if let Some(frame) = back.next() {
                 put_serial(frame, sent.serial());
             }
@@ -186,10 +203,11 @@ impl Frames {
     }
 
     /// All that was sent last comes back. How many frames are answers.
-    pub fn answer(&self, alloc: Global, conductor: &mut Conductor) -> u32 {
+    fn answer(&mut self, alloc: Global, conductor: &mut Conductor) -> u32 {
         let mut count = 0_u32;
         for frame in self.returned.as_slice() {
-            let answered = matches!(conductor.arrive(alloc, frame), Answer::Answered(_));
+            let arrived = conductor.arrive_into(alloc, frame, &mut self.outcomes);
+            let answered = matches!(arrived, Ok(Arrived::Answered));
             count = count.wrapping_add(u32::from(answered));
         }
         count
@@ -197,7 +215,7 @@ impl Frames {
 
     /// The tasks are sent, and all comes back. How many frames are answers.
     pub fn exchange(&mut self, alloc: Global, conductor: &mut Conductor) -> u32 {
-        match self.send_only(alloc, conductor) {
+        match self.send_only(conductor) {
             Some(()) => self.answer(alloc, conductor),
             None => 0,
         }
