@@ -6,6 +6,7 @@ pub mod Followed
 pub mod Firsts
 pub mod GoodsSteps
 pub mod Known
+pub mod Lowest
 pub mod Names
 pub mod News
 pub mod Sendings

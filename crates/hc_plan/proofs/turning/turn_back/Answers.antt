@@ -11,3 +11,13 @@ returns c =
     let known = subst (λ (starts : List (List Key)). AreStartsOf (areas_by_rank it.old) starts) (sym c.starts.ensures) c.requires.known.starts in
     c.put.ensures (areas_by_rank it.new) (areas_by_rank it.old)
     (edited_line-back it c.args.cuts.now c.first.result c.before-2.result.now c.after.result.now c.starts.result.now c.requires.edited c.requires.trees known c.first.ensures c.before-2.ensures c.after.ensures)
+
+pub put-requires : goal.put-requires
+put-requires c =
+    let it = c.args.edited.now in
+    let known = subst (λ (starts : List (List Key)). AreStartsOf (areas_by_rank it.old) starts) (sym c.starts.ensures) c.requires.known.starts in
+    record {
+      old = areas_by_rank it.new;
+      new = areas_by_rank it.old;
+      put = edited_line-back it c.args.cuts.now c.first.result c.before-2.result.now c.after.result.now c.starts.result.now c.requires.edited c.requires.trees known c.first.ensures c.before-2.ensures c.after.ensures;
+    }

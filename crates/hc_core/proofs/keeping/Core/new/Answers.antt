@@ -1,4 +1,5 @@
-use Rattle.std.proofs.Common.{◌≡◌, ◌∙◌, List, ap, sym, subst}
+use Rattle.std.proofs.Common.{◌≡◌, ◌∙◌, List, ap, sym, subst, refl}
+use Rattle.std.proofs.lemmas.Result.{err_from_is_err_and}
 use Rattle.hc_records.specs.Line.{State, line, opened}
 use Rattle.hc_events.specs.declared.change.Change.{Change}
 use Rattle.hc_events.specs.Accepted.{just_opened}
@@ -37,3 +38,28 @@ invariant_of-result c =
 pub new-requires-5 : goal.new-requires-5
 new-requires-5 c =
     subst IsLaidOut (sym c.places.ensures.table) (line-laid_out c.in_ok-plan.plan c.places.ensures.kept c.places.ensures.uncrowded)
+
+pub returns-in_err-plan-clause-refused : goal.returns-in_err-plan-clause-refused
+returns-in_err-plan-clause-refused c =
+    let p = err_from_is_err_and c.from_residual.result c.from_residual.ensures.1 in
+    rw (p.1, p.2) c.in_err-plan.ensures.refused
+
+pub returns-in_err-awaited-clause-refused : goal.returns-in_err-awaited-clause-refused
+returns-in_err-awaited-clause-refused c =
+    let p = err_from_is_err_and c.from_residual-in_err-awaited.result c.from_residual-in_err-awaited.ensures.1 in
+    rw (p.1, p.2) (λ other. absurd (other refl))
+
+pub returns-in_err-inputs-clause-refused : goal.returns-in_err-inputs-clause-refused
+returns-in_err-inputs-clause-refused c =
+    let p = err_from_is_err_and c.from_residual-in_err-inputs.result c.from_residual-in_err-inputs.ensures.1 in
+    rw (p.1, p.2) (λ other. absurd (other refl))
+
+pub returns-in_err-owed-clause-refused : goal.returns-in_err-owed-clause-refused
+returns-in_err-owed-clause-refused c =
+    let p = err_from_is_err_and c.from_residual-in_err-owed.result c.from_residual-in_err-owed.ensures.1 in
+    rw (p.1, p.2) (λ other. absurd (other refl))
+
+pub returns-in_err-outputs-clause-refused : goal.returns-in_err-outputs-clause-refused
+returns-in_err-outputs-clause-refused c =
+    let p = err_from_is_err_and c.from_residual-in_err-outputs.result c.from_residual-in_err-outputs.ensures.1 in
+    rw (p.1, p.2) (λ other. absurd (other refl))

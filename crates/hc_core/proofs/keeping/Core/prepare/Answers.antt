@@ -1,5 +1,5 @@
 use Rattle.std.proofs.Common.{◌≡◌, ◌+◌, ◌<◌, ◌∙◌, ap, arith, length, refl, subst, sym}
-use Rattle.std.specs.Prelude.{Ok, vec_capacity}
+use Rattle.std.specs.Prelude.{Ok, vec_capacity, Err}
 use Rattle.std.proofs.lemmas.Result.{err_from_is_err_and}
 use Rattle.hc_records.specs.Edits.{edited, state_after}
 use Rattle.hc_records.specs.Line.{State, line}
@@ -72,3 +72,17 @@ returns-clause-own c =
     accepted-own (state_of c.args.self.now.past) c.args.edit.now c.in_ok-prepared.prepared.new _
     (subst (λ (core : CoreState). edited (state_of core.past) c.args.edit.now ≡ Ok c.in_ok-prepared.prepared.new) c.self.view_is
     (subst (λ (state : State). edited state c.args.edit.now ≡ Ok c.in_ok-prepared.prepared.new) c.self.invariant.state c.in_ok-prepared.ensures.accepted))
+
+pub returns-in_err-prepared-clause-refused : goal.returns-in_err-prepared-clause-refused
+returns-in_err-prepared-clause-refused c =
+    let edit = c.args.edit.now in
+    let fault = c.in_err-prepared.field-0.0 in
+    let p = err_from_is_err_and c.from_residual.result c.from_residual.ensures.1 in
+    rw (p.1, p.2) (λ other.
+    subst (λ (core : CoreState). edited (state_of core.past) edit ≡ Err fault) c.self.view_is
+    (subst (λ (state : State). edited state edit ≡ Err fault) c.self.invariant.state (c.in_err-prepared.ensures.refused other)))
+
+pub returns-in_err-moves-clause-refused : goal.returns-in_err-moves-clause-refused
+returns-in_err-moves-clause-refused c =
+    let p = err_from_is_err_and c.from_residual-in_err-moves.result c.from_residual-in_err-moves.ensures.1 in
+    rw (p.1, p.2) (λ other. absurd (other refl))

@@ -1,5 +1,5 @@
 use Rattle.std.proofs.Common.{◌∙◌, ◌+◌, ◌∷◌, ◌++◌, [], List, length, length-append, map, take, sym, subst, ap, ℕ, arith}
-use Rattle.std.proofs.lemmas.List.{map_more}
+use Rattle.std.proofs.lemmas.List.{map_more, take_all}
 use Rattle.hc_events.specs.declared.answer.Answer.{Answer}
 use Rattle.hc_events.specs.Steps.{Step, step_of}
 use Rattle.hc_core.specs.Serving.{MayAnswerAll}
@@ -26,3 +26,6 @@ loop-event-preserved c =
       counted = ap length list.items ∙ longer ∙ ap (λ (n : ℕ). n + 1) c.loop-event.invariant.counted;
       room = let room = c.loop-event.invariant.room in omega (arith, list.capacity, room);
     }
+
+pub returns-clause-answers : goal.returns-clause-answers
+returns-clause-answers c = rw (take_all c.loop-event.event-index c.args.events.now c.loop-event-test.false) at c.loop-event.invariant.answers

@@ -1,4 +1,5 @@
-use Rattle.std.proofs.Common.{◌≡◌, ◌∙◌, ap, sym}
+use Rattle.std.proofs.Common.{◌≡◌, ◌∙◌, ap, sym, refl}
+use Rattle.std.proofs.lemmas.Result.{err_from_is_err_and}
 use Rattle.hc_events.specs.declared.answer.Answer.TheVariants as answer
 use Rattle.hc_events.specs.Entries.{Record}
 use Rattle.hc_events.specs.Points.{next_serial}
@@ -22,3 +23,13 @@ returns-clause-entries c =
     let first = c.in_ok-found.ensures.found in
     c.commit_write.ensures
     ∙ ap (λ (entries : Record). let next : CoreState = record old { past = entries } in next) (sym (write-entries old.past c.in_ok-found.found.1 first.rest first.first c.in_ok-found.ensures.left))
+
+pub returns-in_err-found-clause-refused : goal.returns-in_err-found-clause-refused
+returns-in_err-found-clause-refused c =
+    let p = err_from_is_err_and c.from_residual.result c.from_residual.ensures.1 in
+    rw (p.1, p.2) (λ other. c.in_err-found.ensures.refused)
+
+pub returns-in_err-text-clause-refused : goal.returns-in_err-text-clause-refused
+returns-in_err-text-clause-refused c =
+    let p = err_from_is_err_and c.from_residual-in_err-text.result c.from_residual-in_err-text.ensures.1 in
+    rw (p.1, p.2) (λ other. absurd (other refl))

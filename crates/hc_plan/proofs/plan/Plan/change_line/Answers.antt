@@ -11,9 +11,11 @@ use Rattle.hc_edits.specs.Changes.{changed_groups}
 use Rattle.hc_index.specs.Index.{IsIndexOf}
 use Rattle.hc_places.specs.Swap.{swapped}
 use Rattle.hc_places.specs.Table.{table_of}
-use Rattle.hc_changes.specs.EditedLine.{EditedLine}
+use Rattle.hc_changes.specs.EditedLine.{EditedLine, IsEditedLine, edited_line_of}
 use Rattle.hc_plan.specs.inner.Prepared.{IsLineReady}
 use Rattle.hc_plan.proofs.Editing.{old-groups}
+use Rattle.hc_edits.specs.Rows.{ChangesRow}
+use Rattle.hc_changes.proofs.lemmas.EditedLines.{change-edited_line}
 use Rattle.hc_plan.proofs.plan.Plan.change_line.Goals as goal
 
 -- the new groups are told by the change: a tactic would open the faults and the eight tasks of both lines
@@ -64,3 +66,34 @@ returns c =
     let change = c.args.work.change in
     let state : List Declared → State = λ groups. record { groups = groups; epoch = c.self.inside.epoch } in
     ap state c.carry_out.ensures.groups ∙ ap (λ (s : State). record s { groups = changed_groups change s.groups }) c.self.view_is
+
+pub of-edited_line-requires-clause-edited : goal.of-edited_line-requires-clause-edited
+of-edited_line-requires-clause-edited c =
+    let old : State = record { groups = c.self.inside.groups; epoch = c.self.inside.epoch } in
+    let ready = subst (λ (s : State). IsLineReady s c.args.report.now c.args.work) (sym c.self.view_is) c.requires.ready in
+    let edit = c.args.report.now.swap.edit in
+    record { edit = edit; changes = ready.changes; leads = subst (λ (g : List Declared). changed_groups c.args.work.change g ≡ groups_after g edit) (sym c.as_slice.ensures) ready.leads }
+
+pub of-edited_line-requires-clause-was : goal.of-edited_line-requires-clause-was
+of-edited_line-requires-clause-was c = subst (λ (g : List Declared). lowest_fault (groups_of g) ≡ None) (sym c.as_slice.ensures) c.self.invariant.0
+
+pub of-edited_line-requires-clause-is : goal.of-edited_line-requires-clause-is
+of-edited_line-requires-clause-is c =
+    let old : State = record { groups = c.self.inside.groups; epoch = c.self.inside.epoch } in
+    let ready = subst (λ (s : State). IsLineReady s c.args.report.now c.args.work) (sym c.self.view_is) c.requires.ready in
+    subst (λ (g : List Declared). lowest_fault (groups_of (changed_groups c.args.work.change g)) ≡ None) (sym c.as_slice.ensures) ready.project
+
+pub of-edited_line-requires-clause-row : goal.of-edited_line-requires-clause-row
+of-edited_line-requires-clause-row c =
+    let old : State = record { groups = c.self.inside.groups; epoch = c.self.inside.epoch } in
+    let ready = subst (λ (s : State). IsLineReady s c.args.report.now c.args.work) (sym c.self.view_is) c.requires.ready in
+    subst (ChangesRow c.args.work.change) (sym c.as_slice.ensures) ready.row
+
+pub turn_on-requires-clause-edited : goal.turn_on-requires-clause-edited
+turn_on-requires-clause-edited c =
+    let old : State = record { groups = c.self.inside.groups; epoch = c.self.inside.epoch } in
+    let ready = subst (λ (s : State). IsLineReady s c.args.report.now c.args.work) (sym c.self.view_is) c.requires.ready in
+    let change = c.args.work.change in
+    subst IsEditedLine (sym c.of-edited_line.ensures)
+    (subst (λ (g : List Declared). IsEditedLine (edited_line_of change g)) (sym c.as_slice.ensures)
+    (change-edited_line old.groups change (record { edit = c.args.report.now.swap.edit; changes = ready.changes; leads = ready.leads }) c.self.invariant.0 ready.project ready.row))
