@@ -84,7 +84,7 @@ drawn() {
     rm -rf "$scratch/drawn"
     mkdir "$scratch/drawn"
     : >"$scratch/difference"
-    timeout 300 "$scratch/fuzz" "$1" "$2" "$3" "$scratch/drawn" $declare >"$scratch/printed"
+    (timeout 300 "$scratch/fuzz" "$1" "$2" "$3" "$scratch/drawn" $declare >"$scratch/printed") 2>/dev/null
 }
 
 # compare_drawn: drawn calls beside the program, in three projects; then wrong programs and wrong libraries

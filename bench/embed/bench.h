@@ -7,7 +7,8 @@
 /* What is timed: a kind of call with its task or list of tasks, a number that it names, and how often it is made in a round. */
 struct timed {
     uint8_t kind, task;
-    uint32_t name, calls;
+    uint16_t name;
+    uint32_t calls;
 };
 
 /* A place in a frame, and the byte that the line leaves there: the working counter of a datagram. */

@@ -40,8 +40,8 @@ static const struct row ROWS[] = {
     {"next_serial", {SERIAL, 0, 0, 2000}, 0, 0, false},
     {"owed", {OWED, 0, 0, 2000}, 0, 0, false},
     {"place", {PLACE, 0, 300, 2000}, 0, 0, false},
-    {"datagram", {DATAGRAM, 0, 5, 2000}, 0, 0, false},
-    {"part", {PART, 0, 5, 2000}, 0, 0, false},
+    {"datagram", {DATAGRAM, 5, 0, 2000}, 0, 0, false},
+    {"part", {PART, 5, 0, 2000}, 0, 0, false},
     {"station", {STATION, 0, 4, 2000}, 0, 0, false},
     {"position", {POSITION, 0, 1005, 2000}, 0, 0, false},
     {"block", {BLOCK, 0, 1005, 2000}, 0, 16, false},
@@ -152,16 +152,16 @@ static bool look(struct zangjulf *line, const struct timed *timed, struct slices
     case SERIAL: return !zangjulf_next_serial(line, &serial) && serial > 0;
     case OWED: return !zangjulf_owed(line, &number) && number == timed->name;
     case PLACE: return !zangjulf_place(line, timed->name, &place);
-    case DATAGRAM: return !zangjulf_datagram(line, (uint8_t)timed->name, 0, &datagram);
-    case PART: return !zangjulf_part(line, (uint8_t)timed->name, &part) && part.outputs > 0;
+    case DATAGRAM: return !zangjulf_datagram(line, timed->task, 0, &datagram);
+    case PART: return !zangjulf_part(line, timed->task, &part) && part.outputs > 0;
     case STATION: return !zangjulf_station(line, timed->name, &station);
-    case POSITION: return !zangjulf_position(line, (uint16_t)timed->name, &number);
-    default: return !zangjulf_block(line, (uint16_t)timed->name, 0, slices->out, slices->out_size, &block);
+    case POSITION: return !zangjulf_position(line, timed->name, &number);
+    default: return !zangjulf_block(line, timed->name, 0, slices->out, slices->out_size, &block);
     }
 }
 
 static bool edit(struct zangjulf *line, const struct timed *timed, struct slices *slices) {
-    const uint16_t name = (uint16_t)timed->name, pdo = 0x1600;
+    const uint16_t name = timed->name, pdo = 0x1600;
     struct zangjulf_cost cost;
     uint8_t fault;
     switch (timed->kind) {

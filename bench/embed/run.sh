@@ -34,6 +34,7 @@ done
 cp "$top/crates/hc_c/src/arena.rt" "$bench/src/"
 mkdir -p "$bench/proofs"
 cp -r "$top/crates/hc_c/proofs/arena" "$bench/proofs/"
+sed -i 's/Rattle\.hc_c\./Rattle.embed_bench./' "$bench"/proofs/arena/*/*.antt
 (cd "$bench" && rt lib) > "$scratch/lib.txt" 2>&1 || { cat "$scratch/lib.txt"; exit 1; }
 "$top/tools/library.sh" > "$scratch/lib.txt" 2>&1 || { cat "$scratch/lib.txt"; exit 1; }
 # The libraries are made for x86-64-v2, so the program beside them is too.

@@ -27,7 +27,7 @@ use std::alloc::Global;
 pub struct Timed {
     pub kind: u8,
     pub task: u8,
-    pub name: u32,
+    pub name: u16,
     pub calls: u32,
 }
 
@@ -117,28 +117,28 @@ fn exchange(alloc: Global, core: &mut Core, list: u8, out: &mut [u8], counted: &
 }
 
 /// What a core tells of itself and of its line by a name.
-fn look(core: &Core, kind: u8, name: u32) -> u64 {
+fn look(core: &Core, kind: u8, task: u8, name: u16) -> u64 {
     match kind {
-        EPOCH => u64::from(core.plan().epoch() == name),
+        EPOCH => u64::from(core.plan().epoch() == u32::from(name)),
         SERIAL => u64::from(core.next_serial() > 0),
-        OWED => u64::from(core.owed() == name),
+        OWED => u64::from(core.owed() == u32::from(name)),
         PLACE => {
-            match VarId::new(name) {
+            match VarId::new(u32::from(name)) {
                 Some(variable) => u64::from(core.plan().places().place(variable).is_some()),
                 None => 0,
             }
         }
-        DATAGRAM => u64::from(core.plan().places().datagram(name as u8, 0).is_some()),
-        PART => u64::from(core.plan().places().part(name as u8).0 > 0),
-        STATION => u64::from(core.plan().station(name).is_some()),
-        POSITION => u64::from(core.plan().position(name as u16).is_ok()),
+        DATAGRAM => u64::from(core.plan().places().datagram(task, 0).is_some()),
+        PART => u64::from(core.plan().places().part(task).0 > 0),
+        STATION => u64::from(core.plan().station(u32::from(name)).is_some()),
+        POSITION => u64::from(core.plan().position(name).is_ok()),
         _ => 0,
     }
 }
 
 /// The first block of a slave goes into a slice.
-fn block(core: &Core, station: u32, out: &mut [u8]) -> u64 {
-    let Some(found) = core.plan().block(station as u16, 0) else {
+fn block(core: &Core, station: u16, out: &mut [u8]) -> u64 {
+    let Some(found) = core.plan().block(station, 0) else {
         return 0;
     };
     let bytes = found.bytes();
@@ -206,7 +206,7 @@ fn move_to(alloc: Global, core: &mut Core, station: u16, task: u8) -> u64 {
 
 /// Two edits, of which the second leads back to the line as it was; or one that is only asked for.
 fn edits(alloc: Global, core: &mut Core, timed: &Timed) -> u64 {
-    let name = timed.name as u16;
+    let name = timed.name;
     match timed.kind {
         CONNECT => {
             let come = edit(alloc, core, &Edit::Connect(name));
@@ -260,7 +260,7 @@ fn once(
         DECLARE => declare(alloc, core, bytes),
         PROCESS => process(out, bytes),
         CONNECT | ASK | REMAP | MOVE => edits(alloc, core, timed),
-        _ => look(core, timed.kind, timed.name),
+        _ => look(core, timed.kind, timed.task, timed.name),
     }
 }
 

@@ -11,7 +11,7 @@ use Rattle.hc_events.specs.declared.answer.Answer.TheVariants.{Image, Refused}
 use Rattle.hc_events.specs.declared.faults.CoreFault.TheVariants.{NoSuchTask}
 use Rattle.hc_events.specs.Entries.{Record}
 use Rattle.hc_events.specs.Points.{epoch_of, line_of, state_of}
-use Rattle.hc_events.specs.Steps.{Reads, answer_to, image_of, is_no_task, unless}
+use Rattle.hc_events.specs.Steps.{Reads, answer_to, image_of, unless}
 use Rattle.hc_sendings.proofs.lemmas.Listed.{listed-count}
 use Rattle.hc_c.specs.Reads.{slots_from}
 

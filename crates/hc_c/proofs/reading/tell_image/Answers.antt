@@ -1,4 +1,4 @@
-use Rattle.std.proofs.Common.{◌≡◌, ◌∙◌, ap, length, subst, sym}
+use Rattle.std.proofs.Common.{◌∙◌, ap, length, subst, sym}
 use Rattle.hc_events.specs.declared.answer.Answer.{Answer}
 use Rattle.hc_c.specs.Reads.{HoldsImage, image_number}
 use Rattle.hc_c.proofs.Images.{listed_read}

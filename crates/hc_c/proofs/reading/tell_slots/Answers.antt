@@ -2,7 +2,6 @@ use Rattle.std.proofs.Common.{◌∙◌, ap, length, sym}
 use Rattle.std.proofs.lemmas.List.FromFn.{length-map-range_with_len}
 use Rattle.hc_records.specs.Line.{State}
 use Rattle.hc_events.specs.Images.{slot_of}
-use Rattle.hc_c.specs.Reads.{HoldsSlots}
 use Rattle.hc_c.proofs.reading.tell_slots.Goals as goal
 
 pub returns-clause-image : goal.returns-clause-image
