@@ -221,6 +221,7 @@ sweep_program "alone lasting" "declarations" tools/declared.in tools/declared.ou
 sweep_program "alone lasting" "the tool changer with frames" examples/tool_changer_frames.in examples/tool_changer_frames.out 0
 sweep_program alone "two groups" examples/two_groups.in examples/two_groups.out 0
 sweep_line "alone lasting" "the day of the tool changer" examples/tool_changer_day.in examples/tool_changer_day.out 0
+sweep_line alone "a tool that is declared" examples/declared_tool.in examples/declared_tool.out 0
 sweep_check
 echo "$passed passed, $failed failed"
 [ "$failed" -eq 0 ]

@@ -168,7 +168,10 @@ fn spoil(draws: &mut Draws, groups: &mut Vec<Group>) -> Option<()> {
     let other = Slave { station: draws.between(1, 0xffff) as u16, areas: Vec::new() };
     match draws.below(11) {
         0 => leave_range(draws, groups)?,
-        1 => groups.push(Group { alias: groups.last()?.alias, slaves: vec![other] }),
+        1 => {
+            let alias = groups.iter().map(|group| group.alias).find(|alias| *alias > 0)?;
+            groups.push(Group { alias, slaves: vec![other] });
+        }
         2 => {
             let slave = drawn_slave(draws, groups)?.clone();
             groups.last_mut()?.slaves.push(Slave { areas: Vec::new(), ..slave });

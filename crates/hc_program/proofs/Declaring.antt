@@ -3,7 +3,7 @@ use Rattle.std.proofs.Common.{◌≡◌, ℕ, ◌+◌, Bool, true, false, not, c
 use Rattle.std.specs.Prelude.{Option, Some}
 use Rattle.hc_text.specs.Cutting.{CutsLine, lines_after}
 use Rattle.hc_text.specs.Lines.{Line, closed_text, command_lines, is_mark}
-use Rattle.hc_program.specs.Declaring.{Declares, Says, Turn, is_declare, turns_from, turns_of}
+use Rattle.hc_program.specs.Declaring.{Declares, Says, is_declare, turns_from, turns_of}
 
 inside_step : (b : Bool) (lines : List Line) → turns_from true lines ≡ turns_from false (command_lines lines)
     → turns_from (not b) lines ≡ turns_from false (cond b lines (command_lines lines))

@@ -1,5 +1,5 @@
 -- Runs in which memory was refused: one turn of them, and how they end.
-use Rattle.std.proofs.Common.{◌≡◌, ◌≤◌, inl, inr, ℕ, ◌+◌, Bool, true, false, ◌||◌, List, [], ◌∷◌, length, refl, sym, subst, Ok, Err, Some, None}
+use Rattle.std.proofs.Common.{◌≡◌, ◌≤◌, inl, inr, ℕ, Bool, true, false, ◌||◌, List, [], ◌∷◌, length, refl, sym, subst, Ok, Err, Some, None}
 use Rattle.std.specs.Prelude.{Option, Result, IfSome, IsOk}
 use Rattle.std.proofs.KnownBytes.{Appends-nil}
 use Rattle.hc_records.specs.declared.records.Group.{Group}

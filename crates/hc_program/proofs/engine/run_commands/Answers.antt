@@ -1,9 +1,9 @@
-use Rattle.std.proofs.Common.{◌≡◌, ◌∷◌, ℕ, List, suc, length, ap, subst, ◌∙◌, arith}
+use Rattle.std.proofs.Common.{◌≡◌, ◌∷◌, ℕ, suc, length, ap, subst, ◌∙◌}
 use Rattle.std.specs.Prelude.{Option, Some}
 use Rattle.std.specs.Option.{option_copied}
 use Rattle.std.proofs.lemmas.Bool.{or_parts}
 use Rattle.hc_text.specs.Cutting.{left_in, lines_after}
-use Rattle.hc_program.specs.Declaring.{Turn, turn_of, turns_of}
+use Rattle.hc_program.specs.Declaring.{turn_of, turns_of}
 use Rattle.hc_program.specs.Runs.{Reply, reply_to, run}
 use Rattle.hc_program.specs.Sessions.{standing_of}
 use Rattle.hc_program.specs.Starved.{StarvedRun}
