@@ -10,7 +10,6 @@ mod filling;
 mod goods;
 pub mod keeping;
 pub mod laws;
-mod lending;
 mod opening;
 mod owing;
 mod parting;
