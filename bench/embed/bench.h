@@ -13,7 +13,8 @@ struct timed {
 
 /* A place in a frame, and the byte that the line leaves there: the working counter of a datagram. */
 struct counted {
-    uint32_t at, count;
+    uint32_t at;
+    uint8_t count;
 };
 
 /* An event. Its bytes stand among those of all, from a place on. */

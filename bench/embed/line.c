@@ -83,7 +83,7 @@ size_t counters(struct zangjulf *line, unsigned list, const uint8_t *frame, stru
         struct zangjulf_datagram datagram;
         if (zangjulf_datagram(line, LISTS[list][count], 0, &datagram)) give_up("a datagram is missing");
         is_last = !(frame[at + 7] & 0x80);
-        counted[count] = (struct counted){(uint32_t)(at + 10 + size), datagram.expected};
+        counted[count] = (struct counted){(uint32_t)(at + 10 + size), (uint8_t)datagram.expected};
         at += 12 + size;
     }
     return count;

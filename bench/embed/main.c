@@ -134,7 +134,7 @@ static bool exchange(struct zangjulf *line, const struct timed *timed, struct sl
     struct zangjulf_outcome outcomes[ZANGJULF_OUTCOMES];
     size_t count = 0;
     if (!send(line, timed, slices)) return false;
-    for (size_t i = 0; i < slices->counted_count; i++) slices->out[slices->counted[i].at] = (uint8_t)slices->counted[i].count;
+    for (size_t i = 0; i < slices->counted_count; i++) slices->out[slices->counted[i].at] = slices->counted[i].count;
     bool is_answered = !zangjulf_arrive(line, slices->out, slices->out_size, outcomes, ZANGJULF_OUTCOMES, &count);
     return is_answered & take_changes(line);
 }
@@ -187,9 +187,8 @@ static bool once(struct zangjulf *line, const struct timed *timed, struct slices
     struct zangjulf_outcome outcome;
     struct zangjulf_image image;
     size_t sizes[ZANGJULF_DATAGRAMS], size = 0;
-    uint32_t epoch = 0;
     switch (timed->kind) {
-    case POST: return !zangjulf_epoch(line, &epoch) && !zangjulf_post(line, timed->task, epoch, slices->in, slices->in_size);
+    case POST: return !zangjulf_post(line, timed->task, 0, slices->in, slices->in_size);
     case SEND: return send(line, timed, slices);
     case EXCHANGE: return exchange(line, timed, slices);
     case STALE: return zangjulf_arrive(line, slices->in, slices->in_size, &outcome, 1, &size) == ZANGJULF_STALE;

@@ -64,7 +64,7 @@ static void copy_bytes(struct asked *asked, const uint8_t *own, size_t size) {
 
 static uint64_t post(struct asked *asked) {
     struct zangjulf_part part = {0, 0};
-    uint8_t own[ZANGJULF_DATA];
+    static uint8_t own[ZANGJULF_IMAGE];
     asked->task = (uint8_t)below(9);
     zangjulf_part(&line, asked->task, &part);
     zangjulf_epoch(&line, &asked->epoch);

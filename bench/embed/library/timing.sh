@@ -35,7 +35,7 @@ pub struct Timed {
 #[repr(C)]
 pub struct Counted {
     pub at: u32,
-    pub count: u32,
+    pub count: u8,
 }
 
 const EPOCH: u8 = 0;
@@ -110,7 +110,7 @@ fn exchange(alloc: Global, core: &mut Core, list: u8, out: &mut [u8], counted: &
         return 0;
     }
     for one in counted {
-        put(out, one.at as usize, one.count as u8);
+        put(out, one.at as usize, one.count);
     }
     let answered = matches!(core.step(alloc, Event::Arrive(out)), Answer::Answered(_));
     u64::from(answered & !core.take_changes(alloc).is_empty())
