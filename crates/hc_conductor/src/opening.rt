@@ -11,6 +11,7 @@ ghost use Rattle.hc_rings.specs.declared.post_buffer.TheConstants.{LARGEST_IMAGE
 ghost use Rattle.hc_conductor.specs.Conducting.{origin_of, pending, published};
 ghost use Rattle.hc_conductor.specs.Openings.{AreEnds, IsOpenFault, IsOpenable, IsUnused, output_bytes};
 ghost use Rattle.hc_conductor.specs.Seats.{epoch_of, seat_of, sender, size_of};
+ghost use Rattle.hc_conductor.specs.Together.{EachRing, IsWhole};
 
 use crate::conductor::Conductor;
 use crate::seat::TaskSeat;
@@ -43,6 +44,7 @@ fn core_of(alloc: Global, project: Project) -> Result<Core, OpenFault>
 fn rings(alloc: Global) -> Result<(Vec<PostSender>, Vec<PostReceiver>), AllocError>
     ensures count { IfOk result (λ ends. (length ends.0.items ≡ TASKS) × (length ends.1.items ≡ TASKS)) }
     ensures ends { IfOk result (λ ends. AreEnds ends.0.items ends.1.items) }
+    ensures whole { IfOk result (λ ends. EachRing IsWhole ends.0.items ends.1.items) }
     ensures unused { IfOk result (λ ends. All IsUnused ends.0.items) }
 {
     let mut senders = Vec::with_capacity(alloc, usize::from(TASKS))?;
@@ -107,6 +109,7 @@ pub fn open<R: Wait>(
     ensures fresh { IfOk result (λ opened. All (IsFresh (origin_of opened.0)) (map seat_of opened.1.items)) }
     ensures rings { IfOk result (λ opened. AreEnds (map sender opened.1.items) opened.0.rings) }
     ensures unused { IfOk result (λ opened. All IsUnused (map sender opened.1.items)) }
+    ensures whole { IfOk result (λ opened. EachRing IsWhole (map sender opened.1.items) opened.0.rings) }
     ensures epochs { IfOk result (λ opened. All (λ seat. epoch_of seat ≡ 0) opened.1.items) }
     ensures sizes { IfOk result (λ both. map size_of both.1.items ≡ map (output_bytes (table_of (line (opened project)))) (range_with_len 0 TASKS)) }
     ensures openable { OnOk result (IsOpenable project) }

@@ -16,6 +16,7 @@ use Rattle.hc_rings.specs.declared.post_buffer.TheConstants.{LARGEST_IMAGE}
 use Rattle.hc_conductor.specs.Openings.{AreEnds, IsOpenable, IsUnused, output_bytes}
 use Rattle.hc_conductor.proofs.lemmas.Images.{opened-short}
 use Rattle.hc_conductor.proofs.Lists.{stands-opened}
+use Rattle.hc_conductor.specs.Together.{EachRing, IsWhole}
 use Rattle.hc_conductor.proofs.opening.open.Goals as goal
 
 pub open-requires : goal.open-requires
@@ -82,3 +83,6 @@ returns-clause-sizes g c =
     let eight : length seats.items ≡ TASKS = omega (arith, length-map seats.items task_of, ap length c.in_ok-publisher.ensures.tasks, length-range_with_len 0 TASKS) in
     c.task_seats-seats.ensures.sizes
     ∙ (ap (λ (n : ℕ). map (output_bytes c.places.result.now) (range_with_len 0 n)) eight ∙ ap (λ (t : Table). map (output_bytes t) (range_with_len 0 TASKS)) table)
+
+pub returns-clause-whole : goal.returns-clause-whole
+returns-clause-whole g c = subst (λ ss. EachRing IsWhole ss c.in_ok-senders.rings.items) (sym c.task_seats-seats.ensures.senders) c.in_ok-senders.ensures.whole

@@ -1,0 +1,3 @@
+mod Learnt
+mod Seated
+mod Told

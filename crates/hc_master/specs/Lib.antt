@@ -1,0 +1,4 @@
+pub mod Mastering
+pub mod Mastered
+pub mod Viewing
+pub mod Learning
