@@ -15,12 +15,14 @@ use std::alloc::{AllocError, Global};
 use std::sync::Wait;
 use std::test::Fail;
 
-/// As many frames as any sending has, and as many outcomes as any answer.
+/// As many frames as any sending has.
 const MOST_FRAMES: usize = 128;
 
+/// As many outcomes as any answer has.
 const MOST_OUTCOMES: usize = 115;
 
 /// What a cycle uses again.
+#[derive(Drop)]
 struct Lists {
     frames: Vec<Sending>,
     outcomes: Vec<Outcome>,
