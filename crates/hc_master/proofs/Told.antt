@@ -1,9 +1,8 @@
 -- What is shown, by its parts; and what the record tells of it.
-use Rattle.std.proofs.Common.{◌≡◌, ℕ, List, refl, sym, ap, ap₂, subst, ◌∙◌, Option, Some, None, Ok, Err}
+use Rattle.std.proofs.Common.{◌≡◌, ℕ, List, refl, sym, ap, ap₂, ◌∙◌, Option, Some, None, Ok, Err}
 use Rattle.std.specs.Prelude.{IfOk, Result, option_and_then}
 use Rattle.hc_records.specs.declared.records.Group.{Group}
 use Rattle.hc_records.specs.Image.{VariablePlace}
-use Rattle.hc_records.specs.Line.{Member}
 use Rattle.hc_records.specs.Variables.{variable_of}
 use Rattle.hc_places.specs.Table.{Table, place_in, table_of}
 use Rattle.hc_events.specs.declared.change.Change.{Change}
@@ -15,7 +14,7 @@ use Rattle.hc_copies.specs.Told.{Told, data_shown, table_shown}
 use Rattle.hc_copies.specs.Values.{value_by, value_with}
 use Rattle.hc_outputs.proofs.lemmas.LaidOut.{place-of_line}
 use Rattle.hc_master.specs.declared.viewing.Viewed.{Viewed}
-use Rattle.hc_master.specs.Viewing.{IsViewBehind, IsViewOf, numbered_place, value_at, value_told}
+use Rattle.hc_master.specs.Viewing.{IsViewBehind, IsViewOf, numbered_place}
 
 pub told-same : (a b : Told) → a.groups ≡ b.groups → a.changes ≡ b.changes → a ≡ b
 told-same a b groups changes = ap₂ (λ (gs : List Group) (cs : List Change). record { groups = gs; changes = cs }) groups changes

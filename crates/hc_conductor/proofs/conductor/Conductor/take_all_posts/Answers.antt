@@ -11,7 +11,7 @@ use Rattle.hc_core.specs.State.{CoreState}
 use Rattle.hc_conductor.specs.Conducting.{Conducting, past_of}
 use Rattle.hc_conductor.specs.Seats.{sender}
 use Rattle.hc_conductor.specs.Taking.{Counts, events_of_all}
-use Rattle.hc_conductor.specs.Together.{EachRing, IsWhole, KnowAll, posts_waiting}
+use Rattle.hc_conductor.specs.Together.{EachRing, IsWhole, posts_waiting}
 use Rattle.hc_conductor.proofs.Kept.{opened-after_all}
 use Rattle.hc_conductor.proofs.Takings.{as-many-rings, whole-list}
 use Rattle.hc_conductor.proofs.Waiting.{few-waiting, waiting-taken}

@@ -1,5 +1,4 @@
 use Rattle.std.proofs.Common.{◌≡◌, ℕ, ◌++◌, List, length, map, replicate, sym, ap, subst, ◌∙◌}
-use Rattle.std.specs.List.{range_with_len}
 use Rattle.std.proofs.lemmas.List.{length-map}
 use Rattle.std.proofs.lemmas.List.FromFn.{length-range_with_len}
 use mathlib.Core.List.{IsPrefix}
@@ -10,7 +9,7 @@ use Rattle.hc_rings.specs.declared.posts.PostSender.{PostSender}
 use Rattle.hc_rings.specs.Ring as ring
 use Rattle.hc_conductor.specs.declared.seat.TaskSeat.{TaskSeat}
 use Rattle.hc_conductor.specs.Conducting.{all_taken, origin_of, pending, published}
-use Rattle.hc_conductor.specs.Seats.{known, seat_origin, sender, task_of}
+use Rattle.hc_conductor.specs.Seats.{seat_origin, sender, task_of}
 use Rattle.hc_conductor.specs.Together.{EachRing, IsWhole}
 use Rattle.hc_master.specs.Learning.{CanLearn}
 use Rattle.hc_master.specs.Mastering.{IsMastering}

@@ -1,13 +1,10 @@
 use Rattle.std.proofs.Common.{◌≡◌, ℕ, [], List, length, map, replicate, sym, ap, subst, ◌∙◌}
-use Rattle.std.specs.Prelude.{Option}
-use Rattle.std.specs.List.{range_with_len}
 use Rattle.std.proofs.lemmas.List.{length-map}
 use Rattle.std.proofs.lemmas.List.FromFn.{length-range_with_len}
 use Rattle.hc_publish.specs.Board as board
 use Rattle.hc_publish.specs.Board.{Board}
 use Rattle.hc_publish.specs.Seats as inner
 use Rattle.hc_rings.specs.Ring as ring
-use Rattle.hc_rings.specs.Post.{Post}
 use Rattle.hc_conductor.specs.declared.seat.TaskSeat.{TaskSeat}
 use Rattle.hc_conductor.specs.declared.viewer.Viewer.{Viewer}
 use Rattle.hc_conductor.specs.Seats.{sender, task_of, viewer_of}

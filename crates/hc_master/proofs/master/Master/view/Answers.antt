@@ -1,8 +1,6 @@
-use Rattle.std.proofs.Common.{◌≡◌, ℕ, ◌<◌, List, length, map, replicate, refl, sym, ap, subst, ◌∙◌, arith}
-use Rattle.std.specs.Prelude.{IfOk, Result}
+use Rattle.std.proofs.Common.{◌≡◌, ℕ, ◌<◌, List, refl, sym, ap, subst, ◌∙◌, arith}
+use Rattle.std.specs.Prelude.{IfOk}
 use Rattle.std.proofs.Math.Seq.{map-set_same}
-use Rattle.hc_records.specs.declared.records.Group.{Group}
-use Rattle.hc_events.specs.Entries.{Record}
 use Rattle.hc_core.specs.State.{CoreState}
 use Rattle.hc_events.specs.Accepted.{IsReachable}
 use Rattle.hc_events.specs.Points.{opened_with}
@@ -14,8 +12,6 @@ use Rattle.hc_rings.specs.Ring as ring
 use Rattle.hc_conductor.specs.Conducting.{TellsAll, origin_of, published}
 use Rattle.hc_conductor.specs.Seats.{held, known, seat_origin, sender, task_of}
 use Rattle.hc_conductor.specs.Together.{EachRing, IsWhole, posts_waiting}
-use Rattle.hc_master.specs.declared.refusals.NoEntry.{NoEntry}
-use Rattle.hc_master.specs.declared.viewing.Viewed.{Viewed}
 use Rattle.hc_master.specs.Mastering.{Mastering, past_of, shown, waiting}
 use Rattle.hc_master.specs.Viewing.{IsViewBehind, IsViewOf}
 use Rattle.hc_master.proofs.Seated.{each-at, number-at}
