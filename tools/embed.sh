@@ -49,9 +49,9 @@ play() {
 
 # compiled NAME WORDS..: a C caller of tools/embed, with what else it is made of
 compiled() {
-    name=$1
+    caller=$1
     shift
-    gcc -std=c11 -g -O1 -Wall -Wextra -Wpedantic -Werror "$@" -Iinclude "tools/embed/$name.c" build/libzangjulf.a -o "$scratch/$name"
+    gcc -std=c11 -g -O1 -Wall -Wextra -Wpedantic -Werror "$@" -Iinclude "tools/embed/$caller.c" build/libzangjulf.a -o "$scratch/$caller"
 }
 
 # compiled_fuzz WORDS..: the caller that draws, likewise
