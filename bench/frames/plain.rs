@@ -200,7 +200,7 @@ fn lend<'a>(texts: &'a mut [u8], serial: u64, datagram: &Wanted, more: bool) -> 
         return None;
     }
     let (text, rest) = texts.split_at_mut_checked(12 + size)?;
-    text.fill(0);
+    text[10..].fill(0);
     text[..10].copy_from_slice(&head_of(serial, datagram, more));
     Some((&mut text[10..10 + size], rest))
 }
