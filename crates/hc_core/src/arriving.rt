@@ -143,7 +143,7 @@ impl Core {
         Ok(arrived.answer(outcomes))
     }
 
-    /// The same, what it is for each datagram behind what an empty list holds.
+    /// The same, and what it is for each datagram is put into an empty list.
     fn arrive_with(
         &mut self,
         alloc: Global,
@@ -164,9 +164,10 @@ impl Core {
 
     /// An arrival, any bytes, as `step` serves it, for a list that is used again: where it answers frames of tasks the
     /// list has of each datagram, in the frame's order, what it is; else it is empty. It takes memory where the list
-    /// has no room for these outcomes, 115 at most; and for the data of good answers, which go into buffers that came
-    /// back (`give_back`) as long as there are some. A fault of the frame, 20 to 27, is told whatever memory does, and
-    /// `Memory` where a growth was refused; then nothing changed.
+    /// has no room for these outcomes, 115 at most; where the list of the changes grows; and for the data of good
+    /// answers, which go into buffers that came back (`give_back`) as long as there are some. A fault of the frame, 20
+    /// to 27, is told whatever memory does, and `Memory` where a growth was refused; then nothing changed, and the list
+    /// is empty.
     pub fn arrive_into(
         &mut self,
         alloc: Global,
