@@ -1,5 +1,5 @@
 -- A walk over rows by the nodes that stand for them.
-use Rattle.std.proofs.Common.{◌≡◌, ℕ, ◌+◌, ◌-◌, ◌*◌, ◌/◌, ◌%◌, ◌^◌, ◌<◌, ◌≤◌, ◌++◌, length, get_or, sym, ap, ◌∙◌, arith}
+use Rattle.std.proofs.Common.{◌≡◌, ℕ, zero, suc, ◌+◌, ◌-◌, ◌*◌, ◌/◌, ◌%◌, ◌^◌, ◌<◌, ◌≤◌, ◌++◌, length, get_or, sym, ap, ◌∙◌, arith}
 use Rattle.std.proofs.Math.Nat.{le_of_mul-le-mul_right, two-pow-succ}
 use Rattle.std.proofs.Math.Pow.{pow_mono}
 use Rattle.hc_bitsum.specs.declared.branch.Branch.{Branch}
@@ -114,6 +114,11 @@ wider height = ap (λ n. 2 ^ n) (omega arith) ∙ two-pow-succ height
 
 pub power-some : (height : ℕ) → 1 ≤ 2 ^ height
 power-some height = pow_mono {i = 0} (omega arith)
+
+-- only the lowest nodes have one row
+pub high-some : (height : ℕ) → 1 < 2 ^ height → 0 < height
+high-some zero more = omega (arith, more)
+high-some (suc height) more = omega arith
 
 -- no row fills nothing
 pub no-rows : (branch : Branch) (first : ℕ) (filled : Filled) → filled ≡ with_areas filled (part branch.dir branch.rows.items first (first - first))

@@ -253,7 +253,7 @@ impl Branch {
     }
 
     /// Fills a datagram with the nodes from a row on, each higher than the one before, that end by
-    /// another row.
+    /// another row. From the first row on it fills nothing: the root begins with that row.
     fn climb(&self, first: usize, end: usize, filled: Filled) -> Stand
         requires branch { IsBranch self.now }
         requires order { first ≤ end }
@@ -261,6 +261,14 @@ impl Branch {
         requires there { (with_areas filled (part self.now.dir self.now.rows.items first (end - first))).bit < 2 ^ 30 }
         ensures { HasClimbed self.now first end filled result }
     {
+        if first == 0 {
+            return Stand {
+                row: 0,
+                node: 1,
+                height: self.levels,
+                filled,
+            };
+        }
         let mut row = first;
         let mut node = self.rows.len() + first;
         let mut height = 0;
@@ -306,7 +314,7 @@ impl Branch {
                 row += 1 << height;
                 node += 1;
             }
-            if height == 0 {
+            if row == end {
                 return so_far;
             }
             node *= 2;
@@ -331,6 +339,7 @@ impl Branch {
     }
 
     /// How far a datagram is filled once the areas from one place up to another stand in it.
+    #[inline(never)]
     fn filled_by_stretch(&self, first: u32, end: u32, filled: Filled) -> Filled
         requires branch { IsBranch self.now }
         requires order { first ≤ end }
@@ -350,6 +359,7 @@ impl Branch {
     }
 
     /// How far a datagram is filled once its areas from one key on and before another stand in it.
+    #[inline(always)]
     pub(crate) fn filled_between(&self, from: Key, until: Key, filled: Filled) -> Filled
         requires branch { IsBranch self.now }
         requires there { (with_areas filled (areas_between from until (slots_of self.now).areas)).bit < 2 ^ 30 }

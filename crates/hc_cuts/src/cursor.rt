@@ -100,6 +100,7 @@ impl Cursor {
 
     /// The place of the area of a task with a key, any key, by the keys at which the task's datagrams begin;
     /// none where it has no such area, and the cursor stays. Otherwise it then stands at the key.
+    #[inline(always)]
     pub(crate) fn place(&mut self, task: &SumTree, starts: &[Key], key: Key) -> Option<Placed>
         requires holds { HoldsTaskList task.now }
         requires all { starts.now ++ END ∷ [] ≡ boundaries task.now.list }

@@ -255,6 +255,7 @@ impl Cuts {
     /// datagram carries an area at its key or behind it, only the areas between are read, so areas that are
     /// asked for in key order take few reads. The boundaries are those of its areas, as `cut` leaves them.
     /// It takes no memory and no steps.
+    #[inline(always)]
     pub fn place_from(&self, cursor: &mut Cursor, key: Key) -> Option<Placed>
         requires cut { self.now.starts ++ END ∷ [] ≡ boundaries self.now.tree.list }
         requires stood { StandsIn self.now.starts self.now.tree.list cursor.old }

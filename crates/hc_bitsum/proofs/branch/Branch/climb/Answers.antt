@@ -1,9 +1,32 @@
-use Rattle.std.proofs.Common.{◌≡◌, ◌+◌, ◌%◌, ◌^◌, ap, arith}
+use Rattle.std.proofs.Common.{◌≡◌, ◌+◌, ◌-◌, ◌%◌, ◌^◌, ◌∙◌, ap, arith}
 use Rattle.hc_bitsum.specs.declared.filled.Filled.{Filled}
+use Rattle.hc_bitsum.specs.Filling.{with_areas}
+use Rattle.hc_bitsum.specs.Rows.{part}
 use Rattle.hc_bitsum.proofs.Nodes.{node-index, read-low}
 use Rattle.hc_bitsum.proofs.Strides.{no-rows, power-some, rows-low, stands-leaf, stands-next, stands-node, stands-small, stands-up, taken, wider}
 use Rattle.hc_bitsum.proofs.branch.Branch.climb.Goals as goal
 use Rattle.hc_bitsum.proofs.branch.Branch.climb.Goals.{then-node-eq1, else-node-eq1}
+
+pub returns-then-first-eq0 : goal.returns-then-first-eq0
+returns-then-first-eq0 c =
+    let branch = c.args.self.now in
+    let levels = branch.levels in
+    let many = c.requires.branch.many in
+    let within = c.requires.within in
+    let from = c.if-first-eq0.true in
+    let none : levels - levels ≡ 0 = omega arith in
+    let one : 2 ^ (levels - levels) ≡ 1 = ap (λ n. 2 ^ n) none in
+    let wide = wider levels in
+    let some = power-some levels in
+    record {
+      stands = record { index = 0; high = omega arith; here = omega arith; first = omega arith };
+      from = omega arith;
+      within = omega arith;
+      near = omega arith;
+      so_far =
+          no-rows branch c.args.first c.args.filled
+          ∙ ap (λ n. with_areas c.args.filled (part branch.dir branch.rows.items c.args.first n)) (omega arith);
+    }
 
 pub loop-height-init : goal.loop-height-init
 loop-height-init c = grind (arith, stands-leaf, no-rows)

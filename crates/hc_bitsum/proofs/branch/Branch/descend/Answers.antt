@@ -1,9 +1,9 @@
-use Rattle.std.proofs.Common.{◌≡◌, ◌+◌, ◌-◌, ◌^◌, ◌<◌, ap, ◌∙◌, arith}
+use Rattle.std.proofs.Common.{◌≡◌, ◌+◌, ◌-◌, ◌^◌, ap, ◌∙◌, arith}
 use Rattle.hc_bitsum.specs.declared.filled.Filled.{Filled}
 use Rattle.hc_bitsum.specs.Filling.{with_areas}
 use Rattle.hc_bitsum.specs.Rows.{part}
 use Rattle.hc_bitsum.proofs.Nodes.{node-index, read-low}
-use Rattle.hc_bitsum.proofs.Strides.{rows-low, stands-down, stands-next, stands-node, stands-small, taken, wider}
+use Rattle.hc_bitsum.proofs.Strides.{high-some, rows-low, stands-down, stands-next, stands-node, stands-small, taken, wider}
 use Rattle.hc_bitsum.proofs.branch.Branch.descend.Goals as goal
 use Rattle.hc_bitsum.proofs.branch.Branch.descend.Goals.{then-row-height, else-row-height}
 
@@ -27,23 +27,24 @@ filled_by-so_far-requires-clause-there c =
     let bit = ap (λ (r : Filled). r.bit) inv.so_far in
     read-low branch c.levels.height c.levels.node c.levels.so_far c.requires.branch own (omega arith)
 
-pub returns-then-height-eq0 : goal.returns-then-height-eq0
-returns-then-height-eq0 c =
+pub returns-then-row-end : goal.returns-then-row-end
+returns-then-row-end c =
     let branch = c.args.self.now in
     let height = c.levels.height in
     let node = c.levels.node in
     let row = c.levels.row in
     let inv = c.levels.invariant in
     let from = inv.from in
-    let wide = wider height in
-    let none = c.if-height-eq0.true in
-    let one : 2 ^ height ≡ 1 = ap (λ n. 2 ^ n) none in
+    let small = stands-small branch.levels height node row c.requires.branch.low inv.stands in
+    let at = c.if-row-end.true in
     elim c.if-row-height.branch [
       | then-row-height w ↦
+          let row-is = w.row-is in
           let filled = taken branch height node c.args.from.row row c.args.from.filled c.levels.so_far w.filled_by-so_far.result c.requires.branch inv.stands from (omega arith) inv.so_far w.filled_by-so_far.ensures in
           let end : row + 2 ^ height - c.args.from.row ≡ c.args.end - c.args.from.row = omega arith in
           w.so_far-is ∙ filled ∙ ap (λ n. with_areas c.args.from.filled (part branch.dir branch.rows.items c.args.from.row n)) end
       | else-row-height w ↦
+          let row-is = w.row-is in
           let end : row - c.args.from.row ≡ c.args.end - c.args.from.row = omega arith in
           w.so_far-is ∙ inv.so_far ∙ ap (λ n. with_areas c.args.from.filled (part branch.dir branch.rows.items c.args.from.row n)) end
     ]
@@ -61,12 +62,13 @@ levels-preserved c =
     let low = inv.within in
     let near = inv.near in
     let wide = wider height in
-    let some : 0 < height = let other = c.if-height-eq0.false in omega arith in
-    let same : 2 ^ (height - 1 + 1) ≡ 2 ^ height = ap (λ n. 2 ^ n) (omega arith) in
+    let other = c.if-row-end.false in
     elim c.if-row-height.branch [
       | then-row-height w ↦
           let filled = taken branch height node c.args.from.row row c.args.from.filled c.levels.so_far w.filled_by-so_far.result c.requires.branch inv.stands from (omega arith) inv.so_far w.filled_by-so_far.ensures in
           let row-is : c.if-row-height.row ≡ row + 2 ^ height = let is = w.row-is in omega arith in
+          let some = high-some height (omega arith) in
+          let same : 2 ^ (height - 1 + 1) ≡ 2 ^ height = ap (λ n. 2 ^ n) (omega arith) in
           rw (row-is, w.node-is, w.so_far-is) (record {
             stands = stands-down branch.levels height (node + 1) (row + 2 ^ height) some (stands-next branch.levels height node row inv.stands);
             from = omega arith;
@@ -75,6 +77,9 @@ levels-preserved c =
             so_far = filled;
           })
       | else-row-height w ↦
+          let row-is = w.row-is in
+          let some = high-some height (omega arith) in
+          let same : 2 ^ (height - 1 + 1) ≡ 2 ^ height = ap (λ n. 2 ^ n) (omega arith) in
           rw (w.row-is, w.node-is, w.so_far-is) (record {
             stands = stands-down branch.levels height node row some inv.stands;
             from = from;
