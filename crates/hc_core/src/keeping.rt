@@ -3,6 +3,7 @@ use crate::buffers::Buffers;
 use crate::past::Past;
 use hc_awaited::awaited::Awaited;
 use hc_events::change::Change;
+use hc_events::sending::Sending;
 use hc_inputs::inputs::Inputs;
 use hc_outputs::outputs::Outputs;
 use hc_owed::owed::Owed;
@@ -24,6 +25,8 @@ pub struct Core {
     // the changes of one arrival until all of them are there
     pub(crate) fresh: Vec<Change>,
     pub(crate) buffers: Buffers,
+    // a list for the frames of sendings by `step`, which is used again
+    pub(crate) frames: Vec<Sending>,
     pub(crate) past: Past,
     pub(crate) taken: Snapshot<Past>,
 }
@@ -40,6 +43,7 @@ impl Drop for Core {
             changes: _,
             fresh: _,
             buffers: _,
+            frames: _,
             past: _,
             taken: _,
         } = self;

@@ -45,6 +45,7 @@ impl Core {
             changes: Vec::new(alloc),
             fresh: Vec::new(alloc),
             buffers: Buffers::new(alloc),
+            frames: Vec::new(alloc),
             past,
             taken,
         })

@@ -21,6 +21,7 @@ use hc_events::sending::Sending;
 use hc_plan::blocks::LineBlock;
 use hc_sendings::proposing::{preview, propose_into};
 use std::alloc::Global;
+use std::mem;
 
 impl Core {
     /// The frames in which 1 to 8 distinct tasks would be sent next, in their order, with the next serials; none
@@ -84,7 +85,27 @@ impl Core {
         self.past.sent_all(frames);
     }
 
-    /// Tasks are sent: the texts of the frames that `propose` gives, which are then committed.
+    /// Tasks are sent: the texts of the frames that are proposed into a list, which are then committed.
+    fn send_by(
+        &mut self,
+        alloc: Global,
+        tasks: &[u8],
+        frames: &mut Vec<Sending>,
+    ) -> Result<Answer, CoreFault>
+        requires { AreSentTogether tasks.now }
+        ensures answer { IfOk result (λ told. told ≡ answer_to self.old.past (SendsTasks tasks.now)) }
+        ensures entries { OnOk result (self.new ≡ record self.old { past = entries_after self.old.past (SendsTasks tasks.now) }) }
+        ensures refused { IfErr result (λ fault. fault ≢ Memory → lowest (task_faults self.old.past tasks.now) ≡ Some fault) }
+        ensures early { IfSome (lowest (early_faults (length (owed_blocks self.old.past)) tasks.now)) (λ fault. result ≡ Err fault) }
+        ensures unchanged { OnErr result (self.new ≡ self.old) }
+    {
+        self.propose_into(tasks, frames)?;
+        let texts = self.texts(alloc, frames.as_slice())?;
+        self.commit(frames.as_slice());
+        Ok(Answer::Sent(texts))
+    }
+
+    /// The same, in a list that is used again.
     pub(crate) fn send(&mut self, alloc: Global, tasks: &[u8]) -> Result<Answer, CoreFault>
         requires { AreSentTogether tasks.now }
         ensures answer { IfOk result (λ told. told ≡ answer_to self.old.past (SendsTasks tasks.now)) }
@@ -93,10 +114,10 @@ impl Core {
         ensures early { IfSome (lowest (early_faults (length (owed_blocks self.old.past)) tasks.now)) (λ fault. result ≡ Err fault) }
         ensures unchanged { OnErr result (self.new ≡ self.old) }
     {
-        let frames = self.propose(alloc, tasks)?;
-        let texts = self.texts(alloc, frames.as_slice())?;
-        self.commit(frames.as_slice());
-        Ok(Answer::Sent(texts))
+        let mut frames = mem::replace(&mut self.frames, Vec::new(alloc));
+        let told = self.send_by(alloc, tasks, &mut frames);
+        self.frames = frames;
+        told
     }
 
     /// The first owed block is sent, with the next serial. It takes no memory.

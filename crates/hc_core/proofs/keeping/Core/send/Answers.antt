@@ -1,20 +1,12 @@
-use Rattle.std.proofs.Common.{subst, sym, refl}
-use Rattle.std.specs.Prelude.{All}
-use Rattle.std.proofs.lemmas.Result.{err_from_is_err_and}
-use Rattle.hc_core.specs.Filled.{CanBeFilled}
+use Rattle.std.proofs.Common.{◌≡◌, length, subst}
+use Rattle.std.specs.Prelude.{Err, IfSome}
+use Rattle.hc_records.specs.Lists.{lowest}
+use Rattle.hc_events.specs.declared.faults.CoreFault.{CoreFault}
+use Rattle.hc_events.specs.Owed.{owed_blocks}
+use Rattle.hc_sendings.specs.Refusals.{early_faults}
+use Rattle.hc_core.specs.State.{CoreState}
 use Rattle.hc_core.proofs.keeping.Core.send.Goals as goal
 
-pub texts-requires : goal.texts-requires
-texts-requires c =
-    let past = c.args.self.now.past in
-    subst (All (CanBeFilled past)) (sym c.as_slice.ensures.value) c.in_ok-frames.ensures.filled
-
-pub returns-in_err-frames-clause-refused : goal.returns-in_err-frames-clause-refused
-returns-in_err-frames-clause-refused c =
-    let p = err_from_is_err_and c.from_residual.result c.from_residual.ensures.1 in
-    rw (p.1, p.2) c.in_err-frames.ensures.refused
-
-pub returns-in_err-texts-clause-refused : goal.returns-in_err-texts-clause-refused
-returns-in_err-texts-clause-refused c =
-    let p = err_from_is_err_and c.from_residual-in_err-texts.result c.from_residual-in_err-texts.ensures.1 in
-    rw (p.1, p.2) (λ other. absurd (other refl))
+pub returns-clause-early : goal.returns-clause-early
+returns-clause-early c =
+    subst (λ (state : CoreState). IfSome (lowest (early_faults (length (owed_blocks state.past)) c.args.tasks.now)) (λ (fault : CoreFault). c.send_by-told.result ≡ Err fault)) c.self.view_is c.send_by-told.ensures.early
