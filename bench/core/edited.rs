@@ -14,6 +14,7 @@ use crate::plan::plain::{Edit, Group, Plan, Report};
 use crate::plan::{drawn, line};
 use crate::{Opened, opened};
 use rows::Row;
+pub use rows::totals;
 use std::hint::black_box;
 use std::time::Instant;
 
@@ -294,16 +295,15 @@ fn reports(line: &Line) -> Vec<Report> {
 }
 
 /// Prints the rows of all lines. The turns of the lines are mixed, so that a turn has one machine's speed.
-pub fn tell(turns: usize, rounds: usize, is_wanted: &dyn Fn(&str) -> bool) {
+pub fn tell(turns: usize, rounds: usize, totals: &mut impl Iterator<Item = f64>, is_wanted: &dyn Fn(&str) -> bool) {
     let lines = lines(is_wanted);
     let turn = || -> Vec<Turn> { lines.iter().map(|line| Turn::of(line, rounds)).collect() };
     let turns: Vec<Vec<Turn>> = (0..turns).map(|_| turn()).collect();
     let base = lines.iter().position(|line| line.slaves == 64).unwrap_or(0);
-    let mut totals = rows::totals().into_iter();
     rows::head();
     for (place, line) in lines.iter().enumerate() {
         let turns = turns.iter().map(|turn| (&turn[place], &turn[base])).collect();
-        let (growths, counts) = (growths(line), counted(line, &mut totals));
+        let (growths, counts) = (growths(line), counted(line, totals));
         let found = Found { line, turns, growths, counts, reports: reports(line) };
         wanted(line, is_wanted).into_iter().for_each(|case| found.row(case).tell());
     }

@@ -7,11 +7,14 @@
 //! one and behind it, then a memory copy; what is printed are medians over the turns of the ratios of medians over the
 //! rounds.
 //!
-//! Edits are timed one by one, on lines of their own: `edited.rs` tells how.
+//! Edits are timed one by one, on lines of their own: `edited.rs` tells how. `counted.rs` tells of the instructions of a
+//! call, and of what `step` adds to it.
 //!
-//! Words after the program's name: `few` for a short run, `count` for one in which nothing is timed and each edit is
-//! played for who counts instructions, any other one for the calls and edits whose names have it.
+//! Words after the program's name: `few` for a short run, `count` for one in which nothing is timed and each call and each
+//! edit is played for who counts instructions, `counts` for the table of these alone, any other one for the calls and
+//! edits whose names have it.
 
+mod counted;
 #[allow(dead_code)]
 #[path = "../../compare/shared/draws.rs"]
 mod draws;
@@ -59,6 +62,11 @@ const READ_IMAGE: u8 = 4;
 const WRITE_AND_ARRIVE: u8 = 5;
 const POST_OUTPUTS: u8 = 6;
 const FILL: u8 = 7;
+const STEP_POST: u8 = 8;
+const OWN_SEND: u8 = 9;
+const OWN_SEND_AND_ARRIVE: u8 = 10;
+const OWN_ARRIVE_ALONE: u8 = 11;
+const OWN_READ_IMAGE: u8 = 12;
 
 unsafe extern "C" {
     fn core_told(
@@ -140,11 +148,16 @@ fn indexes(frame: &[u8]) -> Vec<u32> {
     starts(frame).iter().map(|at| *at as u32 + 1).collect()
 }
 
+/// Whether a kind sends a frame and puts its serial into the one that comes back.
+fn is_put(kind: u8) -> bool {
+    [SEND_ALONE, SEND_AND_ARRIVE, OWN_SEND_AND_ARRIVE].contains(&kind)
+}
+
 /// The nanoseconds of one call of the proved core.
 fn proved(opened: &Opened, case: &Case, kind: u8) -> f64 {
     let timed = Timed { kind, ..case.timed };
     let mut frame = case.frame.clone();
-    let places = if kind == SEND_ALONE || kind == SEND_AND_ARRIVE { indexes(&frame) } else { Vec::new() };
+    let places = if is_put(kind) { indexes(&frame) } else { Vec::new() };
     let mut times = vec![0u64; case.rounds];
     let script = &opened.script;
     let count = unsafe {
@@ -229,7 +242,7 @@ fn plain(opened: &Opened, case: &Case, kind: u8) -> f64 {
         script.add(*asked, own);
     }
     let (mut core, mut frame) = (script.core, case.frame.clone());
-    let places = if kind == SEND_ALONE || kind == SEND_AND_ARRIVE { indexes(&frame) } else { Vec::new() };
+    let places = if is_put(kind) { indexes(&frame) } else { Vec::new() };
     let mut each = Vec::with_capacity(case.rounds);
     for _ in 0..case.rounds {
         let begun = Instant::now();
@@ -409,10 +422,15 @@ fn compare_all(few: bool) {
 fn main() {
     let words: Vec<String> = std::env::args().skip(1).collect();
     let has = |word: &str| words.iter().any(|own| own == word);
-    let names: Vec<&String> = words.iter().filter(|word| !["few", "count"].contains(&word.as_str())).collect();
+    let names: Vec<&String> = words.iter().filter(|word| !["few", "count", "counts"].contains(&word.as_str())).collect();
     let is_wanted = |name: &str| names.iter().all(|word| name.contains(word.as_str()));
     if has("count") {
-        return edited::count(&is_wanted);
+        counted::count(&is_wanted);
+        return edited::count(&|name| !has("counts") && is_wanted(name));
+    }
+    let mut totals = edited::totals().into_iter();
+    if has("counts") {
+        return counted::tell(&mut totals, &is_wanted);
     }
     let (few, turns) = (has("few"), if has("few") { 1 } else { 5 });
     compare_all(few);
@@ -420,7 +438,8 @@ fn main() {
     println!("|---|---|---|---|---|---|");
     tell_calls(turns, &is_wanted);
     tell_writes(turns, &is_wanted);
-    edited::tell(turns, if few { 3 } else { 11 }, &is_wanted);
+    counted::tell(&mut totals, &is_wanted);
+    edited::tell(turns, if few { 3 } else { 11 }, &mut totals, &is_wanted);
 }
 
 /// Prints a row; what it grows by is told by the ratios to a memory copy, since the machine's speed changes.

@@ -9,6 +9,8 @@ pub const GROUPS: u16 = 4;
 pub struct Area {
     pub sm: u8,
     pub task: u8,
+    /// Its width in bits.
+    pub bits: u16,
     /// Its variable, of 64 bits.
     pub variable: u32,
 }
@@ -27,6 +29,7 @@ fn slave(slaves: usize, place: usize) -> Slave {
     let areas = (0..8).map(|number| Area {
         sm: number as u8,
         task: number as u8,
+        bits: 88,
         // variables don't ascend along the line either
         variable: 1 + ((8 * place + number) * 1_021 % (8 * slaves)) as u32,
     });
@@ -44,7 +47,7 @@ pub fn line(slaves: usize) -> Vec<Group> {
 }
 
 fn add_own_area(text: &mut String, alias: u16, area: &Area) {
-    let Area { sm, task, variable } = *area;
+    let Area { sm, task, variable, .. } = *area;
     let (phys, offered) = (0x1000 + 16 * u16::from(sm), [Pdo { index: 1, entries: vec![(variable, 64), (0, 24)] }]);
     let keys = AreaKeys { is_out: sm % 2 == 0, sm, phys, task, assigned: &[1], offered: &offered };
     add_area(text, alias, &keys);

@@ -2,7 +2,9 @@
 //! sorted arrays and by walks over the groups, in one run.
 //!
 //! What is printed is ratios of the best of many rounds, and no time. The sorted arrays are timed twice: where the two
-//! differ by more than a tenth it is said so beside the figures. `--times` tells the nanoseconds of a call, too.
+//! differ by more than a tenth it is said so beside the figures. `--times` tells the nanoseconds of a call, too. With
+//! `--count` nothing is timed: each kind is looked up twice, for who counts the instructions between two readings of the
+//! clock, and `--counts` prints these.
 
 mod line;
 mod plain;
@@ -68,9 +70,9 @@ fn best(times: &[u64], calls: usize) -> [f64; KINDS] {
     std::array::from_fn(|kind| least(kind) / calls as f64)
 }
 
-fn proved(text: &str, asked: &[Asked]) -> Played {
+fn proved(text: &str, asked: &[Asked], rounds: usize) -> Played {
     let mut told = [0; KINDS];
-    let mut times = vec![0; KINDS * ROUNDS];
+    let mut times = vec![0; KINDS * rounds];
     let is_open = unsafe {
         lookups_timed(
             text.as_ptr(), text.len(), GROUPS, asked.as_ptr(), asked.len(), CALLS, told.as_mut_ptr(), told.len(),
@@ -102,7 +104,7 @@ fn played(groups: &[Group], slaves: usize) -> [Played; 4] {
     let asked = asked(slaves);
     let sorted = Sorted::new(groups);
     let before = plain(&asked, CALLS, ROUNDS, |kind, one| sorted.answer(kind, one));
-    let own = proved(&text, &asked);
+    let own = proved(&text, &asked, ROUNDS);
     let behind = plain(&asked, CALLS, ROUNDS, |kind, one| sorted.answer(kind, one));
     let all = plain(&asked, CALLS, 1, |kind, one| walked(groups, kind, one));
     for kind in 0..KINDS {
@@ -113,7 +115,38 @@ fn played(groups: &[Group], slaves: usize) -> [Played; 4] {
     [own, before, behind, walks]
 }
 
+/// Plays two rounds of the proved look-ups and of the sorted arrays, for who counts instructions.
+fn count() {
+    for slaves in SLAVES {
+        let (groups, asked) = (line::line(slaves), asked(slaves));
+        let sorted = Sorted::new(&groups);
+        proved(&line::text(&groups), &asked, 2);
+        plain(&asked, CALLS, 2, |kind, one| sorted.answer(kind, one));
+    }
+}
+
+/// Prints the instructions of a call, by the totals between readings of the clock: those of the second round of two.
+fn tell_counts(totals: &str) {
+    let totals: Vec<f64> = totals.lines().map(|total| total.trim().parse().expect("a total")).collect();
+    println!("| Call | Slaves | Instructions | Of the sorted arrays | Ratio |");
+    println!("|---|---|---|---|---|");
+    for (slaves, own) in SLAVES.iter().zip(totals.chunks(8 * KINDS)) {
+        for (kind, name) in NAMES.iter().enumerate() {
+            let of = |player: usize| own[4 * KINDS * player + 2 * (KINDS + kind) + 1] / CALLS as f64;
+            println!("| {name} | {slaves} | {:.0} | {:.0} | {:.2} |", of(0), of(1), of(0) / of(1));
+        }
+    }
+}
+
 fn main() {
+    let has = |word: &str| std::env::args().any(|own| own == word);
+    if has("--count") {
+        return count();
+    }
+    if has("--counts") {
+        let path = std::env::var_os("COUNTS").expect("the file of the totals");
+        return tell_counts(&std::fs::read_to_string(path).expect("totals"));
+    }
     let tables = SLAVES.map(|slaves| played(&line::line(slaves), slaves));
     println!("| Call | Slaves | Ratio to 64 slaves | Ratio to sorted arrays | Ratio to a walk |");
     println!("|---|---|---|---|---|");
@@ -131,7 +164,7 @@ fn main() {
             if !(0.9..=1.1).contains(&(first / second)) {
                 eprintln!("{} at {slaves}: the sorted arrays differ from themselves by {:.2}", NAMES[kind], first / second);
             }
-            if std::env::args().any(|word| word == "--times") {
+            if has("--times") {
                 eprintln!("{} at {slaves}: {time:.1} ns, arrays {first:.1} ns", NAMES[kind]);
             }
         }

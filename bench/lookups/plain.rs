@@ -1,5 +1,6 @@
-//! The look-ups in plain Rust: by walks over the declared groups, and in sorted arrays. Of a block both make all bytes, by
-//! the slave's position: the n-th areas of all slaves stand one behind another in the n-th task, 135 to a datagram.
+//! The look-ups in plain Rust: by walks over the declared groups, and in sorted arrays. Of a block both make all bytes. The
+//! arrays have the place of each area of a task, sorted by its key, as a plan keeps them that edits change; the walk tells
+//! it by the slave's position, since the n-th areas of all slaves stand one behind another in the n-th task.
 
 use crate::line::{Area, Group, Slave};
 use std::hint::black_box;
@@ -23,9 +24,15 @@ pub const KINDS: usize = 6;
 
 const NONE: u64 = 0xffff_ffff;
 
-/// The bytes of an area, and how many of them a datagram carries.
-const SIZE: u8 = 11;
+/// How many areas a datagram carries.
 const MOST: usize = 135;
+
+/// Where an area stands: its datagram's number in the task, and its first bit there.
+#[derive(Clone, Copy)]
+pub struct Place {
+    datagram: u16,
+    bit: u16,
+}
 
 /// A register and the size of bytes, which are made, as one number, as the library's export tells them.
 fn number_of(register: u64, bytes: &[u8]) -> u64 {
@@ -35,25 +42,38 @@ fn number_of(register: u64, bytes: &[u8]) -> u64 {
 fn sync_manager(area: &Area) -> [u8; 8] {
     let control = if area.sm % 2 == 0 { 0x64 } else { 0x20 };
     let [low, high] = (0x1000 + 16 * u16::from(area.sm)).to_le_bytes();
-    [low, high, SIZE, 0, control, 0, 1, 0]
+    let [size, more] = area.bits.div_ceil(8).to_le_bytes();
+    [low, high, size, more, control, 0, 1, 0]
 }
 
-fn fmmu(area: &Area, position: usize) -> [u8; 16] {
-    let place = u32::from(SIZE) * (position % MOST) as u32;
-    let address = 0x0100_0000 * (u32::from(area.task) + 1) + 2048 * (position / MOST) as u32 + place;
+fn fmmu(area: &Area, place: Place) -> [u8; 16] {
+    let (first, last) = (u32::from(place.bit), u32::from(place.bit + area.bits - 1));
+    let address = 0x0100_0000 * (u32::from(area.task) + 1) + 2048 * u32::from(place.datagram) + first / 8;
     let [a0, a1, a2, a3] = address.to_le_bytes();
+    let [size, more, ..] = (last / 8 - first / 8 + 1).to_le_bytes();
     let [low, high] = (0x1000 + 16 * u16::from(area.sm)).to_le_bytes();
     let kind = if area.sm % 2 == 0 { 2 } else { 1 };
-    [a0, a1, a2, a3, SIZE, 0, 0, 7, low, high, 0, kind, 1, 0, 0, 0]
+    [a0, a1, a2, a3, size, more, (first % 8) as u8, (last % 8) as u8, low, high, 0, kind, 1, 0, 0, 0]
 }
 
-/// The block with a number of the slave at a position: the sync manager's of its area, or the FMMU's.
-fn block(slave: &Slave, position: usize, own: u8) -> u64 {
-    match slave.areas.get(usize::from(own / 2)) {
+/// The block with a number of a slave: the sync manager's of its area, or the FMMU's, whose place is looked for.
+fn block(slave: &Slave, own: u8, place_of: impl Fn(&Area, u8) -> Place) -> u64 {
+    let index = own / 2;
+    match slave.areas.get(usize::from(index)) {
         Some(area) if own % 2 == 0 => number_of(0x0800 + 8 * u64::from(area.sm), &sync_manager(area)),
-        Some(area) => number_of(0x0600 + 16 * u64::from(own / 2), &fmmu(area, position)),
+        Some(area) => number_of(0x0600 + 16 * u64::from(index), &fmmu(area, place_of(area, index))),
         None => NONE,
     }
+}
+
+/// Where each area of the slave at a position stands.
+fn place_at(position: usize, bits: u16) -> Place {
+    Place { datagram: (position / MOST) as u16, bit: bits * (position % MOST) as u16 }
+}
+
+/// The key of an area in its task: its direction, its slave's position and its number.
+fn key_of(area: &Area, position: usize, index: u8) -> u32 {
+    u32::from(area.sm % 2) << 24 | (position as u32) << 8 | u32::from(index)
 }
 
 fn slaves(groups: &[Group]) -> impl Iterator<Item = &Slave> {
@@ -64,13 +84,17 @@ fn slaves(groups: &[Group]) -> impl Iterator<Item = &Slave> {
 pub fn walked(groups: &[Group], kind: usize, asked: &Asked) -> u64 {
     let by_station = |own: &(usize, &Slave)| own.1.station == asked.station;
     match kind {
-        BLOCK => slaves(groups).enumerate().find(by_station).map_or(NONE, |(at, slave)| block(slave, at, asked.own)),
+        BLOCK => slaves(groups)
+            .enumerate()
+            .find(by_station)
+            .map_or(NONE, |(at, slave)| block(slave, asked.own, |area, _| place_at(at, area.bits))),
         NTH_BLOCK => {
             let mut left = asked.number as usize;
             for (at, slave) in slaves(groups).enumerate() {
                 let own = 2 * slave.areas.len();
                 if left < own {
-                    return u64::from(slave.station) << 32 | block(slave, at, left as u8);
+                    let found = block(slave, left as u8, |area, _| place_at(at, area.bits));
+                    return u64::from(slave.station) << 32 | found;
                 }
                 left -= own;
             }
@@ -86,6 +110,18 @@ pub fn walked(groups: &[Group], kind: usize, asked: &Asked) -> u64 {
     }
 }
 
+/// Of each task the areas' keys with their places, sorted.
+fn places(groups: &[Group]) -> [Vec<(u32, Place)>; 8] {
+    let mut tasks: [Vec<(u32, Place)>; 8] = Default::default();
+    for (at, slave) in slaves(groups).enumerate() {
+        for (index, area) in (0..).zip(&slave.areas) {
+            tasks[usize::from(area.task)].push((key_of(area, at, index), place_at(at, area.bits)));
+        }
+    }
+    tasks.iter_mut().for_each(|task| task.sort_unstable_by_key(|row| row.0));
+    tasks
+}
+
 /// The slaves of the line in sorted arrays.
 pub struct Sorted<'a> {
     /// The slaves, each with the number of blocks in front of it.
@@ -94,6 +130,8 @@ pub struct Sorted<'a> {
     stations: Vec<(u16, u16)>,
     /// Variables with their tasks, sorted.
     variables: Vec<(u32, u8)>,
+    /// Of each task the areas' keys with their places, sorted.
+    tasks: [Vec<(u32, Place)>; 8],
     blocks: u32,
 }
 
@@ -110,7 +148,15 @@ impl<'a> Sorted<'a> {
         let areas = slaves(groups).flat_map(|slave| &slave.areas);
         let mut variables: Vec<_> = areas.map(|area| (area.variable, area.task)).collect();
         variables.sort_unstable();
-        Sorted { line, stations, variables, blocks }
+        Sorted { line, stations, variables, tasks: places(groups), blocks }
+    }
+
+    /// The block with a number of the slave at a position.
+    fn block(&self, at: usize, own: u8) -> u64 {
+        block(self.line[at].0, own, |area, index| {
+            let (task, key) = (&self.tasks[usize::from(area.task)], key_of(area, at, index));
+            task[task.partition_point(|row| row.0 < key)].1
+        })
     }
 
     fn position(&self, station: u16) -> Option<usize> {
@@ -120,12 +166,12 @@ impl<'a> Sorted<'a> {
 
     pub fn answer(&self, kind: usize, asked: &Asked) -> u64 {
         match kind {
-            BLOCK => self.position(asked.station).map_or(NONE, |at| block(self.line[at].0, at, asked.own)),
+            BLOCK => self.position(asked.station).map_or(NONE, |at| self.block(at, asked.own)),
             NTH_BLOCK if asked.number >= self.blocks => NONE,
             NTH_BLOCK => {
                 let at = self.line.partition_point(|row| row.1 <= asked.number) - 1;
                 let (slave, front) = self.line[at];
-                u64::from(slave.station) << 32 | block(slave, at, (asked.number - front) as u8)
+                u64::from(slave.station) << 32 | self.block(at, (asked.number - front) as u8)
             }
             POSITION => self.position(asked.station).map_or(NONE, |at| at as u64),
             STATION => self.line.get(asked.number as usize).map_or(NONE, |row| row.0.station.into()),

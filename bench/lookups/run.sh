@@ -199,4 +199,12 @@ END_OF_CODE
 # The library is made for x86-64-v2, so the plain Rust beside it is too.
 rustc --edition 2024 -O -C target-cpu=x86-64-v2 "$here/main.rs" -o "$scratch/bench" \
     -L "$bench/out" -l static=lookups_bench -C link-arg="$kit/c/liblibc_c.a"
+# The instructions of a call: callgrind ends a part of its counts where the clock is read.
+if command -v valgrind > /dev/null; then
+    valgrind --tool=callgrind --combine-dumps=yes --dump-before='*clock_gettime*' \
+        --callgrind-out-file="$scratch/parts" "$scratch/bench" --count > "$scratch/valgrind.txt" 2>&1 \
+        || { cat "$scratch/valgrind.txt"; exit 1; }
+    sed -n 's/^totals: //p' "$scratch/parts" > "$scratch/counts"
+    COUNTS="$scratch/counts" "$scratch/bench" --counts
+fi
 "$scratch/bench" "$@"

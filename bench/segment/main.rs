@@ -6,6 +6,9 @@
 //! its slaves anew, so each is timed at two numbers of turns, and a turn is their difference. What is printed is ratios
 //! of medians over many rounds, and no time. Every kind is run untimed just before it is timed, each round begins with
 //! another kind, and the plain one is timed twice: where the two differ by more than a tenth no figure is printed.
+//!
+//! `bench count KIND SLAVES BIT TURNS` times nothing, and passes the frame for who counts the instructions of these
+//! turns: 0 is the proved segment, 1 plain Rust.
 
 mod chains;
 mod drawn;
@@ -76,7 +79,21 @@ fn medians(memories: &[u8], turns: usize) -> [f64; 3] {
     times.map(median)
 }
 
+/// Passes the frame so many times through a line, of which these words tell.
+fn count(words: &[String]) {
+    let numbers: Vec<usize> = words.iter().map(|word| word.parse().expect("a number")).collect();
+    let [kind, slaves, bit, turns] = numbers[..] else {
+        panic!("count KIND SLAVES BIT TURNS");
+    };
+    let kind = if kind == 0 { Kind::Proved } else { Kind::Plain };
+    run(kind, &mut memories(slaves, bit as u8), &mut full_frame(), turns);
+}
+
 fn main() {
+    let words: Vec<String> = std::env::args().skip(1).collect();
+    if let [word, own @ ..] = words.as_slice() && word == "count" {
+        return count(own);
+    }
     drawn::compare();
     let mut copy = vec![0; full_frame().len()];
     let frame = full_frame();
@@ -104,7 +121,6 @@ fn main() {
         println!("| {count}, {shape} | {:.2} | {:.2} | {:.2} |", proved / plain, proved / share, plain / share);
     }
     println!();
-    let words: Vec<String> = std::env::args().skip(1).collect();
     if let [program, plain, line] = words.as_slice() {
         chains::print_table(program, plain, line.as_ref());
     }

@@ -2,7 +2,7 @@
 # Proves `hc_segment` and what the benchmark needs of it, in a scratch folder: a static library that passes frames through
 # a segment, and a program that passes them through chains, since a static library may start no thread. Builds the plain
 # Rust beside them and runs all. KIT is the toolchain's folder, if it is not /opt/rattle; with KEPT=1 the work that
-# earlier checks kept is taken over.
+# earlier checks kept is taken over. The word `instructions` counts those of a turn, which needs valgrind, and times nothing.
 set -eu
 kit=${KIT:-/opt/rattle}
 here=$(cd "$(dirname "$0")" && pwd)
@@ -171,5 +171,21 @@ END_OF_CODE
 # The library and the program are made for x86-64-v2, so the plain Rust beside them is too.
 rustc --edition 2024 -O -C target-cpu=x86-64-v2 "$here/main.rs" -o "$scratch/bench" \
     -L "$scratch/crates/segment_bench/out" -l static=segment_bench -C link-arg="$kit/c/liblibc_c.a"
+# What valgrind counts of so many turns.
+counted() {
+    valgrind --tool=callgrind --callgrind-out-file=/dev/null "$scratch/bench" count "$@" 2>&1 | sed -n 's/.*Collected : //p'
+}
+# Those of a turn: the difference of 110 turns and of 10.
+each() {
+    echo $((($(counted "$@" 110) - $(counted "$@" 10)) / 100))
+}
+if [ "${1:-}" = instructions ]; then
+    echo '| Slaves, and the bit that their areas begin at | Instructions of a turn | Of plain Rust | Ratio |'
+    echo '|---|---|---|---|'
+    for line in '1 0' '16 0' '64 0' '256 0' '16 3' '64 3' '256 3'; do
+        echo "$line $(each 0 $line) $(each 1 $line)" | awk '{ printf "| %s, %s | %s | %s | %.2f |\n", $1, $2, $3, $4, $3 / $4 }'
+    done
+    exit
+fi
 rustc --edition 2024 -O -C target-cpu=x86-64-v2 "$here/chain_plain.rs" -o "$scratch/chain_plain"
 "$scratch/bench" "$scratch/crates/chain_bench/out/chain_bench" "$scratch/chain_plain" "$scratch/line"

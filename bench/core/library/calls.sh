@@ -51,20 +51,22 @@ mod clock;
 mod edits;
 mod telling;
 
-ghost use Rattle.std.specs.Prelude.{◌≡◌, length};
+ghost use Rattle.std.specs.Prelude.{◌≡◌, All, OnOk, length};
 ghost use Rattle.hc_events.specs.Sendings.{size_of};
 ghost use Rattle.hc_core.specs.Filled.{CanBeFilled};
+ghost use Rattle.hc_core.specs.Proposed.{IsProposal};
 
 use crate::clock::nanoseconds;
 use crate::edits::{EditAsked, edit_of};
 use crate::telling::{told_of, told_of_answer, told_of_changes};
 use hc_core::keeping::Core;
-use hc_events::answer::Answer;
+use hc_events::answer::{Answer, Arrived, Outcome};
 use hc_events::event::Event;
 use hc_events::faults::CoreFault;
 use hc_events::sending::Sending;
 use hc_project::read_project;
-use std::alloc::Global;
+use hc_records::items::Items;
+use std::alloc::{AllocError, Global};
 
 /// An event. Its bytes stand among those of all, from a place on.
 #[repr(C)]
@@ -206,6 +208,23 @@ const POST_OUTPUTS: u8 = 6;
 
 const FILL: u8 = 7;
 
+const STEP_POST: u8 = 8;
+
+const OWN_SEND: u8 = 9;
+
+const OWN_SEND_AND_ARRIVE: u8 = 10;
+
+const OWN_ARRIVE_ALONE: u8 = 11;
+
+const OWN_READ_IMAGE: u8 = 12;
+
+/// Lists that a caller of the events' own calls uses again.
+#[derive(Drop)]
+pub(crate) struct Lists {
+    frames: Vec<Sending>,
+    outcomes: Vec<Outcome>,
+}
+
 /// Puts a byte at a place, where there is one.
 fn put(frame: &mut [u8], at: usize, byte: u8) {
     if let Some(own) = frame.get_mut(at) {
@@ -260,6 +279,62 @@ pub(crate) fn write_and_take(alloc: Global, core: &mut Core) -> u64 {
     ))
 }
 
+/// One of the lists of tasks is proposed.
+fn propose(core: &Core, list: u8, frames: &mut Vec<Sending>) -> Result<(), CoreFault>
+    ensures present { OnOk result (IsProposal core.now.past frames.new.items) }
+    ensures filled { OnOk result (All (CanBeFilled core.now.past) frames.new.items) }
+{
+    match list {
+        0 => core.propose_into(&[0], frames),
+        1 => core.propose_into(&[1], frames),
+        _ => core.propose_into(&[3, 4, 5, 6, 7], frames),
+    }
+}
+
+/// The text of a frame.
+fn text(alloc: Global, core: &Core, frame: &Sending) -> Result<Items<u8>, AllocError>
+    requires { CanBeFilled core.now.past frame.now }
+{
+    let mut text = Vec::from_elem(alloc, 0, frame.size())?;
+    core.fill(frame, &mut text);
+    Ok(Items::of(text))
+}
+
+/// The texts of frames.
+fn texts(alloc: Global, core: &Core, frames: &[Sending]) -> Result<Items<Items<u8>>, AllocError>
+    requires { All (CanBeFilled core.now.past) frames.now }
+{
+    let mut texts = Vec::with_capacity(alloc, frames.len())?;
+    for frame in frames {
+        texts.push(text(alloc, core, frame)?)?;
+    }
+    Ok(Items::of(texts))
+}
+
+/// A sending by its own calls: frames are proposed into a list that is used again, written and committed.
+fn own_send(alloc: Global, core: &mut Core, list: u8, frames: &mut Vec<Sending>) -> u64 {
+    if propose(core, list, frames).is_err() {
+        return 0;
+    }
+    let Ok(texts) = texts(alloc, core, frames.as_slice()) else {
+        return 0;
+    };
+    core.commit(frames.as_slice());
+    u64::from(!texts.as_slice().is_empty())
+}
+
+/// An arrival by its own call.
+fn own_arrive(alloc: Global, core: &mut Core, frame: &[u8], lists: &mut Lists) -> Option<Arrived> {
+    core.arrive_into(alloc, frame, &mut lists.outcomes).ok()
+}
+
+/// An arrival that answers a sending of tasks, by its own call, and the changes that it makes.
+fn own_take_answer(alloc: Global, core: &mut Core, frame: &[u8], lists: &mut Lists) -> u64 {
+    let told = own_arrive(alloc, core, frame, lists);
+    let answered = matches!(told, Some(Arrived::Answered));
+    u64::from(answered & !core.take_changes(alloc).is_empty())
+}
+
 /// Writes a frame into a slice of its size, so many times.
 fn fill(core: &Core, frame: &Sending, calls: u32, out: &mut [u8])
     requires frame { CanBeFilled core.now.past frame.now }
@@ -284,8 +359,48 @@ fn fill_first(core: &Core, task: u8, calls: u32, out: &mut [u8]) -> u64 {
     u64::from(calls)
 }
 
-/// What is timed, once. It tells 1 where the answer is the one that is looked for.
-fn once(alloc: Global, core: &mut Core, timed: &Timed, frame: &mut [u8], indexes: &[u32]) -> u64 {
+/// A post of the outputs, by its own call.
+fn own_post(core: &mut Core, task: u8, bytes: &[u8]) -> u64 {
+    let epoch = core.plan().epoch();
+    u64::from(core.post(task, epoch, bytes).is_ok())
+}
+
+/// What is timed of events' own calls, once. It tells 1 where the answer is the one that is looked for.
+fn own_once(
+    alloc: Global,
+    core: &mut Core,
+    timed: &Timed,
+    frame: &mut [u8],
+    indexes: &[u32],
+    lists: &mut Lists,
+) -> u64 {
+    match timed.kind {
+        POST_OUTPUTS => own_post(core, timed.task, frame),
+        OWN_SEND => own_send(alloc, core, timed.task, &mut lists.frames),
+        OWN_SEND_AND_ARRIVE => {
+            let sent = send_and_put(alloc, core, timed.task, frame, indexes);
+            sent & own_take_answer(alloc, core, frame, lists)
+        }
+        OWN_ARRIVE_ALONE => {
+            let told = own_arrive(alloc, core, frame, lists);
+            u64::from(matches!(told, Some(Arrived::Stale)))
+        }
+        OWN_READ_IMAGE => {
+            u64::from(matches!(core.read(alloc, timed.task), Ok(Answer::Image { .. })))
+        }
+        _ => 0,
+    }
+}
+
+/// What is timed of events, once. It tells 1 where the answer is the one that is looked for.
+fn once(
+    alloc: Global,
+    core: &mut Core,
+    timed: &Timed,
+    frame: &mut [u8],
+    indexes: &[u32],
+    lists: &mut Lists,
+) -> u64 {
     match timed.kind {
         SEND => u64::from(matches!(send(alloc, core, timed.task), Answer::Sent(_))),
         SEND_ALONE => send_and_put(alloc, core, timed.task, frame, indexes),
@@ -301,21 +416,31 @@ fn once(alloc: Global, core: &mut Core, timed: &Timed, frame: &mut [u8], indexes
             ))
         }
         WRITE_AND_ARRIVE => write_and_take(alloc, core),
-        POST_OUTPUTS => {
+        STEP_POST => {
             let epoch = core.plan().epoch();
-            u64::from(core.post(timed.task, epoch, frame).is_ok())
+            u64::from(matches!(
+                post(alloc, core, timed.task, epoch, frame),
+                Answer::Posted
+            ))
         }
-        _ => 0,
+        _ => own_once(alloc, core, timed, frame, indexes, lists),
     }
 }
 
-fn repeat(alloc: Global, core: &mut Core, timed: &Timed, frame: &mut [u8], indexes: &[u32]) -> u64 {
+fn repeat(
+    alloc: Global,
+    core: &mut Core,
+    timed: &Timed,
+    frame: &mut [u8],
+    indexes: &[u32],
+    lists: &mut Lists,
+) -> u64 {
     if timed.kind == FILL {
         return fill_first(core, timed.task, timed.calls, frame);
     }
     let mut count = 0_u64;
     for _ in 0..timed.calls {
-        count = count.wrapping_add(once(alloc, core, timed, frame, indexes));
+        count = count.wrapping_add(once(alloc, core, timed, frame, indexes, lists));
     }
     count
 }
@@ -337,10 +462,14 @@ pub extern "C" fn core_timed(
         return 0;
     };
     play(alloc, &mut core, events, bytes);
+    let mut lists = Lists {
+        frames: Vec::new(alloc),
+        outcomes: Vec::new(alloc),
+    };
     let mut count = 0_u64;
     for time in times.iter_mut() {
         let begun = nanoseconds();
-        count = count.wrapping_add(repeat(alloc, &mut core, timed, frame, indexes));
+        count = count.wrapping_add(repeat(alloc, &mut core, timed, frame, indexes, &mut lists));
         *time = nanoseconds().wrapping_sub(begun);
     }
     count

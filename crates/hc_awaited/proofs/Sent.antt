@@ -1,9 +1,11 @@
 -- Frames are sent: what is awaited behind them.
-use Rattle.std.proofs.Common.{◌≡◌, ℕ, ◌<◌, ◌==◌, Bool, true, false, cond, not, ◌&&◌, ◌||◌, List, [], ◌∷◌, ◌++◌, length, map, filter, get_or, refl, sym, ap, ◌∙◌, subst, arith, append_assoc, append-nil, Option, Some, zero, suc}
+use Rattle.std.proofs.Common.{◌≡◌, ℕ, ◌-◌, ◌<◌, ◌==◌, nat_lt, Bool, true, false, cond, not, ◌&&◌, ◌||◌, List, [], ◌∷◌, ◌++◌, ◌+◌, ◌≤◌, ◌⊎◌, inl, inr, length, length-append, map, filter, get_or, refl, sym, ap, ◌∙◌, subst, arith, append_assoc, append-nil, Option, Some, zero, suc}
 use Rattle.std.specs.Prelude.{All, AllPairs}
 use Rattle.std.specs.List.{list_any}
 use Rattle.std.proofs.lemmas.Bool.Decides.{nat_tests}
-use Rattle.std.proofs.lemmas.List.{map-append}
+use Rattle.std.proofs.lemmas.Bool.{ltb-false, ltb-true}
+use Rattle.std.proofs.lemmas.List.{get_or_default, length-map, map-append}
+use Rattle.std.proofs.lemmas.List.Sums.{count_by-le-length, length-filter}
 use Rattle.std.proofs.lemmas.List.Elements.{All-append, All-cons, All-filter, All-head, All-map, All-nil, All-tail, All-weaker, filter-append}
 use Rattle.std.proofs.lemmas.List.Kept.{AllPairs-filter}
 use Rattle.hc_records.proofs.lemmas.Lists.{All-unmap, AllPairs-append, AllPairs-head, AllPairs-map, AllPairs-tail}
@@ -11,6 +13,7 @@ use Rattle.hc_events.specs.Sendings.{Frame, Named}
 use Rattle.hc_events.proofs.lemmas.Awaited.{by_bool}
 use Rattle.hc_awaited.specs.Waiting.{AwaitedFrame, AwaitedWrite, Carried, IsNamed, all_sent, as_sent, is_alive, is_named, just_sent, sent_again, with_again}
 use Rattle.hc_awaited.specs.Kept.{AreKept, KeptFrame, Newest, is_serial, kept_of, newest_after, newest_of}
+use Rattle.hc_awaited.proofs.Room.{few-stay}
 use Rattle.hc_awaited.proofs.Alive.{Table, alive-same, alive-stays, alive_at, filter-map_is, map-all, stays_at, told_at}
 
 -- a table where a frame is the newest of its datagrams
@@ -154,46 +157,123 @@ pub all-named : (kept : List KeptFrame) (frames : List Frame) → All (λ (frame
 all-named kept frames first second =
     All-append (λ (frame : KeptFrame). All IsNamed frame.datagrams) kept (map kept_of frames) first (All-map (λ (frame : KeptFrame). All IsNamed frame.datagrams) kept_of frames second)
 
--- the whole of it: those that were answered go, the frames are noted, those that aren't the newest of a datagram go, and those of the new frames that are come behind
+abbrev pub Behind : List Frame → KeptFrame → Type 0
+Behind frames old = All (λ (next : Frame). old.serial < next.serial) frames
 
-abbrev pub left : Table → Newest → List KeptFrame → List Frame → List KeptFrame
-left before now kept frames = filter (stays_at (newest_of now)) (filter (stays_at before) kept ++ map kept_of frames)
+-- frames of which some that are awaited no longer have gone
 
-pub left-kept : (before now : Newest) (kept : List KeptFrame) (frames : List Frame) → AreKept before kept → length now ≡ length before
+pub record IsPruned (at : Table) (old new : List KeptFrame) : Type 0 where
+  pub told : alive_at at new ≡ alive_at at old
+  pub ascend : AllPairs Ascend old → AllPairs Ascend new
+  pub named : All (λ frame. All IsNamed frame.datagrams) old → All (λ frame. All IsNamed frame.datagrams) new
+  pub behind : (frames : List Frame) → All (Behind frames) old → All (Behind frames) new
+
+pub pruned-or : {X : Type 0} (at : Table) (old new : List KeptFrame) → (new ≡ filter (stays_at at) old) ⊎ ((new ≡ old) × X) → IsPruned at old new
+pruned-or at old new (inl e) =
+    subst (IsPruned at old) (sym e)
+    (record {
+      told = alive-stays at old;
+      ascend = AllPairs-filter Ascend (stays_at at) old;
+      named = All-filter (stays_at at) (λ (frame : KeptFrame). All IsNamed frame.datagrams) old;
+      behind = λ frames. All-filter (stays_at at) (Behind frames) old;
+    })
+pruned-or at old new (inr e) = subst (IsPruned at old) (sym e.0) (record { told = refl; ascend = λ pairs. pairs; named = λ all. all; behind = λ frames all. all })
+
+-- the last one that is kept has the highest serial, and the first one that comes the lowest
+
+kept-low : (kept : List KeptFrame) (last : KeptFrame) (k : ℕ) (d : KeptFrame) → AllPairs Ascend kept → k < length kept → last ≡ get_or kept (length kept - 1) last
+    → (get_or kept k d).serial ≤ last.serial
+kept-low kept last k d ascend within is =
+    let end = length kept - 1 in
+    let there : (get_or kept end d).serial ≡ last.serial = ap (λ (f : KeptFrame). f.serial) (get_or_default kept end d last (omega arith) ∙ sym is) in
+    by_bool (nat_lt k end)
+    (λ t. let below = ascend k end d (ltb-true k end t) (omega arith) in omega (arith, below, there))
+    (λ t. let from = ltb-false k end t in
+    let at : k ≡ end = omega arith in
+    let same = ap (λ (n : ℕ). (get_or kept n d).serial) at in omega (arith, same, there))
+
+come-high : (frames : List Frame) (first : Frame) (k : ℕ) (d : Frame) → AllPairs (λ a b. a.serial < b.serial) frames → k < length frames → first ≡ get_or frames 0 first
+    → first.serial ≤ (get_or frames k d).serial
+come-high frames first k d ascend within is =
+    let there : (get_or frames 0 d).serial ≡ first.serial = ap (λ (f : Frame). f.serial) (get_or_default frames 0 d first (omega arith) ∙ sym is) in
+    by_bool (nat_lt 0 k)
+    (λ t. let below = ascend 0 k d (ltb-true 0 k t) within in omega (arith, below, there))
+    (λ t. let from = ltb-false 0 k t in
+    let at : k ≡ 0 = omega arith in
+    let same = ap (λ (n : ℕ). (get_or frames n d).serial) at in omega (arith, same, there))
+
+pub ends-apart : (kept : List KeptFrame) (frames : List Frame) (last : KeptFrame) (first : Frame) → AllPairs Ascend kept → AllPairs (λ a b. a.serial < b.serial) frames
+    → last ≡ get_or kept (length kept - 1) last → first ≡ get_or frames 0 first → last.serial < first.serial → All (Behind frames) kept
+ends-apart kept frames last first ascend come is_last is_first apart k d within j e among =
+    let low = kept-low kept last k d ascend within is_last in
+    let high = come-high frames first j e come among is_first in
+    omega (arith, low, high, apart)
+
+-- those that are left have lower serials than frames that come
+pub behind-or : (at : Table) (kept first : List KeptFrame) (frames : List Frame)
+    → (first ≡ filter (stays_at at) kept) ⊎ ((first ≡ kept) × All (λ old. All (λ next. old.serial < next.serial) frames) kept)
+    → All (λ old. All (λ next. old.serial < next.serial) frames) (alive_at at kept) → All (Behind frames) first
+behind-or at kept first frames (inl e) behind = subst (All (Behind frames)) (sym e) (kept-behind at kept frames behind)
+behind-or at kept first frames (inr e) behind = subst (All (Behind frames)) (sym e.0) e.1
+
+alive-append : (at : Table) (one other : List KeptFrame) → alive_at at (one ++ other) ≡ alive_at at one ++ alive_at at other
+alive-append at one other = ap (filter is_alive) (map-append (told_at at) one other) ∙ filter-append is_alive (map (told_at at) one) (map (told_at at) other)
+
+-- the whole of it: frames that are awaited no longer may go, the frames are noted, others may go, and those of the new frames that are the newest of a datagram come behind
+abbrev pub joined : Newest → List KeptFrame → List Frame → List KeptFrame
+joined now second frames = second ++ filter (stays_at (newest_of now)) (map kept_of frames)
+
+pub joined-kept : (before now : Newest) (kept first second : List KeptFrame) (frames : List Frame) → AreKept before kept → length now ≡ length before
+    → IsPruned (newest_of before) kept first → All (Behind frames) first → IsPruned (newest_of now) first second
     → All (λ (frame : Frame). All IsNamed frame.datagrams) frames → AllPairs (λ a b. a.serial < b.serial) frames
-    → All (λ old. All (λ next. old.serial < next.serial) frames) (alive_at (newest_of before) kept)
-    → AreKept now (left (newest_of before) now kept frames)
-left-kept before now kept frames are places named ascend behind =
-    let first = filter (stays_at (newest_of before)) kept in
+    → AreKept now (joined now second frames)
+joined-kept before now kept first second frames are places one behind two named ascend =
+    let stays = stays_at (newest_of now) in
+    let new : List KeptFrame = filter stays (map kept_of frames) in
     record {
       places = places ∙ are.places;
-      ascend = AllPairs-filter Ascend (stays_at (newest_of now)) (first ++ map kept_of frames)
-          (all-ascend first frames (AllPairs-filter Ascend (stays_at (newest_of before)) kept are.ascend) ascend (kept-behind (newest_of before) kept frames behind));
-      named = All-filter (stays_at (newest_of now)) (λ (frame : KeptFrame). All IsNamed frame.datagrams) (first ++ map kept_of frames)
-          (all-named first frames (All-filter (stays_at (newest_of before)) (λ (frame : KeptFrame). All IsNamed frame.datagrams) kept are.named) named);
+      ascend = AllPairs-append Ascend second new (two.ascend (one.ascend are.ascend)) (AllPairs-filter Ascend stays (map kept_of frames) (AllPairs-map Ascend kept_of frames ascend))
+          (All-weaker (Behind frames) (λ (old : KeptFrame). All (Ascend old) new)
+          (λ old all. All-filter stays (Ascend old) (map kept_of frames) (All-map (Ascend old) kept_of frames all)) second (two.behind frames behind));
+      named = All-append (λ (frame : KeptFrame). All IsNamed frame.datagrams) second new
+          (two.named (one.named are.named))
+          (All-filter stays (λ (frame : KeptFrame). All IsNamed frame.datagrams) (map kept_of frames) (All-map (λ (frame : KeptFrame). All IsNamed frame.datagrams) kept_of frames named));
     }
 
-pub left-told : (before now : Newest) (kept : List KeptFrame) (frames : List Frame) (write : Option AwaitedWrite) → AreKept before kept
+pub joined-told : (before now : Newest) (kept first second : List KeptFrame) (frames : List Frame) (write : Option AwaitedWrite) → AreKept before kept
     → ((d : Named) → IsNamed d → newest_of now d ≡ newest_after d (newest_of before d) frames)
+    → IsPruned (newest_of before) kept first → All (Behind frames) first → IsPruned (newest_of now) first second
     → All (λ (frame : Frame). All IsNamed frame.datagrams) frames → AllPairs (λ a b. a.serial < b.serial) frames
-    → All (λ old. All (λ next. old.serial < next.serial) frames) (alive_at (newest_of before) kept)
-    → record { frames = alive_at (newest_of now) (left (newest_of before) now kept frames); write = write }
+    → record { frames = alive_at (newest_of now) (joined now second frames); write = write }
     ≡ all_sent (record { frames = alive_at (newest_of before) kept; write = write }) frames
-left-told before now kept frames write are noted named ascend behind =
-    let first = filter (stays_at (newest_of before)) kept in
+joined-told before now kept first second frames write are noted one behind two named ascend =
+    let at : Table = newest_of now in
+    let new : List KeptFrame = map kept_of frames in
     ap (λ (all : List AwaitedFrame). record { frames = all; write = write })
-    (alive-stays (newest_of now) (first ++ map kept_of frames)
-    ∙ alive-same (newest_of now) (λ d. newest_after d (newest_of before d) frames) noted (first ++ map kept_of frames)
-    (all-named first frames (All-filter (stays_at (newest_of before)) (λ (frame : KeptFrame). All IsNamed frame.datagrams) kept are.named) named))
-    ∙ sent-all frames (newest_of before) first write ascend (kept-behind (newest_of before) kept frames behind)
-    ∙ ap (λ (all : List AwaitedFrame). all_sent (record { frames = all; write = write }) frames) (alive-stays (newest_of before) kept)
+    (alive-append at second (filter (stays_at at) new)
+    ∙ ap (λ (all : List AwaitedFrame). all ++ alive_at at (filter (stays_at at) new)) two.told
+    ∙ ap (λ (all : List AwaitedFrame). alive_at at first ++ all) (alive-stays at new)
+    ∙ sym (alive-append at first new)
+    ∙ alive-same at (λ d. newest_after d (newest_of before d) frames) noted (first ++ new)
+    (all-named first frames (one.named are.named) named))
+    ∙ sent-all frames (newest_of before) first write ascend behind
+    ∙ ap (λ (all : List AwaitedFrame). all_sent (record { frames = all; write = write }) frames) one.told
 
--- in three steps
-pub left-is : (before : Table) (now : Newest) (kept first second third : List KeptFrame) (frames : List Frame)
-    → first ≡ filter (stays_at before) kept → second ≡ filter (stays_at (newest_of now)) first
-    → third ≡ second ++ filter (stays_at (newest_of now)) (map kept_of frames)
-    → third ≡ left before now kept frames
-left-is before now kept first second third frames one two three =
-    three
-    ∙ ap (λ (all : List KeptFrame). all ++ filter (stays_at (newest_of now)) (map kept_of frames)) (two ∙ ap (filter (stays_at (newest_of now))) one)
-    ∙ sym (filter-append (stays_at (newest_of now)) (filter (stays_at before) kept) (map kept_of frames))
+-- there is room for them: for all that come, or where those that are left are the newest of a datagram each
+pub joined-few : (now : Newest) (first second : List KeptFrame) (frames : List Frame) (room count : ℕ)
+    → (second ≡ filter (stays_at (newest_of now)) first) ⊎ ((second ≡ first) × (count + length frames ≤ room)) → count ≡ length first
+    → AllPairs Ascend first → All (Behind frames) first → AllPairs (λ a b. a.serial < b.serial) frames → length now ≤ room
+    → length (joined now second frames) ≤ room
+joined-few now first second frames room count (inl e) counted first_ascend behind ascend places =
+    let stays = stays_at (newest_of now) in
+    let few = few-stay now (first ++ map kept_of frames) (all-ascend first frames first_ascend ascend behind) in
+    let whole = ap (λ (all : List KeptFrame). length (all ++ filter stays (map kept_of frames))) e ∙ ap length (sym (filter-append stays first (map kept_of frames))) in
+    omega (arith, few, whole, places)
+joined-few now first second frames room count (inr e) counted first_ascend behind ascend places =
+    let stays = stays_at (newest_of now) in
+    let whole = ap (λ (all : List KeptFrame). length (all ++ filter stays (map kept_of frames))) e.0 ∙ length-append first (filter stays (map kept_of frames)) in
+    let new = length-filter stays (map kept_of frames) in
+    let some = count_by-le-length stays (map kept_of frames) in
+    let all = length-map frames kept_of in
+    let fits = e.1 in
+    omega (arith, whole, new, some, all, fits, counted)

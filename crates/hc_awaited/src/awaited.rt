@@ -1,5 +1,5 @@
 //! What was sent and can still be answered with news.
-ghost use Rattle.std.specs.Prelude.{◌≡◌, ◌==◌, ◌<◌, ◌≤◌, [], ◌∷◌, ◌++◌, false, true, All, AllPairs, Contains, IfSome, filter, find, if◌then◌else◌, length, map, nat_lt, option_map, vec_capacity, vec_len};
+ghost use Rattle.std.specs.Prelude.{◌≡◌, ◌==◌, ◌<◌, ◌≤◌, [], ◌∷◌, ◌++◌, ◌+◌, ◌⊎◌, false, true, All, AllPairs, Contains, IfSome, IsTrue, filter, find, if◌then◌else◌, length, map, nat_lt, option_map, vec_capacity, vec_len};
 ghost use Rattle.std.specs.List.Sorted.{IsPartitionPoint};
 ghost use Rattle.std.specs.Option.{option_map_or};
 ghost use Rattle.hc_events.specs.Sendings.{Named};
@@ -104,6 +104,42 @@ fn keep_alive(frames: &mut Vec<KeptFrame>, newest: &Newest)
     frames.retain(|frame| is_alive(newest, frame));
 }
 
+/// Whether frames that come have higher serials than all that are kept, by the last one that is kept and the first that
+/// comes.
+fn are_behind(frames: &[KeptFrame], more: &[Sending]) -> bool
+    requires kept { AllPairs (λ a b. a.serial < b.serial) frames.now }
+    requires come { AllPairs (λ a b. a.serial < b.serial) more.now }
+    ensures { IsTrue result → All (λ old. All (λ next. old.serial < next.serial) more.now) frames.now }
+{
+    if frames.is_empty() || more.is_empty() {
+        return true;
+    }
+    frames[frames.len() - 1].serial() < more[0].serial()
+}
+
+/// The frames that are the newest of no datagram go, unless frames that come have higher serials than all of them: where
+/// these are noted, none of those comes to be the newest of one again.
+fn make_way(frames: &mut Vec<KeptFrame>, newest: &Newest, more: &[Sending])
+    requires kept { AllPairs (λ a b. a.serial < b.serial) frames.old.items }
+    requires come { AllPairs (λ a b. a.serial < b.serial) more.now }
+    ensures frames { (frames.new.items ≡ filter (λ frame. is_alive (frame_by newest.now frame)) frames.old.items) ⊎ ((frames.new.items ≡ frames.old.items) × All (λ old. All (λ next. old.serial < next.serial) more.now) frames.old.items) }
+    ensures room { vec_capacity frames.new ≡ vec_capacity frames.old }
+{
+    if !are_behind(frames, more) {
+        keep_alive(frames, newest);
+    }
+}
+
+/// The frames that are the newest of no datagram go, unless there is room for so many more.
+fn make_room(frames: &mut Vec<KeptFrame>, newest: &Newest, more: usize)
+    ensures frames { (frames.new.items ≡ filter (λ frame. is_alive (frame_by newest.now frame)) frames.old.items) ⊎ ((frames.new.items ≡ frames.old.items) × (vec_len frames.old + more ≤ vec_capacity frames.old)) }
+    ensures room { vec_capacity frames.new ≡ vec_capacity frames.old }
+{
+    if frames.capacity() - frames.len() < more {
+        keep_alive(frames, newest);
+    }
+}
+
 /// What is kept of a frame comes behind the others where it is the newest of a datagram; then there is room for it.
 fn add_alive(frames: &mut Vec<KeptFrame>, newest: &Newest, frame: &Sending)
     requires { is_alive (frame_by newest.now (kept_of frame.now)) ≡ true → vec_len frames.old < vec_capacity frames.old }
@@ -200,10 +236,9 @@ impl Awaited {
         ensures sent { self.new ≡ all_sent self.old frames.now }
         ensures few { length self.new.frames ≤ TASKS * MOST_DATAGRAMS }
     {
-        // those that were answered go, before their serials could come again
-        keep_alive(&mut self.frames, &self.newest);
+        make_way(&mut self.frames, &self.newest, frames);
         note_all(&mut self.newest, frames);
-        keep_alive(&mut self.frames, &self.newest);
+        make_room(&mut self.frames, &self.newest, frames.len());
         add_all(&mut self.frames, &self.newest, frames);
     }
 

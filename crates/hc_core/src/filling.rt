@@ -13,7 +13,7 @@ use crate::keeping::Core;
 use hc_events::sending::Sending;
 use hc_outputs::outputs::Outputs;
 use hc_records::items::Items;
-use hc_sendings::writing::{SentData, write_frame};
+use hc_sendings::writing::{SentData, frame_text, write_frame};
 use std::alloc::{AllocError, Global};
 
 /// The output values, as they are sent.
@@ -43,6 +43,16 @@ fn write_values(out: &mut [u8], frame: &Sending, outputs: &Outputs)
     write_frame(out, frame, &Values { outputs });
 }
 
+/// The text of a frame, with the data that outputs have of its datagrams.
+fn values_text(alloc: Global, frame: &Sending, outputs: &Outputs) -> Result<Items<u8>, AllocError>
+    requires serial { frame.now.serial < 2 ^ 40 }
+    requires known { All (λ named. named.0 < TASKS) frame.now.datagrams }
+    requires size { 2 + carried_bytes (sent_bytes outputs.now) frame.now.datagrams ≤ MAX_ETHERCAT }
+    ensures { IfOk result (λ text. text ≡ text_of (sent_bytes outputs.now) frame.now) }
+{
+    frame_text(alloc, frame, &Values { outputs })
+}
+
 impl Core {
     /// Writes a frame of datagrams of the present line into a slice of its exact size: each datagram carries
     /// the values of its output variables, and zeros at every other bit. Such are the frames that `propose`
@@ -61,9 +71,8 @@ impl Core {
         requires { CanBeFilled self.now.past frame.now }
         ensures { IfOk result (λ text. text ≡ sent_text self.now.past frame.now) }
     {
-        let mut text = Vec::from_elem(alloc, 0, frame.size())?;
-        self.fill(frame, &mut text);
-        Ok(Items::of(text))
+        let _ = frame.datagrams();
+        values_text(alloc, frame, &self.outputs)
     }
 
     /// The texts of frames, in their order.

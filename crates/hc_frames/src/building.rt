@@ -8,11 +8,11 @@ mod heads;
 mod loans;
 mod opened;
 
-pub use datagrams::{build_blank_datagram, build_datagram_of};
+pub use datagrams::{add_datagram_of, build_blank_datagram, build_datagram_of};
 pub use frames::{
     build_alias_read, build_blank_frame, build_blank_lrw, build_station, build_write, frame_size,
 };
-pub use heads::build_head;
+pub use heads::{add_head, build_head};
 pub use loans::{build_datagram, build_lrw};
 pub use opened::{Open, build_frame};
 

@@ -41,13 +41,18 @@ impl Slot {
         self.is_fresh = false;
     }
 
-    /// From now on it has these data, at most 1,486 bytes.
+    /// From now on it has these data, at most 1,486 bytes. They are as many as before in an epoch, and are then written
+    /// over those, while a list that is cleared is zeroed.
     pub(crate) fn put(&mut self, bytes: &[u8])
         requires { length bytes.now ≤ MOST_DATAGRAM_BYTES }
         ensures { self.new ≡ Some bytes.now }
     {
-        self.bytes.clear();
-        self.bytes.try_extend_from_slice(bytes).unwrap();
+        if self.bytes.len() == bytes.len() {
+            self.bytes.as_mut_slice().copy_from_slice(bytes);
+        } else {
+            self.bytes.clear();
+            self.bytes.try_extend_from_slice(bytes).unwrap();
+        }
         self.is_fresh = true;
     }
 

@@ -1,6 +1,7 @@
 -- The parts of distinct tasks, joined in the tasks' order, are the frames: each frame is cut into pieces, and these come task by task.
-use Rattle.std.proofs.Common.{◌≡◌, ◌∙◌, ◌⊎◌, inl, inr, ◌+◌, ◌-◌, ◌<◌, ◌≤◌, ℕ, Bool, true, false, cond, not, List, [], ◌∷◌, ◌++◌, refl, sym, ap, ap₂, subst, arith, length, map, get_or, append-nil, append_assoc, Some}
-use Rattle.std.specs.Prelude.{All, AllPairs, filter, slice_get, ◌==◌, ◌||◌}
+use Rattle.std.proofs.Common.{◌≡◌, ◌∙◌, ◌⊎◌, inl, inr, ◌+◌, ◌-◌, ◌<◌, ◌≤◌, ℕ, Bool, true, false, cond, not, List, [], ◌∷◌, ◌++◌, refl, sym, ap, ap₂, subst, arith, length, map, get_or, append-nil, append_assoc, rules, Some}
+use Rattle.std.specs.Prelude.{All, AllPairs, Err, Ok, OnOk, Result, filter, if◌then◌else◌, slice_get, ◌==◌, ◌||◌}
+use Rattle.std.specs.Result.{is_ok}
 use Rattle.std.specs.List.{flat_map, list_any, range_with_len}
 use Rattle.std.proofs.lemmas.Bool.{eq-eqb, eqb-true, ne_eqb, or_parts}
 use Rattle.std.proofs.lemmas.Grind.{flat_map-append}
@@ -197,8 +198,25 @@ sizes_same bytes (named ∷ rest) =
     let behind = sizes_same bytes rest in
     omega arith
 
-text_length : (bytes : Data) (serial : ℕ) (names : List Named) → length (datagrams_text serial (map (carried_by bytes) names)) ≡ carried_bytes bytes names
+pub text_length : (bytes : Data) (serial : ℕ) (names : List Named) → length (datagrams_text serial (map (carried_by bytes) names)) ≡ carried_bytes bytes names
 text_length bytes serial names = length-carried_texts serial (map sent (map (carried_by bytes) names)) ∙ sizes_same bytes names
+
+-- a text to which the parts of a frame were added, one after another
+pub added-up : (bytes : Data) (serial size : ℕ) (names : List Named) (none head all text : List ℕ) → none ≡ [] → head ≡ none ++ frame_head serial size
+    → all ≡ head ++ datagrams_text serial (map (carried_by bytes) names) → text ≡ all ++ padding size → size ≡ carried_bytes bytes names
+    → text ≡ frame_text serial (map (carried_by bytes) names)
+added-up bytes serial size names none head all text is_none is_head is_all is_text same =
+    let own = datagrams_text serial (map (carried_by bytes) names) in
+    is_text
+    ∙ ap (λ before. before ++ padding size) (is_all ∙ ap (λ before. before ++ own) (is_head ∙ ap (λ before. before ++ frame_head serial size) is_none))
+    ∙ append_assoc (frame_head serial size) own (padding size)
+    ∙ ap (λ (n : ℕ). frame_head serial n ++ (own ++ padding n)) (same ∙ sym (text_length bytes serial names))
+
+-- what is added to a text, where there is room
+pub added : {A : Type 0} {E : Type 0} (result : Result A E) (new old more other : List ℕ) → new ≡ (if is_ok result then old ++ more else old) → more ≡ other
+    → OnOk result (new ≡ old ++ other)
+added (Ok x) new old more other is same = is ∙ ap (λ text. old ++ text) same
+added (Err e) new old more other is same = search rules
 
 joined_in : (bytes : Data) (serial : ℕ) (names : List Named) → 0 < length names
     → joined_texts (pieces_in bytes serial (carried_bytes bytes names) names) ≡ frame_text serial (map (carried_by bytes) names)

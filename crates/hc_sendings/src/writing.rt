@@ -1,15 +1,18 @@
 //! Writes the frames that were planned, each byte once.
-ghost use Rattle.std.specs.Prelude.{◌≡◌, ◌+◌, ◌^◌, ◌<◌, ◌≤◌, ℕ, All, List, length, map};
+ghost use Rattle.std.specs.Prelude.{◌≡◌, ◌+◌, ◌^◌, ◌<◌, ◌≤◌, ◌++◌, ℕ, All, IfOk, List, OnOk, length, map, replicate};
 ghost use Rattle.hc_records.specs.declared.limits.TheConstants.{TASKS};
 ghost use Rattle.hc_frames.specs.FrameText.{datagrams_text};
 ghost use Rattle.hc_frames.specs.Sizes.{frame_bytes};
 ghost use Rattle.hc_frames.specs.declared.limits.TheConstants.{MAX_ETHERCAT};
+ghost use Rattle.hc_sendings.specs.Parts.{padding_bytes};
 ghost use Rattle.hc_sendings.specs.Texts.{carried_by, carried_bytes, text_of};
 
 use hc_events::sending::{Named, Sending};
-use hc_frames::building::{build_datagram_of, build_head};
-use hc_frames::limits::{BESIDE_DATA_BYTES, HEAD_BYTES};
+use hc_frames::building::{add_datagram_of, add_head, build_datagram_of, build_head};
+use hc_frames::limits::{BESIDE_DATA_BYTES, HEAD_BYTES, LEAST_FRAME};
+use hc_records::items::Items;
 use hc_registers::fmmu::logical_address;
+use std::alloc::{AllocError, Global};
 
 /// Where the data stand with which datagrams are sent.
 pub trait SentData {
@@ -68,4 +71,54 @@ pub fn write_frame<D: SentData>(out: &mut [u8], frame: &Sending, sent: &D)
     build_head(head, frame.serial(), size as u16);
     write_datagrams(texts, frame.serial(), datagrams, sent);
     padding.fill(0);
+}
+
+/// Adds datagrams one after another to a text. A frame has 115 at most, so deep is this recursion.
+fn add_datagrams<D: SentData>(
+    text: &mut Vec<u8>,
+    serial: u64,
+    datagrams: &[Named],
+    sent: &D,
+) -> Result<(), AllocError>
+    requires known { All (λ named. named.0 < TASKS) datagrams.now }
+    requires size { 2 + carried_bytes (D.bytes sent.now) datagrams.now ≤ MAX_ETHERCAT }
+    ensures { OnOk result (text.new.items ≡ text.old.items ++ datagrams_text serial (map (carried_by (D.bytes sent.now)) datagrams.now)) }
+{
+    if let [(task, number), rest @ ..] = datagrams {
+        let bytes = sent.bytes_of(*task, *number);
+        let address = logical_address(*task, u16::from(*number));
+        add_datagram_of(text, serial, address, bytes, !rest.is_empty())?;
+        add_datagrams(text, serial, rest, sent)?;
+    }
+    Ok(())
+}
+
+/// Adds the zeros behind so many bytes of datagrams, up to the least frame.
+fn add_padding(text: &mut Vec<u8>, size: usize) -> Result<(), AllocError>
+    requires { size ≤ MAX_ETHERCAT }
+    ensures { OnOk result (text.new.items ≡ text.old.items ++ replicate (padding_bytes size) 0) }
+{
+    let zeros = usize::from(LEAST_FRAME).saturating_sub(HEAD_BYTES + size);
+    text.extend_from_slice(&[0; 44][..zeros])
+}
+
+/// The text of a frame of tasks, as `write_frame` writes it into a slice: no byte of it is written twice. It takes the
+/// text's memory alone: `AllocError` where that was refused.
+pub fn frame_text<D: SentData>(
+    alloc: Global,
+    frame: &Sending,
+    sent: &D,
+) -> Result<Items<u8>, AllocError>
+    requires serial { frame.now.serial < 2 ^ 40 }
+    requires known { All (λ named. named.0 < TASKS) frame.now.datagrams }
+    requires size { 2 + carried_bytes (D.bytes sent.now) frame.now.datagrams ≤ MAX_ETHERCAT }
+    ensures { IfOk result (λ text. text ≡ text_of (D.bytes sent.now) frame.now) }
+{
+    let datagrams = frame.datagrams();
+    let size = carried_bytes(datagrams, sent);
+    let mut text = Vec::with_capacity(alloc, frame.size())?;
+    add_head(&mut text, frame.serial(), size as u16)?;
+    add_datagrams(&mut text, frame.serial(), datagrams, sent)?;
+    add_padding(&mut text, size)?;
+    Ok(Items::of(text))
 }

@@ -1,11 +1,12 @@
 //! Datagrams in slices of their exact size.
-ghost use Rattle.std.specs.Prelude.{◌≡◌, ◌+◌, ◌≤◌, length, map};
+ghost use Rattle.std.specs.Prelude.{◌≡◌, ◌+◌, ◌≤◌, ◌++◌, OnOk, length, map};
 ghost use Rattle.hc_frames.specs.FrameText.{datagram_text, datagrams_text, blank_lrw, lrw};
 ghost use Rattle.hc_frames.specs.Sizes.{datagrams_size};
 
 use super::heads::datagram_head;
 use crate::commands::Command;
 use crate::limits::{BESIDE_DATA_BYTES, DATAGRAM_HEAD_BYTES, MAX_DATA, MAX_ETHERCAT};
+use std::alloc::AllocError;
 
 /// Writes one datagram with these data bytes and the working counter 0. `out` has 12 bytes more than the data.
 pub(crate) fn write_datagram(
@@ -35,6 +36,24 @@ pub fn build_datagram_of(out: &mut [u8], serial: u64, address: u32, bytes: &[u8]
     ensures { out.new ≡ datagram_text serial more (lrw address bytes.now) }
 {
     write_datagram(out, serial, Command::Lrw, address, bytes, more);
+}
+
+/// Adds one LRW datagram with these data bytes to a text, as `build_datagram_of` writes it. `AllocError` where the text has
+/// no room for it and was refused a growth.
+pub fn add_datagram_of(
+    text: &mut Vec<u8>,
+    serial: u64,
+    address: u32,
+    bytes: &[u8],
+    more: bool,
+) -> Result<(), AllocError>
+    requires { length bytes.now ≤ MAX_DATA }
+    ensures { OnOk result (text.new.items ≡ text.old.items ++ datagram_text serial more (lrw address bytes.now)) }
+{
+    let size = bytes.len() as u16;
+    text.extend_from_slice(&datagram_head(serial, Command::Lrw, address, size, more))?;
+    text.extend_from_slice(bytes)?;
+    text.extend_from_slice(&[0, 0])
 }
 
 /// Writes one LRW datagram whose data bytes are 0, with the working counter 0. `out` has 12 bytes more than `size`, the
