@@ -5,4 +5,4 @@ mod Made
 mod Posted
 mod Seated
 mod Seatings
-mod Told
+pub mod lemmas

@@ -14,7 +14,7 @@ use Rattle.hc_conductor.specs.Together.{EachRing, IsWhole, posts_waiting}
 use Rattle.hc_master.specs.Mastering.{IsMastering, Mastering, published, shown, waiting}
 use Rattle.hc_master.specs.Posting.{known_to}
 use Rattle.hc_master.proofs.Seated.{each-at, number-at}
-use Rattle.hc_master.proofs.Told.{told-same}
+use Rattle.hc_master.proofs.lemmas.Told.{told-same}
 
 -- a task's seat
 pub record IsSeatOf (m : Mastering) (task : ℕ) (s : TaskSeat) : Type 0 where

@@ -7,7 +7,7 @@ use Rattle.hc_conductor.specs.Seats.{epoch_of, size_of, task_of}
 use Rattle.hc_conductor.specs.Views as views
 use Rattle.hc_master.specs.declared.refusals.PostRefusal.TheVariants as why
 use Rattle.hc_master.specs.Posting.{IsFilled, first_refused, known_to}
-use Rattle.hc_master.proofs.Told.{err-weaker, ok-weaker, told-same}
+use Rattle.hc_master.proofs.lemmas.Told.{err-weaker, ok-weaker, told-same}
 use Rattle.hc_master.proofs.posts.fill.Goals as goal
 
 pub returns-in-Ok-clause-filled : goal.returns-in-Ok-clause-filled

@@ -7,7 +7,7 @@ use Rattle.hc_master.specs.Mastering.{Mastering, shown, waiting}
 use Rattle.hc_master.specs.Posting.{HasViewed, IsFilled, first_refused, known_to}
 use Rattle.hc_master.proofs.Seated.{seen-at}
 use Rattle.hc_master.proofs.Seatings.{seat-kept, seat-of, waiting-kept}
-use Rattle.hc_master.proofs.Told.{err-weaker, ok-weaker}
+use Rattle.hc_master.proofs.lemmas.Told.{err-weaker, ok-weaker}
 use Rattle.hc_master.proofs.master.Master.filled_for.Goals as goal
 
 pub replace_with-requires : goal.replace_with-requires
