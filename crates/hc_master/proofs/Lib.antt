@@ -1,3 +1,3 @@
 mod Learnt
 mod Seated
-mod Told
+pub mod lemmas
