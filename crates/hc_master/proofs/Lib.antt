@@ -1,3 +1,8 @@
+mod Held
 mod Learnt
+mod Looked
+mod Made
+mod Posted
 mod Seated
-mod Told
+mod Seatings
+pub mod lemmas

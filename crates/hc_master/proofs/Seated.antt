@@ -1,9 +1,9 @@
 -- Seats by their places.
-use Rattle.std.proofs.Common.{◌≡◌, ℕ, zero, suc, ◌<◌, List, [], ◌∷◌, ◌++◌, length, map, get_or, replicate, refl, sym, ap, subst, ◌∙◌, arith, drop, take, None}
+use Rattle.std.proofs.Common.{◌≡◌, ℕ, zero, suc, ◌<◌, List, [], ◌∷◌, ◌++◌, length, map, get_or, set, replicate, refl, sym, ap, subst, ◌∙◌, arith, drop, take, None}
 use Rattle.std.specs.Prelude.{All}
 use Rattle.std.specs.List.{range_with_len}
 use Rattle.std.proofs.Math.Seq.{take-append_seam}
-use Rattle.std.proofs.lemmas.List.{get_or-map, get_or-replicate, length-map, length-replicate}
+use Rattle.std.proofs.lemmas.List.{get_or-map, get_or-replicate, get_or-set_same, length-map, length-replicate, length-set}
 use Rattle.std.proofs.lemmas.List.Elements.{All-head, All-tail}
 use Rattle.std.proofs.lemmas.List.FromFn.{get_or-range_with_len, length-range_with_len}
 use Rattle.hc_rings.specs.declared.posts.PostReceiver.{PostReceiver}
@@ -28,6 +28,10 @@ pub number-at : {A : Type 0} (f : A → ℕ) (xs : List A) (n i : ℕ) (d : A) �
 number-at f xs n i d same low =
     let long : length xs ≡ n = sym (length-map xs f) ∙ (ap length same ∙ length-range_with_len 0 n) in
     sym (get_or-map f xs i d 0 (omega arith)) ∙ (ap (λ ys. get_or ys i 0) same ∙ (get_or-range_with_len 0 n i 0 low ∙ omega arith))
+
+-- what is seen of one that is put in its place
+pub seen-at : {A : Type 0} (f : A → ℕ) (xs : List A) (i : ℕ) (x : A) → i < length xs → get_or (map f (set xs i x)) i 0 ≡ f x
+seen-at f xs i x low = get_or-map f (set xs i x) i x 0 (omega (arith, length-set xs i x)) ∙ ap f (get_or-set_same xs i x x low)
 
 pub all-same : {A B : Type 0} (f : A → B) (b : B) (xs : List A) → All (λ x. f x ≡ b) xs → map f xs ≡ replicate (length xs) b
 all-same f b [] all = refl

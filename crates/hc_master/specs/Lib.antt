@@ -2,3 +2,4 @@ pub mod Mastering
 pub mod Mastered
 pub mod Viewing
 pub mod Learning
+pub mod Posting

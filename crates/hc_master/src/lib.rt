@@ -6,8 +6,10 @@ mod events;
 mod learning;
 pub mod master;
 mod opening;
+mod posts;
 mod publishing;
 pub mod refusals;
+pub mod settings;
 mod taking;
 pub mod viewing;
 

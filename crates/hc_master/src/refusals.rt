@@ -1,5 +1,36 @@
-//! Why nothing is viewed.
+//! Why nothing is viewed, and why nothing is posted.
+use std::alloc::AllocError;
 
 /// The seat was given no view of what is published: no entry, which no run meets.
 #[derive(Clone, Copy, Debug, PartialEq, Eq)]
 pub struct NoEntry;
+
+/// Why a task's values aren't posted. Nothing is then posted.
+#[derive(Clone, Copy, Debug, PartialEq, Eq)]
+pub enum PostRefusal {
+    /// A variable has no place in the line that is shown.
+    NoSuchVariable,
+    /// A variable is an input.
+    IsInput,
+    /// A variable lies in another task.
+    OtherTask,
+    /// A variable has too few bits for its value.
+    TooWide,
+    /// Four posts of the task wait.
+    NoSpare,
+    /// The seat was given no view of what is published, which no run meets.
+    NoEntry,
+    /// A growth was refused.
+    Memory,
+}
+
+impl From<AllocError> for PostRefusal {
+    ghost use Rattle.std.specs.Prelude.{◌≡◌};
+    ghost use Rattle.hc_master.specs.declared.refusals.PostRefusal.TheVariants.{Memory};
+
+    ghost from_gives = { λ _ refusal. refusal ≡ Memory };
+
+    fn from(_error: AllocError) -> PostRefusal {
+        PostRefusal::Memory
+    }
+}

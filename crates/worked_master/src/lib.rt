@@ -8,6 +8,8 @@ mod growths;
 #[cfg(test)]
 mod lines;
 #[cfg(test)]
+mod posts;
+#[cfg(test)]
 mod rows;
 #[cfg(test)]
 mod steps;

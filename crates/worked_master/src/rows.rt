@@ -1,5 +1,5 @@
 //! What comes of views and publishings in one thread: rows worked out by hand.
-use crate::steps::Step::{Exchange, Publish, Remap, TakeNothing, View, Write};
+use crate::steps::Step::{Exchange, Publish, Remap, Take, View, Write};
 use crate::steps::{Step, wrong_step};
 
 /// Steps in a row.
@@ -12,7 +12,7 @@ const ROWS: [&[Step]; 2] = [
         View(0, 0, 0, Err(1)),
         View(1, 2, 0, Err(3)),
         Write(4),
-        TakeNothing,
+        Take(0, 0),
         Exchange(0),
         View(0, 2, 0, Err(4)),
         Publish,

@@ -3,6 +3,8 @@ use crate::lines::{FRAME, are_inputs, is_sent, is_written, opened};
 use hc_conductor::taking::Taken;
 use hc_events::answer::Answer;
 use hc_master::master::Master;
+use hc_master::refusals::PostRefusal;
+use hc_master::settings::Setting;
 use hc_records::edit::Edit;
 use hc_records::items::Items;
 use std::alloc::Global;
@@ -12,8 +14,10 @@ use std::sync::Wait;
 pub enum Step {
     /// Each owed block is written and answered well: so many.
     Write(u32),
-    /// All that waits is taken, and that is nothing.
-    TakeNothing,
+    /// A task posts values.
+    Post(u8, &'static [Setting], Result<(), PostRefusal>),
+    /// All that waits is taken: so many posts are accepted, and so many refused.
+    Take(u32, u32),
     /// The inputs are mapped anew as they are: the epoch that begins with it.
     Remap(u32),
     /// Task 0 is sent with this byte, and answered well.
@@ -84,11 +88,12 @@ fn is_viewed(
 fn comes<R: Wait>(rt: &R, alloc: Global, master: &mut Master, step: &Step) -> bool {
     match step {
         Step::Write(blocks) => are_written(alloc, master, *blocks),
-        Step::TakeNothing => {
+        Step::Post(task, settings, told) => master.post(alloc, *task % 8, settings) == *told,
+        Step::Take(accepted, refused) => {
             master.take()
                 == Taken {
-                    accepted: 0,
-                    refused: 0,
+                    accepted: *accepted,
+                    refused: *refused,
                 }
         }
         Step::Remap(epoch) => is_mapped(alloc, master, *epoch),

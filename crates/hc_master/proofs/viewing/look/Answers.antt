@@ -4,7 +4,7 @@ use Rattle.hc_publish.specs.Stories.{Origin}
 use Rattle.hc_conductor.specs.Seats.{known, seat_origin}
 use Rattle.hc_conductor.specs.Views as views
 use Rattle.hc_master.specs.Viewing.{value_told}
-use Rattle.hc_master.proofs.Told.{told-same}
+use Rattle.hc_master.proofs.lemmas.Told.{told-same}
 use Rattle.hc_master.proofs.viewing.look.Goals as goal
 
 pub returns-in-Ok-clause-viewed : goal.returns-in-Ok-clause-viewed

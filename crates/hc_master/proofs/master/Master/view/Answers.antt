@@ -15,7 +15,7 @@ use Rattle.hc_conductor.specs.Together.{EachRing, IsWhole, posts_waiting}
 use Rattle.hc_master.specs.Mastering.{Mastering, past_of, shown, waiting}
 use Rattle.hc_master.specs.Viewing.{IsViewBehind, IsViewOf}
 use Rattle.hc_master.proofs.Seated.{each-at, number-at}
-use Rattle.hc_master.proofs.Told.{ok-weaker, told-same, view-behind}
+use Rattle.hc_master.proofs.lemmas.Told.{ok-weaker, told-same, view-behind}
 use Rattle.hc_master.proofs.master.Master.view.Goals as goal
 
 pub replace_with-requires : goal.replace_with-requires

@@ -1,6 +1,6 @@
 -- What is shown, by its parts; and what the record tells of it.
 use Rattle.std.proofs.Common.{◌≡◌, ℕ, List, refl, sym, ap, ap₂, ◌∙◌, Option, Some, None, Ok, Err}
-use Rattle.std.specs.Prelude.{IfOk, Result, option_and_then}
+use Rattle.std.specs.Prelude.{IfErr, IfOk, Result, option_and_then}
 use Rattle.hc_records.specs.declared.records.Group.{Group}
 use Rattle.hc_records.specs.Image.{VariablePlace}
 use Rattle.hc_records.specs.Variables.{variable_of}
@@ -22,6 +22,10 @@ told-same a b groups changes = ap₂ (λ (gs : List Group) (cs : List Change). r
 pub ok-weaker : {A E : Type 0} (r : Result A E) (P Q : A → Type 0) → ((x : A) → P x → Q x) → IfOk r P → IfOk r Q
 ok-weaker (Ok x) P Q weaker is = weaker x is
 ok-weaker (Err e) P Q weaker is = tt
+
+pub err-weaker : {A E : Type 0} (r : Result A E) (P Q : E → Type 0) → ((e : E) → P e → Q e) → IfErr r P → IfErr r Q
+err-weaker (Ok x) P Q weaker is = tt
+err-weaker (Err e) P Q weaker is = weaker e is
 
 value_alike : (f g : ℕ → ℕ → Option (List ℕ)) (task : ℕ) (place : Option VariablePlace) → ((t d : ℕ) → f t d ≡ g t d) → value_by f task place ≡ value_by g task place
 value_alike f g task None same = refl
