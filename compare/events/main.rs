@@ -90,9 +90,11 @@ fn compare_all(program: &[String], seed: Option<u64>) -> Result<(), String> {
 }
 
 fn main() -> ExitCode {
-    if std::env::args().skip(1).eq(["--answer"]) {
+    let words: Vec<String> = std::env::args().skip(1).collect();
+    if let ["--answer", unpublished @ ..] = &words.iter().map(String::as_str).collect::<Vec<&str>>()[..] {
         let input = std::io::read_to_string(std::io::stdin()).expect("a text");
-        return ExitCode::from(player::answer(&input));
+        let number = unpublished.first().map(|number| number.parse().expect("a number"));
+        return ExitCode::from(player::answer(&input, number));
     }
     let drawn = |seed| CASES.iter().find(|case| case.seed == seed).map(|case| script_of(case, &mut Met::default()));
     main_of("events", drawn, compare_all)

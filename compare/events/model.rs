@@ -17,6 +17,11 @@ pub type Reply = Result<Vec<String>, Refusal>;
 
 pub struct Model {
     pub past: Vec<Entry>,
+    /// What tasks see is what stood in the record at the last publishing: so many entries.
+    seen: usize,
+    publishings: usize,
+    /// The publishing with this number, counted from 1, is refused: what was new shows with the next one.
+    pub unpublished: Option<usize>,
     /// The posts of each task that weren't taken yet, the oldest first.
     waiting: [Vec<Post>; TASKS as usize],
     pub machines: Machines,
@@ -54,7 +59,21 @@ pub fn sent_lines(sendings: &[Sending]) -> Vec<String> {
 impl Model {
     pub fn of(opened: Line) -> Model {
         let machines = Machines::of(&opened, &Machines(Vec::new()));
-        Model { past: vec![Entry::Opened(Rc::new(opened))], waiting: Default::default(), machines }
+        let past = vec![Entry::Opened(Rc::new(opened))];
+        Model { past, seen: 1, publishings: 0, unpublished: None, waiting: Default::default(), machines }
+    }
+
+    /// Behind each command that changes the record.
+    fn publish(&mut self) {
+        self.publishings += 1;
+        if self.unpublished != Some(self.publishings) {
+            self.seen = self.past.len();
+        }
+    }
+
+    /// Whether there was the publishing that was to be refused.
+    pub fn met_unpublished(&self) -> bool {
+        self.unpublished.is_none_or(|number| number <= self.publishings)
     }
 
     /// The present line.
@@ -85,19 +104,32 @@ impl Model {
         let told = edit_line(Ok((new.state.epoch, recut, moved)));
         self.machines = Machines::of(&new, &self.machines);
         self.past.push(Entry::Edited(Rc::new(new)));
+        self.publish();
         Ok(vec![told])
     }
 
-    /// The write of the first owed block.
-    pub fn write(&mut self) -> Result<Sending, Refusal> {
+    fn send_write(&mut self) -> Result<Sending, Refusal> {
         let sending = sent_write(&self.past)?;
         self.past.push(Entry::Sent(sending.clone()));
         Ok(sending)
     }
 
-    pub fn send(&mut self, tasks: &[u8]) -> Result<Vec<Sending>, Refusal> {
+    fn send_tasks(&mut self, tasks: &[u8]) -> Result<Vec<Sending>, Refusal> {
         let sendings = sent_tasks(&self.past, tasks)?;
         self.past.extend(sendings.iter().cloned().map(Entry::Sent));
+        Ok(sendings)
+    }
+
+    /// The write of the first owed block.
+    pub fn write(&mut self) -> Result<Sending, Refusal> {
+        let sending = self.send_write()?;
+        self.publish();
+        Ok(sending)
+    }
+
+    pub fn send(&mut self, tasks: &[u8]) -> Result<Vec<Sending>, Refusal> {
+        let sendings = self.send_tasks(tasks)?;
+        self.publish();
         Ok(sendings)
     }
 
@@ -109,7 +141,9 @@ impl Model {
 
     pub fn arrive(&mut self, bytes: &[u8]) -> Result<Answer, Refusal> {
         let arrival = read(bytes).map_err(Refusal::of)?;
-        Ok(self.take_in(arrival))
+        let answer = self.take_in(arrival);
+        self.publish();
+        Ok(answer)
     }
 
     pub fn read(&self, task: u8) -> Reply {
@@ -132,7 +166,7 @@ impl Model {
 
     pub fn post(&mut self, task: u8, settings: &[Setting]) -> Reply {
         let waiting = if task < TASKS { self.waiting(task) } else { 0 };
-        let post = post(self.line(), task, settings, waiting)?;
+        let post = post(line(&self.past[..self.seen]), task, settings, waiting)?;
         self.waiting[usize::from(task)].push(post);
         Ok(vec!["posted".to_string()])
     }
@@ -150,12 +184,14 @@ impl Model {
                 }
             }
         }
+        self.publish();
         taken
     }
 
     pub fn view(&self, task: u8, variable: u32) -> Reply {
-        let value = viewed(&self.past, task, variable)?;
-        Ok(vec![format!("epoch {} var {variable} value {value}", self.line().state.epoch)])
+        let seen = &self.past[..self.seen];
+        let value = viewed(seen, task, variable)?;
+        Ok(vec![format!("epoch {} var {variable} value {value}", line(seen).state.epoch)])
     }
 
     /// The datagrams of a sending as they come back along the line.
@@ -168,21 +204,24 @@ impl Model {
     /// Owed blocks are written along the line up to the first that isn't: how many were, and how many are owed then.
     pub fn program(&mut self) -> (usize, usize) {
         let mut done = 0;
-        while let Ok(sending) = self.write() {
+        while let Ok(sending) = self.send_write() {
             let back = self.along(&sending);
             if answer_lines(&self.take_in(back)) != ["write done"] {
                 break;
             }
             done += 1;
         }
+        self.publish();
         (done, owed(&self.past).len())
     }
 
     /// Tasks are sent along the line, and all frames come back: the answer to each.
     pub fn cycle(&mut self, tasks: &[u8]) -> Result<Vec<Answer>, Refusal> {
-        let sendings = self.send(tasks)?;
+        let sendings = self.send_tasks(tasks)?;
         let back: Vec<Arrival> = sendings.iter().map(|sending| self.along(sending)).collect();
-        Ok(back.into_iter().map(|arrival| self.take_in(arrival)).collect())
+        let answers = back.into_iter().map(|arrival| self.take_in(arrival)).collect();
+        self.publish();
+        Ok(answers)
     }
 
     /// A datagram by a slave's position, as it comes back along the line.

@@ -134,13 +134,19 @@ fn answer_lines_from(model: &mut Model, lines: &[&str], first: usize) -> u8 {
     0
 }
 
-/// Prints what the program must print for an input whose project and documents are sound: the exit status.
-pub fn answer(input: &str) -> u8 {
+/// Prints what the program must print for an input whose project and documents are sound, where no publishing is refused or
+/// one with a number: the exit status, or 64 where there is no such publishing.
+pub fn answer(input: &str, unpublished: Option<usize>) -> u8 {
     let lines: Vec<&str> = input.lines().collect();
     let mark = lines.iter().position(|line| *line == "%%").unwrap_or(lines.len());
     let groups = groups_of(&lines[..mark].join("\n")).expect("a project");
     match Line::opened(&groups) {
-        Ok(line) => answer_lines_from(&mut Model::of(line), lines.get(mark + 1..).unwrap_or(&[]), mark + 2),
+        Ok(line) => {
+            let mut model = Model::of(line);
+            model.unpublished = unpublished;
+            let status = answer_lines_from(&mut model, lines.get(mark + 1..).unwrap_or(&[]), mark + 2);
+            if model.met_unpublished() { status } else { 64 }
+        }
         Err(task) => {
             println!("open fault 1 TooManyDatagrams {task}");
             3
