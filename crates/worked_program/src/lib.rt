@@ -16,6 +16,10 @@ mod edits;
 #[cfg(test)]
 mod frames;
 #[cfg(test)]
+mod posted;
+#[cfg(test)]
+mod posted_breaks;
+#[cfg(test)]
 mod printed;
 #[cfg(test)]
 mod rows;
