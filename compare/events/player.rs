@@ -2,9 +2,9 @@
 
 use super::model::{Model, Reply, answer_lines, sent_lines};
 use super::posts::Setting;
+use crate::shared::documents;
 use crate::shared::edits::Edit;
 use crate::shared::line::Line;
-use crate::shared::records::Group;
 use crate::shared::texts::groups_of;
 
 /// Decimal digits, or `0x` and hexadecimal ones.
@@ -96,10 +96,12 @@ fn reply(model: &mut Model, words: &[&str]) -> Option<Reply> {
     })
 }
 
-/// The declaration of a document, whose text is sound.
+/// The declaration of a document.
 fn declared(model: &mut Model, document: &str) -> Reply {
-    let group: Group = groups_of(document).and_then(|mut groups| groups.pop()).expect("a group");
-    model.edit(&Edit::Declare(group))
+    match groups_of(document).and_then(|groups| documents::declared(&groups)) {
+        Ok(group) => model.edit(&Edit::Declare(group)),
+        Err(fault) => Ok(vec![documents::fault_line(fault)]),
+    }
 }
 
 fn print(reply: Reply) {
@@ -122,6 +124,7 @@ fn answer_lines_from(model: &mut Model, lines: &[&str], first: usize) -> u8 {
                 at += length;
                 Some(declared(model, &document))
             }
+            (["declare"], None) => None,
             (words, _) => reply(model, words),
         };
         let Some(reply) = answered else {
@@ -134,8 +137,8 @@ fn answer_lines_from(model: &mut Model, lines: &[&str], first: usize) -> u8 {
     0
 }
 
-/// Prints what the program must print for an input whose project and documents are sound, where no publishing is refused or
-/// one with a number: the exit status, or 64 where there is no such publishing.
+/// Prints what the program must print for an input whose project is sound, where no publishing is refused or one with a number:
+/// the exit status, or 64 where there is no such publishing.
 pub fn answer(input: &str, unpublished: Option<usize>) -> u8 {
     let lines: Vec<&str> = input.lines().collect();
     let mark = lines.iter().position(|line| *line == "%%").unwrap_or(lines.len());

@@ -1,5 +1,5 @@
-//! A project's text, read as far as the forms go in which docs/PROJECT_TEXT.md shows it: arrays of tables under headers or
-//! in one line, integers, strings, arrays and comments. What is no such text is no project that a script here has.
+//! A project's text, read as far as the forms go in which the scripts here have it: arrays of tables under headers, PDOs in one
+//! line too, integers, strings, arrays and comments; the keys of a table stand right behind its header.
 
 use super::records::{Area, Group, Pdo, Slave};
 use std::iter::Peekable;
@@ -10,7 +10,14 @@ enum Value {
     Text(String),
     List(Vec<Value>),
     Table(Vec<(String, Value)>),
+    /// Another word.
+    Other,
 }
+
+/// The numbers of the faults that a text can have before its numbers are looked at: it is no TOML document; a needed key isn't
+/// there or is of another kind.
+const NOT_TOML: usize = 1;
+const MISSING_FIELD: usize = 2;
 
 /// What is left of a text.
 struct Rest<'a> {
@@ -70,7 +77,8 @@ impl Rest<'_> {
             }
             return self.chars.next().map(|_| Value::Text(text));
         }
-        number(&self.word()?).map(Value::Number)
+        let word = self.word()?;
+        Some(number(&word).map_or(Value::Other, Value::Number))
     }
 
     /// A key and its value.
@@ -122,13 +130,15 @@ fn pdo_of(value: &Value) -> Option<Pdo> {
     for (key, value) in pairs {
         set_pdo(&mut pdo, key, value)?;
     }
-    Some(pdo)
+    let has = |name: &&str| pairs.iter().any(|(key, _)| key == name);
+    ["index", "entries"].iter().all(has).then_some(pdo)
 }
 
 fn set_area(area: &mut Area, key: &str, value: &Value) -> Option<()> {
     match (key, value) {
         ("sm", _) => area.sm = value.number()?,
         ("dir", Value::Text(dir)) => area.is_out = dir == "out",
+        ("dir", _) => return None,
         ("phys", _) => area.phys = value.number()?,
         ("task", _) => area.task = value.number()?,
         ("assigned", _) => area.assigned = value.list(Value::number)?,
@@ -138,30 +148,30 @@ fn set_area(area: &mut Area, key: &str, value: &Value) -> Option<()> {
     Some(())
 }
 
-/// Begins the table of a header.
-fn begin(groups: &mut Vec<Group>, header: &str) -> Option<()> {
-    let is_of_group = header.starts_with("group");
+/// Begins the table of a header: the keys that it needs.
+fn begin(groups: &mut Vec<Group>, header: &str) -> Option<Vec<&'static str>> {
     if header == "group" {
         groups.push(Group { alias: 0, slaves: Vec::new() });
-        return Some(());
+        return Some(vec!["alias"]);
     }
-    let group = if is_of_group { groups.last_mut()? } else { groups.first_mut()? };
+    let group = if header.starts_with("group") { groups.last_mut()? } else { groups.first_mut()? };
     match header.strip_prefix("group.").unwrap_or(header) {
-        "slave" => group.slaves.push(Slave { station: 0, areas: Vec::new() }),
-        "slave.area" => group.slaves.last_mut()?.areas.push(Area {
-            is_out: false,
-            sm: 0,
-            phys: 0,
-            task: 0,
-            offered: Vec::new(),
-            assigned: Vec::new(),
-        }),
+        "slave" => {
+            group.slaves.push(Slave { station: 0, areas: Vec::new() });
+            Some(vec!["station"])
+        }
+        "slave.area" => {
+            let (offered, assigned) = (Vec::new(), Vec::new());
+            let area = Area { is_out: false, sm: 0, phys: 0, task: 0, offered, assigned };
+            group.slaves.last_mut()?.areas.push(area);
+            Some(vec!["sm", "dir", "phys", "task", "assigned"])
+        }
         "slave.area.pdo" => {
             group.slaves.last_mut()?.areas.last_mut()?.offered.push(Pdo { index: 0, entries: Vec::new() });
+            Some(vec!["index", "entries"])
         }
-        _ => return None,
+        _ => None,
     }
-    Some(())
 }
 
 /// Sets a key of the table that was begun last.
@@ -181,25 +191,32 @@ fn set(groups: &mut [Group], header: &str, key: &str, value: &Value) -> Option<(
     Some(())
 }
 
-/// The groups of a project's text, the mandatory one first.
-pub fn groups_of(text: &str) -> Option<Vec<Group>> {
+/// A header between its brackets.
+fn header(rest: &mut Rest) -> Option<String> {
+    let header = rest.takes('[').then(|| rest.word())??;
+    (rest.takes(']') && rest.takes(']')).then_some(header)
+}
+
+/// The groups of a project's text, the mandatory one first, or the number of the fault that shows before a number is looked at.
+pub fn groups_of(text: &str) -> Result<Vec<Group>, usize> {
     let mut rest = Rest { chars: text.chars().peekable() };
     let mut groups = vec![Group { alias: 0, slaves: Vec::new() }];
-    let mut header = String::new();
+    let (mut table, mut needed, mut is_missing) = (String::new(), Vec::new(), false);
     loop {
         rest.skip();
         if rest.chars.peek().is_none() {
-            return Some(groups);
+            break;
         }
         if rest.takes('[') {
-            header = rest.takes('[').then(|| rest.word()).flatten()?;
-            if !(rest.takes(']') && rest.takes(']')) {
-                return None;
-            }
-            begin(&mut groups, &header)?;
+            is_missing |= !needed.is_empty();
+            table = header(&mut rest).ok_or(NOT_TOML)?;
+            needed = begin(&mut groups, &table).ok_or(NOT_TOML)?;
         } else {
-            let (key, value) = rest.pair()?;
-            set(&mut groups, &header, &key, &value)?;
+            let (key, value) = rest.pair().ok_or(NOT_TOML)?;
+            is_missing |= set(&mut groups, &table, &key, &value).is_none();
+            needed.retain(|own| *own != key);
         }
     }
+    is_missing |= !needed.is_empty() || groups[1..].iter().any(|group| group.slaves.is_empty());
+    if is_missing { Err(MISSING_FIELD) } else { Ok(groups) }
 }
