@@ -81,7 +81,7 @@ impl Master {
     fn cycle(&mut self) -> String {
         let serial = self.serial;
         self.serial += 1;
-        let frames = chain(&mut self.segments, vec![frame_of(serial, &self.outputs)]);
+        let frames = chain(&mut self.segments, vec![frame_of(serial, &self.outputs)], |from| from.recv().ok());
         let mut told = String::new();
         for frame in &frames {
             match answer(frame, serial) {

@@ -7,6 +7,19 @@ mod plain;
 
 use passing::chain;
 use plain::{MEMORY, Machine};
+use std::sync::mpsc::{Receiver, TryRecvError};
+use std::thread::yield_now;
+
+/// The next frame, once it came: many come one behind another, so nobody sleeps.
+fn waited(from: &Receiver<Box<[u8]>>) -> Option<Box<[u8]>> {
+    loop {
+        match from.try_recv() {
+            Ok(frame) => return Some(frame),
+            Err(TryRecvError::Empty) => yield_now(),
+            Err(TryRecvError::Disconnected) => return None,
+        }
+    }
+}
 
 fn main() {
     let words: Vec<usize> = std::env::args().skip(1).map(|word| word.parse().expect("a number")).collect();
@@ -16,7 +29,7 @@ fn main() {
     let mut segments: Vec<Vec<Machine>> = machines.chunks(slaves / segments).map(<[Machine]>::to_vec).collect();
     let mut frames: Vec<Box<[u8]>> = (0..64).map(|_| line::full_frame().into()).collect();
     for _ in 0..turns {
-        frames = chain(&mut segments, frames);
+        frames = chain(&mut segments, frames, waited);
     }
     let told = frames.iter().fold(0, |told, frame| line::told_of(told, frame));
     let told = segments.iter().flatten().fold(told, |told, machine| line::told_of(told, &*machine.memory));

@@ -4,19 +4,11 @@ use super::plain::{Machine, pass};
 use std::sync::mpsc::{Receiver, channel};
 use std::thread;
 
-/// The next frame, once it came.
-fn waited(from: &Receiver<Box<[u8]>>) -> Option<Box<[u8]>> {
-    loop {
-        match from.try_recv() {
-            Ok(frame) => return Some(frame),
-            Err(std::sync::mpsc::TryRecvError::Empty) => thread::yield_now(),
-            Err(std::sync::mpsc::TryRecvError::Disconnected) => return None,
-        }
-    }
-}
+/// What gives the next frame, once it came.
+pub type Waiting = fn(&Receiver<Box<[u8]>>) -> Option<Box<[u8]>>;
 
 /// Passes the frames through all segments; they come out in their order.
-pub fn chain(segments: &mut [Vec<Machine>], frames: Vec<Box<[u8]>>) -> Vec<Box<[u8]>> {
+pub fn chain(segments: &mut [Vec<Machine>], frames: Vec<Box<[u8]>>, waited: Waiting) -> Vec<Box<[u8]>> {
     let Some((first, rest)) = segments.split_first_mut() else {
         return frames;
     };

@@ -16,8 +16,6 @@ mod edits;
 #[cfg(test)]
 mod frames;
 #[cfg(test)]
-mod posted;
-#[cfg(test)]
 mod posted_breaks;
 #[cfg(test)]
 mod printed;
@@ -27,6 +25,8 @@ mod rows;
 mod runs;
 #[cfg(test)]
 mod simulated;
+#[cfg(test)]
+mod values;
 #[cfg(test)]
 mod wide_lines;
 #[cfg(test)]

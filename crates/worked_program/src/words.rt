@@ -124,12 +124,11 @@ const NO_COMMANDS: &[&str] = &[
 ];
 
 /// The first of the lines that is a command behind one that is; none where none is.
-pub fn first_command<R: Threads + Wait + Sync>(
+fn first_command<R: Threads + Wait + Sync>(
     rt: &R,
     alloc: Global,
-    lines: &[&'static str],
 ) -> Result<Option<&'static str>, Fail> {
-    for line in lines {
+    for line in NO_COMMANDS {
         let input = written(alloc, &["%%\nlayout\n\n", *line])?;
         if !ends_as(
             rt,
@@ -146,7 +145,7 @@ pub fn first_command<R: Threads + Wait + Sync>(
 
 #[test]
 fn lines_that_are_no_command(rt: HostRuntime) -> Result<(), Fail> {
-    assert_eq!(rt; first_command(&rt, rt.alloc(), NO_COMMANDS)?, None);
+    assert_eq!(rt; first_command(&rt, rt.alloc())?, None);
     Ok(())
 }
 
