@@ -1,7 +1,8 @@
 //! A wrong program: it runs another one over what it reads, and prints what that prints but for one line; or it hands on
-//! what it reads but for the last line of a document. The comparisons are shown it and must refuse it.
+//! what it reads but for the last line of a document, or for a post. The comparisons are shown it and must refuse it.
 //!
-//! Words after its name: the way in which it is wrong (`byte`, `line`, `epoch` or `document`), the program, and its arguments.
+//! Words after its name: the way in which it is wrong (`byte`, `line`, `epoch`, `document`, `view`, `judged`, `counted` or
+//! `dropped`), the program, and its arguments.
 
 use std::io::{Read, Write, stdin, stdout};
 use std::process::{Command, ExitCode, Output, Stdio};
@@ -23,6 +24,22 @@ fn with_epoch_before(line: &str) -> Option<String> {
     Some(format!("epoch {}{behind}", epoch.parse::<u32>().ok()?.checked_sub(1)?))
 }
 
+/// A view that is behind: it tells of its variable what the view before it told.
+fn with_view_before(lines: &[String], at: usize) -> Option<String> {
+    let variable = |line: &String| line.strip_prefix("epoch ")?.split_once(" var ")?.1.split_once(" value ").map(|(one, _)| one.to_string());
+    let own = variable(&lines[at])?;
+    let before = lines[..at].iter().rev().find(|line| variable(line).as_ref() == Some(&own))?;
+    (*before != lines[at]).then(|| before.clone())
+}
+
+/// The posts of a line that tells how many were accepted and refused, as another program counts them that refuses some.
+fn with_other_counts(line: &str, count: fn(u32, u32) -> (u32, u32)) -> Option<String> {
+    let (accepted, refused) = line.strip_prefix("taken ")?.split_once(" refused ")?;
+    let (accepted, refused): (u32, u32) = (accepted.parse().ok()?, refused.parse().ok()?);
+    let (other, rest) = count(accepted, refused);
+    (refused > 0).then(|| format!("taken {other} refused {rest}"))
+}
+
 /// Turns a line at or behind the middle.
 fn turn(way: &str, lines: &mut Vec<String>) -> Option<()> {
     let middle = lines.len() / 2;
@@ -32,12 +49,19 @@ fn turn(way: &str, lines: &mut Vec<String>) -> Option<()> {
             *line = with_other_byte(line);
         }
         "line" if middle < lines.len() => drop(lines.remove(middle)),
-        "epoch" => {
-            let (line, before) =
-                lines[middle..].iter_mut().find_map(|line| with_epoch_before(line).map(|one| (line, one)))?;
-            *line = before;
+        _ => {
+            let turned = |at: usize| match way {
+                "epoch" => with_epoch_before(&lines[at]),
+                "view" => with_view_before(lines, at),
+                // each post is judged by the present epoch, whatever its task viewed
+                "judged" => with_other_counts(&lines[at], |accepted, refused| (accepted + refused, 0)),
+                // all that were taken are told as accepted
+                "counted" => with_other_counts(&lines[at], |accepted, refused| (accepted + refused, refused)),
+                _ => None,
+            };
+            let (at, other) = (middle..lines.len()).find_map(|at| turned(at).map(|other| (at, other)))?;
+            lines[at] = other;
         }
-        _ => return None,
     }
     Some(())
 }
@@ -59,6 +83,28 @@ fn with_shorter_documents(input: &str) -> String {
     lines.join("\n") + "\n"
 }
 
+/// What a program prints where a post at or behind the middle, which it answers as all others, never comes to it. The
+/// post is one of which that can be seen.
+fn with_dropped_post(program: &str, arguments: &[String], input: &str) -> std::io::Result<Output> {
+    let whole = run(program, arguments, input.to_string())?;
+    let lines: Vec<&str> = input.split_inclusive('\n').collect();
+    let posts = (lines.len() / 2..lines.len()).filter(|at| lines[*at].trim_start().starts_with("post "));
+    for at in posts.take(50) {
+        let front = run(program, arguments, lines[..at].concat())?.stdout;
+        let posted = run(program, arguments, lines[..=at].concat())?.stdout;
+        let without = [&lines[..at], &["\n"], &lines[at + 1..]].concat();
+        let other = run(program, arguments, without.concat())?;
+        let (Some(b"posted\n"), Some(behind)) = (posted.strip_prefix(&front[..]), other.stdout.strip_prefix(&front[..])) else {
+            continue;
+        };
+        let stdout = [&front, &b"posted\n"[..], behind].concat();
+        if stdout != whole.stdout {
+            return Ok(Output { stdout, ..other });
+        }
+    }
+    Ok(whole)
+}
+
 /// What a program prints for an input.
 fn run(program: &str, arguments: &[String], input: String) -> std::io::Result<Output> {
     let mut command = Command::new(program);
@@ -75,7 +121,7 @@ fn run(program: &str, arguments: &[String], input: String) -> std::io::Result<Ou
 fn main() -> ExitCode {
     let words: Vec<String> = std::env::args().skip(1).collect();
     let [way, program, arguments @ ..] = &words[..] else {
-        eprintln!("usage: wrong_program byte|line|epoch|document PROGRAM [ARGUMENT..]");
+        eprintln!("usage: wrong_program byte|line|epoch|document|view|judged|counted|dropped PROGRAM [ARGUMENT..]");
         return ExitCode::from(64);
     };
     let mut input = String::new();
@@ -86,7 +132,8 @@ fn main() -> ExitCode {
     if way == "document" {
         input = with_shorter_documents(&input);
     }
-    let Ok(output) = run(program, arguments, input) else {
+    let output = if way == "dropped" { with_dropped_post(program, arguments, &input) } else { run(program, arguments, input) };
+    let Ok(output) = output else {
         eprintln!("{program} can't be run");
         return ExitCode::from(64);
     };

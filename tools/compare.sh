@@ -2,8 +2,10 @@
 # Compares what the program that `rt ci` has built prints for drawn scripts with what the plain models of compare/ work out
 # of them, and what `projectcheck` tells of spoilt projects with what was spoilt. Each comparison is also shown wrong
 # programs, of which it must find the wrong line: one with another byte in a line, one that leaves a line out, and of
-# `hotline` one that tells the epoch before, and one that leaves the last line of a declared group out. The last line is
-# 'N passed, M failed'. Words after its name are a program to be compared in place of the built `hotline`.
+# `hotline` one that tells the epoch before, one that leaves the last line of a declared group out, and four that are wrong
+# where tasks post and view. Scripts that were written by hand must be answered as is written of them, by the model and by
+# the program. The last line is 'N passed, M failed'. Words after its name are a program to be compared in place of the
+# built `hotline`.
 set -u
 cd "$(dirname "$0")/.."
 [ "$#" -gt 0 ] || set -- crates/hotline/out/hotline
@@ -52,16 +54,32 @@ compare() {
     for way in $ways; do
         "$scratch/$name" "$scratch/wrong" "$way" "$@" >"$scratch/said" 2>&1
         if [ "$?" -eq 1 ] && grep -q 'is wanted' "$scratch/said"; then
-            pass "$name: refused with another $way"
+            pass "$name: refused, wrong by \`$way\`"
         else
-            fail "$name: not refused with another $way"
+            fail "$name: not refused, wrong by \`$way\`"
+        fi
+    done
+}
+
+# play LABEL PROGRAM..: a program over each script that was written by hand
+play() {
+    label=$1
+    shift
+    for input in compare/played/*.in; do
+        timeout 60 "$@" <"$input" >"$scratch/printed" 2>/dev/null
+        if diff "${input%.in}.out" "$scratch/printed" >"$scratch/said"; then
+            pass "$input: the $label prints what is written"
+        else
+            fail "$input: < is written, > is what the $label prints"
         fi
     done
 }
 
 build wrong compare/wrong_program.rs
 compare edits "byte line epoch document" "$@"
-compare events "byte line epoch document" "$@"
+compare events "byte line epoch document view judged counted dropped" "$@"
+play model "$scratch/events" --answer
+play program "$@"
 compare places "byte line" "$check"
 echo "$passed passed, $failed failed"
 [ "$passed" -gt 0 ] && [ "$failed" -eq 0 ]

@@ -7,6 +7,7 @@ cd "$(dirname "$0")/.."
 scratch=$(mktemp -d)
 trap 'rm -rf "$scratch"' EXIT
 gcc -O2 -Wall -shared -fPIC -o "$scratch/refuse.so" tools/refuse_growth.c -ldl || exit 1
+rustc -O --edition 2021 -o "$scratch/model" compare/events/main.rs || exit 1
 program=crates/hotline/out/hotline
 passed=0
 failed=0
@@ -132,13 +133,20 @@ ended_in_phase() {
     esac
 }
 
+# Whether the run printed the whole text. So it does too where a growth was refused to a publishing, which prints nothing, and
+# nobody looks before the next one.
+said_all() {
+    cmp -s "$scratch/said" "$text" && [ "$1" -eq "$text_status" ]
+}
+
 # A run without a refusal prints the whole text. Later growths are refused in the same phase as earlier ones or in the next
-# one, and the last in the last command.
+# one, and the last in the last command or in what is published behind it.
 run_ended_well() {
     if ! has_refused; then
-        cmp -s "$scratch/said" "$text" && [ "$1" -eq "$text_status" ] && [ "$phase" = "$count" ]
+        said_all "$1" && [ "$phase" = "$count" ]
         return
     fi
+    said_all "$1" && return
     ended_in_phase "$1" "$phase" && return
     case $phase in
     reading) phase=0 ;;
@@ -157,23 +165,56 @@ sweep_program() {
     done
 }
 
+# expect_unpublished INPUT: writes what a run prints of which one publishing is refused, for each that there is, as the model
+# of compare/ has it.
+expect_unpublished() {
+    rm -f "$scratch"/unpublished.*
+    number=0
+    status=0
+    while [ "$status" -ne 64 ]; do
+        number=$((number + 1))
+        "$scratch/model" --answer "$number" <"$1" >"$scratch/unpublished.$number" 2>"$scratch/errors"
+        status=$?
+        if [ "$status" -eq 101 ]; then
+            echo "sweep: the model has no answer to $1"
+            failed=$((failed + 1))
+            return
+        fi
+    done
+    rm "$scratch/unpublished.$number"
+}
+
+# Whether so many lines of what was said are what the run prints, where no publishing is refused or one is.
+begins_well() {
+    head -n "$1" "$scratch/said" >"$scratch/front"
+    for whole in "$text" "$scratch"/unpublished.*; do
+        [ -f "$whole" ] && head -n "$1" "$whole" | cmp -s - "$scratch/front" && return
+    done
+    return 1
+}
+
 # A run whose frames go along the line prints the whole text, also where a thread isn't made and its segment is run by the
-# caller's; else a front of it and then the refusal. What a stopped command had done before stands, so that later lines
-# may differ.
+# caller's; or that of a run of which a publishing is refused; else a front of these and then the refusal. What a stopped
+# command had done before stands, so that later lines may differ.
 line_ended_well() {
-    cmp -s "$scratch/said" "$text" && [ "$1" -eq "$text_status" ] && return
+    said_all "$1" && return
     has_refused || return
     ended_in_phase "$1" reading && return
     ended_in_phase "$1" 0 && return
+    [ "$1" -eq "$text_status" ] || return
     front=$(grep -nEx 'refused 28 Memory|chain fault 1 Memory' "$scratch/said" | head -n 1 | cut -d : -f 1)
-    [ "$1" -eq "$text_status" ] && [ -n "$front" ] || return
-    head -n $((front - 1)) "$scratch/said" >"$scratch/front"
-    head -n $((front - 1)) "$text" | cmp -s - "$scratch/front"
+    lines=$(wc -l <"$text")
+    if [ -n "$front" ]; then
+        begins_well $((front - 1))
+    else
+        [ "$(wc -l <"$scratch/said")" -eq "$lines" ] && begins_well "$lines"
+    fi
 }
 
-# sweep_line MODES LABEL INPUT TEXT STATUS
+# sweep_line MODES LABEL INPUT TEXT STATUS: an input that the model of compare/ answers
 sweep_line() {
     text=$4 text_status=$5
+    expect_unpublished "$3"
     for mode in $1; do
         refuse_each "hotline, $2" line_ended_well "$mode" "$3" "$program"
     done
@@ -223,6 +264,9 @@ sweep_program "alone lasting" "the tool changer with frames" examples/tool_chang
 sweep_program alone "two groups" examples/two_groups.in examples/two_groups.out 0
 sweep_line "alone lasting" "the day of the tool changer" examples/tool_changer_day.in examples/tool_changer_day.out 0
 sweep_line alone "a tool that is declared" examples/declared_tool.in examples/declared_tool.out 0
+for input in compare/played/*.in; do
+    sweep_line "alone lasting" "$input" "$input" "${input%.in}.out" 0
+done
 sweep_check
 echo "$passed passed, $failed failed"
 [ "$failed" -eq 0 ]

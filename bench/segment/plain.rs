@@ -4,7 +4,7 @@
 
 #[allow(dead_code)]
 #[path = "../frames/plain.rs"]
-mod reader;
+pub mod reader;
 
 pub const MEMORY: usize = 12_288;
 const FMMUS: usize = 0x0600;

@@ -10,7 +10,8 @@ use shared::documents::{FAULTS, drawn_edit, fault_line};
 use shared::draws::Draws;
 use shared::edits::{Edit, Refusal};
 use shared::line::Line;
-use shared::printed::{edit_line, layout_lines};
+use shared::packing::Datagram;
+use shared::printed::{edit_line, layout_lines, show_line};
 use shared::projects::Widths::{self, Brimming, Mixed};
 use shared::projects::{Shape, project};
 use shared::questions::{Names, ask};
@@ -134,7 +135,9 @@ fn script_of(case: &Case, met: &mut Met) -> Script {
         script.add("layout", &[], layout_lines(line.state.epoch, &line.layout));
         if draws.is(60) {
             met.others += 1;
-            ask(&mut draws, &mut script, &line, &names, 0);
+            let zeros = |own: &Datagram| vec![0; own.length as usize];
+            let show = |task, number| show_line(&line.layout, 0, task, number, zeros);
+            ask(&mut draws, &mut script, &line, &names, show);
         }
     }
     if draws.is(50) {

@@ -2,6 +2,7 @@
 //! Nothing is kept beside it. Which arrival answers which sending and when a block is owed is this project's profile;
 //! docs/DEFINITIONS.md has it under "Events and their record".
 
+use super::posts::outputs;
 use super::reading::Arrival;
 use crate::shared::blocks::Block;
 use crate::shared::edits::Refusal;
@@ -44,6 +45,11 @@ pub enum Entry {
     Opened(Rc<Line>),
     Edited(Rc<Line>),
     Sent(Sending),
+    /// A post that was taken and accepted.
+    Posted {
+        task: u8,
+        bytes: Vec<u8>,
+    },
     /// A frame that could be read, with what it was.
     Came {
         arrival: Arrival,
@@ -173,14 +179,13 @@ pub fn owed(past: &[Entry]) -> Vec<&(u16, Block)> {
 }
 
 /// The frames in which tasks are sent next: a datagram joins the frame before it where the 2 bytes of the EtherCAT header
-/// and 12 bytes and the data of each datagram are at most the 1,500 bytes of an Ethernet frame. No task ever posted, so
-/// the data are zeros.
+/// and 12 bytes and the data of each datagram are at most the 1,500 bytes of an Ethernet frame.
 fn frames_of(past: &[Entry], tasks: &[u8]) -> Vec<Sending> {
     let layout = &line(past).layout;
     let mut frames: Vec<Sending> = Vec::new();
     for task in tasks {
         for (number, own) in layout.tasks[usize::from(*task)].datagrams.iter().enumerate() {
-            let datagram = Datagram::sent(LRW, own.address, vec![0; own.length as usize]);
+            let datagram = Datagram::sent(LRW, own.address, outputs(past, *task, number));
             let bytes = |frame: &Sending| frame.datagrams.iter().map(|(_, one, _)| 12 + one.data.len()).sum::<usize>();
             if frames.last().is_none_or(|last| 2 + bytes(last) + 12 + datagram.data.len() > 1500) {
                 let serial = next_serial(past) + frames.len() as u64;
@@ -200,7 +205,7 @@ pub fn sent_tasks(past: &[Entry], tasks: &[u8]) -> Result<Vec<Sending>, Refusal>
     }
     match owed(past).len() {
         0 => Ok(frames_of(past, tasks)),
-        count => Err(Refusal { number: 17, carried: Some(count) }),
+        count => Err(Refusal::carrying(17, count)),
     }
 }
 

@@ -124,6 +124,12 @@ fn faults_of(groups: &[Group]) -> Vec<usize> {
     conditions.into_iter().filter(|(_, holds)| *holds).map(|(number, _)| number).collect()
 }
 
+/// The group that groups declare as a document, or the number of its lowest fault from 3 on.
+pub fn declared(groups: &[Group]) -> Result<Group, usize> {
+    let lowest = faults_of(groups).into_iter().min();
+    lowest.map_or_else(|| Ok(groups.last().expect("a group").clone()), Err)
+}
+
 fn drawn_slave<'a>(draws: &mut Draws, groups: &'a mut [Group]) -> Option<&'a mut Slave> {
     let group = groups.last_mut()?;
     let place = draws.below(group.slaves.len().max(1));
@@ -232,9 +238,7 @@ fn document(draws: &mut Draws, state: &State, shape: Shape) -> Document {
             spoil(draws, &mut groups);
         }
     }
-    let text = text_of(&groups);
-    let lowest = faults_of(&groups).into_iter().min();
-    let declared = lowest.map_or_else(|| Ok(groups.last().expect("a group").clone()), Err);
+    let (text, declared) = (text_of(&groups), declared(&groups));
     let spoilt = if draws.is(6) { spoil_text(draws, &text) } else { None };
     let (text, group) = spoilt.map_or((text, declared), |(text, number)| (text, Err(number)));
     Document { text: if draws.is(15) { text.replace('\n', "\r\n") } else { text }, group }

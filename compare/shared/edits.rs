@@ -12,14 +12,15 @@ pub enum Edit {
     Declare(Group),
 }
 
-/// A refusal: its number, and what it carries.
+/// A refusal: its number and name, and what it carries.
 #[derive(Clone, Copy, PartialEq, Debug)]
 pub struct Refusal {
     pub number: usize,
-    pub carried: Option<usize>,
+    name: &'static str,
+    carried: Option<usize>,
 }
 
-/// The names of refusals by their numbers; those of unreadable frames begin at 20.
+/// The names of refusals by their numbers; those of unreadable frames begin at 20. Posts and views have their own.
 const NAMES: [&str; 36] = [
     "",
     "UnknownAlias",
@@ -64,13 +65,21 @@ const MOST_GROUPS: usize = 512;
 const MOST_SLAVES: usize = 2048;
 
 impl Refusal {
+    pub fn named(number: usize, name: &'static str) -> Refusal {
+        Refusal { number, name, carried: None }
+    }
+
     pub fn of(number: usize) -> Refusal {
-        Refusal { number, carried: None }
+        Refusal::named(number, NAMES[number])
+    }
+
+    pub fn carrying(number: usize, carried: usize) -> Refusal {
+        Refusal { carried: Some(carried), ..Refusal::of(number) }
     }
 
     pub fn line(&self) -> String {
         let carried = self.carried.map_or_else(String::new, |carried| format!(" {carried}"));
-        format!("refused {} {}{carried}", self.number, NAMES[self.number])
+        format!("refused {} {}{carried}", self.number, self.name)
     }
 }
 
@@ -197,7 +206,7 @@ pub fn edited(state: &State, edit: &Edit) -> Result<State, Refusal> {
     }
     let new = changed(state, edit);
     match crowded_task(&new.line()) {
-        Some(task) => Err(Refusal { number: 12, carried: Some(task.into()) }),
+        Some(task) => Err(Refusal::carrying(12, task.into())),
         None => Ok(new),
     }
 }

@@ -3,14 +3,18 @@
 use super::blocks::{Block, line_blocks, moved};
 use super::boundaries::recut;
 use super::edits::{Edit, Refusal, edited};
-use super::packing::{Layout, crowded_task, layout_of};
+use super::packing::{Layout, Place, crowded_task, layout_of};
 use super::records::{Group, State};
+use std::cell::OnceCell;
+use std::collections::BTreeMap;
 
 pub struct Line {
     pub state: State,
     pub layout: Layout,
     /// The register blocks in line and block order, each with the station address of its slave.
     pub blocks: Vec<(u16, Block)>,
+    /// Worked out where someone asks for it.
+    variables: OnceCell<BTreeMap<u32, Place>>,
 }
 
 impl Line {
@@ -18,7 +22,12 @@ impl Line {
         let line = state.line();
         let layout = layout_of(&line);
         let blocks = line_blocks(&line, &layout);
-        Line { state, layout, blocks }
+        Line { state, layout, blocks, variables: OnceCell::new() }
+    }
+
+    /// Where each variable of the line stands.
+    pub fn variables(&self) -> &BTreeMap<u32, Place> {
+        self.variables.get_or_init(|| self.layout.variables(&self.state.line()))
     }
 
     /// The line at its opening, or the lowest task that needs too many datagrams.

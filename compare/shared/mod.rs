@@ -16,3 +16,4 @@ pub mod questions;
 pub mod records;
 pub mod running;
 pub mod scripts;
+pub mod texts;

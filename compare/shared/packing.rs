@@ -150,6 +150,26 @@ impl Layout {
         self.places.get(&key_of(rank, number, &slave.areas[number])).copied()
     }
 
+    /// Where all variables stand, by their numbers.
+    pub fn variables(&self, line: &[Member]) -> BTreeMap<u32, Place> {
+        let mut variables = BTreeMap::new();
+        for (rank, slave) in line {
+            for (number, area) in slave.areas.iter().enumerate() {
+                let Some((task, placed)) = self.place_of(*rank, slave, number) else {
+                    continue;
+                };
+                let mut bit = placed.bit;
+                for (variable, bits) in area.entries() {
+                    if variable > 0 {
+                        variables.insert(variable, Place { task, datagram: placed.datagram, bit, bits, is_out: area.is_out });
+                    }
+                    bit += u32::from(bits);
+                }
+            }
+        }
+        variables
+    }
+
     /// Where a variable stands: behind the entries before it, over the assigned PDOs in assigned order. No place has the
     /// number 0, which is a gap's.
     pub fn place(&self, line: &[Member], variable: u32) -> Option<Place> {

@@ -3,7 +3,7 @@
 use super::blocks::{Block, blocks_of};
 use super::edits::{Edit, Refusal, naming_fault};
 use super::frames::{Datagram, LRW, frame_text};
-use super::packing::{Layout, TASKS};
+use super::packing::{self, Layout, TASKS};
 use super::records::State;
 
 /// Two digits for each byte.
@@ -49,16 +49,15 @@ pub fn place_line(state: &State, layout: &Layout, variable: u32) -> String {
     }
 }
 
-/// The frame of a datagram as it would be sent next. Nothing was posted, so its data are zeros.
-pub fn show_line(layout: &Layout, serial: u64, task: u8, number: u8) -> String {
+/// The frame of a datagram as it would be sent next, with the data that `data` says.
+pub fn show_line(layout: &Layout, serial: u64, task: u8, number: u8, data: impl Fn(&packing::Datagram) -> Vec<u8>) -> String {
     if task >= TASKS {
         return Refusal::of(8).line();
     }
     match layout.datagram(task, number.into()) {
         None => "none".to_string(),
         Some(datagram) => {
-            let data = vec![0; datagram.length as usize];
-            let frame = frame_text(serial, &[Datagram::sent(LRW, datagram.address, data)]);
+            let frame = frame_text(serial, &[Datagram::sent(LRW, datagram.address, data(datagram))]);
             format!("frame {serial}: {}", hex(&frame))
         }
     }

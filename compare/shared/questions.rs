@@ -2,7 +2,7 @@
 
 use super::draws::Draws;
 use super::line::Line;
-use super::printed::{place_line, regs_lines, show_line};
+use super::printed::{place_line, regs_lines};
 use super::records::Group;
 use super::scripts::Script;
 
@@ -21,6 +21,10 @@ impl Names {
         names
     }
 
+    pub fn variables(&self) -> &[u32] {
+        &self.variables
+    }
+
     /// And those of a group that is declared later.
     pub fn add(&mut self, group: &Group) {
         self.stations.extend(group.slaves.iter().map(|slave| slave.station));
@@ -28,8 +32,8 @@ impl Names {
     }
 }
 
-/// Asks for a slave's blocks, a variable's place or a datagram's frame, which would have this serial.
-pub fn ask(draws: &mut Draws, script: &mut Script, line: &Line, names: &Names, serial: u64) {
+/// Asks for a slave's blocks, a variable's place or a datagram's frame; `show` tells that of a task's datagram.
+pub fn ask(draws: &mut Draws, script: &mut Script, line: &Line, names: &Names, show: impl Fn(u8, u8) -> String) {
     match draws.below(4) {
         0 | 1 => {
             let is_drawn = names.stations.is_empty() || draws.is(5);
@@ -43,8 +47,7 @@ pub fn ask(draws: &mut Draws, script: &mut Script, line: &Line, names: &Names, s
         }
         _ => {
             let [task, number] = [draws.below(9), draws.below(17).min(draws.below(17))].map(|number| number as u8);
-            let answer = vec![show_line(&line.layout, serial, task, number)];
-            script.add("show", &[task.into(), number.into()], answer);
+            script.add("show", &[task.into(), number.into()], vec![show(task, number)]);
         }
     }
 }

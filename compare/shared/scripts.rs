@@ -32,7 +32,7 @@ impl Script {
     }
 
     /// A number in decimal or hexadecimal digits.
-    fn number(&mut self, number: u32) -> String {
+    fn number(&mut self, number: u64) -> String {
         match self.spelling.below(12) {
             0 => format!("0x{number:x}"),
             1 => format!("0x{number:X}"),
@@ -98,10 +98,35 @@ impl Script {
         self.status = 2;
     }
 
+    /// A line that is no command, with which the run ends.
+    pub fn add_malformed(&mut self, words: &[String]) {
+        let line = self.add_line(words);
+        self.wanted.push(Wanted { line, text: format!("line {line}: bad command") });
+        self.status = 2;
+    }
+
+    fn numbers(&mut self, numbers: &[u32]) -> Vec<String> {
+        numbers.iter().map(|number| self.number((*number).into())).collect()
+    }
+
     /// A command of a name and numbers, with the lines that answer it.
     pub fn add(&mut self, name: &str, numbers: &[u32], answer: Vec<String>) {
-        let numbers: Vec<String> = numbers.iter().map(|number| self.number(*number)).collect();
-        let words: Vec<String> = [name.to_string()].into_iter().chain(numbers).collect();
+        let words: Vec<String> = [name.to_string()].into_iter().chain(self.numbers(numbers)).collect();
+        self.add_words(&words, answer);
+    }
+
+    /// The words of a post: its task, and variables with their values.
+    pub fn post_words(&mut self, task: u8, settings: &[(u32, u64)]) -> Vec<String> {
+        let mut words = vec!["post".to_string(), self.number(task.into())];
+        words.extend(settings.iter().map(|(variable, value)| {
+            let variable = self.number((*variable).into());
+            format!("{variable}={}", self.number(*value))
+        }));
+        words
+    }
+
+    pub fn add_post(&mut self, task: u8, settings: &[(u32, u64)], answer: Vec<String>) {
+        let words = self.post_words(task, settings);
         self.add_words(&words, answer);
     }
 
@@ -115,8 +140,7 @@ impl Script {
         let is_upper = self.spelling.is(10);
         let digits = bytes.iter().map(|byte| if is_upper { format!("{byte:02X}") } else { format!("{byte:02x}") });
         let digits: String = digits.collect();
-        let numbers: Vec<String> = numbers.iter().map(|number| self.number(*number)).collect();
-        let words: Vec<String> = [name.to_string()].into_iter().chain(numbers).chain([digits]).collect();
+        let words: Vec<String> = [name.to_string()].into_iter().chain(self.numbers(numbers)).chain([digits]).collect();
         self.add_words(&words, answer);
     }
 

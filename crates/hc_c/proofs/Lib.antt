@@ -1,3 +1,4 @@
+mod Asked
 mod Boxed
 mod Images
 mod Projects

@@ -53,25 +53,52 @@ fn cost_of(edit: &PreparedEdit) -> Cost
     }
 }
 
-/// Works an edit out; nothing changes.
-fn prepare(own: &mut Embedded, alloc: Global, edit: &Edit) -> Result<CoreEdit, EditFault>
-    ensures made { IfOk result (λ ready. ready.core ≡ own.old.core) }
-    ensures edit { IfOk result (λ ready. ready.edit.report.swap.edit ≡ edit.now) }
-    ensures accepted { OnOk result (edited (state_of (past_of own.old)) edit.now ≡ Ok (state_after (state_of (past_of own.old)) edit.now)) }
-    ensures refused { IfErr result (λ fault. fault ≢ Memory → edited (state_of (past_of own.old)) edit.now ≡ Err fault) }
-    ensures unchanged { own.new ≡ own.old }
+/// Tells what a prepared edit would do, or why it was refused. It is told where it lies: it is large, and each move of it
+/// a copy.
+fn tell(prepared: &Result<CoreEdit, EditFault>, cost: &mut Cost) -> Result<(), EditFault>
+    ensures cost { IfOk prepared.now (λ ready. IsCost (state_of ready.core.past) ready.edit.new cost.new) }
+    ensures prepared { IfOk prepared.now (λ ready. IsPrepared ready.edit × (ready.edit.old ≡ state_of ready.core.past)) }
+    ensures refused { IfErr result (λ fault. prepared.now ≡ Err fault) }
+    ensures told { IfErr prepared.now (λ fault. result ≡ Err fault) }
+    ensures untold { OnErr result (cost.new ≡ cost.old) }
 {
-    own.core.prepare(alloc, edit)
+    match prepared {
+        Ok(ready) => {
+            *cost = cost_of(ready.edit());
+            Ok(())
+        }
+        Err(fault) => Err(*fault),
+    }
 }
 
-/// Carries a prepared edit out where C doesn't only ask.
-fn carry(own: &mut Embedded, ready: CoreEdit, asks: bool)
-    requires { ready.core ≡ own.old.core }
-    ensures carried { asks ≡ false → own.new ≡ with_past own.old (Edited ready.edit.report.swap.edit ∷ past_of own.old) }
-    ensures asked { asks ≡ true → own.new ≡ own.old }
+/// Works an edit out: what it would do is told, or why it is refused.
+fn ask(own: &mut Embedded, alloc: Global, edit: &Edit, cost: &mut Cost) -> Result<(), EditFault>
+    ensures accepted { OnOk result (edited (state_of (past_of own.old)) edit.now ≡ Ok (state_after (state_of (past_of own.old)) edit.now)) }
+    ensures cost { OnOk result (IsCost (state_of (past_of own.old)) (state_after (state_of (past_of own.old)) edit.now) cost.new) }
+    ensures refused { IfErr result (λ fault. fault ≢ Memory → edited (state_of (past_of own.old)) edit.now ≡ Err fault) }
+    ensures unchanged { own.new ≡ own.old }
+    ensures untold { OnErr result (cost.new ≡ cost.old) }
 {
-    if !asks {
-        let _ = own.core.carry_out(ready);
+    let prepared = own.core.prepare(alloc, edit);
+    tell(&prepared, cost)
+}
+
+/// Works an edit out and carries it out: what it does is told, or why it is refused.
+fn carry(own: &mut Embedded, alloc: Global, edit: &Edit, cost: &mut Cost) -> Result<(), EditFault>
+    ensures accepted { OnOk result (edited (state_of (past_of own.old)) edit.now ≡ Ok (state_after (state_of (past_of own.old)) edit.now)) }
+    ensures cost { OnOk result (IsCost (state_of (past_of own.old)) (state_after (state_of (past_of own.old)) edit.now) cost.new) }
+    ensures carried { OnOk result (own.new ≡ with_past own.old (Edited edit.now ∷ past_of own.old)) }
+    ensures refused { IfErr result (λ fault. fault ≢ Memory → edited (state_of (past_of own.old)) edit.now ≡ Err fault) }
+    ensures unchanged { OnErr result (own.new ≡ own.old) }
+    ensures untold { OnErr result (cost.new ≡ cost.old) }
+{
+    match own.core.prepare(alloc, edit) {
+        Ok(ready) => {
+            *cost = cost_of(ready.edit());
+            let _ = own.core.carry_out(ready);
+            Ok(())
+        }
+        Err(fault) => Err(fault),
     }
 }
 
@@ -103,10 +130,11 @@ fn work_out(
     ensures unchanged { OnErr result (own.new ≡ own.old) }
     ensures untold { OnErr result (cost.new ≡ cost.old) }
 {
-    let ready = prepare(own, alloc, edit)?;
-    *cost = cost_of(ready.edit());
-    carry(own, ready, asks);
-    Ok(())
+    if asks {
+        ask(own, alloc, edit, cost)
+    } else {
+        carry(own, alloc, edit, cost)
+    }
 }
 
 /// Serves an edit: `DONE`, or why it is refused.

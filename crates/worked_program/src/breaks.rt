@@ -72,7 +72,7 @@ fn halted<R: Threads + Wait + Sync>(
 
 /// At how many of the calls, from the first on, a failing read ends a run over a text, and one behind the last
 /// read doesn't.
-fn reads_failed<R: Threads + Wait + Sync>(
+pub fn reads_failed<R: Threads + Wait + Sync>(
     rt: &R,
     alloc: Global,
     text: &str,
@@ -192,14 +192,15 @@ fn is_cut_at<R: Threads + Wait + Sync>(
     Ok(is_front && end == ended(if is_whole { status } else { 4 }))
 }
 
-/// At how many of the writes, from the first on, the first run is cut in both ways.
-fn writes_cut<R: Threads + Wait + Sync>(
+/// At how many of the writes, from the first on, a run over a text that prints another one is cut in both ways.
+pub fn writes_cut<R: Threads + Wait + Sync>(
     rt: &R,
     alloc: Global,
     text: &str,
+    printed: &str,
 ) -> Result<u32, AllocError> {
     for calls in 0..160u32 {
-        if !is_cut_at(rt, alloc, text, FIRST_TEXT, 0, (calls % 2 == 1, calls / 2))? {
+        if !is_cut_at(rt, alloc, text, printed, 0, (calls % 2 == 1, calls / 2))? {
             return Ok(calls);
         }
     }
@@ -209,7 +210,7 @@ fn writes_cut<R: Threads + Wait + Sync>(
 #[test]
 fn each_write_fails_in_turn(rt: HostRuntime) -> Result<(), Fail> {
     let text = joined(rt.alloc(), ONE_SLAVE, FIRST_COMMANDS)?;
-    assert!(rt; writes_cut(&rt, rt.alloc(), text.as_str())? == 160);
+    assert!(rt; writes_cut(&rt, rt.alloc(), text.as_str(), FIRST_TEXT)? == 160);
     Ok(())
 }
 

@@ -16,6 +16,8 @@ mod edits;
 #[cfg(test)]
 mod frames;
 #[cfg(test)]
+mod posted_breaks;
+#[cfg(test)]
 mod printed;
 #[cfg(test)]
 mod rows;
@@ -23,6 +25,8 @@ mod rows;
 mod runs;
 #[cfg(test)]
 mod simulated;
+#[cfg(test)]
+mod values;
 #[cfg(test)]
 mod views;
 #[cfg(test)]

@@ -1,0 +1,41 @@
+//! A run in which a task posts and views, over readers and writers that fail.
+use crate::breaks::{reads_failed, writes_cut};
+use crate::printed::{ONE_SLAVE, joined};
+use std::test::Fail;
+
+/// A value goes out to the slave, and one comes in.
+const BOTH_WAYS: &str = "%%
+name
+program
+poke 1001 0x1180 340a
+post 0 1=2
+take
+cycle 0
+view 0 2
+peek 1001 0x1100 1
+";
+
+/// What it prints.
+const BOTH_WAYS_TEXT: &str = "named 1
+written 4 owed 0
+poked
+posted
+taken 1 refused 0
+inputs 0 0
+epoch 0 var 2 value 2612
+mem 0x1100: 02
+";
+
+#[test]
+fn each_read_of_a_posting_run_fails_once(rt: HostRuntime) -> Result<(), Fail> {
+    let text = joined(rt.alloc(), ONE_SLAVE, BOTH_WAYS)?;
+    assert!(rt; reads_failed(&rt, rt.alloc(), text.as_str())? == 20);
+    Ok(())
+}
+
+#[test]
+fn each_write_of_a_posting_run_fails_in_turn(rt: HostRuntime) -> Result<(), Fail> {
+    let text = joined(rt.alloc(), ONE_SLAVE, BOTH_WAYS)?;
+    assert!(rt; writes_cut(&rt, rt.alloc(), text.as_str(), BOTH_WAYS_TEXT)? == 160);
+    Ok(())
+}
