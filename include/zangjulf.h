@@ -1,21 +1,21 @@
 /* Zangjulf's core for C: the configuration and process image of an EtherCAT line that changes while it runs.
  *
  * What is said here of each call is proved for every handle that keeps the rules below, in any order of calls and with any
- * numbers and bytes, but where docs/EMBEDDING.md says that it is only tested; what is on trust stands there too. There are no
- * threads, locks, clocks, files or sockets in the library: frames go out and come in as bytes.
+ * numbers and bytes, but where docs/EMBEDDING.md says that it is only tested or read; what is on trust stands there too. There
+ * are no threads, locks, clocks, files or sockets in the library: frames go out and come in as bytes.
  *
  * The handle. A `struct zangjulf` is set to zeros before its first call (`struct zangjulf line = {0};`), and from then on
  * nothing but these calls writes it: it isn't copied, and not written by hand. It belongs to whoever declares it;
  * `zangjulf_close` frees what it holds, and a handle that is dropped without it leaks. Handles are independent of one
- * another. A handle is given to one call at a time; it may move from one thread to another between two calls where the
- * program orders the two, as by a lock or a join.
+ * another. A handle is given to one call at a time; it may move from one thread to another between two calls where one
+ * happens before the other, as by a lock, a join, or an atomic that is released and acquired.
  *
  * Slices. A pointer and a length stand for so many elements, which the call reads, or writes where the pointer isn't const,
- * and never looks beyond. Their pointer is never NULL, also where the length is 0. Slices, structs and handles of one call
- * don't overlap. No pointer is kept when a call is over.
+ * and never looks beyond. No pointer is NULL: no slice's, also where the length is 0, and none by which something is told.
+ * Slices, structs and handles of one call don't overlap. No pointer is kept when a call is over.
  *
  * Memory is taken with malloc, grown with realloc and given back with free. Calls that take some can answer
- * ZANGJULF_MEMORY; then nothing changed, and the call may be given again.
+ * ZANGJULF_MEMORY; then nothing changed, and the call may be given again, but by `zangjulf_open`, which closes what was open.
  */
 #ifndef ZANGJULF_H
 #define ZANGJULF_H
@@ -77,7 +77,7 @@ enum {
     ZANGJULF_CLOSED = 255              /* the handle is closed */
 };
 
-/* The faults of a project, which `zangjulf_open` answers. */
+/* The faults of a project, which `zangjulf_open` answers, and of a text in `zangjulf_declare`, which tells them by `fault`. */
 enum {
     ZANGJULF_PROJECT_NOT_TOML = 1,             /* the text is no TOML document in UTF-8 */
     ZANGJULF_PROJECT_MISSING_FIELD = 2,        /* a needed key is absent, or a value is of another kind */
@@ -88,7 +88,8 @@ enum {
     ZANGJULF_PROJECT_OVERLAPPING_AREAS = 7,    /* two areas of a slave overlap in its memory */
     ZANGJULF_PROJECT_REPEATED_VARIABLE = 8,    /* a variable stands in two entries */
     ZANGJULF_PROJECT_UNKNOWN_PDO = 9,          /* an assigned PDO isn't one offered PDO */
-    ZANGJULF_PROJECT_AREA_TOO_BIG = 10         /* an area has more bits than a datagram */
+    ZANGJULF_PROJECT_AREA_TOO_BIG = 10,        /* an area has more bits than a datagram */
+    ZANGJULF_PROJECT_NOT_ONE_GROUP = 12        /* of `zangjulf_declare` alone: a project, but not one group's */
 };
 
 #define ZANGJULF_TASKS 8            /* tasks are 0 to 7 */
@@ -176,7 +177,9 @@ struct zangjulf_block {
 };
 
 /* The block with a number, from 0, in the order of the slave with a station address: for each area in record order its sync
- * manager block, then its FMMU block. Its bytes stand at the front of `out`; 29 where that is too short, and is as it was. */
+ * manager block, then its FMMU block. ZANGJULF_DONE, and its bytes stand at the front of `out`; ZANGJULF_NOTHING where no such
+ * slave is present or it has fewer blocks; 29 with the bytes needed in `block->size`; or ZANGJULF_CLOSED. Unless it is done
+ * `out` is as it was. */
 uint8_t zangjulf_block(struct zangjulf *handle, uint16_t station, uint8_t number, uint8_t *out, size_t length,
                        struct zangjulf_block *block);
 
@@ -193,7 +196,7 @@ struct zangjulf_cost {
 };
 
 /* The group with an alias joins the line. ZANGJULF_DONE; 1, 2, 12, 13; ZANGJULF_MEMORY or ZANGJULF_CLOSED. Unless it is done
- * nothing changed, as with every edit. A fault of 1 to 11 is answered whatever memory does. Takes memory. */
+ * nothing changed, as with every edit, and no other answer than ZANGJULF_MEMORY hangs on memory. Takes memory. */
 uint8_t zangjulf_connect(struct zangjulf *handle, uint16_t alias, bool asks, struct zangjulf_cost *cost);
 
 /* The group with an alias leaves the line. ZANGJULF_DONE; 1, 3, 4, 12, 13; ZANGJULF_MEMORY or ZANGJULF_CLOSED. Takes memory. */
@@ -272,7 +275,8 @@ struct zangjulf_outcome {
 /* A frame arrives: any bytes, without the check sequence. ZANGJULF_DONE where they answer frames of tasks: `*count` tells how
  * many datagrams they have, and the outcomes of the first of them stand in `outcomes`, as many as there is room for.
  * ZANGJULF_WRITE_DONE, ZANGJULF_WRITE_MISSED or ZANGJULF_STALE; or nothing changed: 20 to 27 where they can't be read,
- * ZANGJULF_MEMORY, or ZANGJULF_CLOSED. Takes memory. */
+ * ZANGJULF_MEMORY, or ZANGJULF_CLOSED. Of all answers but ZANGJULF_DONE `*count` is 0; of ZANGJULF_CLOSED it is as it was. Takes
+ * memory. */
 uint8_t zangjulf_arrive(struct zangjulf *handle, const uint8_t *bytes, size_t length, struct zangjulf_outcome *outcomes,
                         size_t room, size_t *count);
 

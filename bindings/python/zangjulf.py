@@ -5,9 +5,9 @@
             frame = line.next_write()
 
 A call of the C library (include/zangjulf.h) stands behind each method. What the library refuses is raised as an exception
-with the fault's name, as `zangjulf.Unprogrammed`; nothing changed then. A line is used by one thread at a time. Bytes are
-handed in as `bytes`, `bytearray` or `memoryview`, without a copy where they can be written; frames come as `bytes`, or stand
-in a buffer of the caller's.
+with the fault's name, as `zangjulf.Unprogrammed`; nothing changed then. A number that the library's type doesn't hold is a
+`ValueError`. A line is used by one thread at a time. Bytes are handed in as `bytes`, `bytearray` or `memoryview`, without a
+copy where they can be written; frames come as `bytes`.
 """
 
 import ctypes
@@ -84,6 +84,7 @@ _Part = _struct("_Part", outputs=c_uint16, inputs=c_uint16)
 _Block = _struct("_Block", start=c_uint16, size=c_size_t)
 _Cost = _struct("_Cost", epoch=c_uint32, recut=c_uint32, moved=c_uint32, places=c_uint32, crowded=c_uint8)
 
+_MOST = {c_uint8: 0xFF, c_uint16: 0xFFFF, c_uint32: 0xFFFFFFFF}
 _BYTES = POINTER(c_uint8)
 _SLICE = (_BYTES, c_size_t)
 _CALLS = {
@@ -119,8 +120,8 @@ def _load():
         call = getattr(library, f"zangjulf_{name}")
         call.argtypes, call.restype = (POINTER(_Handle), *arguments), c_uint8
     library.zangjulf_close.argtypes, library.zangjulf_close.restype = (POINTER(_Handle),), None
-    library.zangjulf_slave_start.argtypes = (*_SLICE, c_uint16)
-    library.zangjulf_slave_process.argtypes = (*_SLICE, *_SLICE)
+    library.zangjulf_slave_start.argtypes, library.zangjulf_slave_start.restype = (*_SLICE, c_uint16), c_uint8
+    library.zangjulf_slave_process.argtypes, library.zangjulf_slave_process.restype = (*_SLICE, *_SLICE), c_uint8
     return library
 
 
@@ -135,6 +136,13 @@ def _slice(data):
     else:
         held = (c_uint8 * len(view)).from_buffer(view)
     return ctypes.cast(held, _BYTES), len(view)
+
+
+def _held(value, kind):
+    """What is handed to C as of a type; a number is one that the type holds, where ctypes would wrap it."""
+    if kind in _MOST and not 0 <= value <= _MOST[kind]:
+        raise ValueError(f"{value} isn't 0 to {_MOST[kind]}")
+    return value
 
 
 class Line:
@@ -163,7 +171,7 @@ class Line:
         _library.zangjulf_close(byref(self._handle))
 
     def _call(self, name, *arguments):
-        return getattr(_library, f"zangjulf_{name}")(byref(self._handle), *arguments)
+        return getattr(_library, f"zangjulf_{name}")(byref(self._handle), *map(_held, arguments, _CALLS[name]))
 
     def _done(self, number, detail=None):
         if number:
@@ -209,12 +217,12 @@ class Line:
         return self._found(lambda: station.value, "station", position, byref(station))
 
     def position(self, station):
-        """The position of the slave with a station address."""
+        """The position of the slave with a station address; `UnknownStation` or `Absent`."""
         position = c_uint32()
         return self._found(lambda: position.value, "position", station, byref(position))
 
     def block(self, station, number):
-        """The register block with a number of the slave with a station address, or None."""
+        """The register block with a number of the present slave with a station address, or None."""
         it, out = _Block(), bytearray(16)
         told = lambda: Block(it.start, bytes(out[: it.size]))
         return self._found(told, "block", station, number, *_slice(out), byref(it))
@@ -225,40 +233,45 @@ class Line:
         return Cost(cost.epoch, cost.recut, cost.moved, cost.places)
 
     def connect(self, alias, asks=False):
-        """The group with an alias joins the line; with `asks` it is only told what that would cost."""
+        """The group with an alias joins the line; with `asks` it is only told what that would cost, as of every edit.
+        `UnknownAlias`, `AlreadyPresent`; of every edit `TooManyDatagrams` with the lowest such task, `EpochsSpent`, `Memory`."""
         return self._edit("connect", alias, asks=asks)
 
     def disconnect(self, alias, asks=False):
-        """The group with an alias leaves the line."""
+        """The group with an alias leaves the line. `UnknownAlias`, `NotPresent`, `Mandatory`."""
         return self._edit("disconnect", alias, asks=asks)
 
     def remap(self, station, area, pdos, asks=False):
-        """An area of a present slave gets these PDOs assigned, in this order."""
-        return self._edit("remap", station, area, (c_uint16 * max(len(pdos), 1))(*pdos), len(pdos), asks=asks)
+        """An area of a present slave gets these PDOs assigned, in this order. `UnknownStation`, `Absent`, `NoSuchArea`,
+        `UnknownPdo`, `RepeatedPdo`, `AreaTooBig`."""
+        held = [_held(pdo, c_uint16) for pdo in pdos]
+        return self._edit("remap", station, area, (c_uint16 * max(len(held), 1))(*held), len(held), asks=asks)
 
     def move(self, station, area, task, asks=False):
-        """An area of a present slave moves to a task."""
+        """An area of a present slave moves to a task. `UnknownStation`, `Absent`, `NoSuchArea`, `NoSuchTask`."""
         return self._edit("move", station, area, task, asks=asks)
 
     def declare(self, text, asks=False):
-        """The group of a text stands behind the declared ones from now on, absent."""
+        """The group of a text stands behind the declared ones from now on, absent. `NoGroup` with the text's fault, `AliasTaken`,
+        `StationTaken`, `VariableTaken`, `TooManyGroups`, `TooManySlaves`."""
         cost, fault = _Cost(), c_uint8()
         number = self._call("declare", *_slice(text), asks, byref(fault), byref(cost))
         self._done(number, fault.value if number == 104 else None)
         return Cost(cost.epoch, cost.recut, cost.moved, cost.places)
 
     def post(self, task, epoch, data):
-        """A task posts its outputs, made for an epoch."""
+        """A task posts its outputs, as many bytes as it has, made for an epoch. `NoSuchTask`, `StalePost`, `PostLength`."""
         self._done(self._call("post", task, epoch, *_slice(data)))
 
     def next_write(self):
-        """Sends the first owed register block: its frame."""
+        """Sends the first owed register block: its frame. `NothingOwed`, `SerialsSpent`."""
         size = c_size_t()
         self._done(self._call("next_write", *_slice(self._out), byref(size)), size.value)
         return bytes(self._out[: size.value])
 
     def send(self, *tasks):
-        """Sends tasks, 1 to 8 and none twice: their frames."""
+        """Sends tasks, 1 to 8 and none twice: their frames. `NoSuchTask`, `Unprogrammed` with the number of owed blocks,
+        `SerialsSpent`, `Memory`; `Misused` of other tasks."""
         sent = _Sent()
         number = self._call("send", *_slice(bytes(tasks)), *_slice(self._out), byref(sent))
         self._done(number, self.owed if number == 17 else sent.size)
@@ -276,7 +289,8 @@ class Line:
         return self._found(told, "preview", task, datagram, *_slice(self._out), byref(size))
 
     def arrive(self, data):
-        """A frame arrives: a list of what it is for each datagram, or WRITE_DONE, WRITE_MISSED or STALE."""
+        """A frame arrives: a list of what it is for each datagram, or WRITE_DONE, WRITE_MISSED or STALE. The faults 20 to 27 of a
+        frame that can't be read, `Memory`."""
         outcomes, count = (_Outcome * 115)(), c_size_t()
         number = self._call("arrive", *_slice(data), outcomes, 115, byref(count))
         if number in (101, 102, 103):
@@ -297,7 +311,7 @@ class Line:
         return [it for one in told for it in (one if isinstance(one, list) else [one])]
 
     def read(self, task):
-        """What a task reads: the epoch, and of each datagram its data or None."""
+        """What a task reads: the epoch, and of each datagram its data or None. `NoSuchTask`."""
         sizes, image = (c_size_t * 16)(), _Image()
         self._done(self._call("read", task, *_slice(self._out), sizes, 16, byref(image)), image.size)
         slots, at = [], 0
@@ -329,9 +343,14 @@ class Slave:
 
     def __init__(self, alias=0, station=0):
         self.memory = bytearray(SLAVE_MEMORY)
-        _library.zangjulf_slave_start(*_slice(self.memory), alias)
-        self.memory[0x10:0x12] = station.to_bytes(2, "little")
+        _library.zangjulf_slave_start(*_slice(self.memory), _held(alias, c_uint16))
+        self.memory[0x10:0x12] = _held(station, c_uint16).to_bytes(2, "little")
 
     def process(self, frame):
-        """It does with a frame what a slave does, in the place of a bytearray."""
-        _library.zangjulf_slave_process(*_slice(self.memory), *_slice(frame))
+        """It does with a frame what a slave does, in the frame's place: a `bytearray`, or what else can be written. `Misused`
+        where `memory` has another size."""
+        if memoryview(frame).readonly:
+            raise TypeError("a frame is served where it stands: hand in a bytearray")
+        number = _library.zangjulf_slave_process(*_slice(self.memory), *_slice(frame))
+        if number:
+            raise FAULTS[number]()

@@ -120,7 +120,7 @@ pub extern "C" fn zangjulf_next_change(
     ensures one { IsSome handle.old.holding.value → (result ≡ DONE) ⊎ ((result ≡ NOTHING) ⊎ (result ≡ ROOM)) }
     ensures held { is_some handle.new.holding.value ≡ is_some handle.old.holding.value }
     ensures untouched { result ≢ DONE → out.new ≡ out.old }
-    ensures closed { handle.old.holding.value ≡ None → result ≡ CLOSED }
+    ensures closed { handle.old.holding.value ≡ None → (result ≡ CLOSED) × (told.new ≡ told.old) }
 {
     let Some(mut own) = handle.take(alloc) else {
         return CLOSED;

@@ -50,7 +50,7 @@ pub extern "C" fn zangjulf_declare(
 ) -> u8
     ensures serves { IfSome handle.old.holding.value (λ old. IfSome handle.new.holding.value (λ new. Declares (group_in text.now) old new asks result fault.new cost.old cost.new)) }
     ensures held { is_some handle.new.holding.value ≡ is_some handle.old.holding.value }
-    ensures closed { handle.old.holding.value ≡ None → (result ≡ CLOSED) × (cost.new ≡ cost.old) }
+    ensures closed { handle.old.holding.value ≡ None → (result ≡ CLOSED) × (cost.new ≡ cost.old) × (fault.new ≡ fault.old) }
 {
     let Some(mut own) = handle.take(alloc) else {
         return CLOSED;

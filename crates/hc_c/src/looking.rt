@@ -127,7 +127,7 @@ pub extern "C" fn zangjulf_place(
     ensures told { IfSome handle.old.holding.value (λ old. MatchOption (place_at (past_of old) variable) (result ≡ NOTHING) (λ found. (result ≡ DONE) × (place.new ≡ told_place found))) }
     ensures kept { handle.new.holding.value ≡ handle.old.holding.value }
     ensures untouched { result ≢ DONE → place.new ≡ place.old }
-    ensures closed { handle.old.holding.value ≡ None → result ≡ CLOSED }
+    ensures closed { handle.old.holding.value ≡ None → (result ≡ CLOSED) × (place.new ≡ place.old) }
 {
     let Some(own) = handle.take(alloc) else {
         return CLOSED;
@@ -156,7 +156,7 @@ pub extern "C" fn zangjulf_datagram(
     ensures told { IfSome handle.old.holding.value (λ old. MatchOption (datagram_at (past_of old) task datagram) (result ≡ NOTHING) (λ found. (result ≡ DONE) × (told.new ≡ told_datagram found))) }
     ensures kept { handle.new.holding.value ≡ handle.old.holding.value }
     ensures untouched { result ≢ DONE → told.new ≡ told.old }
-    ensures closed { handle.old.holding.value ≡ None → result ≡ CLOSED }
+    ensures closed { handle.old.holding.value ≡ None → (result ≡ CLOSED) × (told.new ≡ told.old) }
 {
     let Some(own) = handle.take(alloc) else {
         return CLOSED;
@@ -200,7 +200,7 @@ pub extern "C" fn zangjulf_station(
     ensures told { IfSome handle.old.holding.value (λ old. MatchOption (station_at (line_of (past_of old)) position) (result ≡ NOTHING) (λ found. (result ≡ DONE) × (station.new ≡ found))) }
     ensures kept { handle.new.holding.value ≡ handle.old.holding.value }
     ensures untouched { result ≢ DONE → station.new ≡ station.old }
-    ensures closed { handle.old.holding.value ≡ None → result ≡ CLOSED }
+    ensures closed { handle.old.holding.value ≡ None → (result ≡ CLOSED) × (station.new ≡ station.old) }
 {
     let Some(own) = handle.take(alloc) else {
         return CLOSED;
@@ -228,7 +228,7 @@ pub extern "C" fn zangjulf_position(
     ensures told { IfSome handle.old.holding.value (λ old. TellsPosition (position_of (state_of (past_of old)) station) result position.new) }
     ensures kept { handle.new.holding.value ≡ handle.old.holding.value }
     ensures untouched { result ≢ DONE → position.new ≡ position.old }
-    ensures closed { handle.old.holding.value ≡ None → result ≡ CLOSED }
+    ensures closed { handle.old.holding.value ≡ None → (result ≡ CLOSED) × (position.new ≡ position.old) }
 {
     let Some(own) = handle.take(alloc) else {
         return CLOSED;
@@ -276,7 +276,7 @@ pub extern "C" fn zangjulf_block(
     ensures told { IfSome handle.old.holding.value (λ old. MatchOption (block_at (line_of (past_of old)) station number) (result ≡ NOTHING) (λ found. TellsBlock found result block.new out.old out.new)) }
     ensures kept { handle.new.holding.value ≡ handle.old.holding.value }
     ensures untouched { result ≢ DONE → out.new ≡ out.old }
-    ensures closed { handle.old.holding.value ≡ None → result ≡ CLOSED }
+    ensures closed { handle.old.holding.value ≡ None → (result ≡ CLOSED) × (block.new ≡ block.old) }
 {
     let Some(own) = handle.take(alloc) else {
         return CLOSED;

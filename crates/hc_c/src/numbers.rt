@@ -1,5 +1,4 @@
-//! The numbers that calls answer. 1 to 29 and 30 to 35 are those of the faults of edits and events, 14
-//! being none's.
+//! The numbers that calls answer. 1 to 35, but 14, are those of the faults of edits and events.
 /// It is done.
 pub const DONE: u8 = 0;
 

@@ -42,7 +42,7 @@ pub extern "C" fn zangjulf_preview(
     ensures told { IfSome handle.old.holding.value (λ old. MatchOption (preview (past_of old) task datagram) (result ≡ NOTHING) (λ frame. TellsPreview (past_of old) frame result size.new out.old out.new)) }
     ensures kept { handle.new.holding.value ≡ handle.old.holding.value }
     ensures untouched { result ≢ DONE → out.new ≡ out.old }
-    ensures closed { handle.old.holding.value ≡ None → result ≡ CLOSED }
+    ensures closed { handle.old.holding.value ≡ None → (result ≡ CLOSED) × (size.new ≡ size.old) }
 {
     let Some(own) = handle.take(alloc) else {
         return CLOSED;

@@ -148,7 +148,7 @@ pub extern "C" fn zangjulf_read(
     ensures image { result ≡ DONE → IfSome handle.old.holding.value (λ old. HoldsImage (answer_to (past_of old) (Reads task)) image.new out.old out.new sizes.old sizes.new) }
     ensures untouched { result ≢ DONE → out.new ≡ out.old }
     ensures kept { handle.new.holding.value ≡ handle.old.holding.value }
-    ensures closed { handle.old.holding.value ≡ None → result ≡ CLOSED }
+    ensures closed { handle.old.holding.value ≡ None → (result ≡ CLOSED) × (sizes.new ≡ sizes.old) × (image.new ≡ image.old) }
 {
     let Some(own) = handle.take(alloc) else {
         return CLOSED;

@@ -66,7 +66,7 @@ pub extern "C" fn zangjulf_send(
     ensures misused { IfSome handle.old.holding.value (λ old. ¬ AreSentTogether tasks.now → result ≡ MISUSED) }
     ensures unchanged { result ≢ DONE → handle.new.holding.value ≡ handle.old.holding.value }
     ensures untouched { result ≢ DONE → out.new ≡ out.old }
-    ensures closed { handle.old.holding.value ≡ None → result ≡ CLOSED }
+    ensures closed { handle.old.holding.value ≡ None → (result ≡ CLOSED) × (sent.new ≡ sent.old) }
 {
     let Some(mut own) = handle.take(alloc) else {
         return CLOSED;

@@ -31,7 +31,7 @@ pub extern "C" fn zangjulf_next_write(
     ensures needed { result ≡ ROOM → IfSome handle.old.holding.value (λ old. size.new ≡ write_size (owed_blocks (past_of old))) }
     ensures unchanged { result ≢ DONE → handle.new.holding.value ≡ handle.old.holding.value }
     ensures untouched { result ≢ DONE → out.new ≡ out.old }
-    ensures closed { handle.old.holding.value ≡ None → result ≡ CLOSED }
+    ensures closed { handle.old.holding.value ≡ None → (result ≡ CLOSED) × (size.new ≡ size.old) }
 {
     let Some(mut own) = handle.take(alloc) else {
         return CLOSED;

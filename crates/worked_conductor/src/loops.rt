@@ -24,9 +24,12 @@ fn write_owed<N: Network>(
 ) -> Result<(), CoreFault> {
     let mut frame = [0; ROOM];
     for _ in 0..conductor.core().owed() {
-        conductor.next_write(&mut frame)?;
-        network.exchange(&mut frame);
-        conductor.arrive(alloc, &frame);
+        let size = conductor.next_write(&mut frame)?;
+        let Some(sent) = frame.get_mut(..size) else {
+            return Ok(());
+        };
+        network.exchange(sent);
+        conductor.arrive(alloc, sent);
     }
     Ok(())
 }

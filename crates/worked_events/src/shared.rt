@@ -27,6 +27,7 @@ pub const FIRST_INPUTS: Outcome = Inputs {
     datagram: 0,
 };
 
+/// What the first datagram of task 1 is answered with a good counter.
 pub const SECOND_INPUTS: Outcome = Inputs {
     task: 1,
     datagram: 0,
