@@ -105,8 +105,8 @@ fn keep_alive(frames: &mut Vec<KeptFrame>, newest: &Newest)
 }
 
 /// Whether frames that come have higher serials than all that are kept, by the last one that is kept and the first that
-/// comes.
-fn are_behind(frames: &[KeptFrame], more: &[Sending]) -> bool
+/// comes, and the first that is kept wasn't answered.
+fn may_stay(frames: &[KeptFrame], more: &[Sending]) -> bool
     requires kept { AllPairs (λ a b. a.serial < b.serial) frames.now }
     requires come { AllPairs (λ a b. a.serial < b.serial) more.now }
     ensures { IsTrue result → All (λ old. All (λ next. old.serial < next.serial) more.now) frames.now }
@@ -114,18 +114,22 @@ fn are_behind(frames: &[KeptFrame], more: &[Sending]) -> bool
     if frames.is_empty() || more.is_empty() {
         return true;
     }
+    if frames[0].datagrams().is_empty() {
+        return false;
+    }
     frames[frames.len() - 1].serial() < more[0].serial()
 }
 
-/// The frames that are the newest of no datagram go, unless frames that come have higher serials than all of them: where
-/// these are noted, none of those comes to be the newest of one again.
+/// The frames that are the newest of no datagram go, so that few are searched; unless the first of them wasn't answered, and
+/// frames that come have higher serials than all of them: where these are noted, none of those comes to be the newest of
+/// one again.
 fn make_way(frames: &mut Vec<KeptFrame>, newest: &Newest, more: &[Sending])
     requires kept { AllPairs (λ a b. a.serial < b.serial) frames.old.items }
     requires come { AllPairs (λ a b. a.serial < b.serial) more.now }
     ensures frames { (frames.new.items ≡ filter (λ frame. is_alive (frame_by newest.now frame)) frames.old.items) ⊎ ((frames.new.items ≡ frames.old.items) × All (λ old. All (λ next. old.serial < next.serial) more.now) frames.old.items) }
     ensures room { vec_capacity frames.new ≡ vec_capacity frames.old }
 {
-    if !are_behind(frames, more) {
+    if !may_stay(frames, more) {
         keep_alive(frames, newest);
     }
 }

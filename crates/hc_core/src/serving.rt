@@ -76,7 +76,6 @@ impl Core {
     }
 
     /// Serves a sending of tasks.
-    #[inline(never)]
     fn serve_tasks(&mut self, alloc: Global, tasks: &[u8]) -> Answer
         requires { AreSentTogether tasks.now }
         ensures answer { MayAnswer self.old.past (SendsTasks tasks.now) result self.new.past }
@@ -87,7 +86,6 @@ impl Core {
     }
 
     /// Serves a register write.
-    #[inline(never)]
     fn serve_write(&mut self, alloc: Global) -> Answer
         ensures answer { MayAnswer self.old.past SendsWrite result self.new.past }
         ensures early { TellsEarly self.old.past SendsWrite result }
@@ -97,7 +95,6 @@ impl Core {
     }
 
     /// Serves an arrival.
-    #[inline(never)]
     fn serve_arrival(&mut self, alloc: Global, bytes: &[u8]) -> Answer
         ensures answer { MayAnswer self.old.past (Arrives bytes.now) result self.new.past }
         ensures early { TellsEarly self.old.past (Arrives bytes.now) result }
@@ -107,7 +104,6 @@ impl Core {
     }
 
     /// Serves a read.
-    #[inline(never)]
     fn serve_read(&self, alloc: Global, task: u8) -> Answer
         ensures answer { MayAnswer self.now.past (Reads task) result self.now.past }
         ensures early { TellsEarly self.now.past (Reads task) result }
@@ -115,8 +111,8 @@ impl Core {
         answer_or_memory(self.read(alloc, task))
     }
 
-    /// Serves an event by its kind. Each kind but posts has a function of its own in the built code too, so that none pays
-    /// for the locals of the others.
+    /// Serves an event by its kind. Edits have a function of their own in the built code too, so that no other event pays for
+    /// their locals.
     fn serve(&mut self, alloc: Global, event: Event<'_>) -> Answer
         requires { IsAsked (step_of event) }
         ensures answer { MayAnswer self.old.past (step_of event.entry) result self.new.past }

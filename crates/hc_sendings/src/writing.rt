@@ -99,6 +99,9 @@ fn add_padding(text: &mut Vec<u8>, size: usize) -> Result<(), AllocError>
     ensures { OnOk result (text.new.items ≡ text.old.items ++ replicate (padding_bytes size) 0) }
 {
     let zeros = usize::from(LEAST_FRAME).saturating_sub(HEAD_BYTES + size);
+    if zeros == 0 {
+        return Ok(());
+    }
     text.extend_from_slice(&[0; 44][..zeros])
 }
 

@@ -1,8 +1,14 @@
-use Rattle.std.proofs.Common.{◌≡◌, ◌∙◌, ◌+◌, ◌-◌, ℕ, ap, arith, replicate, take}
+use Rattle.std.proofs.Common.{◌≡◌, ◌∙◌, ◌+◌, ◌-◌, ◌++◌, ℕ, ap, append-nil, arith, replicate, sym, take}
 use Rattle.std.proofs.lemmas.List.{take-replicate}
 use Rattle.hc_sendings.specs.Parts.{padding_bytes}
 use Rattle.hc_sendings.proofs.Pieces.{added}
 use Rattle.hc_sendings.proofs.writing.add_padding.Goals as goal
+
+pub returns-then-zeros-eq0 : goal.returns-then-zeros-eq0
+returns-then-zeros-eq0 c =
+    let text = c.args.text.now.items in
+    let left : c.saturating_sub-zeros.result ≡ padding_bytes c.args.size = c.saturating_sub-zeros.ensures ∙ ap (λ (n : ℕ). n - (16 + c.args.size)) c.from.ensures in
+    sym (append-nil text) ∙ ap (λ (n : ℕ). text ++ replicate n 0) (sym c.if-zeros-eq0.true ∙ left)
 
 pub returns : goal.returns
 returns c =

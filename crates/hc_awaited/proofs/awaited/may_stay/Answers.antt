@@ -1,7 +1,7 @@
 use Rattle.std.proofs.Common.{arith}
 use Rattle.std.proofs.lemmas.Bool.{ltb-true}
 use Rattle.hc_awaited.proofs.Sent.{ends-apart}
-use Rattle.hc_awaited.proofs.awaited.are_behind.Goals as goal
+use Rattle.hc_awaited.proofs.awaited.may_stay.Goals as goal
 
 pub returns : goal.returns
 returns c = λ below.
