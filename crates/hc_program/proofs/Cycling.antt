@@ -5,7 +5,8 @@ use Rattle.std.proofs.lemmas.List.{drop_more, map-append}
 use Rattle.hc_events.specs.Entries.{Record}
 use Rattle.hc_events.specs.Steps.{Arrives, entries_after}
 use Rattle.hc_program.specs.Answers.{told}
-use Rattle.hc_program.specs.Cycles.{arrivals_text, arrived}
+use Rattle.hc_program.specs.Cycles.{arrivals_text, arrived, cycle_arrived}
+use Rattle.hc_program.specs.Standings.{Standing, stepped, with_past}
 
 front_more : {X : Type 0} (xs : List X) (i : ℕ) (d : X) → i < length xs → take (i + 1) xs ≡ take i xs ++ get_or xs i d ∷ []
 front_more xs i d within = rw add-one (take-suc xs i d within)
@@ -39,15 +40,15 @@ next_told frames i d past next old new whole within grown went before =
 
 -- and taken in
 
-pub next_left : (frames : List (List ℕ)) (i : ℕ) (d : List ℕ) (past next whole : Record) → i < length frames → next ≡ entries_after past (Arrives (get_or frames i d))
-    → arrived past (drop i frames) ≡ whole → arrived next (drop (i + 1) frames) ≡ whole
-next_left frames i d past next whole within went before =
-    ap (λ (p : Record). arrived p (drop (i + 1) frames)) went ∙ ap (arrived past) (sym (drop_more frames i d within)) ∙ before
+pub next_left : (frames : List (List ℕ)) (i : ℕ) (d : List ℕ) (s next whole : Standing) → i < length frames → next ≡ stepped s (Arrives (get_or frames i d))
+    → cycle_arrived s (drop i frames) ≡ whole → cycle_arrived next (drop (i + 1) frames) ≡ whole
+next_left frames i d s next whole within went before =
+    ap (λ (t : Standing). cycle_arrived t (drop (i + 1) frames)) went ∙ ap (cycle_arrived s) (sym (drop_more frames i d within)) ∙ before
 
-pub next_reached : (frames : List (List ℕ)) (i : ℕ) (d : List ℕ) (first past next : Record) → i < length frames → next ≡ entries_after past (Arrives (get_or frames i d))
-    → past ≡ arrived first (take i frames) → next ≡ arrived first (take (i + 1) frames)
-next_reached frames i d first past next within went before =
+pub next_reached : (frames : List (List ℕ)) (i : ℕ) (d : List ℕ) (first s next : Standing) → i < length frames → next ≡ stepped s (Arrives (get_or frames i d))
+    → s ≡ cycle_arrived first (take i frames) → next ≡ cycle_arrived first (take (i + 1) frames)
+next_reached frames i d first s next within went before =
     went
-    ∙ ap (λ (p : Record). entries_after p (Arrives (get_or frames i d))) before
-    ∙ sym (arrived_one_more first (take i frames) (get_or frames i d))
-    ∙ ap (arrived first) (sym (front_more frames i d within))
+    ∙ ap (λ (t : Standing). stepped t (Arrives (get_or frames i d))) before
+    ∙ ap (with_past first) (sym (arrived_one_more first.past (take i frames) (get_or frames i d)))
+    ∙ ap (cycle_arrived first) (sym (front_more frames i d within))

@@ -10,6 +10,7 @@ pub mod Grown
 pub mod VariablePlaces
 pub mod EditArguments
 pub mod Served
+pub mod Shown
 pub mod Proposed
 pub mod Written
 pub mod Together

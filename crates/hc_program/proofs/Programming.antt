@@ -16,9 +16,9 @@ use Rattle.hc_events.specs.Entries.{Record}
 use Rattle.hc_events.specs.Owed.{owed_blocks}
 use Rattle.hc_events.specs.Points.{next_serial}
 use Rattle.hc_events.specs.Steps.{Arrives, SendsWrite, answer_to, entries_after, has_serials, kept_if, with_arrival, with_write, write_faults}
-use Rattle.hc_segment.specs.Line.{frame_through, machines_after}
-use Rattle.hc_program.specs.Programs.{Programmed, WritesOnce, behind_write, can_write, is_done, programmed, programmed_within, says_done, serials_left, write_back, write_frame, write_in, write_sent, written}
-use Rattle.hc_program.specs.Standings.{Standing}
+use Rattle.hc_segment.specs.Line.{frame_through}
+use Rattle.hc_program.specs.Programs.{Programmed, WritesOnce, behind_write, can_write, is_done, programmed, programmed_within, says_done, serials_left, write_back, write_frame, write_in, write_passed, write_sent, written}
+use Rattle.hc_program.specs.Standings.{Standing, passed, stepped}
 use Rattle.hc_program.specs.Stops.{AreWritten, StopsInWrite}
 
 none_is : {A : Type 0} (o : Option A) → is_none o ≡ true → o ≡ None
@@ -149,40 +149,47 @@ frame-is past old new size holds kept fits =
     let counts = text-length new holds.text (drop size old) size (length old) holds.holds kept (length-drop size old) fits in
     ap (take size) holds.holds ∙ take_at holds.text (drop size old) size counts ∙ sym (frame-told past holds.text holds.told)
 
-written-is : (s : Standing) (past : Record) (machines : List (List ℕ)) (frame back : List ℕ) → frame ≡ write_frame s.past → back ≡ frame_through s.machines frame
-    → past ≡ entries_after (write_sent s).past (Arrives back) → machines ≡ machines_after s.machines (frame ∷ []) → record { past = past; machines = machines } ≡ written s
+-- the next write is sent, and its frame goes along the line
+pub record IsPassed (s sent gone : Standing) (frame back : List ℕ) : Type 0 where
+  pub framed : frame ≡ write_frame s.past
+  pub is_sent : sent ≡ write_sent s
+  pub is_gone : gone ≡ passed sent (frame ∷ [])
+  pub is_back : back ≡ frame_through sent.machines frame
+
+pub passed-is : (s sent gone : Standing) (frame : List ℕ) → frame ≡ write_frame s.past → sent ≡ write_sent s → gone ≡ passed sent (frame ∷ []) → gone ≡ write_passed s
+passed-is s sent gone frame f is went = went ∙ ap (λ (t : Standing). passed t (frame ∷ [])) is ∙ ap (λ (bytes : List ℕ). passed (write_sent s) (bytes ∷ [])) f
+
+back-is : (s sent gone : Standing) (frame back : List ℕ) → IsPassed s sent gone frame back → back ≡ write_back s
+back-is s sent gone frame back p = p.is_back ∙ ap (λ (t : Standing). frame_through t.machines frame) p.is_sent ∙ ap (frame_through s.machines) p.framed
+
+written-is : (s sent gone next : Standing) (frame back : List ℕ) → IsPassed s sent gone frame back → next ≡ stepped gone (Arrives back) → next ≡ written s
 unfolding written
-written-is s past machines frame back f b p m =
-    let is = b ∙ ap (frame_through s.machines) f in
-    let went = p ∙ ap (λ (bytes : List ℕ). entries_after (write_sent s).past (Arrives bytes)) is in
-    let are = m ∙ ap (λ (bytes : List ℕ). machines_after s.machines (bytes ∷ [])) f in
-    ap (λ (e : Record). record { past = e; machines = machines }) went
-    ∙ ap (λ (all : List (List ℕ)). record { past = entries_after (write_sent s).past (Arrives (write_back s)); machines = all }) are
+written-is s sent gone next frame back p came =
+    came
+    ∙ ap (λ (t : Standing). stepped t (Arrives back)) (passed-is s sent gone frame p.framed p.is_sent p.is_gone)
+    ∙ ap (λ (bytes : List ℕ). stepped (write_passed s) (Arrives bytes)) (back-is s sent gone frame back p)
 
-done-is : (s : Standing) (frame back : List ℕ) (done : Bool) → frame ≡ write_frame s.past → back ≡ frame_through s.machines frame → done ≡ says_done (answer_to (write_sent s).past (Arrives back)) → is_done s ≡ done
+done-is : (s sent gone : Standing) (frame back : List ℕ) (done : Bool) → IsPassed s sent gone frame back → done ≡ says_done (answer_to gone.past (Arrives back)) → is_done s ≡ done
 unfolding is_done
-done-is s frame back done f b d =
-    ap (λ (bytes : List ℕ). says_done (answer_to (write_sent s).past (Arrives bytes))) (sym (b ∙ ap (frame_through s.machines) f)) ∙ sym d
+done-is s sent gone frame back done p d =
+    ap (λ (bytes : List ℕ). says_done (answer_to (write_sent s).past (Arrives bytes))) (sym (back-is s sent gone frame back p))
+    ∙ ap (λ (t : Standing). says_done (answer_to t.past (Arrives back))) (sym (passed-is s sent gone frame p.framed p.is_sent p.is_gone))
+    ∙ sym d
 
-once : (s : Standing) (past : Record) (machines : List (List ℕ)) (frame back : List ℕ) (done : Bool) → can_write s.past ≡ true → frame ≡ write_frame s.past → back ≡ frame_through s.machines frame
-    → machines ≡ machines_after s.machines (frame ∷ []) → done ≡ says_done (answer_to (write_sent s).past (Arrives back)) → past ≡ entries_after (write_sent s).past (Arrives back)
-    → WritesOnce s done (record { past = past; machines = machines })
-once s past machines frame back true can f b m d p = (can, done-is s frame back true f b d, written-is s past machines frame back f b p m)
-once s past machines frame back false can f b m d p = inr (can, done-is s frame back false f b d, written-is s past machines frame back f b p m)
+once : (s sent gone next : Standing) (frame back : List ℕ) (done : Bool) → can_write s.past ≡ true → IsPassed s sent gone frame back → done ≡ says_done (answer_to gone.past (Arrives back))
+    → next ≡ stepped gone (Arrives back) → WritesOnce s done next
+once s sent gone next frame back true can p d came = (can, done-is s sent gone frame back true p d, written-is s sent gone next frame back p came)
+once s sent gone next frame back false can p d came = inr (can, done-is s sent gone frame back false p d, written-is s sent gone next frame back p came)
 
 -- the same of what was answered
-pub once-ok : {E : Type 0} (result : Result Bool E) (s : Standing) (past : Record) (machines : List (List ℕ)) (frame back : List ℕ) → can_write s.past ≡ true → frame ≡ write_frame s.past
-    → back ≡ frame_through s.machines frame → machines ≡ machines_after s.machines (frame ∷ []) → IfOk result (λ done. done ≡ says_done (answer_to (write_sent s).past (Arrives back)))
-    → OnOk result (past ≡ entries_after (write_sent s).past (Arrives back)) → IfOk result (λ done. WritesOnce s done (record { past = past; machines = machines }))
-once-ok (Ok done) s past machines frame back can f b m d p = once s past machines frame back done can f b m d p
-once-ok (Err stop) s past machines frame back can f b m d p = tt
+pub once-ok : {E : Type 0} (result : Result Bool E) (s sent gone next : Standing) (frame back : List ℕ) → can_write s.past ≡ true → IsPassed s sent gone frame back
+    → IfOk result (λ done. done ≡ says_done (answer_to gone.past (Arrives back))) → OnOk result (next ≡ stepped gone (Arrives back)) → IfOk result (λ done. WritesOnce s done next)
+once-ok (Ok done) s sent gone next frame back can p d came = once s sent gone next frame back done can p d came
+once-ok (Err want) s sent gone next frame back can p d came = tt
 
-pub stops-err : {E : Type 0} (result : Result Bool E) (s : Standing) (past : Record) (machines : List (List ℕ)) (frame : List ℕ) → frame ≡ write_frame s.past → machines ≡ machines_after s.machines (frame ∷ [])
-    → OnErr result (past ≡ (write_sent s).past) → OnErr result (StopsInWrite s (record { past = past; machines = machines }))
-stops-err (Ok done) s past machines frame f m p = tt
-stops-err (Err stop) s past machines frame f m p =
-    let are = m ∙ ap (λ (bytes : List ℕ). machines_after s.machines (bytes ∷ [])) f in
-    inr (inr (ap (λ (e : Record). record { past = e; machines = machines }) p ∙ ap (λ (all : List (List ℕ)). record { past = (write_sent s).past; machines = all }) are))
+pub stops-err : {E : Type 0} (result : Result Bool E) (s sent gone next : Standing) (frame back : List ℕ) → IsPassed s sent gone frame back → OnErr result (next ≡ gone) → OnErr result (StopsInWrite s next)
+stops-err (Ok done) s sent gone next frame back p stays = tt
+stops-err (Err want) s sent gone next frame back p stays = inr (inr (stays ∙ passed-is s sent gone frame p.framed p.is_sent p.is_gone))
 
 -- a write that wasn't sent
 pub cannot : (past : Record) (fault : CoreFault) → lowest (write_faults past (owed_blocks past)) ≡ Some fault → can_write past ≡ false

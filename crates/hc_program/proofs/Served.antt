@@ -23,7 +23,7 @@ use Rattle.hc_records.specs.Edits.{state_after}
 use Rattle.hc_records.specs.Line.{State}
 use Rattle.hc_line.specs.Machines.{machines_behind_edit}
 use Rattle.hc_program.specs.Answers.{answer_text, told}
-use Rattle.hc_program.specs.Standings.{Standing, edited, edited_unless}
+use Rattle.hc_program.specs.Standings.{Standing, edited, edited_unless, with_machines, with_past}
 
 -- an answer that isn't want of memory is the event's
 pub answered : (past next : Record) (step : Step) (given : Answer) → MayAnswer past step given next → given ≢ answer.Refused Memory → IsAnswered past step given next
@@ -59,6 +59,10 @@ pub edit_stays : (past : Record) (edit : Edit) (fault : CoreFault) → answer_to
 edit_stays past edit fault e =
     unless_stays (edit_refused past edit) (told_of_edit (state_of past) (state_after (state_of past) edit)) fault past (Edited edit ∷ past) refl e
 
+-- where nothing but the record may have changed, and it hasn't
+pub stays_put : (s next : Standing) → next ≡ with_past s next.past → next.past ≡ s.past → next ≡ s
+stays_put s next rest went = rest ∙ ap (with_past s) went
+
 -- where an edit leaves the run
 
 accepted : (found : Option CoreFault) (given : Answer) (epoch recut moved : ℕ) → unless found given ≡ answer.Edited epoch recut moved → found ≡ None
@@ -70,26 +74,24 @@ edit_accepted past next edit epoch recut moved may =
     accepted (edit_refused past edit) (told_of_edit (state_of past) (state_after (state_of past) edit)) epoch recut moved
     (sym (answered past next (Edits edit) (answer.Edited epoch recut moved) may (λ e. cc)).answer)
 
-pub edited_to : (s : Standing) (next : Record) (machines : List (List ℕ)) (edit : Edit) (epoch recut moved : ℕ) → MayAnswer s.past (Edits edit) (answer.Edited epoch recut moved) next
-    → machines ≡ machines_behind_edit (state_of s.past).groups edit s.machines → record { past = next; machines = machines } ≡ edited s edit
-edited_to s next machines edit epoch recut moved may are =
-    let none = edit_accepted s.past next edit epoch recut moved may in
-    let went : next ≡ Edited edit ∷ s.past = left_as s.past next (Edits edit) (answer.Edited epoch recut moved) may (λ e. cc) ∙ ap (λ (found : Option CoreFault). kept_if found s.past (Edited edit ∷ s.past)) none in
-    ap (λ (past : Record). record { past = past; machines = machines }) went
-    ∙ ap (λ (all : List (List ℕ)). record { past = Edited edit ∷ s.past; machines = all }) are
+pub edited_to : (s mid next : Standing) (edit : Edit) (epoch recut moved : ℕ) → MayAnswer s.past (Edits edit) (answer.Edited epoch recut moved) mid.past → mid ≡ with_past s mid.past
+    → next ≡ with_machines mid (machines_behind_edit (state_of s.past).groups edit mid.machines) → next ≡ edited s edit
+edited_to s mid next edit epoch recut moved may rest are =
+    let none = edit_accepted s.past mid.past edit epoch recut moved may in
+    let went : mid.past ≡ Edited edit ∷ s.past = left_as s.past mid.past (Edits edit) (answer.Edited epoch recut moved) may (λ e. cc) ∙ ap (λ (found : Option CoreFault). kept_if found s.past (Edited edit ∷ s.past)) none in
+    are
+    ∙ ap (λ (t : Standing). with_machines t (machines_behind_edit (state_of s.past).groups edit t.machines)) (rest ∙ ap (with_past s) went)
     ∙ ap (λ (found : Option CoreFault). edited_unless found s edit) (sym none)
 
 refused_by : (found : Option CoreFault) (given : Answer) (fault : CoreFault) (s : Standing) (edit : Edit) → is_refusal given ≡ false → unless found given ≡ answer.Refused fault → edited_unless found s edit ≡ s
 refused_by None given fault s edit plain e = let is : is_refusal given ≡ true = ap is_refusal e in cc
 refused_by (Some other) given fault s edit plain e = refl
 
-pub edited_same : (s : Standing) (next : Record) (edit : Edit) (fault : CoreFault) → fault ≢ Memory → MayAnswer s.past (Edits edit) (answer.Refused fault) next
-    → record { past = next; machines = s.machines } ≡ edited s edit
-edited_same s next edit fault other may =
-    let is = answered s.past next (Edits edit) (answer.Refused fault) may (other_fault fault other) in
-    let went : next ≡ s.past = refused_stays s.past next (Edits edit) fault (edit_stays s.past edit fault) may in
-    ap (λ (past : Record). record { past = past; machines = s.machines }) went
-    ∙ sym (refused_by (edit_refused s.past edit) (told_of_edit (state_of s.past) (state_after (state_of s.past) edit)) fault s edit refl (sym is.answer))
+pub edited_same : (s next : Standing) (edit : Edit) (fault : CoreFault) → fault ≢ Memory → MayAnswer s.past (Edits edit) (answer.Refused fault) next.past → next ≡ with_past s next.past → next ≡ edited s edit
+edited_same s next edit fault other may rest =
+    let is = answered s.past next.past (Edits edit) (answer.Refused fault) may (other_fault fault other) in
+    let went : next.past ≡ s.past = refused_stays s.past next.past (Edits edit) fault (edit_stays s.past edit fault) may in
+    stays_put s next rest went ∙ sym (refused_by (edit_refused s.past edit) (told_of_edit (state_of s.past) (state_after (state_of s.past) edit)) fault s edit refl (sym is.answer))
 
 -- an arrival that can be read is never refused
 

@@ -1,19 +1,17 @@
 -- Runs in which memory was refused: one turn of them, and how they end.
-use Rattle.std.proofs.Common.{◌≡◌, ◌≤◌, inl, inr, ℕ, Bool, true, false, ◌||◌, List, [], ◌∷◌, length, refl, sym, subst, Ok, Err, Some, None}
-use Rattle.std.specs.Prelude.{Option, Result, IfSome, IsOk}
+use Rattle.std.proofs.Common.{◌≡◌, ◌≤◌, inl, inr, ℕ, Bool, true, false, ◌||◌, List, [], ◌∷◌, length, refl, sym, ap, subst, ◌∙◌, Ok, Err, Some, None}
+use Rattle.std.specs.Prelude.{◌⊎◌, is_err, Option, Result, IfSome, IsOk, OnErr, OnOk}
 use Rattle.std.proofs.KnownBytes.{Appends-nil}
-use Rattle.hc_records.specs.declared.records.Group.{Group}
-use Rattle.hc_records.specs.declared.faults.ProjectFault.{ProjectFault}
 use Rattle.hc_events.specs.Entries.{Record}
 use Rattle.hc_text.specs.declared.input.TheConstants.{MOST_INPUT}
 use Rattle.hc_text.specs.Lines.{Line, command_lines, lines_of, project_text}
 use Rattle.hc_project.specs.Text.{project_in}
 use Rattle.hc_program.specs.declared.opening.Unopened.{Unopened}
-use Rattle.hc_program.specs.declared.opening.Unopened.TheVariants.{Project, TooManyDatagrams, Memory}
+use Rattle.hc_program.specs.declared.opening.Unopened.TheVariants.{Project, TooManyDatagrams, Memory, NoSeat}
 use Rattle.hc_program.specs.Declaring.{Turn, turns_of}
-use Rattle.hc_program.specs.Opening.{in_want, is_memory, opened_project, opening_of}
-use Rattle.hc_program.specs.Runs.{Outcome, Reply, behind, reply_to, run}
-use Rattle.hc_program.specs.Standings.{Standing, opened_standing}
+use Rattle.hc_program.specs.Opening.{in_want, is_of_opening, opening_of}
+use Rattle.hc_program.specs.Runs.{Outcome, Reply, behind, reply_to, run, then_published}
+use Rattle.hc_program.specs.Standings.{Standing, opened_standing, published}
 use Rattle.hc_program.specs.Starved.{EndsAsOne, RunsInWant, StarvedOutcome, StarvedRun, StarvedSections, Stops}
 use Rattle.hc_program.specs.Text.{EndsAs, unopened}
 use Rattle.hc_program.specs.Turns.{Continues, Ends, GoesOn}
@@ -112,6 +110,22 @@ leads_ended true false old mid new All status s turns turn behind_it first starv
     leads_end old mid new _ All (reply_to s turn) rest status leads (replied true s turns turn behind_it rest first (λ e. cc) (unrefused next behind_it)) (answered refl)
 leads_ended false false old mid new All status s turns turn behind_it first starved leads answered stops = cc
 
+-- a publishing that is refused or not
+pub publishes : {A E : Type 0} (result : Result A E) (refused : Bool) (P : Type 0) → refused ≡ is_err result → refused ≡ false → OnOk result P → P
+publishes (Ok x) refused P told not told_so = told_so
+publishes (Err e) refused P told not told_so = cc
+
+pub refuses : {A E : Type 0} (result : Result A E) (refused : Bool) (P : Type 0) → refused ≡ is_err result → refused ≡ true → OnErr result P → P
+refuses (Ok x) refused P told is kept = cc
+refuses (Err e) refused P told is kept = kept
+
+-- a turn in want: it was stopped, and what it left is published or not
+
+pub published_or : {A E : Type 0} (result : Result A E) (reply : Reply) (mid next : Standing) → reply.standing ≡ mid → OnOk result (next ≡ published mid) → OnErr result (next ≡ mid)
+    → (record reply { standing = next } ≡ reply) ⊎ (record reply { standing = next } ≡ then_published reply)
+published_or (Ok x) reply mid next is told kept = inr (ap (λ (t : Standing). record reply { standing = t }) (told ∙ ap published (sym is)))
+published_or (Err e) reply mid next is told kept = inl (ap (λ (t : Standing). record reply { standing = t }) (kept ∙ sym is))
+
 -- a run whose last turn was answered
 finished : (s : Standing) (turns : List Turn) → turns ≡ [] → RunsInWant s turns (record { text = []; status = 0 })
 unfolding RunsInWant
@@ -130,27 +144,17 @@ pub starved_lines : (old new : Option (List ℕ)) (status : ℕ) (input : List �
 starved_lines old new status input past s lines within opens same is (all, starved, end) =
     (all, inr (within, inr (inr (past, opens, subst (λ l. StarvedRun (opened_standing past) (turns_of l) all) same (subst (λ (t : Standing). StarvedRun t (turns_of lines) all) is starved)))), end)
 
-behind_project : (project : Result (List Group) ProjectFault) (task : ℕ) → opened_project project ≡ Err (TooManyDatagrams task) → IsOk project
-behind_project (Ok groups) task e = refl
-behind_project (Err fault) task e = cc
-
--- an opening fault comes behind a project
-is_project : (text : List ℕ) (task : ℕ) → opening_of text ≡ Err (TooManyDatagrams task) → IsOk (project_in text)
-unfolding opening_of
-is_project text task e = behind_project (project_in text) task e
-
-starved_sections : (text : List ℕ) (lines : List Line) (fault : Unopened) → (is_memory fault ≡ false → opening_of text ≡ Err fault) → (fault ≡ Memory → IsOk (project_in text))
-    → StarvedSections text lines (unopened (in_want fault))
-starved_sections text lines (Project refused_by) refused made = inl refl
-starved_sections text lines (TooManyDatagrams task) refused made = inr (inl (is_project text task (refused refl), refl))
-starved_sections text lines Memory refused made = inr (inl (made refl, refl))
+starved_sections : (text : List ℕ) (lines : List Line) (fault : Unopened) → (is_of_opening fault ≡ true → IsOk (project_in text)) → StarvedSections text lines (unopened (in_want fault))
+starved_sections text lines (Project refused) project = inl refl
+starved_sections text lines (TooManyDatagrams task) project = inr (inl (project refl, inl refl))
+starved_sections text lines Memory project = inr (inl (project refl, inl refl))
+starved_sections text lines NoSeat project = inr (inl (project refl, inr refl))
 
 -- a project that isn't opened
 pub starved_unopened : (old new : Option (List ℕ)) (status : ℕ) (input : List ℕ) (fault : Unopened) → length input ≤ MOST_INPUT
-    → (is_memory fault ≡ false → opening_of (project_text (lines_of input)) ≡ Err fault) → (fault ≡ Memory → IsOk (project_in (project_text (lines_of input))))
-    → EndsAs old new status (unopened (in_want fault)) → EndsAsOne old new status (StarvedOutcome input)
-starved_unopened old new status input fault within refused made end =
-    (unopened (in_want fault), inr (within, starved_sections (project_text (lines_of input)) (command_lines (lines_of input)) fault refused made), end)
+    → (is_of_opening fault ≡ true → IsOk (project_in (project_text (lines_of input)))) → EndsAs old new status (unopened (in_want fault)) → EndsAsOne old new status (StarvedOutcome input)
+starved_unopened old new status input fault within project end =
+    (unopened (in_want fault), inr (within, starved_sections (project_text (lines_of input)) (command_lines (lines_of input)) fault project), end)
 
 -- an input that isn't read
 pub starved_unread : (remaining old : Option (List ℕ)) → IfSome remaining (λ bytes. EndsAsOne old old 4 (StarvedOutcome bytes))

@@ -1,11 +1,11 @@
 -- One turn of a run: what is written, and what is left.
-use Rattle.std.proofs.Common.{◌≡◌, ℕ, ◌+◌, List, [], ◌∷◌, ◌++◌, length, take, drop, refl, sym, ◌∙◌, ap, subst, append_assoc, append-nil, take-append-drop, Bool, true, false, cond}
+use Rattle.std.proofs.Common.{◌≡◌, ℕ, List, [], ◌∷◌, ◌++◌, length, take, drop, refl, sym, ◌∙◌, ap, subst, append_assoc, append-nil, take-append-drop, Bool, true, false, cond}
 use Rattle.std.specs.Prelude.{Option}
 use Rattle.std.specs.Io.KnownBytes.{Appends}
 use Rattle.std.proofs.KnownBytes.{Appends-trans, Appends-nil}
 use Rattle.std.proofs.Math.Seq.{take-append_seam}
 use Rattle.hc_program.specs.Declaring.{Turn}
-use Rattle.hc_program.specs.Runs.{Outcome, Reply, behind, reply_to, run}
+use Rattle.hc_program.specs.Runs.{Outcome, Reply, bare_reply, behind, reply_to, run, then_published}
 use Rattle.hc_program.specs.Standings.{Standing}
 use Rattle.hc_program.specs.Text.{EndsAs}
 use Rattle.hc_program.specs.Turns.{Continues, Ends, GoesOn, Takes, end_behind}
@@ -19,6 +19,11 @@ run_turn s turns turn behind_it is = ap (run s) is
 pub run_none : (s : Standing) → run s [] ≡ record { text = []; status = 0 }
 unfolding run
 run_none s = refl
+
+-- a reply, where it was published
+pub published_reply : (s : Standing) (turn : Turn) → reply_to s turn ≡ then_published (bare_reply s turn)
+unfolding reply_to
+published_reply s turn = refl
 
 -- a reply is the front of what follows from it
 reply_first : (text tail : List ℕ) (status : ℕ) (b : Bool)

@@ -17,6 +17,8 @@ use Rattle.hc_program.specs.Regs.{regs_in, regs_text}
 use Rattle.hc_program.specs.Setups.{name_in, name_text, named, scan_in, scan_text, scanned}
 use Rattle.hc_program.specs.Show.{show_in, show_text}
 use Rattle.hc_program.specs.Standings.{Standing, edited, stepped}
+use Rattle.hc_program.specs.Takings.{take_in, take_text, took}
+use Rattle.hc_program.specs.Views.{view_in, view_text}
 
 -- the command that a name and its arguments spell: those of the simulated line, and the edits
 abbrev pub line_command_in : List ℕ → List (List ℕ) → Option Command
@@ -29,14 +31,21 @@ line_command_in name arguments =
     else (if bytes_eq name (codes "peek") then peek_in arguments
     else option_map command.Edit (edit_in name arguments))))))
 
--- those that send, take what arrives, and read
+-- those of tasks
+abbrev pub task_command_in : List ℕ → List (List ℕ) → Option Command
+task_command_in name arguments =
+    if bytes_eq name (codes "take") then take_in arguments
+    else (if bytes_eq name (codes "view") then view_in arguments
+    else line_command_in name arguments)
+
+-- those that send, take in what arrives, and read
 abbrev pub event_in : List ℕ → List (List ℕ) → Option Command
 event_in name arguments =
     if bytes_eq name (codes "send") then send_in arguments
     else (if bytes_eq name (codes "write") then write_in arguments
     else (if bytes_eq name (codes "arrive") then arrive_in arguments
     else (if bytes_eq name (codes "read") then read_in arguments
-    else line_command_in name arguments)))
+    else task_command_in name arguments)))
 
 -- and those that only look
 abbrev pub command_in : List ℕ → List (List ℕ) → Option Command
@@ -58,6 +67,8 @@ printed s (command.Send tasks) = told s.past (SendsTasks tasks)
 printed s command.Write = told s.past SendsWrite
 printed s (command.Arrive bytes) = told s.past (Arrives bytes)
 printed s (command.Read task) = told s.past (Reads task)
+printed s command.Take = take_text s
+printed s (command.View task variable) = view_text s.seen task variable
 printed s command.Scan = scan_text s
 printed s command.Name = name_text s
 printed s command.Program = program_text s
@@ -65,7 +76,7 @@ printed s (command.Cycle tasks) = cycle_text s tasks
 printed s (command.Poke poke) = poke_text s poke
 printed s (command.Peek peek) = peek_text s peek
 
--- where it leaves the run: the record with what the core accepted, and the machines behind what met them
+-- where it leaves the run, before that is published: the record with what the core accepted, the machines behind what met them, and the posts that wait
 abbrev pub left_by : Standing → Command → Standing
 left_by s command.Layout = s
 left_by s (command.Regs station) = s
@@ -76,6 +87,8 @@ left_by s (command.Send tasks) = stepped s (SendsTasks tasks)
 left_by s command.Write = stepped s SendsWrite
 left_by s (command.Arrive bytes) = stepped s (Arrives bytes)
 left_by s (command.Read task) = s
+left_by s command.Take = took s
+left_by s (command.View task variable) = s
 left_by s command.Scan = scanned s
 left_by s command.Name = named s
 left_by s command.Program = (programmed s).standing

@@ -10,7 +10,7 @@ use Rattle.hc_program.specs.declared.commands.Command.TheVariants as command
 use Rattle.hc_program.specs.Answers.{told}
 use Rattle.hc_program.specs.EventWords.{tasks_in}
 use Rattle.hc_program.specs.Refusals.{refusal_text}
-use Rattle.hc_program.specs.Standings.{Standing, passed, stepped}
+use Rattle.hc_program.specs.Standings.{Standing, passed, stepped, with_past}
 
 -- its arguments are those of `send`
 abbrev pub cycle_in : List (List ℕ) → Option Command
@@ -44,7 +44,7 @@ arrived past (frame ∷ frames) = arrived (entries_after past (Arrives frame)) f
 
 -- the run once they were taken in
 abbrev pub cycle_arrived : Standing → List (List ℕ) → Standing
-cycle_arrived s frames = record { past = arrived s.past frames; machines = s.machines }
+cycle_arrived s frames = with_past s (arrived s.past frames)
 
 -- what they print, or the line `no frame` where none was sent
 abbrev pub back_text : Record → List (List ℕ) → List ℕ

@@ -11,6 +11,8 @@ pub mod Standings
 pub mod Setups
 pub mod Programs
 pub mod Cycles
+pub mod Takings
+pub mod Views
 pub mod MemoryRanges
 pub mod Memories
 pub mod Commands

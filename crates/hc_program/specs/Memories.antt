@@ -15,7 +15,7 @@ use Rattle.hc_program.specs.declared.commands.Command.{Command}
 use Rattle.hc_program.specs.declared.commands.Command.TheVariants as command
 use Rattle.hc_program.specs.MemoryRanges.{Peeking, Poking}
 use Rattle.hc_program.specs.Refusals.{refusal_text}
-use Rattle.hc_program.specs.Standings.{Standing}
+use Rattle.hc_program.specs.Standings.{Standing, with_machines}
 
 -- the range lies in memory
 abbrev pub poke_within : Poking → Option Poking
@@ -78,7 +78,7 @@ poke_text s p = poke_told (machine_at s p.station)
 
 -- where a poke leaves the run
 abbrev pub poked_standing : Standing → Poking → Standing
-poked_standing s p = record { past = s.past; machines = poked_at (machine_at s p.station) p s.machines }
+poked_standing s p = with_machines s (poked_at (machine_at s p.station) p s.machines)
 
 -- the line `mem A: bytes`
 unfoldable pub memory_text : ℕ → List ℕ → List ℕ

@@ -10,7 +10,7 @@ use Rattle.hc_project.specs.Text.{project_in}
 use Rattle.hc_events.specs.Accepted.{just_opened}
 use Rattle.hc_events.specs.Entries.{Record}
 use Rattle.hc_program.specs.declared.opening.Unopened.{Unopened}
-use Rattle.hc_program.specs.declared.opening.Unopened.TheVariants.{Project, TooManyDatagrams, Memory}
+use Rattle.hc_program.specs.declared.opening.Unopened.TheVariants.{Project, TooManyDatagrams, Memory, NoSeat}
 use Rattle.hc_program.specs.Refusals.{project_fault_text}
 
 -- the lowest task of the opening line that needs more than 16 datagrams
@@ -31,25 +31,33 @@ opened_project (Err refused) = Err (Project refused)
 unfoldable pub opening_of : List ℕ → Result Record Unopened
 opening_of text = opened_project (project_in text)
 
--- the line that says why nothing was opened: `project fault N Name`, `open fault 1 TooManyDatagrams T`, or `open fault 2 Memory`
+-- the line that says why nothing was opened: `project fault N Name`, `open fault 1 TooManyDatagrams T`, `open fault 2 Memory`, or `open fault 3 NoSeat`
 unfoldable pub unopened_text : Unopened → List ℕ
 unopened_text (Project refused) = project_fault_text refused
 unopened_text (TooManyDatagrams task) = codes "open fault 1 TooManyDatagrams " ++ decimal task ++ codes "\n"
 unopened_text Memory = codes "open fault 2 Memory\n"
+unopened_text NoSeat = codes "open fault 3 NoSeat\n"
 
 -- a growth was refused
 abbrev pub is_project_memory : ProjectFault → Bool
 is_project_memory fault.Memory = true
 is_project_memory _ = false
 
--- the reason why nothing was opened is want of memory, as a project's fault or while the core was made
-abbrev pub is_memory : Unopened → Bool
-is_memory (Project refused) = is_project_memory refused
-is_memory (TooManyDatagrams task) = false
-is_memory Memory = true
+-- the reason why nothing was opened is a want: of memory, as a project's fault or while the project was opened, or of a seat
+abbrev pub is_want : Unopened → Bool
+is_want (Project refused) = is_project_memory refused
+is_want (TooManyDatagrams task) = false
+is_want Memory = true
+is_want NoSeat = true
+
+-- the reason is not that the text is no project
+abbrev pub is_of_opening : Unopened → Bool
+is_of_opening (Project refused) = false
+is_of_opening other = true
 
 -- what is told in place of a fault where a growth is refused while it is told
 abbrev pub in_want : Unopened → Unopened
 in_want (Project refused) = Project fault.Memory
 in_want (TooManyDatagrams task) = Memory
 in_want Memory = Memory
+in_want NoSeat = NoSeat

@@ -11,7 +11,7 @@ use Rattle.hc_program.specs.Answers.{told}
 use Rattle.hc_program.specs.Refusals.{bad_command_text, declare_fault_text}
 use Rattle.hc_program.specs.Commands.{command_in, left_by, printed}
 use Rattle.hc_program.specs.Declaring.{Turn, Says, Declares}
-use Rattle.hc_program.specs.Standings.{Standing, edited}
+use Rattle.hc_program.specs.Standings.{Standing, edited, published}
 
 -- what a turn prints, where it leaves the run, and whether that goes on behind it
 pub record Reply : Type 0 where
@@ -35,11 +35,19 @@ abbrev pub reply_to_document : Standing → Result Group ProjectFault → Reply
 reply_to_document s (Ok group) = record { text = told s.past (Edits (Declare group)); standing = edited s (Declare group); goes_on = true }
 reply_to_document s (Err fault) = record { text = declare_fault_text fault; standing = s; goes_on = true }
 
--- the reply to a turn: to the words of a line, or to a document; a declaration without one is no command
+-- the reply to a turn before anything is published: to the words of a line, or to a document; a declaration without one is no command
+unfoldable pub bare_reply : Standing → Turn → Reply
+bare_reply s (Says number text) = reply_to_words s number (words_of text)
+bare_reply s (Declares number None) = reply_to_command s number None
+bare_reply s (Declares number (Some document)) = reply_to_document s (group_in document)
+
+-- a reply, behind which what the core accepted is published
+abbrev pub then_published : Reply → Reply
+then_published reply = record reply { standing = published reply.standing }
+
+-- the reply to a turn
 unfoldable pub reply_to : Standing → Turn → Reply
-reply_to s (Says number text) = reply_to_words s number (words_of text)
-reply_to s (Declares number None) = reply_to_command s number None
-reply_to s (Declares number (Some document)) = reply_to_document s (group_in document)
+reply_to s turn = then_published (bare_reply s turn)
 
 -- what a run prints, and its exit status
 pub record Outcome : Type 0 where

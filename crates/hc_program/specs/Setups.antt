@@ -5,7 +5,7 @@ use Rattle.hc_events.specs.Points.{line_of}
 use Rattle.hc_line.specs.Setup.{aliases_read, machines_named, machines_scanned, named_count}
 use Rattle.hc_program.specs.declared.commands.Command.{Command}
 use Rattle.hc_program.specs.declared.commands.Command.TheVariants as command
-use Rattle.hc_program.specs.Standings.{Standing}
+use Rattle.hc_program.specs.Standings.{Standing, with_machines}
 
 -- `scan` has no argument
 abbrev pub scan_in : List (List ℕ) → Option Command
@@ -32,7 +32,7 @@ scan_text s = aliases_text 0 (aliases_read s.machines)
 
 -- where a scan leaves the run
 abbrev pub scanned : Standing → Standing
-scanned s = record { past = s.past; machines = machines_scanned s.machines }
+scanned s = with_machines s (machines_scanned s.machines)
 
 -- the line `named N`: how many station writes came back with the working counter 1
 abbrev pub named_text : ℕ → List ℕ
@@ -44,4 +44,4 @@ name_text s = named_text (named_count s.machines (line_of s.past))
 
 -- where naming leaves the run
 abbrev pub named : Standing → Standing
-named s = record { past = s.past; machines = machines_named s.machines (line_of s.past) }
+named s = with_machines s (machines_named s.machines (line_of s.past))

@@ -1,4 +1,4 @@
--- What a command leaves for which a growth was refused: in those that make several calls, what earlier calls did stands.
+-- What a command leaves that is stopped: in those that make several calls, what earlier calls did stands.
 use Rattle.std.specs.Prelude.{◌≡◌, ◌⊎◌, ℕ, zero, suc, true, List, take, codes}
 use Rattle.hc_events.specs.declared.faults.CoreFault.TheVariants as core
 use Rattle.hc_segment.specs.declared.faults.ChainFault.{ChainFault}
@@ -7,6 +7,8 @@ use Rattle.hc_program.specs.declared.commands.Command.{Command}
 use Rattle.hc_program.specs.declared.commands.Command.TheVariants as command
 use Rattle.hc_program.specs.declared.stops.Stop.{Stop}
 use Rattle.hc_program.specs.declared.stops.Stop.TheVariants as stop
+use Rattle.hc_program.specs.declared.stops.Want.{Want}
+use Rattle.hc_program.specs.declared.stops.Want.TheVariants as want
 use Rattle.hc_program.specs.Cycles.{cycle_arrived, cycle_back, cycle_passed, cycle_sent}
 use Rattle.hc_program.specs.Programs.{can_write, is_done, write_passed, write_sent, written}
 use Rattle.hc_program.specs.Refusals.{refusal_text}
@@ -17,14 +19,31 @@ use Rattle.hc_program.specs.Standings.{Standing}
 unfoldable pub chain_fault_text : ChainFault → List ℕ
 chain_fault_text chain.Memory = codes "chain fault 1 Memory\n"
 
+-- what is printed where a growth was refused
+abbrev pub want_text : Want → List ℕ
+want_text want.Memory = refusal_text core.Memory
+want_text (want.Chain fault) = chain_fault_text fault
+
+-- where a seat was given no view
+unfoldable pub no_entry_text : List ℕ
+no_entry_text = codes "refused 7 NoEntry\n"
+
 -- what is printed in place of the command's text
 abbrev pub stop_text : Stop → List ℕ
-stop_text stop.Memory = refusal_text core.Memory
-stop_text (stop.Chain fault) = chain_fault_text fault
+stop_text (stop.Want w) = want_text w
+stop_text stop.NoEntry = no_entry_text
+
+-- a growth was refused
+abbrev pub IsWanting : Stop → Type 0
+IsWanting why = (w : Want) × (why ≡ stop.Want w)
 
 -- a command of one call was not carried out
 abbrev pub Unchanged : Standing → Stop → Standing → Type 0
-Unchanged s why next = (why ≡ stop.Memory) × (next ≡ s)
+Unchanged s why next = (why ≡ stop.Want want.Memory) × (next ≡ s)
+
+-- nor was one for which a seat was asked for a view
+abbrev pub Unviewed : Standing → Stop → Standing → Type 0
+Unviewed s why next = ((why ≡ stop.Want want.Memory) ⊎ (why ≡ stop.NoEntry)) × (next ≡ s)
 
 -- so many writes, each done
 abbrev pub AreWritten : ℕ → Standing → Standing → Type 0
@@ -50,8 +69,9 @@ StopsScan s next = (next ≡ s) ⊎ (next ≡ scanned s)
 
 -- where a command leaves the run that was stopped so
 abbrev pub StopsIn : Standing → Command → Stop → Standing → Type 0
-StopsIn s command.Program why next = StopsProgram s next
-StopsIn s (command.Cycle tasks) why next = StopsInCycle s tasks next
-StopsIn s command.Scan why next = StopsScan s next
-StopsIn s command.Name why next = next ≡ s
+StopsIn s command.Program why next = IsWanting why × StopsProgram s next
+StopsIn s (command.Cycle tasks) why next = IsWanting why × StopsInCycle s tasks next
+StopsIn s command.Scan why next = IsWanting why × StopsScan s next
+StopsIn s command.Name why next = IsWanting why × (next ≡ s)
+StopsIn s (command.View task variable) why next = Unviewed s why next
 StopsIn s other why next = Unchanged s why next

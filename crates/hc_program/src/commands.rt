@@ -1,8 +1,7 @@
 //! The commands: the words that spell each, and what it answers. Each has a file of its own with its
 //! `parse`, from the words behind its name, and its `reply`.
 ghost use Rattle.std.specs.Prelude.{◌≡◌, ◌++◌, map, IfErr, IfOk, OnOk, string_bytes};
-ghost use Rattle.hc_program.specs.Commands.{command_in, event_in, left_by, line_command_in, printed};
-ghost use Rattle.hc_program.specs.Sessions.{standing_of};
+ghost use Rattle.hc_program.specs.Commands.{command_in, event_in, left_by, line_command_in, printed, task_command_in};
 ghost use Rattle.hc_program.specs.Stops.{StopsIn};
 
 mod arrive;
@@ -19,6 +18,8 @@ mod regs;
 mod scan;
 mod send;
 mod show;
+mod take;
+mod view;
 mod write;
 
 use crate::session::Session;
@@ -66,6 +67,15 @@ pub enum Command {
         /// The task; over 7 the command is refused.
         task: u8,
     },
+    /// `take`: what tasks posted goes to the core.
+    Take,
+    /// `view T V`: what a task views of a variable.
+    View {
+        /// The task; over 7 the command is refused.
+        task: u8,
+        /// The variable's number; 0 is no variable's.
+        variable: u32,
+    },
     /// `scan`: the alias of each slave along the line.
     Scan,
     /// `name`: each slave is given its station address along the line.
@@ -103,7 +113,7 @@ pub fn command_in(
     }
 }
 
-/// The same of the commands that send, take what arrives, or read, and of those of the line.
+/// The same of the commands that send, take in what arrives, or read, and of those behind them.
 fn event_in(alloc: Global, name: &[u8], arguments: &[&[u8]]) -> Result<Option<Command>, AllocError>
     ensures { IfOk result (λ command. command ≡ event_in name.now (map (λ word. word.now) arguments.now)) }
 {
@@ -115,6 +125,23 @@ fn event_in(alloc: Global, name: &[u8], arguments: &[&[u8]]) -> Result<Option<Co
         arrive::parse(alloc, arguments)
     } else if name == b"read".as_slice() {
         Ok(read::parse(arguments))
+    } else {
+        task_command_in(alloc, name, arguments)
+    }
+}
+
+/// The same of the commands of tasks, and of those behind them.
+fn task_command_in(
+    alloc: Global,
+    name: &[u8],
+    arguments: &[&[u8]],
+) -> Result<Option<Command>, AllocError>
+    ensures { IfOk result (λ command. command ≡ task_command_in name.now (map (λ word. word.now) arguments.now)) }
+{
+    if name == b"take".as_slice() {
+        Ok(take::parse(arguments))
+    } else if name == b"view".as_slice() {
+        Ok(view::parse(arguments))
     } else {
         line_command_in(alloc, name, arguments)
     }
@@ -145,9 +172,9 @@ fn line_command_in(
     }
 }
 
-/// Carries a command out and adds what it prints. A `Stop` where a growth was refused: in a command of one call nothing was
-/// then accepted, in the others what was done stands (`StopsIn`), and `out` may have a front of what would have been
-/// printed.
+/// Carries a command out and adds what it prints; nothing is published yet. A `Stop` where a growth was refused, or a seat
+/// was given no view: in a command of one call nothing was then accepted, in the others what was done stands (`StopsIn`),
+/// and `out` may have a front of what would have been printed.
 pub fn obey<R: Threads + Wait + Sync>(
     rt: &R,
     alloc: Global,
@@ -155,27 +182,27 @@ pub fn obey<R: Threads + Wait + Sync>(
     session: &mut Session,
     out: &mut String,
 ) -> Result<(), Stop>
-    ensures text { OnOk result (string_bytes out.new ≡ string_bytes out.old ++ printed (standing_of session.old) command.now) }
-    ensures next { OnOk result (standing_of session.new ≡ left_by (standing_of session.old) command.now) }
-    ensures stops { IfErr result (λ stop. StopsIn (standing_of session.old) command.now stop (standing_of session.new)) }
+    ensures text { OnOk result (string_bytes out.new ≡ string_bytes out.old ++ printed session.old command.now) }
+    ensures next { OnOk result (session.new ≡ left_by session.old command.now) }
+    ensures stops { IfErr result (λ stop. StopsIn session.old command.now stop session.new) }
 {
     match command {
-        Command::Scan => scan::reply(rt, alloc, session, out),
-        Command::Name => name::reply(rt, alloc, session, out),
-        Command::Program => program::reply(rt, alloc, session, out),
-        Command::Cycle(tasks) => cycle::reply(rt, alloc, tasks, session, out),
+        Command::Scan => Ok(scan::reply(rt, alloc, session, out)?),
+        Command::Name => Ok(name::reply(rt, alloc, session, out)?),
+        Command::Program => Ok(program::reply(rt, alloc, session, out)?),
+        Command::Cycle(tasks) => Ok(cycle::reply(rt, alloc, tasks, session, out)?),
         Command::Poke(poke) => Ok(memory::reply_poke(poke, session, out)?),
         Command::Peek(peek) => Ok(memory::reply_peek(peek, session, out)?),
         Command::Edit(edit) => Ok(edits::reply(alloc, edit, session, out)?),
-        Command::Layout => Ok(layout::reply(session.core.plan(), out)?),
-        Command::Regs { station } => Ok(regs::reply(session.core.plan(), *station, out)?),
-        Command::Show { task, datagram } => Ok(show::reply(&session.core, *task, *datagram, out)?),
-        Command::Place { variable } => Ok(place::reply(session.core.plan(), *variable, out)?),
-        Command::Send(tasks) => Ok(send::reply(alloc, tasks, &mut session.core, out)?),
-        Command::Write => Ok(write::reply(&mut session.core, out)?),
-        Command::Arrive(bytes) => {
-            Ok(arrive::reply(alloc, bytes.as_slice(), &mut session.core, out)?)
-        }
-        Command::Read { task } => Ok(read::reply(alloc, *task, &session.core, out)?),
+        Command::Layout => Ok(layout::reply(session.core().plan(), out)?),
+        Command::Regs { station } => Ok(regs::reply(session.core().plan(), *station, out)?),
+        Command::Show { task, datagram } => Ok(show::reply(session.core(), *task, *datagram, out)?),
+        Command::Place { variable } => Ok(place::reply(session.core().plan(), *variable, out)?),
+        Command::Send(tasks) => Ok(send::reply(alloc, tasks, session, out)?),
+        Command::Write => Ok(write::reply(session, out)?),
+        Command::Arrive(bytes) => Ok(arrive::reply(alloc, bytes.as_slice(), session, out)?),
+        Command::Read { task } => Ok(read::reply(alloc, *task, session.core(), out)?),
+        Command::Take => Ok(take::reply(session, out)?),
+        Command::View { task, variable } => view::reply(*task, *variable, session, out),
     }
 }

@@ -4,9 +4,8 @@ ghost use Rattle.std.specs.Prelude.{◌≡◌, ◌≤◌, ◌+◌, false, true, 
 ghost use Rattle.std.specs.Option.{option_copied};
 ghost use Rattle.hc_text.specs.Cutting.{left_in, lines_after};
 ghost use Rattle.hc_program.specs.Declaring.{turn_of, turns_of};
-ghost use Rattle.hc_program.specs.Opening.{in_want, is_memory};
+ghost use Rattle.hc_program.specs.Opening.{in_want, is_want};
 ghost use Rattle.hc_program.specs.Runs.{Reply, reply_to, run};
-ghost use Rattle.hc_program.specs.Sessions.{standing_of};
 ghost use Rattle.hc_program.specs.Standings.{Standing};
 ghost use Rattle.hc_program.specs.Starved.{EndsAsOne, StarvedOutcome, StarvedRun, Stops};
 ghost use Rattle.hc_program.specs.Text.{EndsAs, outcome_of, unopened};
@@ -81,8 +80,8 @@ fn end_behind(goes_on: bool) -> Option<u8>
     if goes_on { None } else { Some(BAD_COMMAND) }
 }
 
-/// Answers a turn and writes its reply, or why it was stopped where a growth was refused. The changes that the turn
-/// made of what tasks read are dropped: nobody follows them here.
+/// Answers a turn, publishes what it changed, and writes its reply, or why it was stopped. A refused publishing prints
+/// nothing; the next one goes on where it stopped.
 fn take_turn<Rt: Threads + Wait + Sync, W: Write>(
     rt: &Rt,
     alloc: Global,
@@ -91,14 +90,19 @@ fn take_turn<Rt: Threads + Wait + Sync, W: Write>(
     output: &mut W,
 ) -> TurnEnd
     ensures answered { result.starved ≡ false
-        → Takes (W.contents output.old) (W.contents output.new) (standing_of session.new) result.end (reply_to (standing_of session.old) (turn_of turn.entry)) }
+        → Takes (W.contents output.old) (W.contents output.new) session.new result.end (reply_to session.old (turn_of turn.entry)) }
     ensures stopped { result.starved ≡ true
-        → (reply : Reply) × Stops (standing_of session.old) (turn_of turn.entry) reply × Takes (W.contents output.old) (W.contents output.new) (standing_of session.new) result.end reply }
+        → (reply : Reply) × Stops session.old (turn_of turn.entry) reply × Takes (W.contents output.old) (W.contents output.new) session.new result.end reply }
 {
     let answered = answer(rt, alloc, turn, session);
-    drop(session.core.take_changes(alloc));
+    let published = session.publish(rt, alloc);
     match answered {
-        Ok(reply) => write_reply(reply.text.as_bytes(), reply.goes_on, false, output),
+        Ok(reply) => write_reply(
+            reply.text.as_bytes(),
+            reply.goes_on,
+            published.is_err(),
+            output,
+        ),
         Err(stop) => write_reply(stop_line(stop), true, true, output),
     }
 }
@@ -107,24 +111,23 @@ fn take_turn<Rt: Threads + Wait + Sync, W: Write>(
 fn run_commands<Rt: Threads + Wait + Sync, W: Write>(
     rt: &Rt,
     alloc: Global,
-    opened: Session,
+    session: &mut Session,
     lines: Option<&[u8]>,
     first: u32,
     output: &mut W,
 ) -> RunEnd
     requires { first + left_in (option_copied lines) ≤ MOST_INPUT + 2 }
     ensures unstarved { result.starved ≡ false
-        → EndsAs (W.contents output.old) (W.contents output.new) result.status (run (standing_of opened) (turns_of (lines_after first (option_copied lines.entry)))) }
+        → EndsAs (W.contents output.old) (W.contents output.new) result.status (run session.old (turns_of (lines_after first (option_copied lines.entry)))) }
     ensures starved { result.starved ≡ true
-        → EndsAsOne (W.contents output.old) (W.contents output.new) result.status (StarvedRun (standing_of opened) (turns_of (lines_after first (option_copied lines.entry)))) }
+        → EndsAsOne (W.contents output.old) (W.contents output.new) result.status (StarvedRun session.old (turns_of (lines_after first (option_copied lines.entry)))) }
 {
-    let mut session = opened;
     let mut starved = false;
     let mut number = first;
     let mut rest = lines;
     while let Some(text) = rest {
         let cut = split_turn(text, number);
-        let taken = take_turn(rt, alloc, cut.turn, &mut session, output);
+        let taken = take_turn(rt, alloc, cut.turn, session, output);
         starved |= taken.starved;
         if let Some(status) = taken.end {
             return RunEnd { status, starved };
@@ -151,17 +154,17 @@ pub(crate) fn end_with<W: Write>(lines: &[u8], end: u8, starved: bool, output: &
 }
 
 /// Tells why the project isn't opened.
-#[tactic(auto, using(crate::proofs::Openings::in_want_memory))]
+#[tactic(auto, using(crate::proofs::Openings::in_want_same))]
 fn end_unopened<W: Write>(alloc: Global, fault: Unopened, output: &mut W) -> RunEnd
     ensures told { result.starved ≡ false
         → EndsAs (W.contents output.old) (W.contents output.new) result.status (unopened fault) }
-    ensures unstarved { result.starved ≡ false → is_memory fault ≡ false }
+    ensures unstarved { result.starved ≡ false → is_want fault ≡ false }
     ensures starved { result.starved ≡ true
         → EndsAs (W.contents output.old) (W.contents output.new) result.status (unopened (in_want fault)) }
 {
     let mut line = String::new(alloc);
     match push_unopened(fault, &mut line) {
-        Ok(()) => end_with(line.as_bytes(), UNOPENED, fault.is_memory(), output),
+        Ok(()) => end_with(line.as_bytes(), UNOPENED, fault.is_want(), output),
         Err(_) => end_with(memory_text(fault), UNOPENED, true, output),
     }
 }
@@ -180,15 +183,19 @@ fn run_input<Rt: Threads + Wait + Sync, W: Write>(
         → EndsAsOne (W.contents output.old) (W.contents output.new) result.status (StarvedOutcome input.now) }
 {
     let sections = split_sections(input);
-    match open_session(alloc, sections.project) {
-        Ok(session) => run_commands(
-            rt,
-            alloc,
-            session,
-            sections.commands,
-            sections.first,
-            output,
-        ),
+    match open_session(rt, alloc, sections.project) {
+        Ok(mut session) => {
+            let end = run_commands(
+                rt,
+                alloc,
+                &mut session,
+                sections.commands,
+                sections.first,
+                output,
+            );
+            session.finish(rt);
+            end
+        }
         Err(fault) => end_unopened(alloc, fault, output),
     }
 }

@@ -1,21 +1,20 @@
 //! Opening the project of an input, or telling why it can't be opened.
-ghost use Rattle.std.specs.Prelude.{◌≡◌, ◌++◌, IfErr, IfOk, IsOk, OnOk, false, string_bytes};
-ghost use Rattle.hc_events.specs.Points.{state_of};
-ghost use Rattle.hc_line.specs.Machines.{opened_machines};
+ghost use Rattle.std.specs.Prelude.{◌≡◌, ◌++◌, IfErr, IfOk, IsOk, OnOk, false, string_bytes, true};
 ghost use Rattle.hc_project.specs.Text.{project_in};
-ghost use Rattle.hc_program.specs.Sessions.{standing_of};
+ghost use Rattle.hc_master.specs.Mastering.{past_of};
+ghost use Rattle.hc_program.specs.Sessions.{IsFresh};
 ghost use Rattle.hc_program.specs.Standings.{opened_standing};
-ghost use Rattle.hc_program.specs.declared.opening.Unopened.TheVariants.{Memory};
-ghost use Rattle.hc_program.specs.Opening.{crowded_at_opening, in_want, is_memory, is_project_memory, opened_unless, opening_of, unopened_text};
+ghost use Rattle.hc_program.specs.Opening.{crowded_at_opening, in_want, is_of_opening, is_project_memory, is_want, opened_unless, opening_of, unopened_text};
 
 use crate::refusals::push_project_fault;
 use crate::session::Session;
-use hc_core::keeping::Core;
-use hc_line::SimulatedLine;
+use hc_master::master::Master;
 use hc_project::read_project;
-use hc_records::faults::{EditFault, ProjectFault};
+use hc_publish::faults::OpenFault;
+use hc_records::faults::ProjectFault;
 use hc_records::project::Project;
 use std::alloc::{AllocError, Global};
+use std::sync::Wait;
 use thiserror::Error;
 
 /// Why a project isn't opened.
@@ -27,23 +26,27 @@ pub enum Unopened {
     /// A task of the opening line needs more than 16 datagrams: the lowest such task.
     #[error("task {0} needs too many datagrams")]
     TooManyDatagrams(u8),
-    /// A growth was refused while the core was made.
+    /// A growth was refused while the project was opened.
     #[error("out of memory")]
     Memory,
+    /// A task's seat was refused, which no run meets.
+    #[error("a seat was refused")]
+    NoSeat,
 }
 
 impl Unopened {
     ghost use Rattle.std.specs.Prelude.{◌≡◌};
-    ghost use Rattle.hc_program.specs.Opening.{is_memory};
+    ghost use Rattle.hc_program.specs.Opening.{is_want};
 
-    /// Whether a growth was refused.
-    pub fn is_memory(self) -> bool
-        ensures { result ≡ is_memory self }
+    /// Whether a growth or a seat was refused.
+    pub fn is_want(self) -> bool
+        ensures { result ≡ is_want self }
     {
         match self {
             Unopened::Project(fault) => is_project_memory(fault),
             Unopened::TooManyDatagrams(_) => false,
             Unopened::Memory => true,
+            Unopened::NoSeat => true,
         }
     }
 }
@@ -54,49 +57,47 @@ fn is_project_memory(fault: ProjectFault) -> bool
     fault == ProjectFault::Memory
 }
 
-/// The core of a project at its opening.
-fn open_project(alloc: Global, project: Project) -> Result<Core, Unopened>
-    ensures opened { IfOk result (λ core. opened_unless (crowded_at_opening project) project ≡ Ok core.past) }
-    ensures refused { IfErr result (λ fault. is_memory fault ≡ false → opened_unless (crowded_at_opening project) project ≡ Err fault) }
+/// The conductor and the seats of a project at its opening.
+fn open_project<R: Wait>(rt: &R, alloc: Global, project: Project) -> Result<Master, Unopened>
+    ensures opened { IfOk result (λ master. opened_unless (crowded_at_opening project) project ≡ Ok (past_of master)) }
+    ensures fresh { IfOk result IsFresh }
+    ensures refused { IfErr result (λ fault. is_want fault ≡ false → opened_unless (crowded_at_opening project) project ≡ Err fault) }
+    ensures of_opening { IfErr result (λ fault. is_of_opening fault ≡ true) }
 {
-    match Core::new(alloc, project) {
-        Ok(core) => Ok(core),
-        Err(EditFault::TooManyDatagrams(task)) => Err(Unopened::TooManyDatagrams(task)),
-        Err(_) => Err(Unopened::Memory),
+    match hc_master::open(rt, alloc, project) {
+        Ok(master) => Ok(master),
+        Err(OpenFault::TooManyDatagrams(task)) => Err(Unopened::TooManyDatagrams(task)),
+        Err(OpenFault::Memory) => Err(Unopened::Memory),
+        Err(OpenFault::NoSeat) => Err(Unopened::NoSeat),
     }
 }
 
-/// The core of the project of a text at its opening, or why it isn't opened. `Unopened::Memory` comes only
-/// where the text is a project.
+/// Those of the project of a text, or why it isn't opened. Another fault than the text's comes only where the text is a
+/// project.
 #[tactic(auto, unfolding(crate::specs::Opening::opening_of))]
-fn open_core(alloc: Global, text: &[u8]) -> Result<Core, Unopened>
-    ensures opened { IfOk result (λ core. opening_of text.now ≡ Ok core.past) }
-    ensures refused { IfErr result (λ fault. is_memory fault ≡ false → opening_of text.now ≡ Err fault) }
-    ensures memory { IfErr result (λ fault. fault ≡ Memory → IsOk (project_in text.now)) }
+fn open_text<R: Wait>(rt: &R, alloc: Global, text: &[u8]) -> Result<Master, Unopened>
+    ensures opened { IfOk result (λ master. opening_of text.now ≡ Ok (past_of master)) }
+    ensures fresh { IfOk result IsFresh }
+    ensures refused { IfErr result (λ fault. is_want fault ≡ false → opening_of text.now ≡ Err fault) }
+    ensures project { IfErr result (λ fault. is_of_opening fault ≡ true → IsOk (project_in text.now)) }
 {
     match read_project(alloc, text) {
-        Ok(project) => open_project(alloc, project),
+        Ok(project) => open_project(rt, alloc, project),
         Err(fault) => Err(Unopened::Project(fault)),
     }
 }
 
-/// The machines of a line at its opening.
-fn open_line(alloc: Global, core: &Core) -> Result<SimulatedLine, AllocError>
-    ensures { IfOk result (λ line. line ≡ opened_machines (state_of core.now.past).groups) }
-{
-    SimulatedLine::opened(alloc, core.plan().groups())
-}
-
-/// The session of the project of a text at its opening, or why it isn't opened. `Unopened::Memory` comes only
+/// The session of the project of a text at its opening, or why it isn't opened. Another fault than the text's comes only
 /// where the text is a project.
-pub fn open_session(alloc: Global, text: &[u8]) -> Result<Session, Unopened>
-    ensures opened { IfOk result (λ session. (opening_of text.now ≡ Ok session.core.past) × (standing_of session ≡ opened_standing session.core.past)) }
-    ensures refused { IfErr result (λ fault. is_memory fault ≡ false → opening_of text.now ≡ Err fault) }
-    ensures memory { IfErr result (λ fault. fault ≡ Memory → IsOk (project_in text.now)) }
+pub fn open_session<R: Wait>(rt: &R, alloc: Global, text: &[u8]) -> Result<Session, Unopened>
+    ensures opened { IfOk result (λ session. opening_of text.now ≡ Ok session.past) }
+    ensures begun { IfOk result (λ session. session ≡ opened_standing session.past) }
+    ensures refused { IfErr result (λ fault. is_want fault ≡ false → opening_of text.now ≡ Err fault) }
+    ensures project { IfErr result (λ fault. is_of_opening fault ≡ true → IsOk (project_in text.now)) }
 {
-    let core = open_core(alloc, text)?;
-    match open_line(alloc, &core) {
-        Ok(line) => Ok(Session { core, line }),
+    let master = open_text(rt, alloc, text)?;
+    match Session::begin(rt, alloc, master) {
+        Ok(session) => Ok(session),
         Err(_) => Err(Unopened::Memory),
     }
 }
@@ -111,10 +112,12 @@ pub fn push_unopened(unopened: Unopened, out: &mut String) -> Result<(), AllocEr
         Unopened::Project(fault) => push_project_fault(fault, out),
         Unopened::TooManyDatagrams(task) => write!(out, "open fault 1 TooManyDatagrams {task}\n"),
         Unopened::Memory => out.push_str("open fault 2 Memory\n"),
+        Unopened::NoSeat => out.push_str("open fault 3 NoSeat\n"),
     }
 }
 
-/// The line to write where a growth was refused while the line of a project that isn't opened was made.
+/// The line to write where a growth was refused while the line of a project that isn't opened was made: it is there without
+/// another.
 #[tactic(auto, unfolding(crate::specs::Opening::unopened_text, crate::specs::Refusals::project_fault_words))]
 pub fn memory_text(unopened: Unopened) -> &'static [u8]
     ensures { result.now ≡ unopened_text (in_want unopened) }
@@ -123,5 +126,6 @@ pub fn memory_text(unopened: Unopened) -> &'static [u8]
         Unopened::Project(_fault) => b"project fault 11 Memory\n",
         Unopened::TooManyDatagrams(_) => b"open fault 2 Memory\n",
         Unopened::Memory => b"open fault 2 Memory\n",
+        Unopened::NoSeat => b"open fault 3 NoSeat\n",
     }
 }

@@ -2,8 +2,7 @@
 ghost use Rattle.std.specs.Prelude.{◌≡◌, ◌++◌, IfErr, IfOk, OnOk, false, map, string_bytes};
 ghost use Rattle.hc_program.specs.Refusals.{bad_command_text};
 ghost use Rattle.hc_program.specs.Declaring.{turn_of};
-ghost use Rattle.hc_program.specs.Runs.{reply_to, reply_to_words};
-ghost use Rattle.hc_program.specs.Sessions.{standing_of};
+ghost use Rattle.hc_program.specs.Runs.{bare_reply, reply_to_words};
 ghost use Rattle.hc_program.specs.Starved.{StopsTurn, StopsWords};
 
 use crate::commands::{command_in, declare, obey};
@@ -25,18 +24,19 @@ pub struct Reply {
     pub goes_on: bool,
 }
 
-/// The reply to a turn; the session is then as the turn leaves it. A `Stop` where a growth was refused: nothing was then
-/// carried out, or a command of several calls was stopped (`StopsTurn`).
+/// The reply to a turn; the session is then as the turn leaves it, and nothing is published yet. A `Stop` where a growth was
+/// refused, or a seat was given no view: nothing was then carried out, or a command of several calls was stopped
+/// (`StopsTurn`).
 pub fn answer<R: Threads + Wait + Sync>(
     rt: &R,
     alloc: Global,
     turn: Turn<'_>,
     session: &mut Session,
 ) -> Result<Reply, Stop>
-    ensures text { IfOk result (λ reply. string_bytes reply.text ≡ (reply_to (standing_of session.old) (turn_of turn.entry)).text) }
-    ensures goes_on { IfOk result (λ reply. reply.goes_on ≡ (reply_to (standing_of session.old) (turn_of turn.entry)).goes_on) }
-    ensures next { OnOk result (standing_of session.new ≡ (reply_to (standing_of session.old) (turn_of turn.entry)).standing) }
-    ensures stops { IfErr result (λ stop. StopsTurn (standing_of session.old) (turn_of turn.entry) stop (standing_of session.new)) }
+    ensures text { IfOk result (λ reply. string_bytes reply.text ≡ (bare_reply session.old (turn_of turn.entry)).text) }
+    ensures goes_on { IfOk result (λ reply. reply.goes_on ≡ (bare_reply session.old (turn_of turn.entry)).goes_on) }
+    ensures next { OnOk result (session.new ≡ (bare_reply session.old (turn_of turn.entry)).standing) }
+    ensures stops { IfErr result (λ stop. StopsTurn session.old (turn_of turn.entry) stop session.new) }
 {
     let mut text = String::new(alloc);
     let goes_on = push_turn(rt, alloc, turn, session, &mut text)?;
@@ -44,7 +44,7 @@ pub fn answer<R: Threads + Wait + Sync>(
 }
 
 /// Adds what a turn prints, and tells whether the run goes on behind it.
-#[tactic(auto, unfolding(crate::specs::Runs::reply_to))]
+#[tactic(auto, unfolding(crate::specs::Runs::bare_reply))]
 fn push_turn<R: Threads + Wait + Sync>(
     rt: &R,
     alloc: Global,
@@ -52,10 +52,10 @@ fn push_turn<R: Threads + Wait + Sync>(
     session: &mut Session,
     out: &mut String,
 ) -> Result<bool, Stop>
-    ensures text { OnOk result (string_bytes out.new ≡ string_bytes out.old ++ (reply_to (standing_of session.old) (turn_of turn.entry)).text) }
-    ensures goes_on { IfOk result (λ goes_on. goes_on ≡ (reply_to (standing_of session.old) (turn_of turn.entry)).goes_on) }
-    ensures next { OnOk result (standing_of session.new ≡ (reply_to (standing_of session.old) (turn_of turn.entry)).standing) }
-    ensures stops { IfErr result (λ stop. StopsTurn (standing_of session.old) (turn_of turn.entry) stop (standing_of session.new)) }
+    ensures text { OnOk result (string_bytes out.new ≡ string_bytes out.old ++ (bare_reply session.old (turn_of turn.entry)).text) }
+    ensures goes_on { IfOk result (λ goes_on. goes_on ≡ (bare_reply session.old (turn_of turn.entry)).goes_on) }
+    ensures next { OnOk result (session.new ≡ (bare_reply session.old (turn_of turn.entry)).standing) }
+    ensures stops { IfErr result (λ stop. StopsTurn session.old (turn_of turn.entry) stop session.new) }
 {
     match turn {
         Turn::Says { number, line } => {
@@ -94,10 +94,10 @@ fn push_reply<R: Threads + Wait + Sync>(
     session: &mut Session,
     out: &mut String,
 ) -> Result<bool, Stop>
-    ensures text { OnOk result (string_bytes out.new ≡ string_bytes out.old ++ (reply_to_words (standing_of session.old) number (map (λ word. word.now) words.now)).text) }
-    ensures goes_on { IfOk result (λ goes_on. goes_on ≡ (reply_to_words (standing_of session.old) number (map (λ word. word.now) words.now)).goes_on) }
-    ensures next { OnOk result (standing_of session.new ≡ (reply_to_words (standing_of session.old) number (map (λ word. word.now) words.now)).standing) }
-    ensures stops { IfErr result (λ stop. StopsWords (standing_of session.old) (map (λ word. word.now) words.now) stop (standing_of session.new)) }
+    ensures text { OnOk result (string_bytes out.new ≡ string_bytes out.old ++ (reply_to_words session.old number (map (λ word. word.now) words.now)).text) }
+    ensures goes_on { IfOk result (λ goes_on. goes_on ≡ (reply_to_words session.old number (map (λ word. word.now) words.now)).goes_on) }
+    ensures next { OnOk result (session.new ≡ (reply_to_words session.old number (map (λ word. word.now) words.now)).standing) }
+    ensures stops { IfErr result (λ stop. StopsWords session.old (map (λ word. word.now) words.now) stop session.new) }
 {
     let [name, arguments @ ..] = words else {
         return Ok(true);

@@ -24,6 +24,8 @@ mod runs;
 #[cfg(test)]
 mod simulated;
 #[cfg(test)]
+mod views;
+#[cfg(test)]
 mod wide_lines;
 #[cfg(test)]
 mod words;

@@ -2,15 +2,15 @@
 ghost use Rattle.std.specs.Prelude.{◌≡◌, ◌≤◌, ◌+◌, ◌*◌, ◌++◌, IfOk, length, map, OnErr, OnOk, string_bytes};
 ghost use Rattle.std.specs.List.{flat_map};
 ghost use Rattle.std.specs.String.{string_capacity, string_len};
-ghost use Rattle.hc_events.specs.Steps.{Arrives, entries_after};
+ghost use Rattle.hc_events.specs.Steps.{Arrives};
 ghost use Rattle.hc_program.specs.Answers.{outcome_text, pair_text, told};
 ghost use Rattle.hc_program.specs.EventWords.{arrive_in};
+ghost use Rattle.hc_program.specs.Standings.{stepped};
 
 use super::Command;
 use crate::refusals::push_refusal;
-use hc_core::keeping::Core;
+use crate::session::Session;
 use hc_events::answer::{Answer, Outcome};
-use hc_events::event::Event;
 use hc_events::faults::CoreFault;
 use hc_frames::reading::read_frame;
 use hc_records::items::Items;
@@ -44,19 +44,19 @@ pub fn parse(alloc: Global, arguments: &[&[u8]]) -> Result<Option<Command>, Allo
 pub fn reply(
     alloc: Global,
     bytes: &[u8],
-    core: &mut Core,
+    session: &mut Session,
     out: &mut String,
 ) -> Result<(), AllocError>
-    ensures text { OnOk result (string_bytes out.new ≡ string_bytes out.old ++ told core.old.past (Arrives bytes.now)) }
-    ensures past { OnOk result (core.new.past ≡ entries_after core.old.past (Arrives bytes.now)) }
-    ensures unchanged { OnErr result (core.new.past ≡ core.old.past) }
+    ensures text { OnOk result (string_bytes out.new ≡ string_bytes out.old ++ told session.old.past (Arrives bytes.now)) }
+    ensures next { OnOk result (session.new ≡ stepped session.old (Arrives bytes.now)) }
+    ensures unchanged { OnErr result (session.new ≡ session.old) }
 {
     let datagrams = match read_frame(bytes) {
         Ok(arrival) => arrival.len(),
         Err(fault) => return push_refusal(CoreFault::from(fault), out),
     };
     out.reserve(room_of(datagrams.max(1))?)?;
-    match core.step(alloc, Event::Arrive(bytes)) {
+    match session.arrive(alloc, bytes) {
         Answer::Answered(outcomes) => add_outcomes(outcomes.as_slice(), out),
         Answer::WriteDone => add_text("write done\n", out),
         Answer::WriteMissed => add_text("write missed\n", out),

@@ -2,8 +2,7 @@
 ghost use Rattle.std.specs.Prelude.{◌≡◌, ◌++◌, ℕ, All, IfOk, OnErr, OnOk, map, string_bytes, take};
 ghost use Rattle.hc_core.specs.Filled.{CanBeFilled};
 ghost use Rattle.hc_events.specs.Steps.{sent_text};
-ghost use Rattle.hc_program.specs.Cycles.{arrivals_text, arrived, back_text, cycle_in, cycle_text, cycled};
-ghost use Rattle.hc_program.specs.Sessions.{standing_of};
+ghost use Rattle.hc_program.specs.Cycles.{arrivals_text, back_text, cycle_arrived, cycle_in, cycle_text, cycled};
 ghost use Rattle.hc_program.specs.Stops.{StopsInCycle};
 
 use super::send::Together;
@@ -11,7 +10,7 @@ use super::{Command, arrive};
 use crate::frames::LARGEST_FRAME;
 use crate::refusals::tell_refusal;
 use crate::session::Session;
-use crate::stops::Stop;
+use crate::stops::Want;
 use hc_core::keeping::Core;
 use hc_events::sending::Sending;
 use hc_rings::FrameBox;
@@ -59,15 +58,15 @@ fn all_boxed(alloc: Global, core: &Core, frames: &[Sending]) -> Result<Vec<Frame
 fn take_all_in(
     alloc: Global,
     frames: &[FrameBox],
-    core: &mut Core,
+    session: &mut Session,
     out: &mut String,
 ) -> Result<(), AllocError>
-    ensures text { OnOk result (string_bytes out.new ≡ string_bytes out.old ++ arrivals_text core.old.past frames.now) }
-    ensures past { OnOk result (core.new.past ≡ arrived core.old.past frames.now) }
-    ensures stops { OnErr result ((n : ℕ) × (core.new.past ≡ arrived core.old.past (take n frames.now))) }
+    ensures text { OnOk result (string_bytes out.new ≡ string_bytes out.old ++ arrivals_text session.old.past frames.now) }
+    ensures next { OnOk result (session.new ≡ cycle_arrived session.old frames.now) }
+    ensures stops { OnErr result ((n : ℕ) × (session.new ≡ cycle_arrived session.old (take n frames.now))) }
 {
     for frame in frames {
-        arrive::reply(alloc, frame.bytes(), core, out)?;
+        arrive::reply(alloc, frame.bytes(), session, out)?;
     }
     Ok(())
 }
@@ -76,21 +75,21 @@ fn take_all_in(
 fn take_back(
     alloc: Global,
     frames: &[FrameBox],
-    core: &mut Core,
+    session: &mut Session,
     out: &mut String,
 ) -> Result<(), AllocError>
-    ensures text { OnOk result (string_bytes out.new ≡ string_bytes out.old ++ back_text core.old.past frames.now) }
-    ensures past { OnOk result (core.new.past ≡ arrived core.old.past frames.now) }
-    ensures stops { OnErr result ((n : ℕ) × (core.new.past ≡ arrived core.old.past (take n frames.now))) }
+    ensures text { OnOk result (string_bytes out.new ≡ string_bytes out.old ++ back_text session.old.past frames.now) }
+    ensures next { OnOk result (session.new ≡ cycle_arrived session.old frames.now) }
+    ensures stops { OnErr result ((n : ℕ) × (session.new ≡ cycle_arrived session.old (take n frames.now))) }
 {
     if frames.is_empty() {
         return out.push_str("no frame\n");
     }
-    take_all_in(alloc, frames, core, out)
+    take_all_in(alloc, frames, session, out)
 }
 
 /// Sends tasks along the line, takes in what comes back, and adds what that is, `no frame` where the tasks have no
-/// datagram, or why the sending is refused. A `Stop` where a growth was refused: what was done stands, and `out` may have a
+/// datagram, or why the sending is refused. A `Want` where a growth was refused: what was done stands, and `out` may have a
 /// front of the lines. The frames are there before they are sent.
 #[tactic(auto, unfolding(crate::specs::Cycles::cycle_text, crate::specs::Cycles::cycled, crate::specs::Cycles::cycle_back, crate::specs::Cycles::cycle_frames))]
 pub fn reply<R: Threads + Wait + Sync>(
@@ -99,17 +98,17 @@ pub fn reply<R: Threads + Wait + Sync>(
     tasks: &Together,
     session: &mut Session,
     out: &mut String,
-) -> Result<(), Stop>
-    ensures text { OnOk result (string_bytes out.new ≡ string_bytes out.old ++ cycle_text (standing_of session.old) tasks.now) }
-    ensures next { OnOk result (standing_of session.new ≡ cycled (standing_of session.old) tasks.now) }
-    ensures stops { OnErr result (StopsInCycle (standing_of session.old) tasks.now (standing_of session.new)) }
+) -> Result<(), Want>
+    ensures text { OnOk result (string_bytes out.new ≡ string_bytes out.old ++ cycle_text session.old tasks.now) }
+    ensures next { OnOk result (session.new ≡ cycled session.old tasks.now) }
+    ensures stops { OnErr result (StopsInCycle session.old tasks.now session.new) }
 {
-    let sendings = match session.core.propose(alloc, tasks.as_slice()) {
+    let sendings = match session.core().propose(alloc, tasks.as_slice()) {
         Ok(sendings) => sendings,
         Err(fault) => return Ok(tell_refusal(fault, out)?),
     };
-    let frames = all_boxed(alloc, &session.core, &sendings)?;
-    session.core.commit(&sendings);
-    let back = session.line.pass(rt, alloc, frames)?;
-    Ok(take_back(alloc, &back, &mut session.core, out)?)
+    let frames = all_boxed(alloc, session.core(), &sendings)?;
+    session.commit(&sendings);
+    let back = session.pass(rt, alloc, frames)?;
+    Ok(take_back(alloc, &back, session, out)?)
 }

@@ -2,7 +2,6 @@
 ghost use Rattle.std.specs.Prelude.{◌≡◌, ◌++◌, OnErr, OnOk, string_bytes};
 ghost use Rattle.hc_project.specs.Text.{group_in};
 ghost use Rattle.hc_program.specs.Runs.{reply_to_document};
-ghost use Rattle.hc_program.specs.Sessions.{standing_of};
 
 use super::edits;
 use crate::refusals::tell_declare_fault;
@@ -20,9 +19,9 @@ pub fn reply(
     session: &mut Session,
     out: &mut String,
 ) -> Result<(), AllocError>
-    ensures text { OnOk result (string_bytes out.new ≡ string_bytes out.old ++ (reply_to_document (standing_of session.old) (group_in document.now)).text) }
-    ensures next { OnOk result (standing_of session.new ≡ (reply_to_document (standing_of session.old) (group_in document.now)).standing) }
-    ensures unchanged { OnErr result (standing_of session.new ≡ standing_of session.old) }
+    ensures text { OnOk result (string_bytes out.new ≡ string_bytes out.old ++ (reply_to_document session.old (group_in document.now)).text) }
+    ensures next { OnOk result (session.new ≡ (reply_to_document session.old (group_in document.now)).standing) }
+    ensures unchanged { OnErr result (session.new ≡ session.old) }
 {
     match read_group(alloc, document) {
         Ok(group) => edits::reply(alloc, &Edit::Declare(group), session, out),

@@ -1,10 +1,7 @@
 //! The four edits: `connect A`, `disconnect A`, `remap S A P..` and `move S A T`.
-ghost use Rattle.std.specs.Prelude.{◌≡◌, ◌≤◌, ◌+◌, ◌++◌, IfOk, IfSome, length, map, option_map, OnErr, OnOk, string_bytes};
+ghost use Rattle.std.specs.Prelude.{◌≡◌, ◌≤◌, ◌+◌, ◌++◌, IfOk, length, map, option_map, OnErr, OnOk, string_bytes};
 ghost use Rattle.std.specs.String.{string_capacity, string_len};
-ghost use Rattle.std.specs.Option.{option_map_or};
 ghost use Rattle.hc_events.specs.Steps.{Edits};
-ghost use Rattle.hc_line.specs.Machines.{replaced};
-ghost use Rattle.hc_program.specs.Sessions.{standing_of};
 ghost use Rattle.hc_program.specs.Standings.{edited};
 ghost use Rattle.hc_program.specs.declared.commands.Command.TheVariants as command;
 ghost use Rattle.hc_program.specs.Answers.{report_text, told};
@@ -15,8 +12,6 @@ use super::Command;
 use crate::refusals::tell_refusal;
 use crate::session::Session;
 use hc_events::answer::Answer;
-use hc_events::event::Event;
-use hc_line::{LineEdit, SimulatedLine};
 use hc_records::edit::Edit;
 use hc_records::items::Items;
 use hc_text::numbers::{byte_in, double_byte_in};
@@ -39,16 +34,6 @@ pub fn parse(alloc: Global, name: &[u8], arguments: &[&[u8]]) -> Result<Option<C
     }
 }
 
-/// Machines come and go as it was prepared, if anything was.
-fn carry_out(line: &mut SimulatedLine, ready: Option<LineEdit>)
-    requires { IfSome ready (λ r. r.count ≡ length line.old) }
-    ensures { line.new ≡ option_map_or (λ r. replaced r line.old) (option_map (λ r. r.replacement) ready) line.old }
-{
-    if let Some(ready) = ready {
-        line.carry_out(ready);
-    }
-}
-
 /// Carries an edit out and adds what became different, or why it is refused: the core is then as the edit
 /// leaves it, and machines came or went with their group. `AllocError` where a growth was refused; nothing was then
 /// accepted, and `out` may have a front of the line. Room for the line and for the machines is taken before the
@@ -60,21 +45,19 @@ pub fn reply(
     session: &mut Session,
     out: &mut String,
 ) -> Result<(), AllocError>
-    ensures text { OnOk result (string_bytes out.new ≡ string_bytes out.old ++ told (standing_of session.old).past (Edits edit.now)) }
-    ensures next { OnOk result (standing_of session.new ≡ edited (standing_of session.old) edit.now) }
-    ensures unchanged { OnErr result (standing_of session.new ≡ standing_of session.old) }
+    ensures text { OnOk result (string_bytes out.new ≡ string_bytes out.old ++ told session.old.past (Edits edit.now)) }
+    ensures next { OnOk result (session.new ≡ edited session.old edit.now) }
+    ensures unchanged { OnErr result (session.new ≡ session.old) }
 {
     out.reserve(LONGEST_REPORT)?;
-    let ready = session
-        .line
-        .prepare(alloc, session.core.plan().groups(), edit)?;
-    match session.core.step(alloc, Event::Edit(edit)) {
+    let ready = session.prepare(alloc, edit)?;
+    match session.edit(alloc, edit) {
         Answer::Edited {
             epoch,
             recut,
             moved,
         } => {
-            carry_out(&mut session.line, ready);
+            session.carry_out(ready);
             add_report(epoch, recut, moved, out);
             Ok(())
         }

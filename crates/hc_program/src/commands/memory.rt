@@ -2,7 +2,6 @@
 ghost use Rattle.std.specs.Prelude.{◌≡◌, ◌<◌, ◌≤◌, ◌+◌, ◌++◌, [], IfOk, OnErr, OnOk, length, map, option_map, slice_index_or, slice_range, string_bytes};
 ghost use Rattle.hc_machine.specs.declared.limits.TheConstants.{MEMORY_BYTES};
 ghost use Rattle.hc_program.specs.Memories.{machine_at, memory_text, peek_in, peek_text, peeking_in, poke_in, poke_text, poked_standing, poking_in};
-ghost use Rattle.hc_program.specs.Sessions.{standing_of};
 
 use super::Command;
 use crate::refusals::push_refusal;
@@ -134,13 +133,13 @@ pub fn parse_peek(arguments: &[&[u8]]) -> Option<Command>
 /// `Absent`.
 #[tactic(auto, unfolding(crate::specs::Memories::machine_at))]
 fn machine_at(session: &Session, station: u16) -> Result<usize, CoreFault>
-    ensures at { result ≡ machine_at (standing_of session.now) station }
-    ensures stands { IfOk result (λ position. position < length session.now.line) }
+    ensures at { result ≡ machine_at session.now station }
+    ensures stands { IfOk result (λ position. position < length session.now.machines) }
 {
-    match session.core.plan().position(station) {
+    match session.core().plan().position(station) {
         Ok(position) => {
             let position = position as usize;
-            if position < session.line.len() {
+            if position < session.machines() {
                 Ok(position)
             } else {
                 Err(CoreFault::Absent)
@@ -153,16 +152,14 @@ fn machine_at(session: &Session, station: u16) -> Result<usize, CoreFault>
 /// Writes bytes to the memory of a slave's machine, or adds why there is none. `AllocError` where a growth was refused;
 /// nothing was then written, and `out` may have a front of the line.
 pub fn reply_poke(poke: &Poke, session: &mut Session, out: &mut String) -> Result<(), AllocError>
-    ensures text { OnOk result (string_bytes out.new ≡ string_bytes out.old ++ poke_text (standing_of session.old) poke.now) }
-    ensures next { OnOk result (standing_of session.new ≡ poked_standing (standing_of session.old) poke.now) }
-    ensures unchanged { OnErr result (standing_of session.new ≡ standing_of session.old) }
+    ensures text { OnOk result (string_bytes out.new ≡ string_bytes out.old ++ poke_text session.old poke.now) }
+    ensures next { OnOk result (session.new ≡ poked_standing session.old poke.now) }
+    ensures unchanged { OnErr result (session.new ≡ session.old) }
 {
     match machine_at(session, poke.station) {
         Ok(position) => {
             out.push_str("poked\n")?;
-            session
-                .line
-                .write_memory(position, usize::from(poke.at), poke.bytes.as_slice());
+            session.write_memory(position, usize::from(poke.at), poke.bytes.as_slice());
             Ok(())
         }
         Err(fault) => push_refusal(fault, out),
@@ -171,11 +168,11 @@ pub fn reply_poke(poke: &Poke, session: &mut Session, out: &mut String) -> Resul
 
 /// The memory of the machine at a position.
 fn memory_at(session: &Session, position: usize) -> &[u8]
-    requires { position < length session.now.line }
-    ensures bytes { result.now ≡ slice_index_or session.now.line position [] }
+    requires { position < length session.now.machines }
+    ensures bytes { result.now ≡ slice_index_or session.now.machines position [] }
     ensures size { length result.now ≡ MEMORY_BYTES }
 {
-    match session.line.memory(position) {
+    match session.memory(position) {
         Some(memory) => memory,
         None => unreachable!(),
     }
@@ -184,7 +181,7 @@ fn memory_at(session: &Session, position: usize) -> &[u8]
 /// Adds bytes of the memory of a slave's machine, or why there is none. `AllocError` where a growth was refused; `out` may
 /// then have a front of the line.
 pub fn reply_peek(peek: &Peek, session: &Session, out: &mut String) -> Result<(), AllocError>
-    ensures { OnOk result (string_bytes out.new ≡ string_bytes out.old ++ peek_text (standing_of session.now) peek.now) }
+    ensures { OnOk result (string_bytes out.new ≡ string_bytes out.old ++ peek_text session.now peek.now) }
 {
     match machine_at(session, peek.station) {
         Ok(position) => {

@@ -1,12 +1,11 @@
 //! The command `name`.
 ghost use Rattle.std.specs.Prelude.{◌≡◌, ◌≤◌, ◌+◌, ◌++◌, OnErr, OnOk, map, string_bytes};
 ghost use Rattle.std.specs.String.{string_capacity, string_len};
-ghost use Rattle.hc_program.specs.Sessions.{standing_of};
 ghost use Rattle.hc_program.specs.Setups.{name_in, name_text, named, named_text};
 
 use super::Command;
 use crate::session::Session;
-use crate::stops::Stop;
+use crate::stops::Want;
 use hc_text::room::{MOST_DIGITS, add_number, add_text};
 use std::alloc::Global;
 use std::sync::Wait;
@@ -26,7 +25,7 @@ pub fn parse(arguments: &[&[u8]]) -> Option<Command>
     }
 }
 
-/// Gives each slave its station address along the line and adds how many took it. A `Stop` where a growth was
+/// Gives each slave its station address along the line and adds how many took it. A `Want` where a growth was
 /// refused: no slave was written to then. Room for the line is taken before.
 #[tactic(auto, unfolding(crate::specs::Setups::name_text))]
 pub fn reply<R: Threads + Wait + Sync>(
@@ -34,14 +33,13 @@ pub fn reply<R: Threads + Wait + Sync>(
     alloc: Global,
     session: &mut Session,
     out: &mut String,
-) -> Result<(), Stop>
-    ensures text { OnOk result (string_bytes out.new ≡ string_bytes out.old ++ name_text (standing_of session.old)) }
-    ensures next { OnOk result (standing_of session.new ≡ named (standing_of session.old)) }
-    ensures unchanged { OnErr result (standing_of session.new ≡ standing_of session.old) }
+) -> Result<(), Want>
+    ensures text { OnOk result (string_bytes out.new ≡ string_bytes out.old ++ name_text session.old) }
+    ensures next { OnOk result (session.new ≡ named session.old) }
+    ensures unchanged { OnErr result (session.new ≡ session.old) }
 {
     out.reserve(LONGEST_NAMED)?;
-    let groups = session.core.plan().groups();
-    let count = session.line.name(rt, alloc, groups)?;
+    let count = session.name(rt, alloc)?;
     add_named(count, out);
     Ok(())
 }

@@ -1,21 +1,18 @@
 //! The command `program`.
 ghost use Rattle.std.specs.Prelude.{◌≡◌, ◌≤◌, ◌+◌, ◌++◌, ◌∷◌, [], IfOk, OnErr, OnOk, length, map, string_bytes};
 ghost use Rattle.std.specs.String.{string_capacity, string_len};
-ghost use Rattle.hc_events.specs.Steps.{Arrives, answer_to, entries_after};
-ghost use Rattle.hc_segment.specs.Line.{frame_through, machines_after};
+ghost use Rattle.hc_events.specs.Steps.{Arrives, answer_to};
+ghost use Rattle.hc_segment.specs.Line.{frame_through};
 ghost use Rattle.hc_program.specs.Programs.{WritesOnce, program_in, program_text, programmed, programmed_text, says_done};
-ghost use Rattle.hc_program.specs.Sessions.{standing_of};
+ghost use Rattle.hc_program.specs.Standings.{passed, stepped};
 ghost use Rattle.hc_program.specs.Stops.{StopsInWrite, StopsProgram};
 
 use super::Command;
 use super::write::WRITE_FRAME;
 use crate::session::Session;
-use crate::stops::Stop;
-use hc_core::keeping::Core;
+use crate::stops::Want;
 use hc_events::answer::Answer;
-use hc_events::event::Event;
 use hc_events::faults::CoreFault;
-use hc_line::SimulatedLine;
 use hc_rings::FrameBox;
 use hc_text::room::{MOST_DIGITS, add_number, add_text};
 use std::alloc::Global;
@@ -36,57 +33,57 @@ pub fn parse(arguments: &[&[u8]]) -> Option<Command>
     }
 }
 
-/// Passes a frame along the line, and answers it as it comes back. A `Stop` where a growth was refused: no machine has
+/// Passes a frame along the line, and answers it as it comes back. A `Want` where a growth was refused: no machine has
 /// met it then.
 fn pass<R: Threads + Wait + Sync>(
     rt: &R,
     alloc: Global,
-    line: &mut SimulatedLine,
+    session: &mut Session,
     frame: &[u8],
-) -> Result<FrameBox, Stop>
+) -> Result<FrameBox, Want>
     requires { length frame.now ≤ WRITE_FRAME }
-    ensures back { IfOk result (λ back. back ≡ frame_through line.old frame.now) }
-    ensures machines { OnOk result (line.new ≡ machines_after line.old (frame.now ∷ [])) }
-    ensures unchanged { OnErr result (line.new ≡ line.old) }
+    ensures back { IfOk result (λ back. back ≡ frame_through session.old.machines frame.now) }
+    ensures next { OnOk result (session.new ≡ passed session.old (frame.now ∷ [])) }
+    ensures unchanged { OnErr result (session.new ≡ session.old) }
 {
     let mut frames = Vec::with_capacity(alloc, 1)?;
     frames.push_reserved(FrameBox::of(alloc, frame)?);
-    let mut back = line.pass(rt, alloc, frames)?;
+    let mut back = session.pass(rt, alloc, frames)?;
     match back.pop() {
         Some(frame) => Ok(frame),
         None => unreachable!(),
     }
 }
 
-/// Takes a frame in, and tells whether it says that a block was written. A `Stop` where a growth was refused: it has not
+/// Takes a frame in, and tells whether it says that a block was written. A `Want` where a growth was refused: it has not
 /// arrived then.
-fn take_in(alloc: Global, frame: &[u8], core: &mut Core) -> Result<bool, Stop>
-    ensures done { IfOk result (λ done. done ≡ says_done (answer_to core.old.past (Arrives frame.now))) }
-    ensures past { OnOk result (core.new.past ≡ entries_after core.old.past (Arrives frame.now)) }
-    ensures unchanged { OnErr result (core.new.past ≡ core.old.past) }
+fn take_in(alloc: Global, frame: &[u8], session: &mut Session) -> Result<bool, Want>
+    ensures done { IfOk result (λ done. done ≡ says_done (answer_to session.old.past (Arrives frame.now))) }
+    ensures next { OnOk result (session.new ≡ stepped session.old (Arrives frame.now)) }
+    ensures unchanged { OnErr result (session.new ≡ session.old) }
 {
-    match core.step(alloc, Event::Arrive(frame)) {
+    match session.arrive(alloc, frame) {
         Answer::WriteDone => Ok(true),
-        Answer::Refused(CoreFault::Memory) => Err(Stop::Memory),
+        Answer::Refused(CoreFault::Memory) => Err(Want::Memory),
         _ => Ok(false),
     }
 }
 
 /// Sends the next write along the line and takes in what comes back: whether the block was written. Nothing is sent where
-/// no block is owed or no serial is left. A `Stop` where a growth was refused.
+/// no block is owed or no serial is left. A `Want` where a growth was refused.
 fn write_once<R: Threads + Wait + Sync>(
     rt: &R,
     alloc: Global,
     session: &mut Session,
-) -> Result<bool, Stop>
-    ensures once { IfOk result (λ done. WritesOnce (standing_of session.old) done (standing_of session.new)) }
-    ensures stops { OnErr result (StopsInWrite (standing_of session.old) (standing_of session.new)) }
+) -> Result<bool, Want>
+    ensures once { IfOk result (λ done. WritesOnce session.old done session.new) }
+    ensures stops { OnErr result (StopsInWrite session.old session.new) }
 {
     let mut frame = [0u8; WRITE_FRAME];
-    match session.core.write_into(&mut frame) {
+    match session.next_write(&mut frame) {
         Ok(size) => {
-            let back = pass(rt, alloc, &mut session.line, &frame[..size])?;
-            take_in(alloc, back.bytes(), &mut session.core)
+            let back = pass(rt, alloc, session, &frame[..size])?;
+            take_in(alloc, back.bytes(), session)
         }
         Err(_) => Ok(false),
     }
@@ -97,9 +94,9 @@ fn write_all<R: Threads + Wait + Sync>(
     rt: &R,
     alloc: Global,
     session: &mut Session,
-) -> Result<u64, Stop>
-    ensures programmed { IfOk result (λ count. programmed (standing_of session.old) ≡ record { standing = standing_of session.new; written = count }) }
-    ensures stops { OnErr result (StopsProgram (standing_of session.old) (standing_of session.new)) }
+) -> Result<u64, Want>
+    ensures programmed { IfOk result (λ count. programmed session.old ≡ record { standing = session.new; written = count }) }
+    ensures stops { OnErr result (StopsProgram session.old session.new) }
 {
     let mut count = 0u64;
     while write_once(rt, alloc, session)? {
@@ -109,7 +106,7 @@ fn write_all<R: Threads + Wait + Sync>(
 }
 
 /// Writes owed blocks along the line, the first one again and again, until nothing is owed or a write isn't done, and adds
-/// how many were done and how many are owed then. A `Stop` where a growth was refused: what was done stands. Room for the
+/// how many were done and how many are owed then. A `Want` where a growth was refused: what was done stands. Room for the
 /// line is taken before.
 #[tactic(auto, unfolding(crate::specs::Programs::program_text))]
 pub fn reply<R: Threads + Wait + Sync>(
@@ -117,14 +114,14 @@ pub fn reply<R: Threads + Wait + Sync>(
     alloc: Global,
     session: &mut Session,
     out: &mut String,
-) -> Result<(), Stop>
-    ensures text { OnOk result (string_bytes out.new ≡ string_bytes out.old ++ program_text (standing_of session.old)) }
-    ensures next { OnOk result (standing_of session.new ≡ (programmed (standing_of session.old)).standing) }
-    ensures stops { OnErr result (StopsProgram (standing_of session.old) (standing_of session.new)) }
+) -> Result<(), Want>
+    ensures text { OnOk result (string_bytes out.new ≡ string_bytes out.old ++ program_text session.old) }
+    ensures next { OnOk result (session.new ≡ (programmed session.old).standing) }
+    ensures stops { OnErr result (StopsProgram session.old session.new) }
 {
     out.reserve(LONGEST_PROGRAMMED)?;
     let count = write_all(rt, alloc, session)?;
-    add_programmed(count, session.core.owed(), out);
+    add_programmed(count, session.core().owed(), out);
     Ok(())
 }
 

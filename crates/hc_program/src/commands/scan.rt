@@ -1,12 +1,11 @@
 //! The command `scan`.
 ghost use Rattle.std.specs.Prelude.{◌≡◌, ◌++◌, OnErr, OnOk, map, string_bytes};
-ghost use Rattle.hc_program.specs.Sessions.{standing_of};
 ghost use Rattle.hc_program.specs.Setups.{alias_text, aliases_text, scan_in, scan_text, scanned};
 ghost use Rattle.hc_program.specs.Stops.{StopsScan};
 
 use super::Command;
 use crate::session::Session;
-use crate::stops::Stop;
+use crate::stops::Want;
 use std::alloc::{AllocError, Global};
 use std::sync::Wait;
 use std::thread::Threads;
@@ -22,7 +21,7 @@ pub fn parse(arguments: &[&[u8]]) -> Option<Command>
     }
 }
 
-/// Reads the alias of each slave along the line and adds them, position by position. A `Stop` where a growth was
+/// Reads the alias of each slave along the line and adds them, position by position. A `Want` where a growth was
 /// refused: `out` may then have a front of the lines.
 #[tactic(auto, unfolding(crate::specs::Setups::scan_text))]
 pub fn reply<R: Threads + Wait + Sync>(
@@ -30,12 +29,12 @@ pub fn reply<R: Threads + Wait + Sync>(
     alloc: Global,
     session: &mut Session,
     out: &mut String,
-) -> Result<(), Stop>
-    ensures text { OnOk result (string_bytes out.new ≡ string_bytes out.old ++ scan_text (standing_of session.old)) }
-    ensures next { OnOk result (standing_of session.new ≡ scanned (standing_of session.old)) }
-    ensures stops { OnErr result (StopsScan (standing_of session.old) (standing_of session.new)) }
+) -> Result<(), Want>
+    ensures text { OnOk result (string_bytes out.new ≡ string_bytes out.old ++ scan_text session.old) }
+    ensures next { OnOk result (session.new ≡ scanned session.old) }
+    ensures stops { OnErr result (StopsScan session.old session.new) }
 {
-    let aliases = session.line.scan(rt, alloc)?;
+    let aliases = session.scan(rt, alloc)?;
     push_aliases(&aliases, out)?;
     Ok(())
 }

@@ -4,15 +4,17 @@ ghost use Rattle.hc_records.specs.declared.limits.TheConstants.{TASKS};
 ghost use Rattle.std.specs.List.{flat_map};
 ghost use Rattle.hc_records.specs.Lists.{has_repeat};
 ghost use Rattle.hc_core.specs.Filled.{CanBeFilled};
-ghost use Rattle.hc_events.specs.Steps.{SendsTasks, entries_after};
+ghost use Rattle.hc_events.specs.Steps.{SendsTasks};
 ghost use Rattle.hc_text.specs.Numbers.{numbers_in};
 ghost use Rattle.hc_program.specs.Answers.{told};
 ghost use Rattle.hc_program.specs.EventWords.{send_in};
 ghost use Rattle.hc_program.specs.Frames.{proposed_line, proposed_text};
+ghost use Rattle.hc_program.specs.Standings.{stepped};
 
 use super::Command;
 use crate::frames::push_frame;
 use crate::refusals::tell_refusal;
+use crate::session::Session;
 use arrayvec::ArrayVec;
 use hc_core::keeping::Core;
 use hc_events::sending::Sending;
@@ -113,19 +115,19 @@ pub fn parse(arguments: &[&[u8]]) -> Option<Command>
 pub fn reply(
     alloc: Global,
     tasks: &Together,
-    core: &mut Core,
+    session: &mut Session,
     out: &mut String,
 ) -> Result<(), AllocError>
-    ensures text { OnOk result (string_bytes out.new ≡ string_bytes out.old ++ told core.old.past (SendsTasks tasks.now)) }
-    ensures past { OnOk result (core.new.past ≡ entries_after core.old.past (SendsTasks tasks.now)) }
-    ensures unchanged { OnErr result (core.new.past ≡ core.old.past) }
+    ensures text { OnOk result (string_bytes out.new ≡ string_bytes out.old ++ told session.old.past (SendsTasks tasks.now)) }
+    ensures next { OnOk result (session.new ≡ stepped session.old (SendsTasks tasks.now)) }
+    ensures unchanged { OnErr result (session.new ≡ session.old) }
 {
-    let frames = match core.propose(alloc, tasks.as_slice()) {
+    let frames = match session.core().propose(alloc, tasks.as_slice()) {
         Ok(frames) => frames,
         Err(fault) => return tell_refusal(fault, out),
     };
-    push_frames(core, &frames, out)?;
-    core.commit(&frames);
+    push_frames(session.core(), &frames, out)?;
+    session.commit(&frames);
     Ok(())
 }
 

@@ -1,14 +1,15 @@
 //! The command `write`.
 ghost use Rattle.std.specs.Prelude.{◌≡◌, ◌≤◌, ◌+◌, ◌++◌, length, map, OnErr, OnOk, string_bytes};
 ghost use Rattle.std.specs.String.{string_capacity, string_len};
-ghost use Rattle.hc_events.specs.Steps.{SendsWrite, entries_after};
+ghost use Rattle.hc_events.specs.Steps.{SendsWrite};
 ghost use Rattle.hc_program.specs.Answers.{told};
 ghost use Rattle.hc_program.specs.EventWords.{write_in};
 ghost use Rattle.hc_program.specs.Frames.{sent_line};
+ghost use Rattle.hc_program.specs.Standings.{stepped};
 
 use super::Command;
 use crate::refusals::push_refusal;
-use hc_core::keeping::Core;
+use crate::session::Session;
 use hc_text::room::{MOST_DIGITS, add_bytes, add_number, add_text};
 use std::alloc::AllocError;
 
@@ -35,15 +36,15 @@ pub fn parse(arguments: &[&[u8]]) -> Option<Command>
 /// where a growth was refused; nothing was then sent, and `out` may have a front of the line. Room for the
 /// line is taken before the block is sent.
 #[tactic(auto, unfolding(crate::specs::Answers::told))]
-pub fn reply(core: &mut Core, out: &mut String) -> Result<(), AllocError>
-    ensures text { OnOk result (string_bytes out.new ≡ string_bytes out.old ++ told core.old.past SendsWrite) }
-    ensures past { OnOk result (core.new.past ≡ entries_after core.old.past SendsWrite) }
-    ensures unchanged { OnErr result (core.new.past ≡ core.old.past) }
+pub fn reply(session: &mut Session, out: &mut String) -> Result<(), AllocError>
+    ensures text { OnOk result (string_bytes out.new ≡ string_bytes out.old ++ told session.old.past SendsWrite) }
+    ensures next { OnOk result (session.new ≡ stepped session.old SendsWrite) }
+    ensures unchanged { OnErr result (session.new ≡ session.old) }
 {
     out.reserve(LONGEST_SENT)?;
-    let serial = core.next_serial();
+    let serial = session.core().next_serial();
     let mut frame = [0u8; WRITE_FRAME];
-    match core.write_into(&mut frame) {
+    match session.next_write(&mut frame) {
         Ok(size) => {
             add_sent(serial, &frame[..size], out);
             Ok(())

@@ -1,11 +1,10 @@
 use Rattle.std.proofs.Common.{◌≡◌, ◌∷◌, ℕ, suc, length, ap, subst, ◌∙◌}
-use Rattle.std.specs.Prelude.{Option, Some}
+use Rattle.std.specs.Prelude.{Option}
 use Rattle.std.specs.Option.{option_copied}
 use Rattle.std.proofs.lemmas.Bool.{or_parts}
 use Rattle.hc_text.specs.Cutting.{left_in, lines_after}
 use Rattle.hc_program.specs.Declaring.{turn_of, turns_of}
 use Rattle.hc_program.specs.Runs.{Reply, reply_to, run}
-use Rattle.hc_program.specs.Sessions.{standing_of}
 use Rattle.hc_program.specs.Starved.{StarvedRun}
 use Rattle.hc_program.specs.Turns.{Takes}
 use Rattle.hc_program.proofs.Declaring.{no_turns}
@@ -18,8 +17,8 @@ loop-rest-init g c = record { few = c.requires; runs = λ _. begins _ _; starves
 
 pub loop-rest-preserved : goal.loop-rest-preserved
 loop-rest-preserved g c =
-    let s = standing_of c.loop-rest.session in
-    let next = standing_of c.take_turn-taken.new.session in
+    let s = c.loop-rest.session in
+    let next = c.take_turn-taken.new.session in
     let turn = turn_of c.split_turn-cut.result.turn in
     let others = turns_of (lines_after c.split_turn-cut.result.first (option_copied c.split_turn-cut.result.behind)) in
     let first : turns_of (lines_after c.loop-rest.number (option_copied c.loop-rest.rest)) ≡ turn ∷ others =
@@ -33,7 +32,7 @@ loop-rest-preserved g c =
           let taken = subst (λ end. TakesSo end (reply_to s turn)) c.in_default-end.is (c.take_turn-taken.ensures.answered now) in
           continues _ _ _ _ _ (reply_to s turn) next (λ next. run next others) (c.loop-rest.invariant.runs before) (run_turn s _ turn others first) taken;
       starves =
-          let all = StarvedRun (standing_of c.args.opened) (turns_of (lines_after c.args.first (option_copied c.args.lines))) in
+          let all = StarvedRun c.args.session.now (turns_of (lines_after c.args.first (option_copied c.args.lines))) in
           leads_turn c.loop-rest.starved c.take_turn-taken.result.starved _ _ _ all s next _ turn others first c.loop-rest.invariant.starves
           (λ now. subst (λ end. TakesSo end (reply_to s turn)) c.in_default-end.is (c.take_turn-taken.ensures.answered now))
           (λ now. let (reply, stops, takes) = c.take_turn-taken.ensures.stopped now in (reply, stops, subst (λ end. TakesSo end reply) c.in_default-end.is takes));
@@ -41,8 +40,8 @@ loop-rest-preserved g c =
 
 pub returns-in-Some-end-clause-unstarved : goal.returns-in-Some-end-clause-unstarved
 returns-in-Some-end-clause-unstarved g c unstarved =
-    let s = standing_of c.loop-rest.session in
-    let next = standing_of c.take_turn-taken.new.session in
+    let s = c.loop-rest.session in
+    let next = c.take_turn-taken.new.session in
     let turn = turn_of c.split_turn-cut.result.turn in
     let others = turns_of (lines_after c.split_turn-cut.result.first (option_copied c.split_turn-cut.result.behind)) in
     let first : turns_of (lines_after c.loop-rest.number (option_copied c.loop-rest.rest)) ≡ turn ∷ others =
@@ -54,14 +53,14 @@ returns-in-Some-end-clause-unstarved g c unstarved =
 
 pub returns-in-Some-end-clause-starved : goal.returns-in-Some-end-clause-starved
 returns-in-Some-end-clause-starved g c starved =
-    let s = standing_of c.loop-rest.session in
-    let next = standing_of c.take_turn-taken.new.session in
+    let s = c.loop-rest.session in
+    let next = c.take_turn-taken.new.session in
     let turn = turn_of c.split_turn-cut.result.turn in
     let others = turns_of (lines_after c.split_turn-cut.result.first (option_copied c.split_turn-cut.result.behind)) in
     let first : turns_of (lines_after c.loop-rest.number (option_copied c.loop-rest.rest)) ≡ turn ∷ others =
     ap (λ o. turns_of (lines_after c.loop-rest.number (option_copied o))) c.in-Some.is ∙ c.split_turn-cut.ensures.turn in
     let TakesSo = λ (end : Option ℕ) (reply : Reply). Takes (g.W.Write.contents c.loop-rest.output) (g.W.Write.contents c.take_turn-taken.new.output) next end reply in
-    let all = StarvedRun (standing_of c.args.opened) (turns_of (lines_after c.args.first (option_copied c.args.lines))) in
+    let all = StarvedRun c.args.session.now (turns_of (lines_after c.args.first (option_copied c.args.lines))) in
     leads_ended c.loop-rest.starved c.take_turn-taken.result.starved _ _ _ all _ s _ turn others first starved c.loop-rest.invariant.starves
     (λ now. subst (λ end. TakesSo end (reply_to s turn)) c.in-Some-end.is (c.take_turn-taken.ensures.answered now))
     (λ now. let (reply, stops, takes) = c.take_turn-taken.ensures.stopped now in (reply, stops, subst (λ end. TakesSo end reply) c.in-Some-end.is takes))
@@ -69,10 +68,10 @@ returns-in-Some-end-clause-starved g c starved =
 pub returns-clause-starved : goal.returns-clause-starved
 returns-clause-starved g c starved =
     let none = ap (λ o. turns_of (lines_after c.loop-rest.number (option_copied o))) c.in_default.is ∙ no_turns in
-    leads_done c.loop-rest.starved _ _ _ (standing_of c.loop-rest.session) _ starved none c.loop-rest.invariant.starves
+    leads_done c.loop-rest.starved _ _ _ c.loop-rest.session _ starved none c.loop-rest.invariant.starves
 
 pub returns-clause-unstarved : goal.returns-clause-unstarved
 returns-clause-unstarved g c unstarved =
-    let s = standing_of c.loop-rest.session in
+    let s = c.loop-rest.session in
     let left = ap (λ o. run s (turns_of (lines_after c.loop-rest.number (option_copied o)))) c.in_default.is ∙ ap (run s) no_turns ∙ run_none s in
     done _ _ _ _ (c.loop-rest.invariant.runs unstarved) left

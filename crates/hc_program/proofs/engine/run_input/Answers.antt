@@ -14,19 +14,19 @@ use Rattle.hc_program.proofs.engine.run_input.Goals as goal
 
 pub returns-in-Ok-clause-unstarved : goal.returns-in-Ok-clause-unstarved
 returns-in-Ok-clause-unstarved g c unstarved =
-    let past = c.in-Ok.session.core.past in
-    let opens = ap opening_of (sym c.split_sections-sections.ensures.project) ∙ c.in-Ok.ensures.opened.0 in
+    let past = c.in-Ok.session.past in
+    let opens = ap opening_of (sym c.split_sections-sections.ensures.project) ∙ c.in-Ok.ensures.opened in
     let all =
     opened_outcome c.args.input.now past c.requires opens
     ∙ ap (λ lines. run (opened_standing past) (turns_of lines)) (sym c.split_sections-sections.ensures.commands)
-    ∙ ap (λ (s : Standing). run s (turns_of (lines_after c.split_sections-sections.result.first (option_copied c.split_sections-sections.result.commands)))) (sym c.in-Ok.ensures.opened.1) in
-    subst (EndsAs _ _ _) (sym all) (c.run_commands.ensures.unstarved unstarved)
+    ∙ ap (λ (s : Standing). run s (turns_of (lines_after c.split_sections-sections.result.first (option_copied c.split_sections-sections.result.commands)))) (sym c.in-Ok.ensures.begun) in
+    subst (EndsAs _ _ _) (sym all) (c.run_commands-end.ensures.unstarved unstarved)
 
 pub returns-in-Ok-clause-starved : goal.returns-in-Ok-clause-starved
 returns-in-Ok-clause-starved g c starved =
-    let past = c.in-Ok.session.core.past in
-    let opens = ap opening_of (sym c.split_sections-sections.ensures.project) ∙ c.in-Ok.ensures.opened.0 in
-    starved_lines _ _ _ c.args.input.now past _ _ c.requires opens c.split_sections-sections.ensures.commands c.in-Ok.ensures.opened.1 (c.run_commands.ensures.starved starved)
+    let past = c.in-Ok.session.past in
+    let opens = ap opening_of (sym c.split_sections-sections.ensures.project) ∙ c.in-Ok.ensures.opened in
+    starved_lines _ _ _ c.args.input.now past _ _ c.requires opens c.split_sections-sections.ensures.commands c.in-Ok.ensures.begun (c.run_commands-end.ensures.starved starved)
 
 pub returns-in-Err-clause-unstarved : goal.returns-in-Err-clause-unstarved
 returns-in-Err-clause-unstarved g c unstarved =
@@ -35,8 +35,6 @@ returns-in-Err-clause-unstarved g c unstarved =
 
 pub returns-in-Err-clause-starved : goal.returns-in-Err-clause-starved
 returns-in-Err-clause-starved g c starved =
-    let project = c.split_sections-sections.ensures.project in
     starved_unopened _ _ _ c.args.input.now c.in-Err.fault c.requires
-    (λ no_memory. ap opening_of (sym project) ∙ c.in-Err.ensures.refused no_memory)
-    (λ is. subst (λ text. IsOk (project_in text)) project (c.in-Err.ensures.memory is))
+    (λ is. subst (λ text. IsOk (project_in text)) c.split_sections-sections.ensures.project (c.in-Err.ensures.project is))
     (c.end_unopened.ensures.starved starved)

@@ -1,21 +1,42 @@
-use Rattle.std.proofs.Common.{◌∙◌, ap, refl, subst, sym, true}
-use Rattle.hc_core.specs.State.{CoreState}
+use Rattle.std.proofs.Common.{◌∙◌, ap, inl, inr, refl, sym, true}
 use Rattle.hc_program.specs.Declaring.{turn_of}
-use Rattle.hc_program.specs.Runs.{reply_to}
-use Rattle.hc_program.specs.Sessions.{standing_of}
-use Rattle.hc_program.specs.Standings.{Standing}
-use Rattle.hc_program.specs.Starved.{StopsTurn}
-use Rattle.hc_program.proofs.Turns.{meant}
+use Rattle.hc_program.specs.Runs.{Reply, bare_reply, reply_to}
+use Rattle.hc_program.specs.Standings.{published}
+use Rattle.hc_program.proofs.Starved.{publishes, published_or, refuses}
+use Rattle.hc_program.proofs.Turns.{meant, published_reply}
 use Rattle.hc_program.proofs.engine.take_turn.Goals as goal
 
 pub returns-in-Ok-clause-answered : goal.returns-in-Ok-clause-answered
-returns-in-Ok-clause-answered g c =
-    let stays = ap (λ (core : CoreState). record { past = core.past; machines = c.answer-answered.new.session.line }) c.take_changes.ensures.taken in
-    λ unstarved. meant _ _ _ _ _ _ (reply_to (standing_of c.args.session.now) (turn_of c.args.turn)) c.write_reply.ensures.takes (c.as_bytes.ensures.value ∙ c.in-Ok.ensures.text) c.in-Ok.ensures.goes_on (stays ∙ c.in-Ok.ensures.next)
+returns-in-Ok-clause-answered g c = λ unstarved.
+    let s = c.args.session.now in
+    let turn = turn_of c.args.turn in
+    let is = sym (published_reply s turn) in
+    let next = publishes c.publish-published.result _ _ c.is_err.ensures.value (sym c.write_reply.ensures.starved ∙ unstarved) c.publish-published.ensures.next in
+    meant _ _ _ _ _ _ (reply_to s turn) c.write_reply.ensures.takes
+    (c.as_bytes.ensures.value ∙ c.in-Ok.ensures.text ∙ ap (λ (r : Reply). r.text) is)
+    (c.in-Ok.ensures.goes_on ∙ ap (λ (r : Reply). r.goes_on) is)
+    (next ∙ ap published c.in-Ok.ensures.next ∙ ap (λ (r : Reply). r.standing) is)
+
+pub returns-in-Ok-clause-stopped : goal.returns-in-Ok-clause-stopped
+returns-in-Ok-clause-stopped g c = λ starved.
+    let s = c.args.session.now in
+    let turn = turn_of c.args.turn in
+    let next = refuses c.publish-published.result _ _ c.is_err.ensures.value (sym c.write_reply.ensures.starved ∙ starved) c.publish-published.ensures.unchanged in (
+      bare_reply s turn,
+      inl refl,
+      meant _ _ _ _ _ _ (bare_reply s turn) c.write_reply.ensures.takes (c.as_bytes.ensures.value ∙ c.in-Ok.ensures.text) c.in-Ok.ensures.goes_on (next ∙ c.in-Ok.ensures.next),
+    )
 
 pub returns-in-Err-clause-stopped : goal.returns-in-Err-clause-stopped
-returns-in-Err-clause-stopped g c =
-    let stays = ap (λ (core : CoreState). record { past = core.past; machines = c.answer-answered.new.session.line }) c.take_changes.ensures.taken in
-    let next : Standing = standing_of record { core = c.take_changes.new.self; line = c.answer-answered.new.session.line } in
-    let stopped = subst (StopsTurn (standing_of c.args.session.now) (turn_of c.args.turn) c.in-Err.stop) (sym stays) c.in-Err.ensures.stops in
-    λ starved. (record { text = c.stop_line.result.now; standing = next; goes_on = true }, record { why = c.in-Err.stop; stopped = stopped; told = c.stop_line.ensures; on = refl }, c.write_reply-in-Err.ensures.takes next)
+returns-in-Err-clause-stopped g c = λ starved.
+    let mid = c.answer-answered.new.session in
+    let next = c.publish-published.new.self in
+    let stopped : Reply = record { text = c.stop_line.result.now; standing = mid; goes_on = true } in (
+      record stopped { standing = next },
+      inr (
+        stopped,
+        record { why = c.in-Err.stop; stopped = c.in-Err.ensures.stops; told = c.stop_line.ensures; on = refl },
+        published_or c.publish-published.result stopped mid next refl c.publish-published.ensures.next c.publish-published.ensures.unchanged,
+      ),
+      c.write_reply-in-Err.ensures.takes next,
+    )

@@ -1,12 +1,25 @@
-use Rattle.std.proofs.Common.{ap, sym, ◌∙◌, Ok}
+use Rattle.std.proofs.Common.{◌∙◌, Ok, ap, subst, sym}
 use Rattle.hc_core.specs.State.{CoreState}
-use Rattle.hc_program.proofs.Openings.{crowded_named, crowded_none}
+use Rattle.hc_events.specs.Entries.{Record}
+use Rattle.hc_copies.specs.Told.{Told, just_told}
+use Rattle.hc_master.specs.Mastering.{past_of}
+use Rattle.hc_program.specs.Sessions.{IsShown}
+use Rattle.hc_program.proofs.Openings.{crowded_named, crowded_none, opening_shown}
 use Rattle.hc_program.proofs.opening.open_project.Goals as goal
 
 pub returns-in-Ok-clause-opened : goal.returns-in-Ok-clause-opened
-returns-in-Ok-clause-opened c = crowded_none c.args.project c.in-Ok.ensures.accepted ∙ ap (λ (state : CoreState). Ok state.past) (sym c.in-Ok.ensures.opened)
+returns-in-Ok-clause-opened g c = crowded_none c.args.project c.in-Ok.ensures.openable.uncrowded ∙ ap (λ (core : CoreState). Ok core.past) (sym c.in-Ok.ensures.core)
+
+pub returns-in-Ok-clause-fresh : goal.returns-in-Ok-clause-fresh
+returns-in-Ok-clause-fresh g c =
+    let project = c.args.project in
+    let past = ap (λ (core : CoreState). core.past) c.in-Ok.ensures.core in
+    record {
+      shown = subst (λ (told : Told). IsShown (past_of c.in-Ok.master) told) (sym c.in-Ok.ensures.shown) (subst (λ (p : Record). IsShown p (just_told project)) (sym past) (opening_shown project));
+      none = c.in-Ok.ensures.waiting;
+    }
 
 pub returns-in-Err-TooManyDatagrams-clause-refused : goal.returns-in-Err-TooManyDatagrams-clause-refused
-returns-in-Err-TooManyDatagrams-clause-refused c _ =
+returns-in-Err-TooManyDatagrams-clause-refused g c _ =
     let told = rw c.in-Err-TooManyDatagrams.field-0-is at c.in-Err-TooManyDatagrams.ensures.refused in
-    crowded_named c.args.project c.in-Err-TooManyDatagrams.task (told (λ e. cc))
+    crowded_named c.args.project c.in-Err-TooManyDatagrams.task told

@@ -1,5 +1,5 @@
 use Rattle.hc_program.proofs.Openings.{opened_is_project}
 use Rattle.hc_program.proofs.opening.open_session.Goals as goal
 
-pub returns-in-Err-clause-memory : goal.returns-in-Err-clause-memory
-returns-in-Err-clause-memory c = λ is. opened_is_project _ _ c.in_ok-core.ensures.opened
+pub returns-in-Err-clause-project : goal.returns-in-Err-clause-project
+returns-in-Err-clause-project g c = λ is. opened_is_project _ _ c.in_ok-master.ensures.opened

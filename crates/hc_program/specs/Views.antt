@@ -1,0 +1,48 @@
+-- The command `view`: what a task views of a variable.
+use Rattle.std.specs.Prelude.{ℕ, nat_lt, if◌then◌else◌, List, [], ◌∷◌, ◌++◌, Option, None, option_map, option_and_then, Result, Ok, Err, codes}
+use Rattle.std.specs.Fmt.{decimal}
+use Rattle.hc_records.specs.declared.limits.TheConstants.{TASKS}
+use Rattle.hc_text.specs.Numbers.{number_in}
+use Rattle.hc_events.specs.declared.faults.CoreFault.TheVariants.{NoSuchTask}
+use Rattle.hc_events.specs.Entries.{Record}
+use Rattle.hc_events.specs.Points.{epoch_of}
+use Rattle.hc_copies.specs.declared.faults.ViewFault.{ViewFault}
+use Rattle.hc_copies.specs.declared.faults.ViewFault.TheVariants.{NoSuchVariable, IsOutput, OtherTask, NotAnswered}
+use Rattle.hc_copies.specs.Faults.{view_fault_number}
+use Rattle.hc_master.specs.Viewing.{value_at}
+use Rattle.hc_program.specs.Refusals.{refusal_text}
+use Rattle.hc_program.specs.declared.commands.Command.{Command}
+use Rattle.hc_program.specs.declared.commands.Command.TheVariants.{View}
+
+-- its arguments are a task and the number of a variable
+abbrev pub view_in : List (List ℕ) → Option Command
+view_in [] = None
+view_in (task ∷ []) = None
+view_in (task ∷ variable ∷ []) =
+    option_and_then (λ t. option_map (λ v. View t v) (number_in 4294967295 variable)) (number_in 255 task)
+view_in (task ∷ variable ∷ other ∷ words) = None
+
+-- the name of the fault for which a task is told no value
+abbrev pub view_fault_name : ViewFault → List ℕ
+view_fault_name NoSuchVariable = codes "NoSuchVariable"
+view_fault_name IsOutput = codes "IsOutput"
+view_fault_name OtherTask = codes "OtherTask"
+view_fault_name NotAnswered = codes "NotAnswered"
+
+-- its line
+unfoldable pub view_fault_text : ViewFault → List ℕ
+view_fault_text fault = codes "refused " ++ decimal (view_fault_number fault) ++ codes " " ++ view_fault_name fault ++ codes "\n"
+
+-- the line of an epoch and a variable's value in it
+unfoldable pub value_text : ℕ → ℕ → ℕ → List ℕ
+value_text epoch variable value = codes "epoch " ++ decimal epoch ++ codes " var " ++ decimal variable ++ codes " value " ++ decimal value ++ codes "\n"
+
+-- this line, or why there is no value
+abbrev pub viewed_text : ℕ → ℕ → Result ℕ ViewFault → List ℕ
+viewed_text epoch variable (Ok value) = value_text epoch variable value
+viewed_text epoch variable (Err fault) = view_fault_text fault
+
+-- what a view prints where this record was published last; a task over 7 is refused before all
+unfoldable pub view_text : Record → ℕ → ℕ → List ℕ
+view_text seen task variable =
+    if nat_lt task TASKS then viewed_text (epoch_of seen) variable (value_at seen task variable) else refusal_text NoSuchTask

@@ -1,0 +1,50 @@
+//! The command `take`.
+ghost use Rattle.std.specs.Prelude.{◌≡◌, ◌≤◌, ◌+◌, ◌++◌, OnErr, OnOk, map, string_bytes};
+ghost use Rattle.std.specs.String.{string_capacity, string_len};
+ghost use Rattle.hc_program.specs.Takings.{take_in, take_text, taken_text, took};
+
+use super::Command;
+use crate::session::Session;
+use hc_text::room::{MOST_DIGITS, add_number, add_text};
+use std::alloc::AllocError;
+
+/// The bytes of the longest line: its words, two numbers, and the line feed.
+const LONGEST_TAKEN: usize = 16 + 2 * MOST_DIGITS;
+
+/// It has no argument; none where there is one.
+pub fn parse(arguments: &[&[u8]]) -> Option<Command>
+    ensures { result ≡ take_in (map (λ word. word.now) arguments.now) }
+{
+    if arguments.is_empty() {
+        Some(Command::Take)
+    } else {
+        None
+    }
+}
+
+/// Hands what tasks posted to the core and adds how many posts it accepted, and how many it refused since another epoch
+/// has begun. `AllocError` where a growth was refused; no post was then taken. Room for the line is taken before.
+#[tactic(auto, unfolding(crate::specs::Takings::take_text))]
+pub fn reply(session: &mut Session, out: &mut String) -> Result<(), AllocError>
+    ensures text { OnOk result (string_bytes out.new ≡ string_bytes out.old ++ take_text session.old) }
+    ensures next { OnOk result (session.new ≡ took session.old) }
+    ensures unchanged { OnErr result (session.new ≡ session.old) }
+{
+    out.reserve(LONGEST_TAKEN)?;
+    let taken = session.take();
+    add_taken(taken.accepted, taken.refused, out);
+    Ok(())
+}
+
+/// Adds the line, for which there is room.
+#[tactic(auto, unfolding(crate::specs::Takings::taken_text))]
+fn add_taken(accepted: u32, refused: u32, out: &mut String)
+    requires { string_len out.old + LONGEST_TAKEN ≤ string_capacity out.old }
+    ensures { string_bytes out.new ≡ string_bytes out.old ++ taken_text accepted refused }
+{
+    add_text("taken ", out);
+    add_number(u64::from(accepted), out);
+    add_text(" refused ", out);
+    add_number(u64::from(refused), out);
+    add_text("\n", out);
+}

@@ -1,0 +1,85 @@
+//! The command `view`.
+ghost use Rattle.std.specs.Prelude.{◌≡◌, ◌++◌, IfErr, OnOk, Result, map, string_bytes};
+ghost use Rattle.hc_program.specs.Stops.{Unviewed};
+ghost use Rattle.hc_program.specs.Views.{value_text, view_fault_name, view_fault_text, view_in, view_text, viewed_text};
+
+use super::Command;
+use crate::refusals::push_refusal;
+use crate::session::Session;
+use crate::stops::Stop;
+use hc_copies::faults::ViewFault;
+use hc_events::faults::CoreFault;
+use hc_master::viewing::Viewed;
+use hc_records::limits::TASKS;
+use hc_text::numbers::{byte_in, quadruple_byte_in};
+use std::alloc::AllocError;
+
+/// Its arguments are a task, at most 255, and the number of a variable, at most 4,294,967,295; none where one is another,
+/// or where there aren't two arguments.
+pub fn parse(arguments: &[&[u8]]) -> Option<Command>
+    ensures { result ≡ view_in (map (λ word. word.now) arguments.now) }
+{
+    match arguments {
+        [task, variable] => match (byte_in(task), quadruple_byte_in(variable)) {
+            (Some(task), Some(variable)) => Some(Command::View { task, variable }),
+            _ => None,
+        },
+        [] => None,
+        [_] => None,
+        [_, _, _, ..] => None,
+    }
+}
+
+/// Adds what a task views of a variable: the epoch and the value, or why it is told none, or the refusal of a task over
+/// 7. A `Stop` where a growth was refused or the task's seat was given no view; `out` may then have a front of the line.
+#[tactic(auto, unfolding(crate::specs::Views::view_text))]
+pub fn reply(task: u8, variable: u32, session: &mut Session, out: &mut String) -> Result<(), Stop>
+    ensures text { OnOk result (string_bytes out.new ≡ string_bytes out.old ++ view_text session.old.seen task variable) }
+    ensures next { OnOk result (session.new ≡ session.old) }
+    ensures stops { IfErr result (λ stop. Unviewed session.old stop session.new) }
+{
+    if task >= TASKS {
+        return Ok(push_refusal(CoreFault::NoSuchTask, out)?);
+    }
+    let viewed = session.view(task, variable)?;
+    Ok(push_viewed(viewed, variable, out)?)
+}
+
+/// Adds the epoch and the value of a view, or why there is no value.
+fn push_viewed(viewed: Viewed, variable: u32, out: &mut String) -> Result<(), AllocError>
+    ensures { OnOk result (string_bytes out.new ≡ string_bytes out.old ++ viewed_text viewed.epoch variable viewed.value) }
+{
+    match viewed.value {
+        Ok(value) => push_value(viewed.epoch, variable, value, out),
+        Err(fault) => push_view_fault(fault, out),
+    }
+}
+
+#[tactic(auto, unfolding(crate::specs::Views::value_text))]
+fn push_value(epoch: u32, variable: u32, value: u64, out: &mut String) -> Result<(), AllocError>
+    ensures { OnOk result (string_bytes out.new ≡ string_bytes out.old ++ value_text epoch variable value) }
+{
+    write!(out, "epoch {epoch} var {variable} value {value}\n")
+}
+
+/// Adds the line of a refused view, as `refused 4 NotAnswered`.
+#[tactic(auto, unfolding(crate::specs::Views::view_fault_text))]
+fn push_view_fault(fault: ViewFault, out: &mut String) -> Result<(), AllocError>
+    ensures { OnOk result (string_bytes out.new ≡ string_bytes out.old ++ view_fault_text fault) }
+{
+    let number = fault.number();
+    write!(out, "refused {number} ")?;
+    push_view_fault_name(fault, out)?;
+    out.push_str("\n")
+}
+
+fn push_view_fault_name(fault: ViewFault, out: &mut String) -> Result<(), AllocError>
+    ensures { OnOk result (string_bytes out.new ≡ string_bytes out.old ++ view_fault_name fault) }
+{
+    match fault {
+        ViewFault::NoSuchVariable => out.push_str("NoSuchVariable"),
+        ViewFault::IsOutput => out.push_str("IsOutput"),
+        ViewFault::OtherTask => out.push_str("OtherTask"),
+        ViewFault::NotAnswered => out.push_str("NotAnswered"),
+    }
+}
