@@ -16,6 +16,8 @@ mod edits;
 #[cfg(test)]
 mod frames;
 #[cfg(test)]
+mod posts;
+#[cfg(test)]
 mod printed;
 #[cfg(test)]
 mod rows;
