@@ -17,3 +17,4 @@ pub mod Together
 pub mod Programming
 pub mod MemoryArguments
 pub mod Cycling
+pub mod Posting

@@ -12,6 +12,7 @@ use Rattle.hc_program.specs.EventWords.{arrive_in, read_in, send_in, write_in}
 use Rattle.hc_program.specs.Layout.{layout_in, layout_text}
 use Rattle.hc_program.specs.Memories.{peek_in, peek_text, poke_in, poke_text, poked_standing}
 use Rattle.hc_program.specs.Place.{place_in, place_text}
+use Rattle.hc_program.specs.Posts.{post_in, post_text, posted}
 use Rattle.hc_program.specs.Programs.{program_in, program_text, programmed}
 use Rattle.hc_program.specs.Regs.{regs_in, regs_text}
 use Rattle.hc_program.specs.Setups.{name_in, name_text, named, scan_in, scan_text, scanned}
@@ -34,9 +35,10 @@ line_command_in name arguments =
 -- those of tasks
 abbrev pub task_command_in : List ℕ → List (List ℕ) → Option Command
 task_command_in name arguments =
-    if bytes_eq name (codes "take") then take_in arguments
+    if bytes_eq name (codes "post") then post_in arguments
+    else (if bytes_eq name (codes "take") then take_in arguments
     else (if bytes_eq name (codes "view") then view_in arguments
-    else line_command_in name arguments)
+    else line_command_in name arguments))
 
 -- those that send, take in what arrives, and read
 abbrev pub event_in : List ℕ → List (List ℕ) → Option Command
@@ -67,6 +69,7 @@ printed s (command.Send tasks) = told s.past (SendsTasks tasks)
 printed s command.Write = told s.past SendsWrite
 printed s (command.Arrive bytes) = told s.past (Arrives bytes)
 printed s (command.Read task) = told s.past (Reads task)
+printed s (command.Post posting) = post_text s posting
 printed s command.Take = take_text s
 printed s (command.View task variable) = view_text s.seen task variable
 printed s command.Scan = scan_text s
@@ -87,6 +90,7 @@ left_by s (command.Send tasks) = stepped s (SendsTasks tasks)
 left_by s command.Write = stepped s SendsWrite
 left_by s (command.Arrive bytes) = stepped s (Arrives bytes)
 left_by s (command.Read task) = s
+left_by s (command.Post posting) = posted s posting
 left_by s command.Take = took s
 left_by s (command.View task variable) = s
 left_by s command.Scan = scanned s

@@ -12,6 +12,8 @@ pub mod Setups
 pub mod Programs
 pub mod Cycles
 pub mod Takings
+pub mod Postings
+pub mod Posts
 pub mod Views
 pub mod MemoryRanges
 pub mod Memories

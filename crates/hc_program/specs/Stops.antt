@@ -73,5 +73,6 @@ StopsIn s command.Program why next = IsWanting why × StopsProgram s next
 StopsIn s (command.Cycle tasks) why next = IsWanting why × StopsInCycle s tasks next
 StopsIn s command.Scan why next = IsWanting why × StopsScan s next
 StopsIn s command.Name why next = IsWanting why × (next ≡ s)
+StopsIn s (command.Post posting) why next = Unviewed s why next
 StopsIn s (command.View task variable) why next = Unviewed s why next
 StopsIn s other why next = Unchanged s why next

@@ -12,6 +12,7 @@ mod layout;
 mod memory;
 mod name;
 mod place;
+mod post;
 mod program;
 mod read;
 mod regs;
@@ -27,6 +28,7 @@ use crate::stops::Stop;
 use hc_records::edit::Edit;
 use hc_records::items::Items;
 pub use memory::{Peek, Poke};
+pub use post::Posting;
 pub use send::Together;
 use std::alloc::{AllocError, Global};
 use std::sync::Wait;
@@ -67,6 +69,8 @@ pub enum Command {
         /// The task; over 7 the command is refused.
         task: u8,
     },
+    /// `post T V=X ..`: a task posts values for its output variables.
+    Post(Posting),
     /// `take`: what tasks posted goes to the core.
     Take,
     /// `view T V`: what a task views of a variable.
@@ -138,7 +142,9 @@ fn task_command_in(
 ) -> Result<Option<Command>, AllocError>
     ensures { IfOk result (λ command. command ≡ task_command_in name.now (map (λ word. word.now) arguments.now)) }
 {
-    if name == b"take".as_slice() {
+    if name == b"post".as_slice() {
+        post::parse(alloc, arguments)
+    } else if name == b"take".as_slice() {
         Ok(take::parse(arguments))
     } else if name == b"view".as_slice() {
         Ok(view::parse(arguments))
@@ -202,6 +208,7 @@ pub fn obey<R: Threads + Wait + Sync>(
         Command::Write => Ok(write::reply(session, out)?),
         Command::Arrive(bytes) => Ok(arrive::reply(alloc, bytes.as_slice(), session, out)?),
         Command::Read { task } => Ok(read::reply(alloc, *task, session.core(), out)?),
+        Command::Post(posting) => post::reply(alloc, posting, session, out),
         Command::Take => Ok(take::reply(session, out)?),
         Command::View { task, variable } => view::reply(*task, *variable, session, out),
     }

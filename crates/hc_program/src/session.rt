@@ -14,6 +14,7 @@ ghost use Rattle.hc_program.specs.Standings.{opened_standing, published, stepped
 ghost use Rattle.hc_program.specs.Takings.{posts_taken, took};
 
 mod machines;
+mod posting;
 
 use hc_conductor::taking::Taken;
 use hc_copies::laws::shows_what_is_read;

@@ -18,6 +18,8 @@ mod frames;
 #[cfg(test)]
 mod posted_breaks;
 #[cfg(test)]
+mod posts;
+#[cfg(test)]
 mod printed;
 #[cfg(test)]
 mod rows;

@@ -1,0 +1,176 @@
+//! The command `post`.
+ghost use Rattle.std.specs.Prelude.{◌≡◌, ◌≢◌, ◌⊎◌, [], ◌∷◌, ◌++◌, IfErr, IfOk, OnOk, map, string_bytes};
+ghost use Rattle.hc_master.specs.declared.refusals.PostRefusal.TheVariants as why;
+ghost use Rattle.hc_program.specs.declared.stops.Stop.TheVariants as stop;
+ghost use Rattle.hc_program.specs.declared.stops.Want.TheVariants as want;
+ghost use Rattle.hc_program.specs.Posts.{post_in, post_refusal_name, post_refusal_number, post_refusal_text, post_text, posted, posting_in, setting_in, setting_with, settings_in};
+ghost use Rattle.hc_program.specs.Stops.{Unviewed};
+
+use super::Command;
+use crate::refusals::push_refusal;
+use crate::session::Session;
+use crate::stops::{Stop, Want};
+use hc_events::faults::CoreFault;
+use hc_master::refusals::PostRefusal;
+use hc_master::settings::Setting;
+use hc_records::items::Items;
+use hc_records::limits::TASKS;
+use hc_text::lines::split_at_byte;
+use hc_text::numbers::{byte_in, number_in, quadruple_byte_in};
+use hc_text::room::add_text;
+use std::alloc::{AllocError, Global};
+
+/// The bytes of the line of an accepted post.
+const POSTED: usize = 7;
+
+/// What a `post` asks.
+#[derive(Debug, Drop)]
+pub struct Posting {
+    /// The task; over 7 the command is refused.
+    pub task: u8,
+    /// The values, in the order of their words.
+    pub settings: Items<Setting>,
+}
+
+/// The value for a variable that two numbers spell.
+fn setting_with(variable: &[u8], value: &[u8]) -> Option<Setting>
+    ensures { result ≡ setting_with (variable.now ∷ value.now ∷ []) }
+{
+    match (quadruple_byte_in(variable), number_in(value, u64::MAX)) {
+        (Some(variable), Some(value)) => Some(Setting { variable, value }),
+        _ => None,
+    }
+}
+
+/// The value for a variable that a word `V=X` spells; none where it has no `=` or more than one, or where a number is
+/// malformed or too large: the variable's is at most 4,294,967,295, and the value has at most 64 bits.
+fn setting_of(word: &[u8]) -> Option<Setting>
+    ensures { result ≡ setting_in word.now }
+{
+    match split_at_byte(word, b'=') {
+        (variable, Some(rest)) => match split_at_byte(rest, b'=') {
+            (value, None) => setting_with(variable, value),
+            (_, Some(_)) => None,
+        },
+        (_, None) => None,
+    }
+}
+
+/// The value of each word, where each spells one.
+fn settings_of(alloc: Global, words: &[&[u8]]) -> Result<Option<Items<Setting>>, AllocError>
+    ensures { IfOk result (λ settings. settings ≡ settings_in (map (λ word. word.now) words.now)) }
+{
+    let mut settings = Vec::with_capacity(alloc, words.len())?;
+    for word in words {
+        match setting_of(word) {
+            Some(setting) => settings.push(setting)?,
+            None => return Ok(None),
+        }
+    }
+    Ok(Some(Items::of(settings)))
+}
+
+fn posting_of(alloc: Global, arguments: &[&[u8]]) -> Result<Option<Posting>, AllocError>
+    ensures { IfOk result (λ posting. posting ≡ posting_in (map (λ word. word.now) arguments.now)) }
+{
+    match arguments {
+        [task, words @ ..] => match byte_in(task) {
+            Some(task) => match settings_of(alloc, words)? {
+                Some(settings) => Ok(Some(Posting { task, settings })),
+                None => Ok(None),
+            },
+            None => Ok(None),
+        },
+        [] => Ok(None),
+    }
+}
+
+/// Its arguments are a task, at most 255, and a word `V=X` for each value; none where a word is another. `AllocError`
+/// where a growth was refused.
+pub fn parse(alloc: Global, arguments: &[&[u8]]) -> Result<Option<Command>, AllocError>
+    ensures { IfOk result (λ command. command ≡ post_in (map (λ word. word.now) arguments.now)) }
+{
+    match posting_of(alloc, arguments)? {
+        Some(posting) => Ok(Some(Command::Post(posting))),
+        None => Ok(None),
+    }
+}
+
+/// A task posts values, and `posted` is added; or why nothing is posted, or the refusal of a task over 7. A `Stop` where a
+/// growth was refused or the task's seat was given no view: nothing was then posted, and `out` may have a front of the
+/// line. Room for the line is taken before anything is posted.
+#[tactic(auto, unfolding(crate::specs::Posts::post_text))]
+pub fn reply(
+    alloc: Global,
+    posting: &Posting,
+    session: &mut Session,
+    out: &mut String,
+) -> Result<(), Stop>
+    ensures text { OnOk result (string_bytes out.new ≡ string_bytes out.old ++ post_text session.old posting.now) }
+    ensures next { OnOk result (session.new ≡ posted session.old posting.now) }
+    ensures stops { IfErr result (λ why. Unviewed session.old why session.new) }
+{
+    if posting.task >= TASKS {
+        return Ok(push_refusal(CoreFault::NoSuchTask, out)?);
+    }
+    out.reserve(POSTED)?;
+    match session.post(alloc, posting.task, posting.settings.as_slice()) {
+        Ok(()) => {
+            add_text("posted\n", out);
+            Ok(())
+        }
+        Err(refusal) => tell_post_refusal(refusal, out),
+    }
+}
+
+/// Adds why nothing is posted. A `Stop` where that is the want of a view or of memory.
+fn tell_post_refusal(refusal: PostRefusal, out: &mut String) -> Result<(), Stop>
+    ensures text { OnOk result (string_bytes out.new ≡ string_bytes out.old ++ post_refusal_text refusal) }
+    ensures judged { OnOk result ((refusal ≢ why.NoEntry) × (refusal ≢ why.Memory)) }
+    ensures stops { IfErr result (λ told. (told ≡ stop.Want want.Memory) ⊎ (told ≡ stop.NoEntry)) }
+{
+    match refusal {
+        PostRefusal::NoEntry => Err(Stop::NoEntry),
+        PostRefusal::Memory => Err(Stop::Want(Want::Memory)),
+        refusal => Ok(push_post_refusal(refusal, out)?),
+    }
+}
+
+fn post_refusal_number(refusal: PostRefusal) -> u8
+    ensures { result ≡ post_refusal_number refusal }
+{
+    match refusal {
+        PostRefusal::NoSuchVariable => 1,
+        PostRefusal::IsInput => 2,
+        PostRefusal::OtherTask => 3,
+        PostRefusal::TooWide => 4,
+        PostRefusal::NoSpare => 5,
+        PostRefusal::NoEntry => 7,
+        PostRefusal::Memory => 28,
+    }
+}
+
+/// Adds the line of a refused post, as `refused 5 NoSpare`.
+#[tactic(auto, unfolding(crate::specs::Posts::post_refusal_text))]
+fn push_post_refusal(refusal: PostRefusal, out: &mut String) -> Result<(), AllocError>
+    ensures { OnOk result (string_bytes out.new ≡ string_bytes out.old ++ post_refusal_text refusal) }
+{
+    let number = post_refusal_number(refusal);
+    write!(out, "refused {number} ")?;
+    push_post_refusal_name(refusal, out)?;
+    out.push_str("\n")
+}
+
+fn push_post_refusal_name(refusal: PostRefusal, out: &mut String) -> Result<(), AllocError>
+    ensures { OnOk result (string_bytes out.new ≡ string_bytes out.old ++ post_refusal_name refusal) }
+{
+    match refusal {
+        PostRefusal::NoSuchVariable => out.push_str("NoSuchVariable"),
+        PostRefusal::IsInput => out.push_str("IsInput"),
+        PostRefusal::OtherTask => out.push_str("OtherTask"),
+        PostRefusal::TooWide => out.push_str("TooWide"),
+        PostRefusal::NoSpare => out.push_str("NoSpare"),
+        PostRefusal::NoEntry => out.push_str("NoEntry"),
+        PostRefusal::Memory => out.push_str("Memory"),
+    }
+}

@@ -1,0 +1,33 @@
+//! What a task posts in a run.
+ghost use Rattle.std.specs.Prelude.{◌≡◌, ◌≢◌, ◌<◌, IfErr, None, OnErr, OnOk, Some};
+ghost use Rattle.hc_records.specs.declared.limits.TheConstants.{TASKS};
+ghost use Rattle.hc_master.specs.declared.refusals.PostRefusal.TheVariants as why;
+ghost use Rattle.hc_program.specs.Postings.{post_judged, with_posted};
+
+use super::Session;
+use hc_events::laws::changes_tell_all;
+use hc_master::refusals::PostRefusal;
+use hc_master::settings::Setting;
+use std::alloc::Global;
+
+impl Session {
+    /// A task, 0 to 7, posts values for its output variables, at their places in what was published last and for its
+    /// epoch. The first value that is refused decides, and else whether four posts of the task wait. `NoEntry` where its
+    /// seat was given no view, `Memory` where a growth was refused. Then nothing is posted.
+    pub(crate) fn post(
+        &mut self,
+        alloc: Global,
+        task: u8,
+        settings: &[Setting],
+    ) -> Result<(), PostRefusal>
+        requires { task < TASKS }
+        ensures next { OnOk result (self.new ≡ with_posted self.old task settings.now) }
+        ensures accepted { OnOk result (post_judged self.old task settings.now ≡ None) }
+        ensures refused { IfErr result (λ refusal. refusal ≢ why.NoEntry → refusal ≢ why.Memory → post_judged self.old task settings.now ≡ Some refusal) }
+        ensures unchanged { OnErr result (self.new ≡ self.old) }
+    {
+        // what is shown is the table of the line that was published last
+        changes_tell_all();
+        self.master.post(alloc, task, settings)
+    }
+}
