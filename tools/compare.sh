@@ -61,11 +61,11 @@ compare() {
     done
 }
 
-# play LABEL PROGRAM..: a program over each script that was written by hand
+# play LABEL INPUTS PROGRAM..: a program over each script that was written by hand, by the pattern of their names
 play() {
-    label=$1
-    shift
-    for input in compare/played/*.in; do
+    label=$1 inputs=$2
+    shift 2
+    for input in $inputs; do
         timeout 60 "$@" <"$input" >"$scratch/printed" 2>/dev/null
         if diff "${input%.in}.out" "$scratch/printed" >"$scratch/said"; then
             pass "$input: the $label prints what is written"
@@ -78,8 +78,8 @@ play() {
 build wrong compare/wrong_program.rs
 compare edits "byte line epoch document" "$@"
 compare events "byte line epoch document view judged counted dropped" "$@"
-play model "$scratch/events" --answer
-play program "$@"
+play model "compare/played/*.in examples/*.in tools/*.in" "$scratch/events" --answer
+play program "compare/played/*.in" "$@"
 compare places "byte line" "$check"
 echo "$passed passed, $failed failed"
 [ "$passed" -gt 0 ] && [ "$failed" -eq 0 ]

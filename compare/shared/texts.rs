@@ -1,5 +1,5 @@
-//! A project's text, read as far as the forms go in which the scripts here have it: arrays of tables under headers, PDOs in one
-//! line too, integers, strings, arrays and comments; the keys of a table stand right behind its header.
+//! A project's text, read as far as the forms go in which the scripts here have it: arrays of tables under headers or in one
+//! line, integers, strings, arrays and comments; the keys of a table stand right behind its header.
 
 use super::records::{Area, Group, Pdo, Slave};
 use std::iter::Peekable;
@@ -191,6 +191,30 @@ fn set(groups: &mut [Group], header: &str, key: &str, value: &Value) -> Option<(
     Some(())
 }
 
+/// Sets a key, or begins the tables that stand behind it in one line.
+fn take(groups: &mut Vec<Group>, header: &str, key: &str, value: &Value) -> Option<()> {
+    let name = if header.is_empty() { key.to_string() } else { format!("{header}.{key}") };
+    if !["group", "slave", "area"].contains(&key) {
+        return set(groups, header, key, value);
+    }
+    let Value::List(tables) = value else {
+        return None;
+    };
+    tables.iter().try_for_each(|table| nest(groups, &name, table))
+}
+
+/// A table that stands in one line, as if it stood under a header.
+fn nest(groups: &mut Vec<Group>, header: &str, table: &Value) -> Option<()> {
+    let Value::Table(pairs) = table else {
+        return None;
+    };
+    let needed = begin(groups, header)?;
+    for (key, value) in pairs {
+        take(groups, header, key, value)?;
+    }
+    needed.iter().all(|name| pairs.iter().any(|(key, _)| key == name)).then_some(())
+}
+
 /// A header between its brackets.
 fn header(rest: &mut Rest) -> Option<String> {
     let header = rest.takes('[').then(|| rest.word())??;
@@ -213,7 +237,7 @@ pub fn groups_of(text: &str) -> Result<Vec<Group>, usize> {
             needed = begin(&mut groups, &table).ok_or(NOT_TOML)?;
         } else {
             let (key, value) = rest.pair().ok_or(NOT_TOML)?;
-            is_missing |= set(&mut groups, &table, &key, &value).is_none();
+            is_missing |= take(&mut groups, &table, &key, &value).is_none();
             needed.retain(|own| *own != key);
         }
     }

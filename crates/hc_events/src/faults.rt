@@ -117,7 +117,7 @@ pub enum CoreFault {
 }
 
 impl CoreFault {
-    /// The fault's number, 1 to 29 or 30 to 35; 14 is no fault's number.
+    /// The fault's number, 1 to 35; 14 is no fault's number.
     pub fn number(self) -> u8
         ensures { result ≡ core_fault_number self }
     {
