@@ -43,7 +43,7 @@ pub struct RunEnd {
     /// The exit status: 0 done, 2 behind a line that is no command, 3 where the project isn't opened,
     /// 4 where the input isn't read or a write failed.
     pub status: u8,
-    /// Whether a growth was refused on the way.
+    /// Whether a growth was refused on the way, or a seat or a view, which no run meets.
     pub starved: bool,
 }
 
@@ -52,7 +52,7 @@ pub struct RunEnd {
 struct TurnEnd {
     /// The exit status where the run ends here.
     end: Option<u8>,
-    /// Whether a growth was refused.
+    /// Whether the turn was stopped, or its publishing refused.
     starved: bool,
 }
 
@@ -207,8 +207,12 @@ fn run_input<Rt: Threads + Wait + Sync, W: Write>(
 /// The same holds of a starved end and one of the texts that a refused growth allows: nothing and status 4
 /// where the input isn't read, `project fault 11 Memory` or `open fault 2 Memory` and status 3 where the
 /// project isn't opened, else the text of the commands, one or more of which gave `refused 28 Memory` or, where
-/// frames didn't go along the line, `chain fault 1 Memory`. Such a command changed nothing, but in `scan`,
-/// `program` and `cycle` what was done before stands.
+/// frames didn't go along the line, `chain fault 1 Memory`, or weren't published. A command with such a line changed
+/// nothing, but in `scan`, `program` and `cycle` what was done before stands. `open fault 3 NoSeat` and
+/// `refused 7 NoEntry`, which no run meets, count as such texts.
+///
+/// Behind each turn what it changed is published, and each task's seat learns it. A refused publishing prints nothing;
+/// tasks view what they did, and the next one goes on where it stopped.
 ///
 /// Faults are found in the order input, project, opening, commands. Status 4 comes where the input is
 /// longer than 4,194,304 bytes, where reading fails or doesn't end within 4,194,305 turns, and where a
