@@ -60,7 +60,7 @@ use crate::clock::nanoseconds;
 use crate::edits::{EditAsked, edit_of};
 use crate::telling::{told_of, told_of_answer, told_of_changes};
 use hc_core::keeping::Core;
-use hc_events::answer::{Answer, Arrived, Outcome};
+use hc_events::answer::{Answer, Arrived};
 use hc_events::event::Event;
 use hc_events::faults::CoreFault;
 use hc_events::sending::Sending;
@@ -218,13 +218,6 @@ const OWN_ARRIVE_ALONE: u8 = 11;
 
 const OWN_READ_IMAGE: u8 = 12;
 
-/// Lists that a caller of the events' own calls uses again.
-#[derive(Drop)]
-pub(crate) struct Lists {
-    frames: Vec<Sending>,
-    outcomes: Vec<Outcome>,
-}
-
 /// Puts a byte at a place, where there is one.
 fn put(frame: &mut [u8], at: usize, byte: u8) {
     if let Some(own) = frame.get_mut(at) {
@@ -323,14 +316,15 @@ fn own_send(alloc: Global, core: &mut Core, list: u8, frames: &mut Vec<Sending>)
     u64::from(!texts.as_slice().is_empty())
 }
 
-/// An arrival by its own call.
-fn own_arrive(alloc: Global, core: &mut Core, frame: &[u8], lists: &mut Lists) -> Option<Arrived> {
-    core.arrive_into(alloc, frame, &mut lists.outcomes).ok()
+/// An arrival by its own call, into a list that is made for it, as the answer to an event has one.
+fn own_arrive(alloc: Global, core: &mut Core, frame: &[u8]) -> Option<Arrived> {
+    let mut outcomes = Vec::new(alloc);
+    core.arrive_into(alloc, frame, &mut outcomes).ok()
 }
 
 /// An arrival that answers a sending of tasks, by its own call, and the changes that it makes.
-fn own_take_answer(alloc: Global, core: &mut Core, frame: &[u8], lists: &mut Lists) -> u64 {
-    let told = own_arrive(alloc, core, frame, lists);
+fn own_take_answer(alloc: Global, core: &mut Core, frame: &[u8]) -> u64 {
+    let told = own_arrive(alloc, core, frame);
     let answered = matches!(told, Some(Arrived::Answered));
     u64::from(answered & !core.take_changes(alloc).is_empty())
 }
@@ -372,17 +366,17 @@ fn own_once(
     timed: &Timed,
     frame: &mut [u8],
     indexes: &[u32],
-    lists: &mut Lists,
+    frames: &mut Vec<Sending>,
 ) -> u64 {
     match timed.kind {
         POST_OUTPUTS => own_post(core, timed.task, frame),
-        OWN_SEND => own_send(alloc, core, timed.task, &mut lists.frames),
+        OWN_SEND => own_send(alloc, core, timed.task, frames),
         OWN_SEND_AND_ARRIVE => {
             let sent = send_and_put(alloc, core, timed.task, frame, indexes);
-            sent & own_take_answer(alloc, core, frame, lists)
+            sent & own_take_answer(alloc, core, frame)
         }
         OWN_ARRIVE_ALONE => {
-            let told = own_arrive(alloc, core, frame, lists);
+            let told = own_arrive(alloc, core, frame);
             u64::from(matches!(told, Some(Arrived::Stale)))
         }
         OWN_READ_IMAGE => {
@@ -399,7 +393,7 @@ fn once(
     timed: &Timed,
     frame: &mut [u8],
     indexes: &[u32],
-    lists: &mut Lists,
+    frames: &mut Vec<Sending>,
 ) -> u64 {
     match timed.kind {
         SEND => u64::from(matches!(send(alloc, core, timed.task), Answer::Sent(_))),
@@ -423,7 +417,7 @@ fn once(
                 Answer::Posted
             ))
         }
-        _ => own_once(alloc, core, timed, frame, indexes, lists),
+        _ => own_once(alloc, core, timed, frame, indexes, frames),
     }
 }
 
@@ -433,14 +427,14 @@ fn repeat(
     timed: &Timed,
     frame: &mut [u8],
     indexes: &[u32],
-    lists: &mut Lists,
+    frames: &mut Vec<Sending>,
 ) -> u64 {
     if timed.kind == FILL {
         return fill_first(core, timed.task, timed.calls, frame);
     }
     let mut count = 0_u64;
     for _ in 0..timed.calls {
-        count = count.wrapping_add(once(alloc, core, timed, frame, indexes, lists));
+        count = count.wrapping_add(once(alloc, core, timed, frame, indexes, frames));
     }
     count
 }
@@ -462,14 +456,11 @@ pub extern "C" fn core_timed(
         return 0;
     };
     play(alloc, &mut core, events, bytes);
-    let mut lists = Lists {
-        frames: Vec::new(alloc),
-        outcomes: Vec::new(alloc),
-    };
+    let mut frames = Vec::new(alloc);
     let mut count = 0_u64;
     for time in times.iter_mut() {
         let begun = nanoseconds();
-        count = count.wrapping_add(repeat(alloc, &mut core, timed, frame, indexes, &mut lists));
+        count = count.wrapping_add(repeat(alloc, &mut core, timed, frame, indexes, &mut frames));
         *time = nanoseconds().wrapping_sub(begun);
     }
     count
