@@ -20,7 +20,7 @@ pub struct Model {
     /// What tasks see is what stood in the record at the last publishing: so many entries.
     seen: usize,
     publishings: usize,
-    /// The publishing with this number, counted from 1, is refused: what was new shows with the next one.
+    /// The publishing with this number, counted from 1, is refused: what was new shows behind the next turn.
     pub unpublished: Option<usize>,
     /// The posts of each task that weren't taken yet, the oldest first.
     waiting: [Vec<Post>; TASKS as usize],
@@ -69,6 +69,19 @@ impl Model {
         if self.unpublished != Some(self.publishings) {
             self.seen = self.past.len();
         }
+    }
+
+    /// Behind each turn, before which there were so many publishings: one that published nothing publishes what a refused
+    /// publishing left.
+    pub fn catch_up(&mut self, publishings: usize) {
+        if self.publishings == publishings && self.seen < self.past.len() {
+            self.publish();
+        }
+    }
+
+    /// How many publishings there were.
+    pub fn publishings(&self) -> usize {
+        self.publishings
     }
 
     /// Whether there was the publishing that was to be refused.

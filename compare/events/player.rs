@@ -116,6 +116,7 @@ fn answer_lines_from(model: &mut Model, lines: &[&str], first: usize) -> u8 {
     let mut at = 0;
     while at < lines.len() {
         let words: Vec<&str> = lines[at].split(' ').filter(|word| !word.is_empty()).collect();
+        let publishings = model.publishings();
         let closing = lines[at..].iter().position(|line| *line == "%%");
         let answered = match (&words[..], closing) {
             ([], _) => Some(Ok(Vec::new())),
@@ -132,6 +133,7 @@ fn answer_lines_from(model: &mut Model, lines: &[&str], first: usize) -> u8 {
             return 2;
         };
         print(reply);
+        model.catch_up(publishings);
         at += 1;
     }
     0

@@ -54,13 +54,16 @@ impl Publisher {
         let Some(next) = self.front.with::<Copies, Add>(&self.head, &self.writer) else {
             return Err(AllocError);
         };
-        match self.writer.append(Step::Sealed(next.again())) {
+        // the book has the entry from now on, also where the seal is refused
+        let seal = next.again();
+        self.front = next;
+        self.is_sealed = false;
+        match self.writer.append(Step::Sealed(seal)) {
             Ok(()) => {
-                self.front = next;
                 self.is_sealed = true;
                 Ok(())
             }
-            Err(_) => Err(AllocError),
+            Err(_) => return Err(AllocError),
         }
     }
 

@@ -27,22 +27,43 @@ invariant_of-self c =
       one_book = rw same (i.one_book ∙ sym next.0);
       extends = rw (same, kept) (extends_same _ _ last);
       few = few_sealed old _ _ c.in-Ok.ensures.pending (subst (λ z. AreFew false z.steps) (sym c.self.view_is) c.requires);
-      ready = λ (e : true ≡ true). record { before = old; ends = c.in-Ok.ensures.pending ∙ ap (λ f. old ++ Sealed f ∷ []) c.again.ensures; last = rw (same, kept) last };
+      ready = λ (e : true ≡ true). record { before = old; ends = c.in-Ok.ensures.pending ∙ ap (λ f. old ++ Sealed f ∷ []) c.again-seal.ensures; last = rw (same, kept) last };
     }
 
-pub returns-in-Ok-clause-same : goal.returns-in-Ok-clause-same
-returns-in-Ok-clause-same c =
+pub invariant_of-self-in-Err : goal.invariant_of-self-in-Err
+invariant_of-self-in-Err c =
+    let p = c.self.inside in
+    let i = c.self.invariant in
+    let b = board_in p in
+    let same = c.append.ensures.desk in
+    let old = drop p.writer.behind p.writer.log.items in
+    let kept = append_sealed c.append.result old _ _ c.append.ensures.pending in
+    let next = c.in-Some.ensures in
+    let last : top c.in-Some.next.log ≡ all_shown b = ap top next.1 ∙ top-append p.front.log (all_shown b) in
+    record {
+      legal = rw (same, kept) i.legal;
+      knows = rw same i.knows;
+      is_sealed = rw same i.is_sealed;
+      head_is = i.head_is ∙ ap head_of (sym next.0);
+      one_book = rw same (i.one_book ∙ sym next.0);
+      extends = rw (same, kept) (extends_same _ _ last);
+      few = rw (c.in-Err.ensures.pending.1) (subst (λ z. AreFew false z.steps) (sym c.self.view_is) c.requires);
+      ready = λ (e : false ≡ true). cc;
+    }
+
+pub returns-clause-same : goal.returns-clause-same
+returns-clause-same c =
     let w = c.self.inside.writer in
     let old = drop w.behind w.log.items in
     let same = c.append.ensures.desk in
     rw (← c.self.view_is) (ap (λ d. d.shown.value.shown.changes) same, append_sealed c.append.result old _ _ c.append.ensures.pending, ap (λ d. origin d.shown.value) same)
 
-pub returns-in-Ok-clause-ready : goal.returns-in-Ok-clause-ready
-returns-in-Ok-clause-ready c =
+pub returns-clause-ready : goal.returns-clause-ready
+returns-clause-ready c =
     let p = c.self.inside in
     let b = board_in p in
     let same = c.append.ensures.desk in
     let old = drop p.writer.behind p.writer.log.items in
     let kept = append_sealed c.append.result old _ _ c.append.ensures.pending in
     let last : top c.in-Some.next.log ≡ all_shown b = ap top c.in-Some.ensures.1 ∙ top-append p.front.log (all_shown b) in
-    record { before = old; ends = c.in-Ok.ensures.pending ∙ ap (λ f. old ++ Sealed f ∷ []) c.again.ensures; last = rw (same, kept) last }
+    record { before = old; ends = c.in-Ok.ensures.pending ∙ ap (λ f. old ++ Sealed f ∷ []) c.again-seal.ensures; last = rw (same, kept) last }
