@@ -200,5 +200,5 @@ class RowDrawer:
             return f"gap: {where}{said}"
         if len(run.items) > 1:
             return f"{plural(len(numbers), 'variable')}, {numbers[0]} to {numbers[-1]}: {where}{said}"
-        station, _, pdo = self.homes[numbers[0]]
-        return f"variable {numbers[0]} of slave {station}, PDO 0x{pdo:04x}: {where}{said}"
+        home = self.homes[numbers[0]]
+        return f"variable {numbers[0]} of slave {home.slave.station}, PDO 0x{home.pdo.index:04x}: {where}{said}"

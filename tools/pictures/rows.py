@@ -89,7 +89,8 @@ class Rows:
         """The variables of each area, in the order of their bits."""
         found = {}
         for place in sorted(state.variables.values(), key=lambda place: place.bit):
-            found.setdefault(self.project.homes[place.number][:2], []).append(place)
+            home = self.project.homes[place.number]
+            found.setdefault((home.slave.station, home.area.number), []).append(place)
         return found
 
     def of_state(self, state, is_after):

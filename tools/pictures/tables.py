@@ -100,13 +100,12 @@ class Tables:
 
     def variable(self, variable, before, after):
         """A variable; where it is gone its place of before."""
-        station, _, pdo = self.view.project.homes[variable]
-        slave, group = self.slaves[station]
+        home = self.view.project.homes[variable]
         shown, state = (after, self.view.after) if after else (before, self.view.before)
         logical = state.datagrams[shown.task, shown.datagram].address + shown.bit // 8
         cells = [variable, direction_words(shown.direction), shown.bits, shown.task, shown.datagram, shown.bit]
         cells += [f"{shown.bit // 8}.{shown.bit % 8}", f"0x{logical:08x}"]
-        cells += [station, slave.name, group.alias, f"0x{pdo:04x}"]
+        cells += [home.slave.station, home.slave.name, home.group.alias, f"0x{home.pdo.index:04x}"]
         mark = self.mark(before, after)
         if self.is_edited:
             place = f"task {before.task} datagram {before.datagram} bit {before.bit}" if before else ""

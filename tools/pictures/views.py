@@ -4,9 +4,10 @@ import re
 from dataclasses import dataclass
 from enum import Enum
 
-from pictures.asking import Session
-from pictures.project import Project, read_project
 from pictures.states import State, state_of
+from projects.asking import Session
+from projects.files import document_of
+from projects.records import Project, read_project
 
 EDITED = re.compile(r"epoch (\d+) recut (\d+) moved (\d+)")
 # Commands that only look, send or take what arrives: no register block and no place hangs on them.
@@ -126,9 +127,10 @@ def edits_of(content):
     return [[b"\n"] if name and name[0] in PASSED_OVER else lines for name, lines in named]
 
 
-def project_behind(text, edits):
+def project_behind(name, text, edits):
     """The project of a text, and the groups that accepted edits declare."""
-    return read_project(text, [b"".join(lines[1:-1]) for lines in edits if is_declaration(lines)])
+    declared = [b"".join(lines[1:-1]) for lines in edits if is_declaration(lines)]
+    return read_project(document_of(name, text), [document_of("a declared group", document) for document in declared])
 
 
 def view_of(program, name, text, commands):
@@ -139,11 +141,11 @@ def view_of(program, name, text, commands):
     words = [edits[row][0].decode(errors="replace").strip() for row in rows]
     answers = list(zip(words, session.edited()))
     accepted = [(row, *answer) for row, answer in zip(rows, answers) if EDITED.fullmatch(answer[1])]
-    project = project_behind(text, [edits[row] for row, _, _ in accepted])
+    project = project_behind(name, text, [edits[row] for row, _, _ in accepted])
     after = state_of(session, project)
     if not accepted:
         return View(name, project, None, after, None, answers)
     row, edit, said = accepted[-1]
-    earlier = project_behind(text, [edits[row] for row, _, _ in accepted[:-1]])
+    earlier = project_behind(name, text, [edits[row] for row, _, _ in accepted[:-1]])
     before = state_of(Session(program, text, [b"".join(lines) for lines in edits[:row]]), earlier)
     return View(name, project, before, after, Edit(edit, *map(int, EDITED.fullmatch(said).groups())), answers)
