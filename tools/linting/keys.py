@@ -1,0 +1,78 @@
+"""Keys that nothing reads, and areas that TOML gave to another slave than their place in the text suggests."""
+
+from collections.abc import Iterator
+from difflib import get_close_matches
+from itertools import chain
+
+from linting.findings import Finding
+from projects.toml import Node
+
+# The tables of each table, and its other keys. `name` and `allow` may stand in any.
+TABLES = {
+    "": {"slave": "slave", "group": "group", "task": "task"},
+    "group": {"slave": "slave"},
+    "slave": {"area": "area"},
+    "area": {"pdo": "pdo"},
+}
+KEYS = {
+    "group": ["alias"],
+    "slave": ["station"],
+    "area": ["sm", "dir", "phys", "task", "assigned"],
+    "pdo": ["index", "entries", "names"],
+    "task": ["number"],
+}
+ANYWHERE = ["name", "allow"]
+
+
+def unknown_keys(table: Node, kind: str = "", path: str = "") -> Iterator[Finding]:
+    """The keys that nothing reads, in a table and below it."""
+    tables = TABLES.get(kind, {})
+    known = [*tables, *KEYS.get(kind, []), *ANYWHERE]
+    for key, member in table.value.items() if isinstance(table.value, dict) else []:
+        if key not in known:
+            close = get_close_matches(key, known, 1)
+            hint = f"; {close[0]} is" if close else ""
+            yield Finding(member.line, "UnknownKey", f"{key} is no key of a {kind or 'project'}{hint}", path)
+        elif key in tables:
+            for index, item in enumerate(member.items()):
+                yield from unknown_keys(item, tables[key], joined(path, f"{key}[{index}]"))
+
+
+def joined(path: str, step: str) -> str:
+    """A path with one more step."""
+    return f"{path}.{step}" if path else step
+
+
+def stray_areas(document: Node) -> Iterator[Finding]:
+    """Areas, and PDOs of areas, between which and their slave the header of another slave or of a group stands."""
+    groups = document.get("group")
+    mandatory = document.get("slave")
+    listed = [*(groups.items() if groups else []), *(mandatory.items() if mandatory else [])]
+    slaves = chain.from_iterable(slaves_of(group, f"group[{at}]") for at, group in enumerate(groups.items() if groups else []))
+    for path, slave in chain(slaves_of(document, ""), slaves):
+        lines = sorted(header.line for header in listed if header.line > slave.line)
+        between = lines[0] if lines else None
+        for inner, table in tables_below(slave, path):
+            if between and table.line > between:
+                kind = "PDO" if "pdo[" in inner else "area"
+                station = slave.get("station")
+                owner = f"slave {station.value}" if station else "a slave without a station address"
+                words = f"this {kind} is of {owner} on line {slave.line}, not of what line {between} begins"
+                yield Finding(table.line, "StrayArea", words, inner)
+
+
+def slaves_of(table: Node, path: str) -> Iterator[tuple[str, Node]]:
+    """The slaves of a document or a group with their paths."""
+    found = table.get("slave")
+    for index, slave in enumerate(found.items() if found else []):
+        yield joined(path, f"slave[{index}]"), slave
+
+
+def tables_below(slave: Node, path: str) -> Iterator[tuple[str, Node]]:
+    """The areas of a slave and their PDOs, with their paths."""
+    areas = slave.get("area")
+    for at, area in enumerate(areas.items() if areas else []):
+        yield f"{path}.area[{at}]", area
+        pdos = area.get("pdo")
+        for place, pdo in enumerate(pdos.items() if pdos else []):
+            yield f"{path}.area[{at}].pdo[{place}]", pdo
