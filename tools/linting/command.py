@@ -6,7 +6,7 @@ from pathlib import Path
 from linting.buffers import buffer_findings
 from linting.checking import fault_of
 from linting.findings import Finding, remaining
-from linting.keys import slaves_of, stray_areas, unknown_keys
+from linting.keys import every_slave, stray_areas, unknown_keys
 from linting.sharing import shared_tasks
 from projects.asking import BUILT, Program
 from projects.faults import FINDINGS, FINE
@@ -51,17 +51,9 @@ def open_findings(document: Node, text: bytes, program: Program) -> list[Finding
     wrong = [Finding(fault.line, fault.kind, fault.words) for fault in names.faults]
     return [
         *wrong,
-        *buffer_findings(project, paths_of(document)),
+        *buffer_findings(project, {slave.get("station").value: path for path, slave in every_slave(document)}),
         *shared_tasks(project, names, program, text),
     ]
-
-
-def paths_of(document: Node) -> dict[int, str]:
-    """The path of each slave by its station address."""
-    groups = document.get("group")
-    tables = [("", document)]
-    tables += [(f"group[{index}]", group) for index, group in enumerate(groups.items() if groups else [])]
-    return {slave.get("station").value: path for front, table in tables for path, slave in slaves_of(table, front)}
 
 
 def run(words: list[str]) -> int:

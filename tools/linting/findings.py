@@ -38,15 +38,14 @@ class Allowance:
 
     def covers(self, finding: Finding) -> bool:
         """Whether a finding is of the kind and lies in the table."""
-        inside = not self.path or finding.path == self.path or finding.path.startswith((f"{self.path}.", f"{self.path}["))
-        return inside and finding.kind == self.kind
+        inside = not self.path or finding.path == self.path or finding.path.startswith(f"{self.path}.")
+        return inside and finding.kind == self.kind and self.kind in ALLOWED
 
 
 def allowances(document: Node) -> Iterator[Allowance]:
     """What the tables of a document say is meant."""
     for path, node in walked(document):
-        allow = node.get("allow")
-        for item in allow.items() if allow else []:
+        for item in node.listed("allow"):
             yield Allowance(path, str(item.value), item.line)
 
 

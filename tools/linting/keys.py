@@ -1,8 +1,8 @@
 """Keys that nothing reads, and areas that TOML gave to another slave than their place in the text suggests."""
 
+import math
 from collections.abc import Iterator
 from difflib import get_close_matches
-from itertools import chain
 
 from linting.findings import Finding
 from projects.toml import Node
@@ -45,15 +45,11 @@ def joined(path: str, step: str) -> str:
 
 def stray_areas(document: Node) -> Iterator[Finding]:
     """Areas, and PDOs of areas, between which and their slave the header of another slave or of a group stands."""
-    groups = document.get("group")
-    mandatory = document.get("slave")
-    listed = [*(groups.items() if groups else []), *(mandatory.items() if mandatory else [])]
-    slaves = chain.from_iterable(slaves_of(group, f"group[{at}]") for at, group in enumerate(groups.items() if groups else []))
-    for path, slave in chain(slaves_of(document, ""), slaves):
-        lines = sorted(header.line for header in listed if header.line > slave.line)
-        between = lines[0] if lines else None
+    headers = [node.line for node in [*document.listed("group"), *document.listed("slave")]]
+    for path, slave in every_slave(document):
+        between = min((line for line in headers if line > slave.line), default=math.inf)
         for inner, table in tables_below(slave, path):
-            if between and table.line > between:
+            if table.line > between:
                 kind = "PDO" if "pdo[" in inner else "area"
                 station = slave.get("station")
                 owner = f"slave {station.value}" if station else "a slave without a station address"
@@ -61,18 +57,17 @@ def stray_areas(document: Node) -> Iterator[Finding]:
                 yield Finding(table.line, "StrayArea", words, inner)
 
 
-def slaves_of(table: Node, path: str) -> Iterator[tuple[str, Node]]:
-    """The slaves of a document or a group with their paths."""
-    found = table.get("slave")
-    for index, slave in enumerate(found.items() if found else []):
-        yield joined(path, f"slave[{index}]"), slave
+def every_slave(document: Node) -> Iterator[tuple[str, Node]]:
+    """The slaves of a document, those of groups too, with their paths."""
+    tables = [("", document), *((f"group[{index}]", group) for index, group in enumerate(document.listed("group")))]
+    for path, table in tables:
+        for index, slave in enumerate(table.listed("slave")):
+            yield joined(path, f"slave[{index}]"), slave
 
 
 def tables_below(slave: Node, path: str) -> Iterator[tuple[str, Node]]:
     """The areas of a slave and their PDOs, with their paths."""
-    areas = slave.get("area")
-    for at, area in enumerate(areas.items() if areas else []):
+    for at, area in enumerate(slave.listed("area")):
         yield f"{path}.area[{at}]", area
-        pdos = area.get("pdo")
-        for place, pdo in enumerate(pdos.items() if pdos else []):
+        for place, pdo in enumerate(area.listed("pdo")):
             yield f"{path}.area[{at}].pdo[{place}]", pdo

@@ -7,8 +7,8 @@ from pictures.elements import element, label, opened, plural, spelt, text, void
 from pictures.heading import footing, heading
 from pictures.row_drawing import RowDrawer, badge_at
 from pictures.rows import Row, Rows, scale_of
-from pictures.style import PICTURE
-from pictures.views import Mark, Marks
+from pictures.style import PAPER, PICTURE
+from pictures.views import Mark
 
 MARGIN = 16
 CAPTIONS = BARS - 8
@@ -22,8 +22,8 @@ class Picture:
 
     def __init__(self, view, top):
         self.view, self.y, self.content = view, top, []
-        self.drawer = RowDrawer(view.project)
-        rows = Rows(view.project, Marks(view))
+        self.drawers = {is_after: RowDrawer(view.declares(is_after)) for is_after in (False, True)}
+        rows = Rows(view)
         self.after = rows.of_state(view.after, True)
         self.before = rows.of_state(view.before, False) if view.before else {}
 
@@ -41,7 +41,7 @@ class Picture:
         """The task with the bytes of its outputs and inputs."""
         told = self.parts_of(task)
         self.y += 16
-        content = [label(MARGIN, self.y, f"Task {task}", "task")]
+        content = [label(MARGIN, self.y, f"Task {task} {self.view.task_name(task)}".rstrip(), "task")]
         for row, (name, (outputs, inputs)) in enumerate(told):
             said = f"{plural(outputs, 'byte')} of outputs, {plural(inputs, 'byte')} of inputs"
             said = said if self.view.before is None else f"{STATE_WORDS[name]}: {said}"
@@ -76,7 +76,7 @@ class Picture:
 
     def add_row(self, row, length):
         """A row with its numbers at the left: where its areas stand."""
-        content, bar, runs = self.drawer.drawn(row, self.y, length)
+        content, bar, runs = self.drawers[row.state != "before"].drawn(row, self.y, length)
         datagram = row.datagram
         told = {
             "data_state": row.state,
@@ -157,11 +157,11 @@ def width_of(view):
 
 
 def told_of(view):
-    """What the picture as a whole stands for: the epochs, and the edit with its answer."""
+    """What the picture as a whole stands for: the epochs, and what lies between them."""
     told = {"data_epoch": view.after.epoch}
-    if view.edit:
-        told |= {"data_epoch_before": view.before.epoch, "data_edit": view.edit.words}
-        told |= {"data_recut": view.edit.recut, "data_moved": view.edit.moved}
+    if view.change:
+        told |= {"data_epoch_before": view.before.epoch, "data_change": view.change.words}
+        told |= {"data_recut": view.change.recut, "data_moved": view.change.moved}
     return told
 
 
@@ -186,7 +186,7 @@ def picture(view, style=PICTURE):
         element("title", f"The line of {text(view.name)}, epoch {view.after.epoch}"),
         element("style", style) if style else "",
         element("defs", hatch()),
-        void("rect", kind="paper", width="100%", height="100%"),
+        void("rect", kind="paper", width="100%", height="100%", fill=PAPER),
         head,
         *drawn.content,
         foot,

@@ -71,10 +71,9 @@ def heading(view, left, width):
     """The markup above the rows, and where it ends."""
     words = Words(left, 10, width)
     words.add(f"{view.name}: the line in epoch {view.after.epoch}", "heading")
-    if view.edit:
-        edit = view.edit
-        said = f": from epoch {view.before.epoch} to epoch {edit.epoch}, recut {edit.recut}, moved {edit.moved}"
-        words.add(cut(edit.words, int((width - 2 * left) / CHARACTER) - len(said)) + said)
+    if view.change:
+        said = view.said_of_change()
+        words.add(cut(view.change.words, int((width - 2 * left) / CHARACTER) - len(said)) + said)
     refused = [f"{asked}: {said}" for asked, said in view.answers if said.startswith("refused")]
     words.add_list("Refused", refused)
     groups = view.project.groups
@@ -82,7 +81,8 @@ def heading(view, left, width):
     words.add_list("Present", [group_words(group) for group in present])
     words.add_list("Absent", [group_words(group) for group in groups if group not in present])
     written = view.blocks_to_write()
-    words.add_list("Blocks to write", block_phrases(written), 3)
+    differ = view.change and view.change.is_other_text
+    words.add_list("Blocks that differ" if differ else "Blocks to write", block_phrases(written), 3)
     told = {
         "data_present": " ".join(str(group.alias) for group in present),
         "data_written": " ".join(f"{station}/0x{block.register:04x}" for station, _, block in written),
@@ -118,7 +118,7 @@ def legend(view, left, top, width):
     ]
     content, x, y = [], left, top
     entries = [(chip(*sample[:3]), sample[3]) for sample in samples]
-    if view.edit:
+    if view.change:
         entries += [(badge_at(CHIP - 12, 1, mark), words) for mark, words in MARK_WORDS.items()]
     for drawn, words in entries:
         broad = CHIP + 8 + len(words) * CHARACTER + 18

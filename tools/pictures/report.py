@@ -2,7 +2,7 @@
 
 from pictures.drawing import picture
 from pictures.elements import element, plural, text
-from pictures.page import SCRIPT, STYLE
+from pictures.page import SCRIPT, style_of
 from pictures.style import MARK_LETTERS, PICTURE
 from pictures.tables import Tables
 
@@ -32,9 +32,9 @@ def summary(view):
         plural(len(state.variables), "variable"),
     ]
     said = f"Epoch {state.epoch}: {', '.join(counts)}."
-    if view.edit:
+    if view.change:
         marks = ", ".join(f"{letter} {mark.value}" for mark, letter in MARK_LETTERS.items())
-        said += f" The picture and the tables show the edit {view.edit.words}, before and after: {marks}."
+        said += f" Picture and tables show {view.change.words}{view.said_of_change()}, before and after: {marks}."
     return element("p", text(said))
 
 
@@ -45,7 +45,7 @@ def report(view):
         '<meta charset="utf-8">',
         '<meta name="viewport" content="width=device-width, initial-scale=1">',
         element("title", text(title)),
-        element("style", STYLE + PICTURE),
+        element("style", style_of(tables.columns()) + PICTURE),
     ]
     body = [
         element("h1", text(title)),

@@ -23,13 +23,14 @@ def area_words(run, slaves):
     return [f"{manager} {name}", manager, short] if name else [manager, short]
 
 
-def cell_words(run):
-    """What a variable, a gap or a run of cells may be called: the longest name first, and the shortest one last."""
+def cell_words(run, homes):
+    """What a variable, a gap or a run of cells may be called: a name or the longest words first, the shortest last."""
     numbers = [cell.number for cell in run.items if cell.number is not None]
     if not numbers:
         return ["gap", "–"]
     if len(run.items) == 1:
-        return [str(numbers[0])]
+        name = homes[numbers[0]].entry.name
+        return [name, str(numbers[0])] if name else [str(numbers[0])]
     if len(numbers) == 1:
         return ["1 variable", "×1"]
     ends = f"{numbers[0]}…{numbers[-1]}"
@@ -129,7 +130,7 @@ class RowDrawer:
             for run, _ in cells
         ]
         numbers = [
-            VARIABLE_NAMES.upright_height(cell_words(cell), cell.bits * scale / 8)
+            VARIABLE_NAMES.upright_height(cell_words(cell, self.homes), cell.bits * scale / 8)
             for _, below in cells
             for cell in below
         ]
@@ -174,7 +175,7 @@ class RowDrawer:
         box = void("rect", kind="cell", x=x, y=y, width=width, height=height)
         bits = BITS_NAMES.fitting(bits_words(run, areas.mark), width)
         size = label(x + width / 2, y + height - 4, bits, "small", text_anchor="middle") if bits else ""
-        name = bar.name(VARIABLE_NAMES, cell_words(run), run, y, bar.cell)
+        name = bar.name(VARIABLE_NAMES, cell_words(run, self.homes), run, y, bar.cell)
         content = [element("title", text(self.cell_title(run))), box, name, size]
         kind, told = self.told(run)
         kind = f"{kind} {direction} {run.mark.value}{'' if run.mark is areas.mark else ' own'}"
@@ -201,4 +202,5 @@ class RowDrawer:
         if len(run.items) > 1:
             return f"{plural(len(numbers), 'variable')}, {numbers[0]} to {numbers[-1]}: {where}{said}"
         home = self.homes[numbers[0]]
-        return f"variable {numbers[0]} of slave {home.slave.station}, PDO 0x{home.pdo.index:04x}: {where}{said}"
+        called = f"{numbers[0]} {home.entry.name}".rstrip()
+        return f"variable {called} of slave {home.slave.station}, PDO 0x{home.pdo.index:04x}: {where}{said}"

@@ -3,7 +3,7 @@
 from dataclasses import dataclass
 
 from pictures.states import AreaPlace, Datagram
-from pictures.views import Mark
+from pictures.views import Mark, Marks
 
 # A row is as wide as this where its bytes are then broad enough, else as a datagram of 1,486 bytes asks for.
 ROOM, LONG_ROOM = 832, 1486
@@ -82,20 +82,20 @@ def way_words(other, is_after):
 class Rows:
     """Makes the rows of a view's states."""
 
-    def __init__(self, project, marks):
-        self.project, self.marks = project, marks
+    def __init__(self, view):
+        self.view, self.marks = view, Marks(view)
 
-    def variables_by_area(self, state):
+    def variables_by_area(self, state, is_after):
         """The variables of each area, in the order of their bits."""
-        found = {}
+        found, homes = {}, self.view.declares(is_after).homes
         for place in sorted(state.variables.values(), key=lambda place: place.bit):
-            home = self.project.homes[place.number]
+            home = homes[place.number]
             found.setdefault((home.slave.station, home.area.number), []).append(place)
         return found
 
     def of_state(self, state, is_after):
         """The rows of a state by task and datagram."""
-        variables = self.variables_by_area(state)
+        variables = self.variables_by_area(state, is_after)
         return {name: self.row(state, datagram, variables, is_after) for name, datagram in state.datagrams.items()}
 
     def row(self, state, datagram, variables, is_after):

@@ -1,12 +1,14 @@
-"""What is drawn: a line alone, or the line before and after the last accepted edit, with what moved."""
+"""What is drawn: a line alone, or beside it the line before its last edits or that of another text, with what moved."""
 
 import re
 from dataclasses import dataclass
 from enum import Enum
 
 from pictures.states import State, state_of
-from projects.asking import Session
+from projects.asking import Program, Session
+from projects.faults import Refusal
 from projects.files import document_of
+from projects.names import names_of
 from projects.records import Project, read_project
 
 EDITED = re.compile(r"epoch (\d+) recut (\d+) moved (\d+)")
@@ -27,28 +29,32 @@ class Mark(Enum):
 
 
 @dataclass(frozen=True)
-class Edit:
-    """An accepted edit, and what the program answered."""
+class Change:
+    """What lies between the two lines: edits, of a single one with its answer, or that the first is another text's."""
 
     words: str
-    epoch: int
-    recut: int
-    moved: int
+    is_other_text: bool = False
+    recut: int | None = None
+    moved: int | None = None
 
 
 @dataclass(frozen=True)
 class View:
-    """A line, and the line before its last edit. `answers` has each edit that was asked for with its answer."""
+    """A line, and perhaps one before it, each with the project that declares it.
+
+    `answers` has each edit that was asked for with its answer.
+    """
 
     name: str
     project: Project
-    before: State | None
     after: State
-    edit: Edit | None
-    answers: list
+    answers: list[tuple[str, str]]
+    earlier: Project | None = None
+    before: State | None = None
+    change: Change | None = None
 
     def blocks_to_write(self):
-        """The blocks of the line that weren't there before the edit with the same bytes, as (station, row, block)."""
+        """The blocks of the line that weren't there before with the same bytes, as (station, row, block)."""
         if self.before is None:
             return []
         return [
@@ -57,6 +63,22 @@ class View:
             for row, block in enumerate(blocks)
             if block not in self.before.blocks.get(station, [])
         ]
+
+    def declares(self, is_after):
+        """The project of the line, or of the one before it."""
+        return self.project if is_after or self.earlier is None else self.earlier
+
+    def task_name(self, task):
+        """What people call a task, or nothing."""
+        return self.project.tasks.get(task) or self.declares(False).tasks.get(task, "")
+
+    def said_of_change(self):
+        """What lies between the two lines, behind its words."""
+        change, before, after = self.change, self.before.epoch, self.after.epoch
+        if change.is_other_text:
+            return f": its line in epoch {before}"
+        answer = "" if change.moved is None else f", recut {change.recut}, moved {change.moved}"
+        return f": from epoch {before} to epoch {after}{answer}"
 
 
 class Marks:
@@ -105,12 +127,12 @@ def areas_by_name(state):
     return {(place.station, place.area): place for places in state.areas.values() for place in places}
 
 
-def is_declaration(lines):
+def is_declaration(lines: list[bytes]) -> bool:
     """Whether some lines begin with a `declare`."""
     return lines[0].split() == [b"declare"]
 
 
-def commands_in(content):
+def commands_in(content: bytes) -> list[list[bytes]]:
     """The lines of each command: one, or those of a `declare` up to the one that ends its document."""
     commands, lines = [], []
     for line in content.split(b"\n"):
@@ -121,31 +143,76 @@ def commands_in(content):
     return commands + [lines] if lines else commands
 
 
-def edits_of(content):
+def edits_of(content: bytes) -> list[list[bytes]]:
     """The commands, with those blank that are no edits: so the program counts lines as in the file."""
     named = [(lines[0].split()[:1], lines) for lines in commands_in(content)]
     return [[b"\n"] if name and name[0] in PASSED_OVER else lines for name, lines in named]
 
 
-def project_behind(name, text, edits):
-    """The project of a text, and the groups that accepted edits declare."""
-    declared = [b"".join(lines[1:-1]) for lines in edits if is_declaration(lines)]
-    return read_project(document_of(name, text), [document_of("a declared group", document) for document in declared])
+@dataclass(frozen=True)
+class Edit:
+    """An accepted edit: its row among the commands, its words, and the numbers of its answer."""
+
+    row: int
+    words: str
+    epoch: int
+    recut: int
+    moved: int
 
 
-def view_of(program, name, text, commands):
-    """Asks the program for the line behind the commands, and for the line before their last accepted edit."""
-    edits = edits_of(commands)
-    session = Session(program, text, [b"".join(lines) for lines in edits])
-    rows = [row for row, lines in enumerate(edits) if lines[0].strip()]
-    words = [edits[row][0].decode(errors="replace").strip() for row in rows]
-    answers = list(zip(words, session.edited()))
-    accepted = [(row, *answer) for row, answer in zip(rows, answers) if EDITED.fullmatch(answer[1])]
-    project = project_behind(name, text, [edits[row] for row, _, _ in accepted])
-    after = state_of(session, project)
-    if not accepted:
-        return View(name, project, None, after, None, answers)
-    row, edit, said = accepted[-1]
-    earlier = project_behind(name, text, [edits[row] for row, _, _ in accepted[:-1]])
-    before = state_of(Session(program, text, [b"".join(lines) for lines in edits[:row]]), earlier)
-    return View(name, project, before, after, Edit(edit, *map(int, EDITED.fullmatch(said).groups())), answers)
+class Run:
+    """A project text with its edits, and what the program answered to each."""
+
+    def __init__(self, program: Program, name: str, text: bytes, commands: bytes) -> None:
+        self.program, self.name, self.text = program, name, text
+        self.commands = edits_of(commands)
+        rows = [row for row, lines in enumerate(self.commands) if lines[0].strip()]
+        words = [self.commands[row][0].decode(errors="replace").strip() for row in rows]
+        self.answers = list(zip(words, self.session(self.commands).edited()))
+        self.edits = [
+            Edit(row, asked, *map(int, found.groups()))
+            for row, (asked, said) in zip(rows, self.answers)
+            if (found := EDITED.fullmatch(said))
+        ]
+
+    def session(self, commands: list[list[bytes]]) -> Session:
+        """The text behind some commands."""
+        return Session(self.program, self.text, [b"".join(lines) for lines in commands])
+
+    def line(self, count: int) -> tuple[Project, State]:
+        """The line behind so many accepted edits, and the project that declares it."""
+        commands = self.commands[: self.edits[count].row] if count < len(self.edits) else self.commands
+        accepted = [self.commands[edit.row] for edit in self.edits[:count]]
+        declared = [b"".join(lines[1:-1]) for lines in accepted if is_declaration(lines)]
+        documents = [document_of("a declared group", document) for document in declared]
+        project = read_project(document_of(self.name, self.text), documents)
+        names_of(project)
+        return project, state_of(self.session(commands), project)
+
+    def edits_since(self, epoch: int | None) -> list[Edit]:
+        """The accepted edits behind an epoch, or the last one."""
+        if epoch is None:
+            return self.edits[-1:]
+        last = self.edits[-1].epoch if self.edits else 0
+        if not 0 <= epoch < last:
+            raise Refusal(f"NoSuchEpoch: no edit was accepted behind epoch {epoch}; the line is in epoch {last}")
+        return [edit for edit in self.edits if edit.epoch > epoch]
+
+
+def view_since(run: Run, epoch: int | None) -> View:
+    """The line behind all commands, beside that of an epoch or, without one, that before the last accepted edit."""
+    project, after = run.line(len(run.edits))
+    edits = run.edits_since(epoch)
+    if not edits:
+        return View(run.name, project, after, run.answers)
+    earlier, before = run.line(len(run.edits) - len(edits))
+    numbers = (edits[0].recut, edits[0].moved) if len(edits) == 1 else (None, None)
+    change = Change("; ".join(edit.words for edit in edits), False, *numbers)
+    return View(run.name, project, after, run.answers, earlier, before, change)
+
+
+def view_against(run: Run, other: Run) -> View:
+    """The line behind all commands, beside that of another text behind all of its own."""
+    project, after = run.line(len(run.edits))
+    earlier, before = other.line(len(other.edits))
+    return View(run.name, project, after, run.answers, earlier, before, Change(f"against {other.name}", True))

@@ -213,8 +213,7 @@ class Records:
     def tasks(self, document: Node) -> dict[int, tuple[str, int]]:
         """The names of tasks by number, each with its line."""
         named: dict[int, tuple[str, int]] = {}
-        array = document.get("task")
-        for table in array.items() if array else []:
+        for table in document.listed("task"):
             number, name = table.get("number"), name_of(table)
             if number is None or type(number.value) is not int or not 0 <= number.value < TASKS:
                 self.fault(table.line, "NoSuchTask", f"a named task has no number from 0 to {TASKS - 1}")

@@ -54,6 +54,11 @@ class Node:
         """The items of an array; none where this is no array."""
         return self.value if isinstance(self.value, list) else []
 
+    def listed(self, key: str) -> "list[Node]":
+        """The items of the array that a table holds at a key; none where there is no such array."""
+        found = self.get(key)
+        return found.items() if found else []
+
     def plain(self) -> object:
         """The value without lines, in dicts and lists."""
         if isinstance(self.value, dict):
