@@ -75,17 +75,19 @@ def parsed(words: list[str]) -> argparse.Namespace:
     )
     parser.add_argument("files", nargs="+", metavar="DEVICE.xml", help="ESI files (ETG.2000)")
     parser.add_argument("--list", action="store_true", help="list the devices with their PDOs and write nothing")
-    parser.add_argument("--station", type=integer(1, LAST_STATION), default=1001, help="address of the first slave (1001)")
+    parser.add_argument("--station", type=integer(1, LAST_STATION), default=1001, help="the first address (1001)")
     parser.add_argument("--task", type=integer(0, 7), default=0, help="the task of all areas (0)")
-    parser.add_argument("--variable", type=integer(1, 2**32 - 1), help="the first variable (station times 1000, and 1)")
+    parser.add_argument("--variable", type=integer(1, 2**32 - 1), help="first variable (1000 a station)")
     parser.add_argument("--alias", type=integer(1, 65535), help="write a group with this alias, a tool or a module")
     parser.add_argument("--group", default="", metavar="NAME", help="that group's name")
     parser.add_argument("--device", action=DeviceAction, metavar="TYPE[@REVISION]", help="a slave; may be repeated")
     own = parser.add_argument_group("of the --device before")
     own.add_argument("--name", action=OfDevice, help="the slave's name (its type)")
     own.add_argument("--prefix", action=OfDevice, help="what its variables' names begin with (type and station)")
-    own.add_argument("--assign", action=OfDevice, dest="assigned", type=pdos_of, metavar="SM=PDO,..", help="assigned PDOs")
-    own.add_argument("--offer", action=OfDevice, dest="offered", type=offered_of, metavar="SM=PDO,..|SM=all")
+    assigned = {"dest": "assigned", "type": pdos_of, "metavar": "SM=PDO,.."}
+    offered = {"dest": "offered", "type": offered_of, "metavar": "SM=PDO,..|SM=all"}
+    own.add_argument("--assign", action=OfDevice, help="PDOs that are assigned in place of the file's", **assigned)
+    own.add_argument("--offer", action=OfDevice, help="PDOs that are offered beside those", **offered)
     parser.set_defaults(devices=[])
     return parser.parse_args(words)
 

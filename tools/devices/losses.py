@@ -33,7 +33,7 @@ CONTROL_BITS = [
 
 @dataclass(frozen=True)
 class Loss:
-    """What the text doesn't say, by a kind that stays the same. Where it differs, the slave won't work as the file says."""
+    """What the text doesn't say, by a kind that stays the same, and whether the slave then works otherwise."""
 
     kind: str
     words: str
@@ -80,7 +80,8 @@ def area_losses(area: ChosenArea) -> Iterator[Loss]:
         yield left_out("AreaTooBig", f"{at} has {area.assigned_bytes()} bytes assigned, over {MOST_BITS // 8}")
     written = CONTROL[manager.direction]
     if manager.control != written:
-        yield Loss("ControlByte", f"{at} has 0x{manager.control:02x}, 0x{written:02x} is written{control_words(manager)}", True)
+        words = f"{at} has 0x{manager.control:02x}, 0x{written:02x} is written{control_words(manager)}"
+        yield Loss("ControlByte", words, True)
 
 
 def left_out(kind: str, words: str) -> Loss:

@@ -164,6 +164,6 @@ def devices_of(root: Element) -> list[Device]:
     """All devices of a file."""
     if root.tag != "EtherCATInfo":
         raise Refusal(f"line {root.line}: NoEsi: the file begins with {root.tag} in place of EtherCATInfo")
-    devices = root.first("Descriptions", "Devices")
-    vendor = root.first("Vendor")
-    return [device(found, number_at(vendor, "Id") if vendor else 0) for found in devices.all("Device")] if devices else []
+    devices, vendor = root.first("Descriptions", "Devices"), root.first("Vendor")
+    identity = number_at(vendor, "Id") if vendor else 0
+    return [device(found, identity) for found in devices.all("Device")] if devices else []

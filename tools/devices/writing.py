@@ -44,7 +44,7 @@ def identifier(*words: str) -> str:
 
 
 def names_of(prefix: str, places: list[tuple[DevicePdo, DeviceEntry]]) -> list[str]:
-    """A name for each variable, no two alike: by its entry, by PDO and entry where that isn't enough, or by its object."""
+    """A name for each variable, no two alike: by its entry, or by PDO and entry, or by its object too."""
     forms = [
         [
             identifier(prefix, entry.name),

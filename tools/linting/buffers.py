@@ -10,7 +10,7 @@ BUFFERS = 3
 
 
 def buffer_findings(project: Project, paths: dict[int, str]) -> Iterator[Finding]:
-    """Buffers that overlap in a slave or end behind its memory: as its PDOs are assigned, or once all offered ones are."""
+    """Buffers that overlap or end behind the memory: as a slave's PDOs are assigned, or once all offered ones are."""
     for slave, _ in project.slaves():
         now = list(faults_of(slave, assigned_bytes))
         later = [words for words in faults_of(slave, offered_bytes) if not now]

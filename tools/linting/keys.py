@@ -48,13 +48,22 @@ def stray_areas(document: Node) -> Iterator[Finding]:
     headers = [node.line for node in [*document.listed("group"), *document.listed("slave")]]
     for path, slave in every_slave(document):
         between = min((line for line in headers if line > slave.line), default=math.inf)
-        for inner, table in tables_below(slave, path):
-            if table.line > between:
-                kind = "PDO" if "pdo[" in inner else "area"
-                station = slave.get("station")
-                owner = f"slave {station.value}" if station else "a slave without a station address"
-                words = f"this {kind} is of {owner} on line {slave.line}, not of what line {between} begins"
-                yield Finding(table.line, "StrayArea", words, inner)
+        for inner, kind, table in behind(slave, path, between):
+            station = slave.get("station")
+            owner = f"slave {station.value}" if station else "a slave without a station address"
+            words = f"this {kind} is of {owner} on line {slave.line}, not of what line {between} begins"
+            yield Finding(table.line, "StrayArea", words, inner)
+
+
+def behind(slave: Node, path: str, line: float) -> Iterator[tuple[str, str, Node]]:
+    """The areas of a slave that begin behind a line, and the PDOs that do of those that don't, with path and kind."""
+    for at, area in enumerate(slave.listed("area")):
+        if area.line > line:
+            yield f"{path}.area[{at}]", "area", area
+            continue
+        for place, pdo in enumerate(area.listed("pdo")):
+            if pdo.line > line:
+                yield f"{path}.area[{at}].pdo[{place}]", "PDO", pdo
 
 
 def every_slave(document: Node) -> Iterator[tuple[str, Node]]:
@@ -63,11 +72,3 @@ def every_slave(document: Node) -> Iterator[tuple[str, Node]]:
     for path, table in tables:
         for index, slave in enumerate(table.listed("slave")):
             yield joined(path, f"slave[{index}]"), slave
-
-
-def tables_below(slave: Node, path: str) -> Iterator[tuple[str, Node]]:
-    """The areas of a slave and their PDOs, with their paths."""
-    for at, area in enumerate(slave.listed("area")):
-        yield f"{path}.area[{at}]", area
-        for place, pdo in enumerate(area.listed("pdo")):
-            yield f"{path}.area[{at}].pdo[{place}]", pdo

@@ -1,4 +1,4 @@
-"""Groups that share a task with others: connecting one moves areas of the others, and pulling it spoils their counter."""
+"""Groups that share a task with others: connecting one moves their areas, and pulling it spoils their counter."""
 
 import re
 from collections.abc import Iterator
@@ -59,8 +59,8 @@ class Costs:
     def words(self, group: Group) -> str:
         """What connecting a group costs."""
         own = 2 * sum(len(slave.areas) for slave in group.slaves)
-        opening, full = self.alone[group.alias], self.beside[group.alias]
-        return f"connecting it {cost_words(opening)}, with all groups present {cost_words(full)}; {own} blocks are its own"
+        opening, full = cost_words(self.alone[group.alias]), cost_words(self.beside[group.alias])
+        return f"connecting it {opening}, with all groups present {full}; {own} blocks are its own"
 
 
 def cost_words(answer: str) -> str:

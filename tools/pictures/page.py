@@ -21,9 +21,10 @@ th button:focus-visible {{ outline: 2px solid currentColor; }}
 th button::after {{ content: " \\2195"; color: var(--quiet); }}
 th[aria-sort=ascending] button::after {{ content: " \\2191"; color: var(--ink); }}
 th[aria-sort=descending] button::after {{ content: " \\2193"; color: var(--ink); }}
-tr.new td:first-child {{ box-shadow: inset 4px 0 {GREEN}; padding-left: 0.7rem; }}
-tr.moved td:first-child {{ box-shadow: inset 4px 0 {VERMILLION}; padding-left: 0.7rem; }}
-tr.gone td:first-child {{ box-shadow: inset 4px 0 {PURPLE}; padding-left: 0.7rem; }}
+tr:is(.new, .moved, .gone) td:first-child {{ padding-left: 0.7rem; white-space: nowrap; }}
+tr.new td:first-child {{ box-shadow: inset 4px 0 {GREEN}; }}
+tr.moved td:first-child {{ box-shadow: inset 4px 0 {VERMILLION}; }}
+tr.gone td:first-child {{ box-shadow: inset 4px 0 {PURPLE}; }}
 .found {{ color: var(--quiet); margin-left: 0.7rem; }}
 input {{ font: inherit; padding: 0.2rem 0.4rem; width: 22rem; max-width: 100%; }}
 @media print {{
@@ -37,13 +38,13 @@ input {{ font: inherit; padding: 0.2rem 0.4rem; width: 22rem; max-width: 100%; }
   tr {{ break-inside: avoid; }}
   h2 {{ break-after: avoid; }}
   .scrolled {{ overflow: visible; border: none; }}
-  .picture {{ width: 100%; height: auto; max-height: 180mm; }}
+  .picture {{ width: 100%; height: auto; max-height: 145mm; }}
 }}
 """
 MONOSPACED = 'font-family: "DejaVu Sans Mono", Menlo, Consolas, monospace; overflow-wrap: anywhere; min-width: 6rem'
 
 
-def style_of(columns):
+def style_of(columns: dict[str, list[str]]) -> str:
     """The report's style; the columns of each table tell which cells are numbers, and which are code."""
     numbers, code = selectors(columns, "number", "td", "th"), selectors(columns, "code", "td")
     return with_plain(f"{STYLE}{numbers} {{ text-align: right; }}\n{code} {{ {MONOSPACED}; }}\n")

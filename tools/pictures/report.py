@@ -5,12 +5,13 @@ from pictures.elements import element, plural, text
 from pictures.page import SCRIPT, style_of
 from pictures.style import MARK_LETTERS, PICTURE
 from pictures.tables import Tables
+from pictures.views import View
 
 # More edits than these are shown only where they are asked for.
 FEW = 12
 
 
-def answers(view):
+def answers(view: View) -> str:
     """The edits that were asked for, each with what the program answered."""
     if not view.answers:
         return ""
@@ -21,7 +22,7 @@ def answers(view):
     return element("details", title, table, open="open" if len(rows) <= FEW else None)
 
 
-def summary(view):
+def summary(view: View) -> str:
     """The line in a sentence."""
     state = view.after
     total = sum(datagram.length for datagram in state.datagrams.values())
@@ -38,7 +39,7 @@ def summary(view):
     return element("p", text(said))
 
 
-def report(view):
+def report(view: View) -> str:
     """The HTML document of a view; nothing in it is taken from elsewhere."""
     title, tables = f"{view.name}: the line in epoch {view.after.epoch}", Tables(view)
     head = [

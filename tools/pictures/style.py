@@ -22,18 +22,19 @@ DARK = {"paper": "#12161b", "ink": "#e9edf1", "quiet": "#a3adb8", "fine": "#3d47
 THEMED = re.compile(r"([\w-]+): ([^;{}]*)var\(--(\w+)\);")
 
 
-def variables(colours):
+def variables(colours: dict[str, str]) -> str:
     """The declarations of colours by name."""
     return "; ".join(f"--{name}: {colour}" for name, colour in colours.items())
 
 
-def with_plain(style):
-    """A style with the light colour before each one that is taken by name, for readers that know no such names."""
+def with_plain(style: str) -> str:
+    """A style with the light colour before each that is taken by name, for readers that know no such names."""
     return THEMED.sub(lambda found: f"{found[1]}: {found[2]}{LIGHT[found[3]]}; {found[0]}", style)
 
 
 PICTURE = with_plain(f"""
-.picture {{ {variables(LIGHT)}; color-scheme: light dark; font-family: "DejaVu Sans Mono", Menlo, Consolas, monospace; }}
+.picture {{ {variables(LIGHT)}; color-scheme: light dark; }}
+.picture {{ font-family: "DejaVu Sans Mono", Menlo, Consolas, monospace; }}
 @media (prefers-color-scheme: dark) {{ .picture {{ {variables(DARK)}; }} }}
 .picture .paper {{ fill: var(--paper); }}
 .picture text {{ fill: var(--ink); font-size: 11px; }}

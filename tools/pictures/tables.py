@@ -1,9 +1,12 @@
 """The report's tables: datagrams, variables and register blocks, each with what an edit made of it."""
 
+from collections.abc import Iterator
+
 from pictures.elements import element, text
 from pictures.rows import Rows
+from pictures.states import Block, Datagram, VariablePlace
 from pictures.style import DIRECTION_LETTERS, DIRECTION_WORDS, MARK_LETTERS
-from pictures.views import Mark, mark_between
+from pictures.views import Mark, View, mark_between
 
 # The columns of each table. What stands behind a bar tells how a column is set.
 CHANGE, NAME = "change|", "name|"
@@ -18,7 +21,7 @@ BLOCKS += ["bytes|code", "what they say|"]
 BLOCKS_BEFORE = ["bytes before|code"]
 
 
-def selectors(columns_of, setting, *tags):
+def selectors(columns_of: dict[str, list[str]], setting: str, *tags: str) -> str:
     """The style's names of the cells of all columns that are set in a way, by their tags."""
     return ", ".join(
         f"#{name} {tag}:nth-child({at})"
@@ -29,7 +32,7 @@ def selectors(columns_of, setting, *tags):
     )
 
 
-def table(name, columns, rows, title):
+def table(name: str, columns: list[str], rows: list[str], title: str) -> str:
     """A section with a table that can be sorted by each column and searched."""
     if not rows:
         return element("section", element("h2", title), element("p", "The line has none."))
@@ -40,23 +43,23 @@ def table(name, columns, rows, title):
     return element("section", element("h2", title), element("p", search, found), drawn, kind="searched")
 
 
-def row_of(told, name, cells, mark):
+def row_of(told: str, name: str | int, cells: list[str | int], mark: Mark) -> str:
     """A row of a table that stands for something, told by a name, with the mark that an edit left on it."""
     shown = "".join([f"<td>{text(words)}</td>" for words in cells])
     return f'<tr data-{told}="{name}" class="{mark.value}">{shown}</tr>\n'
 
 
-def or_nothing(record, *names):
+def or_nothing(record: object, *names: str) -> list[str | int]:
     """Fields of a record, or as many empty words where there is none."""
     return [getattr(record, name) if record else "" for name in names]
 
 
-def mark_words(mark):
+def mark_words(mark: Mark) -> str:
     """The letter and the word of a mark; nothing where nothing changed."""
     return "" if mark is Mark.KEPT else f"{MARK_LETTERS[mark]} {mark.value}"
 
 
-def direction_words(direction):
+def direction_words(direction: str) -> str:
     """A direction's letter and word."""
     return f"{DIRECTION_LETTERS[direction]} {DIRECTION_WORDS[direction]}"
 
@@ -64,7 +67,7 @@ def direction_words(direction):
 class Tables:
     """Makes the tables of a view: with a line before it, a row's change first, and what was before it last."""
 
-    def __init__(self, view):
+    def __init__(self, view: View) -> None:
         self.view, self.has_before = view, view.before is not None
         self.slaves = {
             is_after: {slave.station: (slave, group) for slave, group in view.declares(is_after).slaves()}
@@ -73,7 +76,7 @@ class Tables:
         self.has_names = any(home.entry.name for side in (False, True) for home in view.declares(side).homes.values())
         self.row_marks = datagram_marks(view)
 
-    def columns(self):
+    def columns(self) -> dict[str, list[str]]:
         """The columns of each table by its name."""
         variables = VARIABLES if self.has_names else [column for column in VARIABLES if column != NAME]
         shown = {
@@ -85,39 +88,39 @@ class Tables:
             return {name: own for name, (own, _) in shown.items()}
         return {name: [CHANGE, *own, *before] for name, (own, before) in shown.items()}
 
-    def row(self, told, name, cells, before, mark):
+    def row(self, told: str, name: str | int, cells: list[str | int], before: list[str | int], mark: Mark) -> str:
         """A row with what was before, as words, and its mark."""
         shown = [mark_words(mark), *cells, *before] if self.has_before else cells
         return row_of(told, name, shown, mark)
 
-    def mark(self, before, after):
+    def mark(self, before: object, after: object) -> Mark:
         """The mark of what stands in the line before, after or both; alone all is as it is."""
         return mark_between(before, after) if self.has_before else Mark.KEPT
 
-    def table(self, name, rows, title):
+    def table(self, name: str, rows: list[str], title: str) -> str:
         """A table by its name."""
         return table(name, self.columns()[name], rows, title)
 
-    def datagrams(self):
+    def datagrams(self) -> str:
         """Every datagram of the line, and those of the line before."""
         old, new = self.view.before.datagrams if self.has_before else {}, self.view.after.datagrams
         rows = [self.datagram(name, old.get(name), new.get(name)) for name in sorted(old.keys() | new.keys())]
         return self.table("datagrams", rows, "Datagrams")
 
-    def datagram(self, name, before, after):
+    def datagram(self, name: tuple[int, int], before: Datagram | None, after: Datagram | None) -> str:
         """A datagram; where it is gone its numbers of before alone. Its mark is that of its row in the picture."""
         shown = after or before
         cells = [shown.task, shown.number, f"0x{shown.address:08x}", *or_nothing(after, "length", "expected")]
         earlier = or_nothing(before, "length", "expected")
         return self.row("datagram", f"{shown.task}/{shown.number}", cells, earlier, self.row_marks[name])
 
-    def variables(self):
+    def variables(self) -> str:
         """Every variable that the line carries, and those that the line before carried."""
         old, new = self.view.before.variables if self.has_before else {}, self.view.after.variables
         rows = [self.variable(name, old.get(name), new.get(name)) for name in sorted(old.keys() | new.keys())]
         return self.table("variables", rows, "Variables")
 
-    def variable(self, variable, before, after):
+    def variable(self, variable: int, before: VariablePlace | None, after: VariablePlace | None) -> str:
         """A variable; where it is gone its place of before."""
         home = self.view.declares(after is not None).homes[variable]
         shown, state = (after, self.view.after) if after else (before, self.view.before)
@@ -129,7 +132,7 @@ class Tables:
         place = f"task {before.task} datagram {before.datagram} bit {before.bit}" if before else ""
         return self.row("variable", variable, cells, [place], self.mark(before, after))
 
-    def blocks(self):
+    def blocks(self) -> str:
         """Every register block of the line, and those of the line before."""
         old, new = self.view.before.blocks if self.has_before else {}, self.view.after.blocks
         rows = [
@@ -139,7 +142,7 @@ class Tables:
         ]
         return self.table("blocks", rows, "Register blocks")
 
-    def block(self, station, area, before, after):
+    def block(self, station: int, area: int, before: Block | None, after: Block | None) -> str:
         """A register block of an area; where it is gone, its bytes of before alone."""
         slave, group = self.slaves[after is not None][station]
         shown, direction = after or before, slave.areas[area].direction
@@ -149,7 +152,7 @@ class Tables:
         return self.row("block", f"{station}/0x{shown.register:04x}", cells, [earlier], self.mark(before, after))
 
 
-def pairs(before, after):
+def pairs(before: list[Block], after: list[Block]) -> Iterator[tuple[int, Block | None, Block | None]]:
     """A slave's blocks before and after by their registers, each with the number of its area."""
     # A slave's blocks stand in pairs, an area's sync manager and its FMMU.
     old = {block.register: (row // 2, block) for row, block in enumerate(before)}
@@ -159,7 +162,7 @@ def pairs(before, after):
         yield area, old.get(register, (0, None))[1], new.get(register, (0, None))[1]
 
 
-def datagram_marks(view):
+def datagram_marks(view: View) -> dict[tuple[int, int], Mark]:
     """The mark of each datagram: of what it carries too, so that it is marked where the picture draws it twice."""
     rows = Rows(view)
     marks = {name: row.mark for name, row in rows.of_state(view.before, False).items()} if view.before else {}
@@ -167,7 +170,7 @@ def datagram_marks(view):
     return {**marks, **{name: marks.get(name, mark) if mark is Mark.KEPT else mark for name, mark in after.items()}}
 
 
-def meaning(block):
+def meaning(block: Block) -> str:
     """A block's fields in words, as ETG.1000.4 names them."""
     if not block.is_active():
         return "not active"

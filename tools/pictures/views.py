@@ -4,7 +4,7 @@ import re
 from dataclasses import dataclass
 from enum import Enum
 
-from pictures.states import State, state_of
+from pictures.states import AreaPlace, Block, State, VariablePlace, state_of
 from projects.asking import Program, Session
 from projects.faults import Refusal
 from projects.files import document_of
@@ -15,7 +15,7 @@ EDITED = re.compile(r"epoch (\d+) recut (\d+) moved (\d+)")
 # Commands that only look, send or take what arrives: no register block and no place hangs on them.
 PASSED_OVER = {
     *(b"layout", b"regs", b"show", b"place", b"write", b"send", b"arrive", b"read"),
-    *(b"scan", b"name", b"program", b"cycle", b"poke", b"peek"),
+    *(b"scan", b"name", b"program", b"cycle", b"poke", b"peek", b"post", b"take", b"view"),
 }
 
 
@@ -53,7 +53,7 @@ class View:
     before: State | None = None
     change: Change | None = None
 
-    def blocks_to_write(self):
+    def blocks_to_write(self) -> list[tuple[int, int, Block]]:
         """The blocks of the line that weren't there before with the same bytes, as (station, row, block)."""
         if self.before is None:
             return []
@@ -64,15 +64,15 @@ class View:
             if block not in self.before.blocks.get(station, [])
         ]
 
-    def declares(self, is_after):
+    def declares(self, is_after: bool) -> Project:
         """The project of the line, or of the one before it."""
         return self.project if is_after or self.earlier is None else self.earlier
 
-    def task_name(self, task):
+    def task_name(self, task: int) -> str:
         """What people call a task, or nothing."""
         return self.project.tasks.get(task) or self.declares(False).tasks.get(task, "")
 
-    def said_of_change(self):
+    def said_of_change(self) -> str:
         """What lies between the two lines, behind its words."""
         change, before, after = self.change, self.before.epoch, self.after.epoch
         if change.is_other_text:
@@ -84,13 +84,13 @@ class View:
 class Marks:
     """The marks of areas and variables: of what stands in the old line or in the new one, as seen in the other."""
 
-    def __init__(self, view):
+    def __init__(self, view: View) -> None:
         self.before, self.after = view.before, view.after
         self.old_areas, self.new_areas = areas_by_name(view.before), areas_by_name(view.after)
         # A slave's blocks stand in pairs, an area's sync manager and its FMMU.
         self.written = {(station, row // 2) for station, row, _ in view.blocks_to_write()}
 
-    def of_area(self, place, is_after):
+    def of_area(self, place: AreaPlace, is_after: bool) -> Mark:
         """Of an area: new, gone, moved where one of its blocks has to be written, or kept."""
         name = (place.station, place.area)
         if self.before is None:
@@ -99,11 +99,11 @@ class Marks:
             return Mark.NEW if is_after else Mark.GONE
         return Mark.MOVED if name in self.written else Mark.KEPT
 
-    def other_place(self, place, is_after):
+    def other_place(self, place: AreaPlace, is_after: bool) -> AreaPlace | None:
         """Where an area of one state stands in the other, or None."""
         return (self.old_areas if is_after else self.new_areas).get((place.station, place.area))
 
-    def of_variable(self, place, is_after):
+    def of_variable(self, place: VariablePlace, is_after: bool) -> Mark:
         """Of a variable: new, gone, moved where its place is another, or kept."""
         if self.before is None:
             return Mark.KEPT
@@ -111,7 +111,7 @@ class Marks:
         return mark_between(other, place) if is_after else mark_between(place, other)
 
 
-def mark_between(before, after):
+def mark_between(before: object, after: object) -> Mark:
     """The mark of what an edit turned into something else, or of what it brought or took where one is None."""
     if before == after:
         return Mark.KEPT
@@ -120,7 +120,7 @@ def mark_between(before, after):
     return Mark.GONE if after is None else Mark.MOVED
 
 
-def areas_by_name(state):
+def areas_by_name(state: State | None) -> dict[tuple[int, int], AreaPlace]:
     """The areas with bits in a state, each by its station address and its number in the slave's record."""
     if state is None:
         return {}

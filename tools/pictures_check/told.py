@@ -9,7 +9,7 @@ from pathlib import Path
 # A question whose answer, which no other question has here, parts the answers about slaves.
 MARK, MARKED = "show 8 0", "refused 8 NoSuchTask"
 QUESTIONS = ("layout", "regs", "show", "place", "write", "send", "arrive", "read")
-QUESTIONS += ("scan", "name", "program", "cycle", "poke", "peek")
+QUESTIONS += ("scan", "name", "program", "cycle", "poke", "peek", "post", "take", "view")
 
 
 def run(program, text, commands):

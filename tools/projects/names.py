@@ -118,7 +118,7 @@ def variable_faults(variables: Iterable[Variable]) -> list[NameFault]:
         if not name:
             continue
         if not IDENTIFIER.fullmatch(name):
-            faults.append(NameFault(line, "NoIdentifier", f"{name!r} isn't letters, digits and _ without a digit first"))
+            faults.append(NameFault(line, "NoIdentifier", f"{name!r} isn't letters, digits and _, no digit first"))
         if name.lower() in lines:
             faults.append(NameFault(line, "RepeatedName", f"{name} stands first on line {lines[name.lower()]}"))
         lines.setdefault(name.lower(), line)

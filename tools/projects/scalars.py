@@ -1,4 +1,4 @@
-"""The words of TOML 1.1 that stand for one value: strings, numbers, booleans and date-times, as the program reads them."""
+"""The words of TOML 1.1 for one value: strings, numbers, booleans and date-times, as the program reads them."""
 
 import calendar
 import math

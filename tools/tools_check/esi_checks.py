@@ -12,9 +12,9 @@ COUPLER, OUTPUTS, DRIVE, TOOL = (SAMPLES / f"{name}.xml" for name in ("coupler",
 # Register blocks by ETG.1000.4. A sync manager: start address, length, control (0x64: buffered, written by the master,
 # interrupt in the slave, watchdog; 0x20: buffered, read, interrupt in the slave), status, activate, and one byte more.
 # An FMMU: logical start address, length, first and last bit, physical start address and bit, type (1 read, 2 write),
-# activate, three bytes. Each number has its least significant byte first. Outputs stand before inputs, each area of whole
-# bytes behind the one before it, from 0x01000000 on in task 0 and from 0x04000000 on in task 3. A slave adds 2 to the
-# working counter for what it writes to its memory and 1 for what it reads from it.
+# activate, three bytes. Numbers have their least significant byte first. Outputs stand before inputs, each area of
+# whole bytes after the one before it, from 0x01000000 on in task 0 and from 0x04000000 on in task 3. A slave adds 2 to
+# the working counter for what it writes to its memory and 1 for what it reads from it.
 LINE = [
     "epoch 0",
     "task 0 parts 8 6",
@@ -53,6 +53,47 @@ VALVES = [
 TOOL_WORDS = ["--alias", 7, "--group", "tool A", "--station", 2001, "--task", 3]
 TOOL_WORDS += ["--device", "SK1101", "--device", "SL2004", "--device", "SL3102"]
 DRIVE_LOSSES = ["Identity", "Mailbox", "Mailbox", "Protocols", "Clocks"]
+FIFTEEN = "0=" + ",".join(f"0x{0x1600 + row:x}" for row in range(15))
+# A device, what is changed in its file, further words, and the losses that differ and those that aren't said.
+LOSSES = [
+    ("coupler", COUPLER, (), [], [], ["Identity"]),
+    ("outputs", OUTPUTS, (), [], ["ControlByte"], ["Identity", "Enable"]),
+    ("outputs as written", OUTPUTS, ('#x44" Enable="9', '#x64" Enable="1'), [], [], ["Identity"]),
+    ("drive", DRIVE, (), [], [], [*DRIVE_LOSSES, "NotOffered"]),
+    ("all sets", DRIVE, (), ["--offer", "2=all", "--offer", "3=all"], [], [*DRIVE_LOSSES, *["Excludes"] * 6]),
+    (
+        "two sets at once",
+        DRIVE,
+        (),
+        ["--assign", "2=0x1600,0x1602"],
+        ["Exclusion"],
+        [*DRIVE_LOSSES, *["Excludes"] * 2, "NotOffered"],
+    ),
+    ("low address", OUTPUTS, ("#x1000", "#x0fff"), [], ["StartAddress", "ControlByte"], ["Identity", "Enable"]),
+    ("high address", OUTPUTS, ("#x1000", "#x2fff"), [], ["EndAddress", "ControlByte"], ["Identity", "Enable"]),
+    ("last bytes", OUTPUTS, ("#x1000", "#x2ffe"), [], ["ControlByte"], ["Identity", "Enable"]),
+    ("wide entry", DRIVE, ("<BitLen>32", "<BitLen>65"), [], ["EntryTooWide"], [*DRIVE_LOSSES, "NotOffered"]),
+    ("close buffers", DRIVE, ("#x1400", "#x1211"), [], ["ThreeBuffers"], [*DRIVE_LOSSES, "NotOffered"]),
+    ("touching buffers", DRIVE, ("#x1400", "#x1212"), [], [], [*DRIVE_LOSSES, "NotOffered"]),
+    ("buffers in a mailbox", DRIVE, ("#x1200", "#x11ff"), [], ["ThreeBuffers"], [*DRIVE_LOSSES, "NotOffered"]),
+    (
+        "reaches",
+        DRIVE,
+        ("#x1400", "#x1210"),
+        ["--assign", "2=0x1602", "--offer", "2=all"],
+        ["Reach"],
+        [*DRIVE_LOSSES, *["Excludes"] * 3, "NotOffered"],
+    ),
+    (
+        "mandatory",
+        OUTPUTS,
+        (),
+        ["--assign", FIFTEEN],
+        ["ControlByte", "Mandatory"],
+        ["Identity", "Enable", "NotOffered"],
+    ),
+    ("modules", DRIVE, ("<Dc>", "<Slots/><Dc>"), [], [], [*DRIVE_LOSSES, "Modules", "NotOffered"]),
+]
 
 
 def check(checks: Checks) -> None:
@@ -62,7 +103,8 @@ def check(checks: Checks) -> None:
     check_group(checks)
     check_names(checks)
     check_losses(checks)
-    check_refusals(checks)
+    check_files(checks)
+    check_words(checks)
     checks.equal("help of esi", 0, checks.tool("esi", "--help").status)
     listed = checks.tool("esi", "--list", COUPLER, DRIVE)
     checks.equal("devices in a list", (0, True), (listed.status, "PDO 0x1601 Velocity set, 64 bits" in listed.said))
@@ -128,7 +170,8 @@ def check_names(checks: Checks) -> None:
     ):
         variable = names.variable(name)
         checks.equal(f"name {name}", wanted, (variable.number, variable.bits, variable.direction, variable.station))
-    strange = DRIVE.read_text().replace("SD402<", "4 &lt;\"\\é&#10;]]<").replace("Control word", "\"&#x85;'\n#").replace("set<", "#\n<")
+    strange = DRIVE.read_text().replace("SD402<", '4 &lt;"\\é&#10;]]<').replace("set<", "#\n<")
+    strange = strange.replace("Control word", "\"&#x85;'\n#")
     made = checks.tool("esi", checks.file("strange.xml", strange), "--offer", "2=all", "--name", 'a"\\\n\x7f')
     project = read_project(read_toml(made.said.encode()), [])
     checks.equal("a strange name", (0, 'a"\\\n\x7f'), (made.status, project.groups[0].slaves[0].name))
@@ -144,24 +187,7 @@ def kinds(said: str) -> tuple[list[str], list[str]]:
 
 def check_losses(checks: Checks) -> None:
     """What can't be said, device by device and change by change."""
-    for label, path, change, words, differing, unsaid in (
-        ("coupler", COUPLER, (), [], [], ["Identity"]),
-        ("outputs", OUTPUTS, (), [], ["ControlByte"], ["Identity", "Enable"]),
-        ("outputs as written", OUTPUTS, ('#x44" Enable="9', '#x64" Enable="1'), [], [], ["Identity"]),
-        ("drive", DRIVE, (), [], [], [*DRIVE_LOSSES, "NotOffered"]),
-        ("all sets", DRIVE, (), ["--offer", "2=all", "--offer", "3=all"], [], [*DRIVE_LOSSES, *["Excludes"] * 6]),
-        ("two sets at once", DRIVE, (), ["--assign", "2=0x1600,0x1602"], ["Exclusion"], [*DRIVE_LOSSES, *["Excludes"] * 2, "NotOffered"]),
-        ("low address", OUTPUTS, ("#x1000", "#x0fff"), [], ["StartAddress", "ControlByte"], ["Identity", "Enable"]),
-        ("high address", OUTPUTS, ("#x1000", "#x2fff"), [], ["EndAddress", "ControlByte"], ["Identity", "Enable"]),
-        ("last bytes", OUTPUTS, ("#x1000", "#x2ffe"), [], ["ControlByte"], ["Identity", "Enable"]),
-        ("wide entry", DRIVE, ("<BitLen>32", "<BitLen>65"), [], ["EntryTooWide"], [*DRIVE_LOSSES, "NotOffered"]),
-        ("close buffers", DRIVE, ("#x1400", "#x1211"), [], ["ThreeBuffers"], [*DRIVE_LOSSES, "NotOffered"]),
-        ("touching buffers", DRIVE, ("#x1400", "#x1212"), [], [], [*DRIVE_LOSSES, "NotOffered"]),
-        ("buffers in a mailbox", DRIVE, ("#x1200", "#x11ff"), [], ["ThreeBuffers"], [*DRIVE_LOSSES, "NotOffered"]),
-        ("reaches", DRIVE, ("#x1400", "#x1210"), ["--assign", "2=0x1602", "--offer", "2=all"], ["Reach"], [*DRIVE_LOSSES, *["Excludes"] * 3, "NotOffered"]),
-        ("mandatory", OUTPUTS, (), ["--assign", "0=" + ",".join(f"0x{0x1600 + row:x}" for row in range(15))], ["ControlByte", "Mandatory"], ["Identity", "Enable", "NotOffered"]),
-        ("modules", DRIVE, ("<Dc>", "<Slots/><Dc>"), [], [], [*DRIVE_LOSSES, "Modules", "NotOffered"]),
-    ):
+    for label, path, change, words, differing, unsaid in LOSSES:
         text = path.read_text()
         changed = checks.file("changed.xml", text.replace(*change, 1) if change else text)
         made = checks.tool("esi", changed, *words)
@@ -169,8 +195,8 @@ def check_losses(checks: Checks) -> None:
         checks.equal(f"status of {label}", 1 if differing else 0, made.status)
 
 
-def check_refusals(checks: Checks) -> None:
-    """Files that are broken, huge or strange, and devices and PDOs that aren't there."""
+def check_files(checks: Checks) -> None:
+    """Files that are broken, huge or strange."""
     text = DRIVE.read_text()
     bomb = '<!DOCTYPE x [<!ENTITY a "aaaaaaaaaa"><!ENTITY b "&a;&a;&a;&a;&a;&a;&a;&a;">]>'
     outside = '<!DOCTYPE x [<!ENTITY a SYSTEM "file:///etc/hostname">]>'
@@ -196,6 +222,10 @@ def check_refusals(checks: Checks) -> None:
         file.truncate(64 * 1024 * 1024 + 1)
     checks.refused("esi, huge", checks.tool("esi", huge), "TooLong")
     huge.unlink()
+
+
+def check_words(checks: Checks) -> None:
+    """Devices and PDOs that aren't there, and words that are none."""
     for words, kind in (
         ([TOOL], "NoDevice"),
         ([TOOL, "--device", "SL2016"], "NoDevice"),

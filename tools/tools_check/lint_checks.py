@@ -62,7 +62,11 @@ PLANTED = [
     ("number = 1", "number = 1\nperiod = 2", [(3, "UnknownKey")]),
     ("[[task]]", 'title = "x"\n[[task]]', [(1, "UnknownKey")]),
     ("[[group.slave.area]]\nsm = 2", "[[slave.area]]\nsm = 4", [(35, "OverlappingAreas"), (35, "StrayArea")]),
-    ("[[group.slave.area]]\nsm = 2\ndir = \"out\"\nphys = 0x1100", "[[slave.area]]\nsm = 4\ndir = \"out\"\nphys = 0x1400", [(35, "StrayArea")]),
+    (
+        "[[group.slave.area]]\nsm = 2\ndir = \"out\"\nphys = 0x1100",
+        "[[slave.area]]\nsm = 4\ndir = \"out\"\nphys = 0x1400",
+        [(35, "StrayArea")],
+    ),
     ("pdo = [{ index = 0x1600, entries = [[101, 8]] }]", "[[slave.area.pdo]]\nindex = 1", [(41, "NotToml")]),
     ("[[group.slave]]\nstation = 2001", "[[group.slave]]\nstation = 2001\n[[slave]]\nstation = 5", [(37, "StrayArea")]),
     ("phys = 0x1180", "phys = 0x1111", [(9, "ThreeBuffers")]),
@@ -83,6 +87,22 @@ PLANTED = [
     ("entries = [[101, 8]]", "entries = [[101, 8, 1]]", [(41, "MissingField")]),
 ]
 SHARED = ("task = 1", "task = 0")
+# A second tool with an input in the axis's task.
+PROBE = """\
+[[group]]
+alias = 101
+
+[[group.slave]]
+station = 2101
+
+[[group.slave.area]]
+sm = 3
+dir = "in"
+phys = 0x1180
+task = 0
+assigned = [1]
+pdo = [{ index = 1, entries = [[201, 8]] }]
+"""
 # What a text may say is meant, and what it may not.
 ALLOWED = [
     (SHARED, ("[[task]]", 'allow = ["SharedTask"]\n[[task]]'), []),
@@ -93,7 +113,11 @@ ALLOWED = [
     (("", ""), ("alias = 100", 'alias = 100\nallow = ["Sharing"]'), [(31, "UnknownKind")]),
     (("phys = 0x1180", "phys = 0x1111"), ("station = 1002", 'station = 1002\nallow = ["ThreeBuffers"]'), []),
     (("station = 1002", "station = 1002\nvendor = 2"), ("[[slave]]", '[[slave]]\nallow = ["UnknownKey"]'), []),
-    (('"target"]', '"control"]'), ("[[task]]", 'allow = ["RepeatedName"]\n[[task]]'), [(1, "UnknownKind"), (17, "RepeatedName")]),
+    (
+        ('"target"]', '"control"]'),
+        ("[[task]]", 'allow = ["RepeatedName"]\n[[task]]'),
+        [(1, "UnknownKind"), (17, "RepeatedName")],
+    ),
 ]
 
 
@@ -118,14 +142,26 @@ def check_stray_pdo(checks: Checks) -> None:
     """A PDO that was meant for the area of a tool, and is the last mandatory slave's."""
     text = TEXT[: TEXT.index("pdo = [{ index = 0x1a00")] + TEXT[TEXT.index("\n[[group]]") :]
     text = text.replace("[0x1a00]", "[]").replace("pdo = [{ index = 0x1600, entries = [[101, 8]] }]", "")
-    text = text.replace("assigned = [0x1600]\n\n", "assigned = []\n\n") + "[[slave.area.pdo]]\nindex = 1\nentries = [[101, 8]]\n"
-    checks.equal("a PDO in another slave", [], found(checks, text.replace("[[slave.area.pdo]]", "[[group.slave.area.pdo]]")))
+    text = text.replace("assigned = [0x1600]\n\n", "assigned = []\n\n")
+    text += "[[slave.area.pdo]]\nindex = 1\nentries = [[101, 8]]\n"
+    checks.equal(
+        "a PDO in another slave",
+        [],
+        found(checks, text.replace("[[slave.area.pdo]]", "[[group.slave.area.pdo]]")),
+    )
     checks.equal("a stray PDO", [(text.count("\n") - 2, "StrayArea")], found(checks, text))
 
 
 def has_place(kind: str) -> bool:
     """Whether a fault's line is projectcheck's, which needn't be built."""
-    return kind in ("MissingField", "OutOfRange", "RepeatedStation", "RepeatedVariable", "UnknownPdo", "OverlappingAreas")
+    return kind in (
+        "MissingField",
+        "OutOfRange",
+        "RepeatedStation",
+        "RepeatedVariable",
+        "UnknownPdo",
+        "OverlappingAreas",
+    )
 
 
 def expected(findings: list[tuple[int, str]]) -> list[tuple[int, str]]:
@@ -147,31 +183,36 @@ def finding_in(line: str, path: Path) -> tuple[int, str]:
     return int(number), kind
 
 
+def linted(checks: Checks, text: str) -> list[str]:
+    """What lint says of shared tasks in a text."""
+    said = checks.tool("lint", checks.file("text.toml", text), "--program", checks.program).said
+    return [line.split("SharedTask: ")[1] for line in said.splitlines()]
+
+
 def check_costs(checks: Checks) -> None:
-    """How many blocks a connection moves, by hand: outputs stand before inputs, so one more output moves every input's FMMU."""
+    """How many blocks a connection moves, by hand: a new output moves the FMMU of each input, which stands after it."""
     # The gripper's sync manager and FMMU are new, and the axis's input FMMU moves by a byte.
-    said = checks.tool("lint", checks.file("text.toml", TEXT.replace(*SHARED, 1)), "--program", checks.program).said
     words = "connecting it moves 3 blocks, with all groups present moves 3 blocks; 2 blocks are its own"
-    checks.equal("cost of a shared task", True, words in said)
-    # A second tool in the same task, whose input stands behind all others: it moves nothing but its own two blocks. With
-    # it present, the gripper moves its input's FMMU too.
-    probe = '[[group]]\nalias = 101\n[[group.slave]]\nstation = 2101\n[[group.slave.area]]\nsm = 3\ndir = "in"\nphys = 0x1180\n'
-    probe += "task = 0\nassigned = [1]\npdo = [{ index = 1, entries = [[201, 8]] }]\n"
-    said = checks.tool("lint", checks.file("two.toml", TEXT.replace(*SHARED, 1) + probe), "--program", checks.program).said
-    words = [
-        "gripper (alias 100) shares task 0 with mandatory group, alias 101: "
-        "connecting it moves 3 blocks, with all groups present moves 4 blocks; 2 blocks are its own",
-        "alias 101 shares task 0 with mandatory group, gripper (alias 100): "
-        "connecting it moves 2 blocks, with all groups present moves 2 blocks; 2 blocks are its own",
-    ]
-    checks.equal("costs of two tools", words, [line.split("SharedTask: ")[1] for line in said.splitlines()])
-    checks.equal("a task by its name", True, "shares task 1 tools with" in shared_by_name(checks))
-
-
-def shared_by_name(checks: Checks) -> str:
-    """What is said of a task that has a name."""
-    text = TEXT.replace("task = 0", "task = 1")
-    return checks.tool("lint", checks.file("named.toml", text), "--program", checks.program).said
+    shared = TEXT.replace(*SHARED, 1)
+    checks.equal(
+        "cost of a shared task",
+        [f"gripper (alias 100) shares task 0 with mandatory group: {words}"],
+        linted(checks, shared),
+    )
+    # The input of a second tool stands after all others: its connection moves its own two blocks alone. With it
+    # present, the gripper's moves its input's FMMU too.
+    checks.equal(
+        "costs of two tools",
+        [
+            "gripper (alias 100) shares task 0 with mandatory group, alias 101: "
+            "connecting it moves 3 blocks, with all groups present moves 4 blocks; 2 blocks are its own",
+            "alias 101 shares task 0 with mandatory group, gripper (alias 100): "
+            "connecting it moves 2 blocks, with all groups present moves 2 blocks; 2 blocks are its own",
+        ],
+        linted(checks, shared + PROBE),
+    )
+    named = linted(checks, TEXT.replace("task = 0", "task = 1"))
+    checks.equal("a task by its name", [True], ["shares task 1 tools with" in line for line in named])
 
 
 def check_inputs(checks: Checks) -> None:
@@ -185,4 +226,8 @@ def check_inputs(checks: Checks) -> None:
     ended = checks.tool("lint", "-", "--program", checks.program, given=foreign)
     checks.equal("lint of an input of another system", (0, ""), (ended.status, ended.said))
     wrong = foreign.replace(b"alias = 100", b"alias = 100\r\nx = 1")
-    checks.equal("its finding", "-:31: UnknownKey: x is no key of a group", checks.tool("lint", "-", "--program", checks.program, given=wrong).said.strip())
+    checks.equal(
+        "its finding",
+        "-:31: UnknownKey: x is no key of a group",
+        checks.tool("lint", "-", "--program", checks.program, given=wrong).said.strip(),
+    )

@@ -119,9 +119,11 @@ def check(checks: Checks) -> None:
     constants: dict[str, object] = {}
     exec(checks.tool("names", path, "--python").said, constants)
     checks.equal("constants in Python", PYTHON, {name: value for name, value in constants.items() if name[0] != "_"})
-    checks.equal("names of an input on standard input", 0, checks.tool("names", "-", "--c", given=TEXT.encode() + b"%%\nlayout\n").status)
+    ended = checks.tool("names", "-", "--c", given=TEXT.encode() + b"%%\nlayout\n")
+    checks.equal("names of an input on standard input", 0, ended.status)
     compiled(checks, "cc", C, "names.h", ["-fsyntax-only", "-Werror", "-x", "c"])
-    compiled(checks, "rustc", RUST, "names.rs", ["--crate-type", "lib", "--emit", "metadata", "--out-dir", checks.scratch])
+    options = ["--crate-type", "lib", "--emit", "metadata", "--out-dir", checks.scratch]
+    compiled(checks, "rustc", RUST, "names.rs", options)
     check_program(checks)
     check_lookups(checks)
     for old, new, kind, line in FAULTS + CONSTANT_FAULTS + BROKEN:
@@ -158,8 +160,9 @@ def check_lookups(checks: Checks) -> None:
     found = (closed.name, closed.bits, closed.direction, closed.task, closed.station, closed.alias)
     checks.equal("a variable by its number", ("closed", 12, "in", 1, 2001, 100), found)
     checks.equal("a variable without a name", (3, ""), (names.variable("3").number, names.variable("3").name))
-    numbers = (names.station("axis X"), names.station("2001"), names.alias("gripper 2"), names.task("slow tasks"), names.task("7"))
-    checks.equal("numbers by names", (1002, 2001, 100, 1, 7), numbers)
+    stations = names.station("axis X"), names.station("2001")
+    checks.equal("stations and aliases by names", (1002, 2001, 100), (*stations, names.alias("gripper 2")))
+    checks.equal("tasks by names", (1, 7), (names.task("slow tasks"), names.task("7")))
     for label, find, word in (
         ("variable", names.variable, "x"),
         ("variable", names.variable, "6"),

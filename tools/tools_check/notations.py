@@ -97,7 +97,8 @@ class Notation:
     def number(self, number: int) -> str:
         """An integer in one of its forms."""
         spelt = f"{number:_}" if number > 999 else str(number)
-        return self.random.choice([str(number), f"+{number}", spelt, f"0x{number:X}", f"0x{number:06x}", f"0o{number:o}", f"0b{number:b}"])
+        forms = [str(number), f"+{number}", spelt, f"0x{number:X}", f"0x{number:06x}", f"0o{number:o}", f"0b{number:b}"]
+        return self.random.choice(forms)
 
     def string(self, words: str) -> str:
         """A string in one of its kinds."""

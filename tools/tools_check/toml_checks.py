@@ -61,7 +61,8 @@ def check_lines(checks: Checks, texts: list[bytes]) -> None:
     """The line of each value: small integers, each written anew as one that stands once, are found where they stand."""
     marked = [text for text in (numbered(text.decode()) for text in texts) if is_taken(text.encode())]
     for text in marked:
-        nodes = [node for _, node in walked(read_toml(text.encode())) if isinstance(node.value, int) and node.value in MARKED]
+        values = [node for _, node in walked(read_toml(text.encode()))]
+        nodes = [node for node in values if isinstance(node.value, int) and node.value in MARKED]
         wanted = {node.value: text[: text.index(str(node.value))].count("\n") + 1 for node in nodes}
         checks.equal(f"lines of {text!r}", wanted, {node.value: node.line for node in nodes})
     checks.equal("texts with lines", True, len(marked) > 500)
@@ -77,7 +78,8 @@ def check_notations(checks: Checks) -> None:
     """One project in many notations: the program configures the same line, and the reader finds the same project."""
     plain = Notation(0).document(PROJECT).encode()
     stations = [slave.station for slave, _ in read_project(read_toml(plain), []).slaves()]
-    questions = ["layout", "connect 1", *(f"regs {station}" for station in stations), "place 1", "place 4294967295", "place 3"]
+    questions = ["layout", "connect 1", *(f"regs {station}" for station in stations)]
+    questions += ["place 1", "place 4294967295", "place 3"]
     behind = ("\n%%\n" + "\n".join(questions) + "\n").encode()
     wanted = checks.hotline(plain + behind)
     checks.equal("status of a project", 0, wanted[0])
