@@ -45,8 +45,11 @@ class Allowance:
 def allowances(document: Node) -> Iterator[Allowance]:
     """What the tables of a document say is meant."""
     for path, node in walked(document):
-        for item in node.listed("allow"):
-            yield Allowance(path, str(item.value), item.line)
+        allow = node.get("allow")
+        if allow is None:
+            continue
+        for item in allow.value if isinstance(allow.value, list) else [allow]:
+            yield Allowance(path, item.value if isinstance(item.value, str) else "no string", item.line)
 
 
 def remaining(findings: list[Finding], document: Node) -> list[Finding]:

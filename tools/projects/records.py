@@ -213,6 +213,9 @@ class Records:
     def tasks(self, document: Node) -> dict[int, tuple[str, int]]:
         """The names of tasks by number, each with its line."""
         named: dict[int, tuple[str, int]] = {}
+        tasks = document.get("task")
+        if tasks and not isinstance(tasks.value, list):
+            self.fault(tasks.line, "NoSuchTask", "task isn't an array of tables")
         for table in document.listed("task"):
             number, name = table.get("number"), name_of(table)
             if number is None or type(number.value) is not int or not 0 <= number.value < TASKS:

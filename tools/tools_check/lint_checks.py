@@ -1,7 +1,5 @@
 """What lint finds: nothing in the examples, and each planted mistake with its kind and its line."""
 
-from pathlib import Path
-
 from checks import TOOLS, Checks
 
 EXAMPLES = TOOLS.parent / "examples"
@@ -107,6 +105,8 @@ pdo = [{ index = 1, entries = [[201, 8]] }]
 ALLOWED = [
     (SHARED, ("[[task]]", 'allow = ["SharedTask"]\n[[task]]'), []),
     (SHARED, ("alias = 100", 'alias = 100\nallow = ["SharedTask"]'), []),
+    (SHARED, ("alias = 100", 'alias = 100\nallow = "SharedTask"'), []),
+    (SHARED, ("alias = 100", "alias = 100\nallow = [1]"), [(28, "SharedTask"), (31, "UnknownKind")]),
     (SHARED, ("station = 2001", 'station = 2001\nallow = ["SharedTask"]'), [(28, "SharedTask"), (34, "UnusedAllow")]),
     (SHARED, ("alias = 100", 'alias = 100\nallow = ["UnknownKey"]'), [(28, "SharedTask"), (31, "UnusedAllow")]),
     (("", ""), ("alias = 100", 'alias = 100\nallow = ["SharedTask"]'), [(31, "UnusedAllow")]),
@@ -135,6 +135,7 @@ def check(checks: Checks) -> None:
         checks.equal(f"lint, {change} allowed by {allowance}", expected(wanted), found(checks, text))
     check_stray_pdo(checks)
     check_costs(checks)
+    check_places(checks)
     check_inputs(checks)
 
 
@@ -174,13 +175,13 @@ def found(checks: Checks, text: str) -> list[tuple[int, str]]:
     path = checks.file("text.toml", text)
     ended = checks.tool("lint", path, "--program", checks.program)
     checks.equal(f"status of lint of {text!r}", (1 if ended.said else 0, ""), (ended.status, ended.complaint))
-    return sorted(finding_in(line, path) for line in ended.said.splitlines())
+    return sorted(map(finding, ended.said.splitlines()))
 
 
-def finding_in(line: str, path: Path) -> tuple[int, str]:
-    """The line and the kind in a line of lint."""
-    number, kind, *_ = line.removeprefix(f"{path}:").split(": ")
-    return int(number), kind
+def finding(words: str) -> tuple[int, str]:
+    """The line and the kind in a line of lint, which begins with a path."""
+    path, kind, *_ = words.split(": ")
+    return int(path.rsplit(":", 1)[1]), kind
 
 
 def linted(checks: Checks, text: str) -> list[str]:
@@ -213,6 +214,29 @@ def check_costs(checks: Checks) -> None:
     )
     named = linted(checks, TEXT.replace("task = 0", "task = 1"))
     checks.equal("a task by its name", [True], ["shares task 1 tools with" in line for line in named])
+
+
+def check_places(checks: Checks) -> None:
+    """The lines of places as projectcheck writes them, whatever it is: of a value, of two, of a key that is absent."""
+    path = checks.file("text.toml", TEXT.replace("station = 2001", "station = 1002"))
+    for place, wanted in (
+        ("at group[0].slave[0].station alias 100 station 1002 first slave[0].station station 1002", (33, 7)),
+        ("at slave[0].area[0].pdo[1].entries[0][1] station 1002", (17, None)),
+        ("at group[0].slave[0].area[0].sm alias 100", (36, None)),
+        ("at slave[0].area[1].absent station 1002", (20, None)),
+        ("at slave[7].station", (5, None)),
+        ("at group[0].slave[0].area[0].assigned[0] first slave[0].area[1]", (40, 20)),
+        ("at line 12 column 3", (12, None)),
+        ("", (1, None)),
+    ):
+        said = f"project fault 5 RepeatedStation\n{place}".strip()
+        fake = checks.file("projectcheck", f"#!/bin/sh\ncat >/dev/null\nprintf '%s\\n' '{said}'\nexit 3\n")
+        fake.chmod(0o755)
+        ended = checks.tool("lint", path, "--program", checks.program, "--check", fake)
+        line, first = wanted
+        lines = [found for found, kind in map(finding, ended.said.splitlines()) if kind == "RepeatedStation"]
+        checks.equal(f"line of {place}", [line], lines)
+        checks.equal(f"first line of {place}", first is not None, f", which is on line {first}" in ended.said)
 
 
 def check_inputs(checks: Checks) -> None:

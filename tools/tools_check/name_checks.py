@@ -92,6 +92,7 @@ FAULTS = [
     ('"x_control", "", "x_Target"', '"x_control", "gap", "x_Target"', "NamedGap", 16),
     ("number = 1", "number = 8", "NoSuchTask", 1),
     ("number = 1", "number = true", "NoSuchTask", 1),
+    ("[[task]]", "[task]", "NoSuchTask", 1),
     ("[[slave]]", '[[task]]\nnumber = 1\nname = "other"\n[[slave]]', "RepeatedTask", 5),
 ]
 # The same of names for people, which are wrong only as constants.
