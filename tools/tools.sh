@@ -1,7 +1,7 @@
 #!/bin/sh
 # Checks the tools for people: their reader of project texts beside the program that `rt ci` has built, over drawn texts;
 # names and constants; slaves made of ESI files, whose register blocks are worked out by hand; what lint finds in texts
-# with a planted mistake; and pictures of texts in any notation. The last line is 'N passed, M failed'. It wants python3,
+# with a planted mistake; and pictures of texts in any notation. The last line is 'N passed, M failed'. It needs python3,
 # 3.11 or later; where cc and rustc are installed, they compile the constants.
 set -u
 cd "$(dirname "$0")/.."

@@ -8,8 +8,8 @@ from projects.faults import Refusal
 
 
 @dataclass
-class Wanted:
-    """A device as it is asked for: `TYPE` or `TYPE@REVISION`, and PDOs by sync manager; None offers all."""
+class Choice:
+    """A device as it is chosen: `TYPE` or `TYPE@REVISION`, and PDOs by sync manager; None offers all."""
 
     type: str | None = None
     name: str | None = None
@@ -36,36 +36,36 @@ class ChosenArea:
         return (sum(pdo.bits() for pdo in self.offered) + 7) // 8
 
 
-def found_device(devices: Iterable[Device], wanted: Wanted) -> Device:
+def found_device(devices: Iterable[Device], choice: Choice) -> Device:
     """The device that is asked for: the one there is, or that of a type, of its last revision if none is named."""
-    if wanted.type is None:
+    if choice.type is None:
         matching = list(devices)
         if len({device.type for device in matching}) > 1:
             raise Refusal("NoDevice: the files have several devices; --list shows them, --device TYPE chooses one")
     else:
-        matching = [device for device in devices if wanted.type in (device.type, device.title())]
+        matching = [device for device in devices if choice.type in (device.type, device.title())]
     if not matching:
-        raise Refusal(f"NoDevice: no file has a device {wanted.type or ''}".rstrip())
+        raise Refusal(f"NoDevice: no file has a device {choice.type or ''}".rstrip())
     return max(matching, key=lambda device: device.revision)
 
 
-def areas_of(device: Device, wanted: Wanted) -> list[ChosenArea]:
+def areas_of(device: Device, choice: Choice) -> list[ChosenArea]:
     """The areas of the sync managers that carry process data and have a PDO, in their order."""
     managers = {manager.number for manager in device.sync_managers if manager.direction}
-    for number in [*wanted.assigned, *wanted.offered]:
+    for number in [*choice.assigned, *choice.offered]:
         if number not in managers:
             raise Refusal(f"NoSuchSyncManager: sync manager {number} of {device.type} carries no process data")
-    areas = [area_of(device, manager, wanted) for manager in device.sync_managers if manager.direction]
+    areas = [area_of(device, manager, choice) for manager in device.sync_managers if manager.direction]
     return [area for area in areas if area.offered]
 
 
-def area_of(device: Device, manager: SyncManager, wanted: Wanted) -> ChosenArea:
+def area_of(device: Device, manager: SyncManager, choice: Choice) -> ChosenArea:
     """The area of a sync manager."""
     default = [pdo.index for pdo in device.pdos if fits(pdo, manager) and pdo.sync_manager == manager.number]
-    assigned = wanted.assigned.get(manager.number, default)
+    assigned = choice.assigned.get(manager.number, default)
     if len(set(assigned)) < len(assigned):
         raise Refusal(f"RepeatedPdo: sync manager {manager.number} is to have a PDO twice")
-    more = wanted.offered.get(manager.number, [])
+    more = choice.offered.get(manager.number, [])
     if more is None:
         more = [pdo.index for pdo in device.pdos if fits(pdo, manager)]
     offered = [pdo_at(device, manager, index) for index in dict.fromkeys([*assigned, *more])]

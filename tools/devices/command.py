@@ -3,7 +3,7 @@
 import argparse
 from collections.abc import Callable
 
-from devices.choosing import Wanted, areas_of, found_device
+from devices.choosing import Choice, areas_of, found_device
 from devices.elements import LONGEST, tree_of
 from devices.losses import losses_of
 from devices.records import Device, DevicePdo, devices_of
@@ -17,10 +17,10 @@ LAST_STATION = 65_535
 
 
 class DeviceAction(argparse.Action):
-    """Begins another device; the options behind it are its own."""
+    """Begins another device; the options after it are its own."""
 
     def __call__(self, _parser: object, namespace: argparse.Namespace, values: str, _option: object = None) -> None:
-        namespace.devices.append(Wanted(values))
+        namespace.devices.append(Choice(values))
 
 
 class OfDevice(argparse.Action):
@@ -28,13 +28,13 @@ class OfDevice(argparse.Action):
 
     def __call__(self, _parser: object, namespace: argparse.Namespace, values: object, _option: object = None) -> None:
         if not namespace.devices:
-            namespace.devices.append(Wanted())
-        wanted = namespace.devices[-1]
+            namespace.devices.append(Choice())
+        choice = namespace.devices[-1]
         if isinstance(values, tuple):
             manager, pdos = values
-            getattr(wanted, self.dest)[manager] = pdos
+            getattr(choice, self.dest)[manager] = pdos
         else:
-            setattr(wanted, self.dest, values)
+            setattr(choice, self.dest, values)
 
 
 def integer(least: int, most: int) -> Callable[[str], int]:
@@ -51,7 +51,7 @@ def integer(least: int, most: int) -> Callable[[str], int]:
 
 
 def pdos_of(words: str) -> tuple[int, list[int]]:
-    """`SM=PDO,..`: PDOs by their indexes at a sync manager; none behind the sign means none."""
+    """`SM=PDO,..`: PDOs by their indexes at a sync manager; nothing after the sign means none."""
     manager, _, indexes = words.partition("=")
     return int(manager, 0), [int(index, 0) for index in indexes.split(",") if index]
 
@@ -71,7 +71,7 @@ def parsed(words: list[str]) -> argparse.Namespace:
         prog="tools/esi",
         description="Writes devices of ESI files as slaves of a project text, and lists what such a text can't say.",
         epilog="Status: 0 written, 1 written and the slave would work otherwise than its file says (lines `differs`), "
-        "2 there is no such device or a file can't be read. docs/use/ESI.md tells the rest.",
+        "2 there is no such device or a file can't be read. docs/use/ESI.md has the rest.",
     )
     parser.add_argument("files", nargs="+", metavar="DEVICE.xml", help="ESI files (ETG.2000)")
     parser.add_argument("--list", action="store_true", help="list the devices with their PDOs and write nothing")
@@ -114,28 +114,28 @@ def written(devices: list[Device], arguments: argparse.Namespace) -> tuple[list[
     if arguments.alias is not None:
         name = [f"name = {quoted(arguments.group)}"] if arguments.group else []
         lines += ["[[group]]", *name, f"alias = {arguments.alias}", ""]
-    for place, wanted in enumerate(arguments.devices or [Wanted()]):
+    for place, choice in enumerate(arguments.devices or [Choice()]):
         station = arguments.station + place
         if station > LAST_STATION:
             raise Refusal(f"NoStation: the slave {place} would have the station address {station}")
         first = station * VARIABLES_OF_A_STATION + 1 if variable is None else variable
-        writer = SlaveWriter(slave_of(found_device(devices, wanted), wanted, arguments, station, first))
+        writer = SlaveWriter(slave_of(found_device(devices, choice), choice, arguments, station, first))
         lines += [*writer.lines(), ""]
         differs = differs or any(loss.differs for loss in writer.slave.losses)
         if variable is not None:
             variable = writer.variable
         elif writer.variable - first >= VARIABLES_OF_A_STATION:
-            raise Refusal(f"TooManyVariables: {wanted.type} has {writer.variable - first}; --variable numbers them on")
+            raise Refusal(f"TooManyVariables: {choice.type} has {writer.variable - first}; --variable numbers them on")
     return lines[:-1], differs
 
 
-def slave_of(device: Device, wanted: Wanted, arguments: argparse.Namespace, station: int, first: int) -> Slave:
+def slave_of(device: Device, choice: Choice, arguments: argparse.Namespace, station: int, first: int) -> Slave:
     """A device as a slave."""
-    areas = areas_of(device, wanted)
-    prefix = identifier(wanted.prefix or f"{device.type} {station}")
+    areas = areas_of(device, choice)
+    prefix = identifier(choice.prefix or f"{device.type} {station}")
     return Slave(
         "slave" if arguments.alias is None else "group.slave",
-        wanted.name or device.type,
+        choice.name or device.type,
         prefix if prefix[:1].isalpha() else f"s_{prefix}",
         station,
         arguments.task,

@@ -28,7 +28,7 @@ class Element:
     elements: "list[Element]" = field(default_factory=list)
 
     def all(self, tag: str) -> "Iterator[Element]":
-        """The elements with a tag that stand in it directly."""
+        """The elements with a tag directly in it."""
         return (element for element in self.elements if element.tag == tag)
 
     def first(self, *path: str) -> "Element | None":
@@ -74,7 +74,7 @@ class TreeMaker:
         self.opened.pop()
 
     def add_text(self, text: str) -> None:
-        """Characters stand in the last element; those behind an element in it say nothing in these files."""
+        """Characters are in the last element; those after an element in it say nothing in these files."""
         if not self.opened[-1].elements:
             self.opened[-1].text += text
 

@@ -65,7 +65,7 @@ def area_losses(area: ChosenArea) -> Iterator[Loss]:
     if manager.start < MEMORY_START:
         yield left_out("StartAddress", f"{at} begins at 0x{manager.start:04x}, below 0x{MEMORY_START:04x}")
     elif manager.start + area.offered_bytes() > MEMORY_END:
-        yield left_out("EndAddress", f"{at} ends behind 0x{MEMORY_END - 1:04x}")
+        yield left_out("EndAddress", f"{at} ends after 0x{MEMORY_END - 1:04x}")
     if manager.number > LAST_SYNC_MANAGER:
         yield left_out("SyncManager", f"{at} is over {LAST_SYNC_MANAGER}")
     if len(area.offered) > MOST_PDOS:
@@ -96,7 +96,7 @@ def control_words(manager: SyncManager) -> str:
 
 
 def exclusions_broken(area: ChosenArea) -> Iterator[Loss]:
-    """Assigned PDOs that may not stand beside each other."""
+    """Assigned PDOs that may not be assigned together."""
     assigned = [pdo for pdo in area.offered if pdo.index in area.assigned]
     for one, other in combinations(assigned, 2):
         if other.index in one.excludes or one.index in other.excludes:

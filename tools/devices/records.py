@@ -43,7 +43,7 @@ class DeviceEntry:
 
 @dataclass(frozen=True)
 class DevicePdo:
-    """A PDO: the sync manager that has it assigned at first, or None, and the PDOs that may not stand beside it."""
+    """A PDO: the sync manager that has it assigned at first, or None, and the PDOs that may not be assigned with it."""
 
     index: int
     name: str
@@ -126,7 +126,7 @@ def entry(element: Element) -> DeviceEntry:
 
 
 def pdo(element: Element) -> DevicePdo:
-    """A PDO, whose tag tells its direction."""
+    """A PDO, whose tag says its direction."""
     given = element.attributes
     manager = number(given["Sm"], element.line) if given.get("Sm", "").strip() else None
     return DevicePdo(

@@ -70,7 +70,7 @@ class SlaveWriter:
         self.names = iter(names_of(slave.prefix, places))
 
     def lines(self) -> Iterator[str]:
-        """The slave with its areas, and behind them what the text doesn't say."""
+        """The slave with its areas, and after them what the text doesn't say."""
         yield from [f"[[{self.slave.array}]]", f"name = {quoted(self.slave.name)}", f"station = {self.slave.station}"]
         for area in self.areas:
             yield ""
@@ -79,7 +79,7 @@ class SlaveWriter:
         yield from (remark(str(loss)) for loss in self.slave.losses)
 
     def area(self, area: ChosenArea) -> Iterator[str]:
-        """An area; its PDOs stand in lines of their own if these aren't too long, else in tables."""
+        """An area; its PDOs are in lines of their own if these aren't too long, else in tables."""
         array, manager = f"{self.slave.array}.area", area.manager
         yield from [f"[[{array}]]", f"sm = {manager.number}", f'dir = "{manager.direction}"']
         yield from [f"phys = 0x{manager.start:04x}", f"task = {self.slave.task}"]
@@ -119,7 +119,7 @@ def row_of(pdo: DevicePdo, entries: list[str], names: list[str]) -> str:
 
 
 def filled(key: str, items: list[str]) -> list[str]:
-    """A key with its array, on a line or on as many as it wants."""
+    """A key with its array, on a line or on as many as it takes."""
     line = f"{key} = [{', '.join(items)}]"
     if len(line) <= WIDTH:
         return [line]

@@ -1,4 +1,4 @@
-"""Buffered sync managers: a slave has three buffers for each, one behind the other, and the program counts one."""
+"""Buffered sync managers: a slave has three buffers for each, one after the other, and the program counts one."""
 
 from collections.abc import Iterator
 
@@ -10,7 +10,7 @@ BUFFERS = 3
 
 
 def buffer_findings(project: Project, paths: dict[int, str]) -> Iterator[Finding]:
-    """Buffers that overlap or end behind the memory: as a slave's PDOs are assigned, or once all offered ones are."""
+    """Buffers that overlap or end after the memory: as a slave's PDOs are assigned, or once all offered ones are."""
     for slave, _ in project.slaves():
         now = list(faults_of(slave, assigned_bytes))
         later = [words for words in faults_of(slave, offered_bytes) if not now]
@@ -21,7 +21,7 @@ def buffer_findings(project: Project, paths: dict[int, str]) -> Iterator[Finding
 
 
 def faults_of(slave: Slave, size_of) -> Iterator[str]:
-    """What is wrong with the buffers of a slave, where a function tells an area's bytes."""
+    """What is wrong with the buffers of a slave, where a function gives an area's bytes."""
     spans = [
         Span(f"three buffers of sync manager {area.sync_manager}", area.phys, BUFFERS * size_of(area))
         for area in slave.areas
@@ -29,7 +29,7 @@ def faults_of(slave: Slave, size_of) -> Iterator[str]:
     yield from overlapping(spans)
     for span in spans:
         if span.size and span.end > MEMORY_END:
-            yield f"{span} end behind 0x{MEMORY_END - 1:04x}"
+            yield f"{span} end after 0x{MEMORY_END - 1:04x}"
 
 
 def assigned_bytes(area: Area) -> int:

@@ -1,4 +1,4 @@
-"""Where the lowest fault of a text is: what the program says, and the line of the place that projectcheck tells."""
+"""Where the lowest fault of a text is: what the program says, and the line of the place that projectcheck names."""
 
 import re
 
@@ -28,7 +28,7 @@ def fault_of(document: Node, text: bytes, hotline: Program, check: Program | Non
 
 
 def located(document: Node, kind: str, run: Ran) -> Finding:
-    """The finding of a fault, with the line of the place that projectcheck tells."""
+    """The finding of a fault, with the line of the place that projectcheck names."""
     if len(run.lines) < 2:
         return Finding(1, kind, f"projectcheck says {' '.join(run.lines) or 'nothing'}")
     said = run.lines[1]

@@ -7,7 +7,7 @@ from difflib import get_close_matches
 from linting.findings import Finding
 from projects.toml import Node
 
-# The tables of each table, and its other keys. `name` and `allow` may stand in any.
+# The tables of each table, and its other keys. `name` and `allow` may be in any.
 TABLES = {
     "": {"slave": "slave", "group": "group", "task": "task"},
     "group": {"slave": "slave"},
@@ -44,19 +44,19 @@ def joined(path: str, step: str) -> str:
 
 
 def stray_areas(document: Node) -> Iterator[Finding]:
-    """Areas, and PDOs of areas, between which and their slave the header of another slave or of a group stands."""
+    """Areas, and PDOs of areas, between which and their slave there is the header of another slave or of a group."""
     headers = [node.line for node in [*document.listed("group"), *document.listed("slave")]]
     for path, slave in every_slave(document):
         between = min((line for line in headers if line > slave.line), default=math.inf)
-        for inner, kind, table in behind(slave, path, between):
+        for inner, kind, table in begun_after(slave, path, between):
             station = slave.get("station")
             owner = f"slave {station.value}" if station else "a slave without a station address"
             words = f"this {kind} is of {owner} on line {slave.line}, not of what line {between} begins"
             yield Finding(table.line, "StrayArea", words, inner)
 
 
-def behind(slave: Node, path: str, line: float) -> Iterator[tuple[str, str, Node]]:
-    """The areas of a slave that begin behind a line, and the PDOs that do of those that don't, with path and kind."""
+def begun_after(slave: Node, path: str, line: float) -> Iterator[tuple[str, str, Node]]:
+    """The areas of a slave that begin after a line, and the PDOs that do of those that don't, with path and kind."""
     for at, area in enumerate(slave.listed("area")):
         if area.line > line:
             yield f"{path}.area[{at}]", "area", area

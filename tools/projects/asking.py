@@ -11,7 +11,7 @@ from projects.files import LONGEST_INPUT
 
 BUILT = Path(__file__).resolve().parents[2] / "crates/hotline/out/hotline"
 SECONDS = 60
-# No variable has the number 0, so the answer `none` tells where the lines of the question before it end.
+# No variable has the number 0, so the answer `none` shows where the lines of the question before it end.
 END = b"place 0\n"
 
 Section = Callable[[Iterator[str]], object]
@@ -57,7 +57,7 @@ def input_of(text: bytes, commands: list[bytes]) -> bytes:
 
 
 class Session:
-    """A project text and the edits behind which questions are asked; `edits` are their lines with line feeds."""
+    """A project text and the edits after which questions are asked; `edits` are their lines with line feeds."""
 
     def __init__(self, program: Program, text: bytes, edits: list[bytes]) -> None:
         self.program = program
@@ -80,7 +80,7 @@ class Session:
         return given[: len(longer)], given[len(longer) :]
 
     def portions(self, asked: list[tuple[bytes, Section]]) -> list[list[tuple[bytes, Section]]]:
-        """The questions in their order, parted so that each part fits an input behind the text and the edits."""
+        """The questions in their order, parted so that each part fits an input after the text and the edits."""
         room = LONGEST_INPUT - len(self.front)
         portions, left = [], 0
         for question, taken in asked:

@@ -23,7 +23,7 @@ class Constant:
 
 @dataclass(frozen=True)
 class Language:
-    """How constants are written: the lines before them, each of them, and the lines behind them."""
+    """How constants are written: the lines before them, each of them, and the lines after them."""
 
     head: str
     line: Callable[[Constant], str]

@@ -27,7 +27,7 @@ def content_of(name: str, longest: int = LONGEST_INPUT) -> bytes:
 
 
 def parted(content: bytes) -> tuple[bytes, bytes]:
-    """The project text before the first line `%%`, and the commands behind it."""
+    """The project text before the first line `%%`, and the commands after it."""
     found = SEPARATOR.search(content)
     if found is None:
         return content, b""

@@ -26,7 +26,7 @@ class Span:
 
     @property
     def end(self) -> int:
-        """The first byte behind them."""
+        """The first byte after them."""
         return self.start + self.size
 
     def __str__(self) -> str:

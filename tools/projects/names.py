@@ -1,7 +1,7 @@
 """Names in a project text: of variables by `names` beside `entries`, and `name` of slaves, groups and tasks.
 
-A variable's name is an identifier and stands once in a project, whatever its case; so it is a constant in any language.
-Slaves, groups and tasks have names for people, which may have blanks and may stand more than once.
+A variable's name is an identifier and is used once in a project, whatever its case; so it is a constant in any language.
+Slaves, groups and tasks have names for people, which may have blanks and may repeat.
 """
 
 import re
@@ -54,7 +54,7 @@ class Variable:
 
 @dataclass(frozen=True)
 class Numbered:
-    """Something that a project names and numbers: the number, the name, and the line on which it stands."""
+    """Something that a project names and numbers: the number, the name, and its line."""
 
     number: int
     name: str
@@ -62,7 +62,7 @@ class Numbered:
 
 
 class Names:
-    """The names of a project. A name or a number, as people write it, finds what it stands for."""
+    """The names of a project. A name or a number, as people write it, finds what it names."""
 
     def __init__(self, project: Project) -> None:
         homes = project.homes.items()
@@ -120,7 +120,7 @@ def variable_faults(variables: Iterable[Variable]) -> list[NameFault]:
         if not IDENTIFIER.fullmatch(name):
             faults.append(NameFault(line, "NoIdentifier", f"{name!r} isn't letters, digits and _, no digit first"))
         if name.lower() in lines:
-            faults.append(NameFault(line, "RepeatedName", f"{name} stands first on line {lines[name.lower()]}"))
+            faults.append(NameFault(line, "RepeatedName", f"{name} is first used on line {lines[name.lower()]}"))
         lines.setdefault(name.lower(), line)
     return faults
 

@@ -206,7 +206,7 @@ class Records:
             self.fault(found.line, "NamesKind", "names isn't an array of strings")
             return nothing
         if len(found.value) != count:
-            self.fault(found.line, "NamesLength", f"{len(found.value)} names stand beside {count} entries")
+            self.fault(found.line, "NamesLength", f"{len(found.value)} names beside {count} entries")
             return nothing
         return [(item.value, item.line) for item in found.value]
 

@@ -17,7 +17,7 @@ OFFSET = r"(?:[Zz]|[+-](?P<ahead>[0-9]{2}):(?P<part>[0-9]{2}))"
 LOCAL_TIME = re.compile(TIME)
 DATE_TIME = re.compile(rf"(?P<year>[0-9]{{4}})-(?P<month>[0-9]{{2}})-(?P<day>[0-9]{{2}})(?:[Tt ]{TIME}{OFFSET}?)?")
 
-# Characters that stand for themselves: all but control characters, the quote and, between double quotes, the backslash.
+# Characters that mean themselves: all but control characters, the quote and, between double quotes, the backslash.
 PLAIN = {
     '"': re.compile(r'[^\x00-\x08\x0a-\x1f\x7f"\\]*'),
     "'": re.compile(r"[^\x00-\x08\x0a-\x1f\x7f']*"),
@@ -58,7 +58,7 @@ def scalar_at(text: str, start: int) -> tuple[Scalar, int]:
 
 
 def unquoted(word: str, start: int) -> Scalar:
-    """The boolean, date-time or number that a word stands for."""
+    """The boolean, date-time or number that a word means."""
     if word in ("true", "false"):
         return word == "true"
     if MOMENT.match(word):
@@ -163,7 +163,7 @@ def one_or_two(text: str, at: int, quote: str, count: int) -> str:
 
 
 def escape_at(text: str, at: int, quote: str) -> tuple[str, int]:
-    """The character that an escape stands for; only a string between double quotes has any."""
+    """The character that an escape means; only a string between double quotes has any."""
     found = ESCAPE.match(text, at) if quote == '"' else None
     if found is None:
         raise Malformed(at, "the string isn't ended, or has a character or an escape that it can't have")
@@ -171,5 +171,5 @@ def escape_at(text: str, at: int, quote: str) -> tuple[str, int]:
         return ESCAPED[found[1]], found.end()
     code = int(found[2] or found[3] or found[4], 16)
     if code > 0x10FFFF or 0xD800 <= code <= 0xDFFF:
-        raise Malformed(at, "the escape stands for no character")
+        raise Malformed(at, "the escape means no character")
     return chr(code), found.end()

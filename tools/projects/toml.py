@@ -71,16 +71,16 @@ def read_toml(content: bytes) -> Node:
     try:
         text = content.decode()
     except UnicodeDecodeError as error:
-        raise fault_behind(content[: error.start].decode(), "the bytes aren't UTF-8") from error
+        raise fault_after(content[: error.start].decode(), "the bytes aren't UTF-8") from error
     reader = Reader(text)
     try:
         return reader.document()
     except Malformed as fault:
-        raise fault_behind(text[: fault.position], str(fault)) from fault
+        raise fault_after(text[: fault.position], str(fault)) from fault
 
 
-def fault_behind(before: str, words: str) -> TomlFault:
-    """The fault of a text at which reading ended behind some characters."""
+def fault_after(before: str, words: str) -> TomlFault:
+    """The fault of a text at which reading ended after some characters."""
     return TomlFault(before.count("\n") + 1, len(before) - before.rfind("\n"), words)
 
 
@@ -96,18 +96,18 @@ class Reader:
         return bisect_left(self.ends, position) + 1
 
     def blank(self, at: int) -> int:
-        """Where something stands again, behind white space, line feeds and comments."""
+        """Where the text goes on after white space, line feeds and comments."""
         return BLANK.match(self.text, at).end()
 
     def spaces(self, at: int) -> int:
         """The same on one line, without comments."""
         return SPACES.match(self.text, at).end()
 
-    def expect(self, at: int, wanted: str, words: str) -> int:
-        """Behind some characters that must stand at a position."""
-        if not self.text.startswith(wanted, at):
+    def expect(self, at: int, token: str, words: str) -> int:
+        """The position after some characters that must be there."""
+        if not self.text.startswith(token, at):
             raise Malformed(at, words)
-        return at + len(wanted)
+        return at + len(token)
 
     def document(self) -> Node:
         """The whole text."""
@@ -126,7 +126,7 @@ class Reader:
         """Where the next line with anything on it begins; nothing but a comment may follow on this one."""
         at = self.spaces(at)
         if at < len(self.text) and self.text[at] not in "#\r\n":
-            raise Malformed(at, "the line goes on behind its value or header")
+            raise Malformed(at, "the line goes on after its value or header")
         return self.blank(at)
 
     def header(self, root: Node, start: int) -> tuple[Node, int]:
@@ -142,7 +142,7 @@ class Reader:
         return (added if is_array else opened)(table, keys[-1], line, start), at
 
     def keys(self, start: int) -> tuple[list[str], int]:
-        """The parts of a key, and where something stands behind it."""
+        """The parts of a key, and where the text goes on after it."""
         keys, at = [], start
         while len(keys) < DEEPEST:
             key, at = self.key(at)
@@ -187,17 +187,17 @@ class Reader:
         while not self.text.startswith("]", at):
             item, at = self.value(at, depth)
             items.append(item)
-            at = self.behind_item(at, "]")
+            at = self.after_item(at, "]")
         return Node(items, self.line(start)), at + 1
 
     def inline_table(self, start: int, depth: int) -> tuple[Node, int]:
         """An inline table, from its brace on."""
         table, at = Node({}, self.line(start)), self.blank(start + 1)
         while not self.text.startswith("}", at):
-            at = self.behind_item(self.pair(table, at, depth), "}")
+            at = self.after_item(self.pair(table, at, depth), "}")
         return Node(table.value, table.line), at + 1
 
-    def behind_item(self, at: int, closing: str) -> int:
+    def after_item(self, at: int, closing: str) -> int:
         """The next item of an array or an inline table, or its closing bracket."""
         at = self.blank(at)
         if self.text.startswith(",", at):
@@ -210,7 +210,7 @@ class Reader:
 def insert(table: Node, key: str, value: Node, at: int) -> Node:
     """A new member of a table."""
     if key in table.value:
-        raise Malformed(at, f"the key {key} stands twice")
+        raise Malformed(at, f"the key {key} is there twice")
     table.value[key] = value
     return value
 
@@ -242,7 +242,7 @@ def opened(table: Node, key: str, line: int, at: int) -> Node:
     if found is None:
         return insert(table, key, Node({}, line, Origin.HEADER), at)
     if found.origin is not Origin.PASSED:
-        raise Malformed(at, f"the table {key} stands twice")
+        raise Malformed(at, f"the table {key} is there twice")
     found.origin, found.line = Origin.HEADER, line
     return found
 
