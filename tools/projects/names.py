@@ -1,6 +1,6 @@
 """Names in a project text: of variables by `names` beside `entries`, and `name` of slaves, groups and tasks.
 
-A variable's name is an identifier and is used once in a project, whatever its case; so it is a constant in any language.
+A variable's name is an identifier and is used once in a project, whatever its case: so it can be a constant anywhere.
 Slaves, groups and tasks have names for people, which may have blanks and may repeat.
 """
 

@@ -111,7 +111,7 @@ def check(checks: Checks) -> None:
 
 
 def configured(checks: Checks, text: str, commands: str, passed: int = 0) -> list[str]:
-    """What the program prints of a text behind some of the commands; nothing where it doesn't open the text."""
+    """What the program prints of a text after some of the commands; its status where it does not open the text."""
     status, lines = checks.hotline(f"{text}%%\n{commands}".encode())
     return lines[passed:] if status == 0 else [f"status {status}", *lines]
 

@@ -47,7 +47,7 @@ task = 1
 assigned = [0x1600]
 pdo = [{ index = 0x1600, entries = [[101, 8]] }]
 """
-# What is planted: a piece of the text, what stands in its place, and the findings, each with its line.
+# What is planted: a piece of the text, what replaces it, and the findings, each with its line.
 PLANTED = [
     ("[[slave]]", "[[slaves]]", [(5, "UnknownKey"), (9, "MissingField")]),
     ("[[task]]", "[[tasks]]", [(1, "UnknownKey")]),
@@ -191,7 +191,7 @@ def linted(checks: Checks, text: str) -> list[str]:
 
 
 def check_costs(checks: Checks) -> None:
-    """How many blocks a connection moves, by hand: a new output moves the FMMU of each input, which stands after it."""
+    """How many blocks a connection moves, by hand: a new output moves the FMMU of each input, which comes after it."""
     # The gripper's sync manager and FMMU are new, and the axis's input FMMU moves by a byte.
     words = "connecting it moves 3 blocks, with all groups present moves 3 blocks; 2 blocks are its own"
     shared = TEXT.replace(*SHARED, 1)
@@ -200,7 +200,7 @@ def check_costs(checks: Checks) -> None:
         [f"gripper (alias 100) shares task 0 with mandatory group: {words}"],
         linted(checks, shared),
     )
-    # The input of a second tool stands after all others: its connection moves its own two blocks alone. With it
+    # The input of a second tool comes after all others: its connection moves its own two blocks alone. With it
     # present, the gripper's moves its input's FMMU too.
     checks.equal(
         "costs of two tools",

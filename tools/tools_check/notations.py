@@ -55,7 +55,7 @@ class Notation:
         self.end = self.random.choice(["\n", "\r\n"])
 
     def document(self, table: dict) -> str:
-        """The document, perhaps behind a byte order mark."""
+        """The document, perhaps after a byte order mark."""
         lines = self.below("", table)
         text = "".join(f"{line}{self.remark()}{self.end}" for line in lines)
         return self.random.choice(["", "\ufeff"]) + text

@@ -58,7 +58,7 @@ def check_alone(checks: Checks) -> None:
 
 
 def check_lines(checks: Checks, texts: list[bytes]) -> None:
-    """The line of each value: small integers, each written anew as one that stands once, are found where they stand."""
+    """The line of each value: small integers, each written anew as one that occurs once, are found where they are."""
     marked = [text for text in (numbered(text.decode()) for text in texts) if is_taken(text.encode())]
     for text in marked:
         values = [node for _, node in walked(read_toml(text.encode()))]
@@ -69,7 +69,7 @@ def check_lines(checks: Checks, texts: list[bytes]) -> None:
 
 
 def numbered(text: str) -> str:
-    """A text with a number of its own for each 1 and 2 that stands by itself, be it a value or a key."""
+    """A text with a number of its own for each 1 and 2 that is by itself, be it a value or a key."""
     numbers = count(MARKED[0])
     return ALONE_NUMBER.sub(lambda _: str(next(numbers)), text)
 
