@@ -1,6 +1,6 @@
 """Buffered sync managers: a slave has three buffers for each, one after the other, and the program counts one."""
 
-from collections.abc import Iterator
+from collections.abc import Callable, Iterator
 
 from linting.findings import Finding
 from projects.limits import MEMORY_END, MOST_BITS, Span, overlapping
@@ -20,7 +20,7 @@ def buffer_findings(project: Project, paths: dict[int, str]) -> Iterator[Finding
                 yield Finding(slave.areas[0].line, kind, said, paths[slave.station])
 
 
-def faults_of(slave: Slave, size_of) -> Iterator[str]:
+def faults_of(slave: Slave, size_of: Callable[[Area], int]) -> Iterator[str]:
     """What is wrong with the buffers of a slave, where a function gives an area's bytes."""
     spans = [
         Span(f"three buffers of sync manager {area.sync_manager}", area.phys, BUFFERS * size_of(area))

@@ -41,7 +41,7 @@ def findings_of(text: bytes, program: Program, check: Program | None) -> list[Fi
     found = [*unknown_keys(document), *stray_areas(document)]
     fault = fault_of(document, text, program, check)
     found += [fault] if fault else open_findings(document, text, program)
-    return remaining(found, document)
+    return remaining(found, document, fault is None)
 
 
 def open_findings(document: Node, text: bytes, program: Program) -> list[Finding]:

@@ -52,13 +52,13 @@ def allowances(document: Node) -> Iterator[Allowance]:
             yield Allowance(path, item.value if isinstance(item.value, str) else "no string", item.line)
 
 
-def remaining(findings: list[Finding], document: Node) -> list[Finding]:
-    """The findings that aren't meant, and allowances for which there is nothing, by their lines."""
+def remaining(findings: list[Finding], document: Node, is_open: bool) -> list[Finding]:
+    """The findings that aren't meant, by line; where the text opens, allowances for which there is nothing too."""
     given = list(allowances(document))
     left = [finding for finding in findings if not any(one.covers(finding) for one in given)]
     for one in given:
         if one.kind not in ALLOWED:
             left.append(Finding(one.line, "UnknownKind", f"{one.kind} is none of {', '.join(ALLOWED)}"))
-        elif not any(one.covers(finding) for finding in findings):
+        elif is_open and not any(one.covers(finding) for finding in findings):
             left.append(Finding(one.line, "UnusedAllow", f"there is no {one.kind} here: {ALLOWED[one.kind]}"))
     return sorted(left, key=lambda finding: finding.line)

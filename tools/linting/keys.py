@@ -1,6 +1,7 @@
 """Keys that nothing reads, and areas that TOML gave to another slave than their place in the text suggests."""
 
 import math
+from bisect import bisect_right
 from collections.abc import Iterator
 from difflib import get_close_matches
 
@@ -45,9 +46,10 @@ def joined(path: str, step: str) -> str:
 
 def stray_areas(document: Node) -> Iterator[Finding]:
     """Areas, and PDOs of areas, between which and their slave there is the header of another slave or of a group."""
-    headers = [node.line for node in [*document.listed("group"), *document.listed("slave")]]
+    headers = sorted(node.line for node in [*document.listed("group"), *document.listed("slave")])
     for path, slave in every_slave(document):
-        between = min((line for line in headers if line > slave.line), default=math.inf)
+        after = bisect_right(headers, slave.line)
+        between = headers[after] if after < len(headers) else math.inf
         for inner, kind, table in begun_after(slave, path, between):
             station = slave.get("station")
             owner = f"slave {station.value}" if station else "a slave without a station address"

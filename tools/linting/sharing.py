@@ -8,6 +8,7 @@ from projects.asking import Program, input_of
 from projects.names import Names
 from projects.records import Group, Project
 
+NAMED = 3
 MOVED = re.compile(r"epoch \d+ recut \d+ moved (\d+)")
 
 
@@ -19,10 +20,15 @@ def shared_tasks(project: Project, names: Names, program: Program, text: bytes) 
     for place, group in sharing:
         shared = shared_of(group, users)
         others = {other.alias: other for task in shared for other in users[task] if other is not group}
-        with_whom = ", ".join(other.title() for other in others.values())
         tasks = ", ".join(f"task {task} {names.tasks[task].name}".rstrip() for task in shared)
-        words = f"{group.title()} shares {tasks} with {with_whom}: {costs.words(group)}"
+        words = f"{group.title()} shares {tasks} with {titles(list(others.values()))}: {costs.words(group)}"
         yield Finding(group.line, "SharedTask", words, f"group[{place}]")
+
+
+def titles(groups: list[Group]) -> str:
+    """What some groups are called, the first ones by name."""
+    named = [group.title() for group in groups[:NAMED]]
+    return ", ".join([*named, *([f"{len(groups) - NAMED} more"] if len(groups) > NAMED else [])])
 
 
 def users_of(project: Project) -> dict[int, list[Group]]:

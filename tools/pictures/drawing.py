@@ -3,12 +3,13 @@
 from math import ceil
 
 from pictures.bars import BARS, Bar
-from pictures.elements import Attribute, element, label, opened, plural, spelt, text, void
+from pictures.elements import Attribute, element, label, opened, spelt, text, void
 from pictures.heading import footing, heading
 from pictures.row_drawing import RowDrawer, badge_at
 from pictures.rows import Row, Rows, Run, scale_of
 from pictures.style import PAPER, PICTURE
 from pictures.views import Mark, View
+from projects.words import plural
 
 MARGIN = 16
 CAPTIONS = BARS - 8

@@ -44,8 +44,3 @@ def void(tag: str, **attributes: Attribute) -> str:
 def label(x: float, y: float, words: str | int, kind: str | None = None, **attributes: Attribute) -> str:
     """A text of a picture, whose baseline begins, or ends or has its middle, at a point."""
     return element("text", text(words), kind=kind, x=float(x), y=float(y), **attributes)
-
-
-def plural(count: int, word: str) -> str:
-    """A count with its word."""
-    return f"{count} {word}{'' if count == 1 else 's'}"

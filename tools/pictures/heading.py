@@ -1,12 +1,13 @@
 """What stands above and below the rows: the line and its edit, groups, legend, and what no datagram carries."""
 
 from pictures.bars import LOWER
-from pictures.elements import element, label, plural, void
+from pictures.elements import element, label, void
 from pictures.row_drawing import badge_at
 from pictures.states import Block, State
 from pictures.style import MARK_WORDS
 from pictures.views import View
 from projects.records import Group
+from projects.words import plural
 
 LINE = 17
 # A character of the running words is about so wide.

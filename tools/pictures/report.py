@@ -1,11 +1,12 @@
 """The report: the picture, the line's datagrams, the register blocks of each slave, and all variables, in one page."""
 
 from pictures.drawing import picture
-from pictures.elements import element, plural, text
+from pictures.elements import element, text
 from pictures.page import SCRIPT, style_of
 from pictures.style import MARK_LETTERS, PICTURE
 from pictures.tables import Tables
 from pictures.views import View
+from projects.words import plural
 
 # More edits than these are shown only where they are asked for.
 FEW = 12

@@ -1,11 +1,12 @@
 """Draws a row: a ruler of bytes, the areas, and below them their variables and gaps, all to the row's scale."""
 
 from pictures.bars import AREA_NAMES, BADGES, BAND, BITS_NAMES, CELL, LOWER, RULER, SMALL, VARIABLE_NAMES, Bar
-from pictures.elements import Attribute, element, label, plural, spelt, text, void
+from pictures.elements import Attribute, element, label, spelt, text, void
 from pictures.rows import Row, Run, cell_runs, field_runs, scale_of, unused_of
 from pictures.style import DIRECTION_LETTERS, DIRECTION_WORDS, MARK_LETTERS, MARK_WORDS
 from pictures.views import Mark
 from projects.records import Home, Project, Slave
+from projects.words import plural
 
 RULER_STEPS = (1, 2, 4, 8, 16, 32, 64, 128, 256)
 BADGE, BADGE_HEIGHT = 10, 12

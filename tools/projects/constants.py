@@ -6,6 +6,7 @@ from dataclasses import dataclass
 
 from projects.faults import Refusal
 from projects.names import Names, Numbered, Variable
+from projects.words import plural
 
 NOT_IN_IDENTIFIER = re.compile(r"[^A-Za-z0-9]+")
 DIRECTIONS = {"out": "output", "in": "input"}
@@ -53,7 +54,7 @@ def spelt(prefix: str, name: str) -> str:
 
 def variable_constant(variable: Variable) -> Constant:
     """The constant of a variable."""
-    kind = f"{DIRECTIONS[variable.direction]}, {variable.bits} bits"
+    kind = f"{DIRECTIONS[variable.direction]}, {plural(variable.bits, 'bit')}"
     place = f"slave {variable.station}, PDO 0x{variable.home.pdo.index:04x}, task {variable.task}"
     return Constant(f"VAR_{variable.name.upper()}", variable.number, "u32", f"{kind}, {place}")
 

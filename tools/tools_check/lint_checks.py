@@ -106,6 +106,7 @@ ALLOWED = [
     (SHARED, ("[[task]]", 'allow = ["SharedTask"]\n[[task]]'), []),
     (SHARED, ("alias = 100", 'alias = 100\nallow = ["SharedTask"]'), []),
     (SHARED, ("alias = 100", 'alias = 100\nallow = "SharedTask"'), []),
+    (("station = 2001", "station = 0"), ("alias = 100", 'alias = 100\nallow = "SharedTask"'), [(34, "OutOfRange")]),
     (SHARED, ("alias = 100", "alias = 100\nallow = [1]"), [(28, "SharedTask"), (31, "UnknownKind")]),
     (SHARED, ("station = 2001", 'station = 2001\nallow = ["SharedTask"]'), [(28, "SharedTask"), (34, "UnusedAllow")]),
     (SHARED, ("alias = 100", 'alias = 100\nallow = ["UnknownKey"]'), [(28, "SharedTask"), (31, "UnusedAllow")]),

@@ -55,7 +55,7 @@ C = """\
 
 #define VAR_X_CONTROL 1u /* output, 16 bits, slave 1002, PDO 0x1600, task 0 */
 #define VAR_X_TARGET 2u /* output, 32 bits, slave 1002, PDO 0x1600, task 0 */
-#define VAR__BRAKE2 4u /* output, 1 bits, slave 1002, PDO 0x1601, task 0 */
+#define VAR__BRAKE2 4u /* output, 1 bit, slave 1002, PDO 0x1601, task 0 */
 #define VAR_CLOSED 5u /* input, 12 bits, slave 2001, PDO 0x1a00, task 1 */
 #define SLAVE_AXIS_X 1002u /* station address */
 #define GROUP_GRIPPER_2 100u /* alias */
@@ -69,7 +69,7 @@ RUST = """\
 
 pub const VAR_X_CONTROL: u32 = 1; // output, 16 bits, slave 1002, PDO 0x1600, task 0
 pub const VAR_X_TARGET: u32 = 2; // output, 32 bits, slave 1002, PDO 0x1600, task 0
-pub const VAR__BRAKE2: u32 = 4; // output, 1 bits, slave 1002, PDO 0x1601, task 0
+pub const VAR__BRAKE2: u32 = 4; // output, 1 bit, slave 1002, PDO 0x1601, task 0
 pub const VAR_CLOSED: u32 = 5; // input, 12 bits, slave 2001, PDO 0x1a00, task 1
 pub const SLAVE_AXIS_X: u16 = 1002; // station address
 pub const GROUP_GRIPPER_2: u16 = 100; // alias
