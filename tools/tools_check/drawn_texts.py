@@ -1,6 +1,7 @@
 """Texts drawn from a seed: documents by the grammar of TOML 1.1 and beside it, and spoilt ones."""
 
 import random
+from collections.abc import Callable
 
 SPACES = ["", "", "", " ", "\t", "  "]
 SCALARS = [
@@ -122,7 +123,7 @@ class Drawer:
             return self.items("{", "}", lambda: self.pair(depth - 1))
         return self.pick(["1", "2", "0x3", '"s"', "true"]) if kind < 0.8 else self.pick(SCALARS)
 
-    def items(self, opening: str, closing: str, item) -> str:
+    def items(self, opening: str, closing: str, item: Callable[[], str]) -> str:
         """Items between brackets."""
         texts = [f"{self.gap()}{item()}{self.gap()}" for _ in range(self.pick([0, 1, 2, 3]))]
         last = self.pick(["", "", ",", f",{self.gap()}"]) if texts else self.gap()

@@ -2,8 +2,9 @@
 
 import shutil
 import subprocess
+from collections.abc import Callable
 
-from checks import Checks
+from checks import TOOLS, Checks
 
 from projects.faults import Refusal
 from projects.names import Names, names_of
@@ -125,6 +126,7 @@ def check(checks: Checks) -> None:
     compiled(checks, "cc", C, "names.h", ["-fsyntax-only", "-Werror", "-x", "c"])
     options = ["--crate-type", "lib", "--emit", "metadata", "--out-dir", checks.scratch]
     compiled(checks, "rustc", RUST, "names.rs", options)
+    check_page(checks)
     check_program(checks)
     check_lookups(checks)
     for old, new, kind, line in FAULTS + CONSTANT_FAULTS + BROKEN:
@@ -135,11 +137,20 @@ def check(checks: Checks) -> None:
     checks.equal("help of names", 0, checks.tool("names", "--help").status)
 
 
-def compiled(checks: Checks, compiler: str, text: str, name: str, options: list) -> None:
+def compiled(checks: Checks, compiler: str, text: str, name: str, options: list[object]) -> None:
     """Constants as a compiler takes them, where it is installed."""
     if shutil.which(compiler):
         run = subprocess.run([compiler, *options, checks.file(name, text)], capture_output=True, timeout=60)
         checks.equal(f"{compiler} over {name}", (0, b""), (run.returncode, run.stderr))
+
+
+def check_page(checks: Checks) -> None:
+    """The text on the page of names has the constants that the page shows."""
+    page = (TOOLS.parent / "docs/use/NAMES.md").read_text()
+    text = page.split("```toml\n")[1].split("```")[0]
+    said = checks.tool("names", checks.file("page.toml", text), "--c").said.splitlines()
+    shown = [line.strip() for line in page.splitlines() if line.startswith("    #define")]
+    checks.equal("constants on the page", (2, []), (len(shown), [line for line in shown if line not in said]))
 
 
 def check_program(checks: Checks) -> None:
@@ -176,7 +187,7 @@ def check_lookups(checks: Checks) -> None:
     checks.equal("faults of right names", [], Names(read_project(read_toml(TEXT.encode()), [])).faults)
 
 
-def kind_of(find, word: str) -> str:
+def kind_of(find: Callable[[str], object], word: str) -> str:
     """The kind of the refusal with which something isn't found."""
     try:
         return f"found {find(word)}"
