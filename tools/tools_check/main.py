@@ -6,7 +6,9 @@ from pathlib import Path
 
 sys.path.insert(0, str(Path(__file__).resolve().parents[1]))
 
+import capture_checks  # noqa: E402
 import esi_checks  # noqa: E402
+import line_checks  # noqa: E402
 import lint_checks  # noqa: E402
 import name_checks  # noqa: E402
 import picture_checks  # noqa: E402
@@ -18,7 +20,7 @@ def main(program: str) -> int:
     """The status: 0 where all passed."""
     with tempfile.TemporaryDirectory() as scratch:
         checks = Checks(Path(program).resolve(), Path(scratch))
-        for part in (toml_checks, name_checks, esi_checks, lint_checks, picture_checks):
+        for part in (toml_checks, name_checks, esi_checks, lint_checks, picture_checks, line_checks, capture_checks):
             part.check(checks)
     print(f"{checks.passed} passed, {checks.failed} failed")
     return 0 if checks.passed and not checks.failed else 1
