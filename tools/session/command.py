@@ -8,6 +8,7 @@ from projects.faults import FINE
 from projects.files import content_of, parted
 from session.line import Line
 from session.prompt import prompt
+from session.serving import serve
 
 
 def run(words: list[str]) -> int:
@@ -25,8 +26,6 @@ def run(words: list[str]) -> int:
     text, _ = parted(content_of(arguments.project))
     line = Line(Program(arguments.program), Path(arguments.project).stem, text)
     if arguments.serve:
-        from session.serving import serve
-
         serve(line, arguments.port)
     else:
         prompt(line)
