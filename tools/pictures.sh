@@ -55,14 +55,17 @@ timed() {
     return "$status"
 }
 
-# make NAME INPUT: its picture and its report, each looked at, and both read back.
+# make NAME INPUT [OPTION..]: its picture and its report, each looked at, and both read back.
 make() {
-    timed "$1.svg" tools/picture "$2" && well_formed "$scratch/$1.svg"
-    verdict "$1.svg" $?
-    timed "$1.html" tools/picture --report "$2" && well_formed "$scratch/$1.html"
-    verdict "$1.html" $?
-    "$check/read_back.py" "$program" "$2" "$scratch/$1.svg" "$scratch/$1.html" >"$scratch/said" 2>&1
-    verdict "$1, read back," $?
+    name=$1
+    input=$2
+    shift 2
+    timed "$name.svg" tools/picture "$input" "$@" && well_formed "$scratch/$name.svg"
+    verdict "$name.svg" $?
+    timed "$name.html" tools/picture --report "$input" "$@" && well_formed "$scratch/$name.html"
+    verdict "$name.html" $?
+    "$check/read_back.py" "$program" "$input" "$scratch/$name.svg" "$scratch/$name.html" "$@" >"$scratch/said" 2>&1
+    verdict "$name, read back," $?
 }
 
 # stored PICTURE PROJECT COMMANDS
@@ -89,6 +92,9 @@ done
 make drawn "$scratch/drawn.in"
 
 make declared tools/declared.in
+make named "$check/named.in"
+make since examples/tool_changer_day.in --since 0
+make declared_since tools/declared.in --since 1
 
 stored examples/tool_changer.svg examples/tool_changer.toml ''
 stored examples/tool_changer_gripper.svg examples/tool_changer.toml 'connect 100'
@@ -96,10 +102,12 @@ stored examples/tool_changer_gripper.svg examples/tool_changer.toml 'connect 100
 changed=$scratch/changed.in
 { cat examples/tool_changer.toml; printf '%%%%\nconnect 100\n'; } >"$changed"
 make changed "$changed"
+make swapped examples/tool_changer_day.in --against "$changed"
+make other examples/bit_terminals.in --against "$changed"
 for way in carried written shifted left-out exchanged; do
     refuse "$way" "$changed" "$scratch/changed.svg"
 done
-for way in carried cell row; do
+for way in carried cell unmarked row; do
     refuse "$way" "$changed" "$scratch/changed.html"
 done
 echo "$passed passed, $failed failed"

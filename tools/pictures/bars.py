@@ -3,6 +3,7 @@
 from dataclasses import dataclass
 
 from pictures.elements import label, spelt
+from pictures.rows import Run
 
 BARS = 222
 RULER, BADGES, BAND, CELL, BITS = 17, 15, 22, 16, 13
@@ -21,17 +22,17 @@ class Lettering:
     upright: str | None
     upright_width: float
 
-    def fitting(self, words, width):
+    def fitting(self, words: list[str], width: float) -> str | None:
         """The first of some names that a width has room for, or None."""
         return next((name for name in words if len(name) * self.along_width + 4 <= width), None)
 
-    def upright_height(self, words, width):
+    def upright_height(self, words: list[str], width: float) -> float:
         """How high a box must be for the shortest of some names where none has room along, or 0."""
         if self.fitting(words, width) is not None or not self.has_upright(width):
             return 0
         return len(words[-1]) * self.upright_width + 8
 
-    def has_upright(self, width):
+    def has_upright(self, width: float) -> bool:
         """Whether an upright name has room."""
         return width >= self.upright_width + 4
 
@@ -51,43 +52,43 @@ class Bar:
     band: float
     cell: float
 
-    def x(self, bit):
+    def x(self, bit: int) -> float:
         """Where a bit of the datagram begins."""
         return BARS + bit * self.scale / 8
 
-    def width(self, bits):
+    def width(self, bits: int) -> float:
         """How wide some bits are."""
         return bits * self.scale / 8
 
-    def band_top(self):
+    def band_top(self) -> float:
         """Where the areas begin."""
         return self.top + RULER + self.badges
 
-    def box_top(self, direction):
+    def box_top(self, direction: str) -> float:
         """Where an area's box begins: inputs are a little lower, so that narrow ones are known without colour."""
         return self.band_top() + LOWER[direction]
 
-    def box_height(self, direction):
+    def box_height(self, direction: str) -> float:
         """How high an area's box is."""
         return self.band - LOWER[direction]
 
-    def cell_top(self):
+    def cell_top(self) -> float:
         """Where the variables begin."""
         return self.band_top() + self.band
 
-    def cell_height(self):
+    def cell_height(self) -> float:
         """How high the boxes of variables are, with their numbers and their bits."""
         return self.cell + BITS
 
-    def foot(self):
+    def foot(self) -> float:
         """Where the variables end."""
         return self.cell_top() + self.cell_height()
 
-    def bottom(self):
+    def bottom(self) -> float:
         """Where the row ends."""
         return max(self.foot(), self.top + LEAST_HEIGHT)
 
-    def name(self, lettering, words, run, y, height):
+    def name(self, lettering: Lettering, words: list[str], run: Run, y: float, height: float) -> str:
         """A name in the middle of a run's box: along it where there is room, else upright, else none."""
         middle, width = self.x(run.bit) + self.width(run.bits) / 2, self.width(run.bits)
         along = lettering.fitting(words, width)

@@ -1,53 +1,48 @@
-"""The command line of `tools/picture`: what is asked for, and where it is told that it can't be had."""
+"""The command line of `tools/picture`: what is asked for."""
 
 import argparse
 import sys
 from pathlib import Path
 
-from pictures.asking import Program, Refusal
 from pictures.drawing import picture
-from pictures.project import parted
 from pictures.report import report
-from pictures.views import view_of
+from pictures.views import Run, view_against, view_since
+from projects.asking import BUILT, Program
+from projects.faults import FINE
+from projects.files import content_of, parted
 
-BUILT = Path(__file__).resolve().parents[2] / "crates/hotline/out/hotline"
 
-
-def parsed(words):
+def parsed(words: list[str]) -> argparse.Namespace:
     """The arguments; a word that is none ends the run with status 2."""
     parser = argparse.ArgumentParser(
         prog="tools/picture",
         description="Draws the line of a project, and what the last accepted edit of the commands made of it.",
+        epilog="Status: 0 drawn, 2 the input can't be read or the program refuses it. docs/PICTURES.md tells the rest.",
     )
     parser.add_argument("project", help="a project text, or an input of hotline: a text, a line %%%% and commands")
     parser.add_argument("commands", nargs="?", help="a file with a command in each line, or - for standard input")
+    beside = parser.add_mutually_exclusive_group()
+    beside.add_argument("--since", type=int, metavar="EPOCH", help="beside the line as it was in an epoch, 0 at first")
+    beside.add_argument("--against", metavar="OTHER", help="beside the line of another text or input")
     parser.add_argument("--report", action="store_true", help="an HTML page with tables in place of an SVG picture")
     parser.add_argument("--program", default=BUILT, help="the program that is asked, if not the built hotline")
     return parser.parse_args(words)
 
 
-def content_of(name):
-    """The bytes of a file, or of standard input where the name is `-`."""
-    try:
-        return sys.stdin.buffer.read() if name == "-" else Path(name).read_bytes()
-    except OSError as error:
-        raise Refusal(f"{name}: {error.strerror}") from error
+def run_of(program: Program, name: str, more: bytes = b"") -> Run:
+    """An input with further commands, as the program runs it."""
+    text, commands = parted(content_of(name))
+    return Run(program, Path(name).stem, text, commands + more)
 
 
-def made(arguments):
-    """The text that is asked for."""
-    text, commands = parted(content_of(arguments.project))
-    if arguments.commands is not None:
-        commands += content_of(arguments.commands)
-    view = view_of(Program(arguments.program), Path(arguments.project).stem, text, commands)
-    return report(view) if arguments.report else picture(view)
-
-
-def main(words):
-    """Writes what is asked for to standard output; else says on standard error why not, and answers 1."""
-    try:
-        sys.stdout.buffer.write(made(parsed(words)).encode())
-    except Refusal as refusal:
-        print(f"picture: {refusal}", file=sys.stderr)
-        return 1
-    return 0
+def run(words: list[str]) -> int:
+    """Writes what is asked for to standard output."""
+    arguments = parsed(words)
+    program = Program(arguments.program)
+    asked = run_of(program, arguments.project, content_of(arguments.commands) if arguments.commands else b"")
+    if arguments.against is None:
+        view = view_since(asked, arguments.since)
+    else:
+        view = view_against(asked, run_of(program, arguments.against))
+    sys.stdout.buffer.write((report(view) if arguments.report else picture(view)).encode())
+    return FINE

@@ -2,13 +2,14 @@
 
 from math import ceil
 
-from pictures.bars import BARS
-from pictures.elements import element, label, opened, plural, spelt, text, void
+from pictures.bars import BARS, Bar
+from pictures.elements import Attribute, element, label, opened, spelt, text, void
 from pictures.heading import footing, heading
 from pictures.row_drawing import RowDrawer, badge_at
-from pictures.rows import Row, Rows, scale_of
-from pictures.style import PICTURE
-from pictures.views import Mark, Marks
+from pictures.rows import Row, Rows, Run, scale_of
+from pictures.style import PAPER, PICTURE
+from pictures.views import Mark, View
+from projects.words import plural
 
 MARGIN = 16
 CAPTIONS = BARS - 8
@@ -20,14 +21,14 @@ STATE_WORDS = {"before": "before", "after": "after", "both": "as before"}
 class Picture:
     """Draws the rows of a view from some height on, and keeps how far it has come."""
 
-    def __init__(self, view, top):
+    def __init__(self, view: View, top: float) -> None:
         self.view, self.y, self.content = view, top, []
-        self.drawer = RowDrawer(view.project)
-        rows = Rows(view.project, Marks(view))
+        self.drawers = {is_after: RowDrawer(view.declares(is_after)) for is_after in (False, True)}
+        rows = Rows(view)
         self.after = rows.of_state(view.after, True)
         self.before = rows.of_state(view.before, False) if view.before else {}
 
-    def add_tasks(self):
+    def add_tasks(self) -> None:
         """Each task that has a datagram in one of the states."""
         names = sorted(self.before.keys() | self.after.keys())
         for task in sorted({task for task, _ in names}):
@@ -37,11 +38,11 @@ class Picture:
                     self.add_datagram(name)
             self.y += TASK_GAP
 
-    def add_task_heading(self, task):
+    def add_task_heading(self, task: int) -> None:
         """The task with the bytes of its outputs and inputs."""
         told = self.parts_of(task)
         self.y += 16
-        content = [label(MARGIN, self.y, f"Task {task}", "task")]
+        content = [label(MARGIN, self.y, f"Task {task} {self.view.task_name(task)}".rstrip(), "task")]
         for row, (name, (outputs, inputs)) in enumerate(told):
             said = f"{plural(outputs, 'byte')} of outputs, {plural(inputs, 'byte')} of inputs"
             said = said if self.view.before is None else f"{STATE_WORDS[name]}: {said}"
@@ -50,7 +51,7 @@ class Picture:
         self.content.append(element("g", *content, kind="task-heading", data_task=task))
         self.y += 14 * (len(told) - 1) + 8
 
-    def parts_of(self, task):
+    def parts_of(self, task: int) -> list[tuple[str, tuple[int, int]]]:
         """The bytes of a task's outputs and inputs by state, those that an edit left as they were once."""
         after = self.view.after.parts.get(task)
         before = self.view.before.parts.get(task) if self.view.before else None
@@ -58,7 +59,7 @@ class Picture:
             return [("both", after)]
         return [(name, parts) for name, parts in (("before", before), ("after", after)) if parts]
 
-    def add_datagram(self, name):
+    def add_datagram(self, name: tuple[int, int]) -> None:
         """The rows of a datagram: one where nothing changed, else what there is of before and after."""
         before, after = self.before.get(name), self.after.get(name)
         if before and after and before.mark is after.mark is Mark.KEPT:
@@ -74,9 +75,9 @@ class Picture:
                 self.add_ways(*drawn)
             self.y += ROW_GAP - PAIR_GAP
 
-    def add_row(self, row, length):
+    def add_row(self, row: Row, length: int) -> tuple[Bar, list[Run]]:
         """A row with its numbers at the left: where its areas stand."""
-        content, bar, runs = self.drawer.drawn(row, self.y, length)
+        content, bar, runs = self.drawers[row.state != "before"].drawn(row, self.y, length)
         datagram = row.datagram
         told = {
             "data_state": row.state,
@@ -94,7 +95,7 @@ class Picture:
         self.y = bar.bottom() + ROW_GAP
         return bar, runs
 
-    def row_numbers(self, row):
+    def row_numbers(self, row: Row) -> str:
         """What `layout` says of the datagram, and of which state."""
         datagram, y = row.datagram, self.y + 12
         content = [label(MARGIN, y, f"datagram {datagram.number}", "name")]
@@ -106,7 +107,7 @@ class Picture:
         content += [label(MARGIN, y + 14 * (line + 1), words) for line, words in enumerate(lines)]
         return "".join(content)
 
-    def captions(self, bar):
+    def captions(self, bar: Bar) -> str:
         """What the bands of a row are, at their left."""
         heights = {
             "byte": self.y + 11,
@@ -116,7 +117,7 @@ class Picture:
         }
         return "".join(label(CAPTIONS, y, words, "quiet", text_anchor="end") for words, y in heights.items())
 
-    def add_ways(self, before, after):
+    def add_ways(self, before: tuple[Bar, list[Run]], after: tuple[Bar, list[Run]]) -> None:
         """From each moved area of a row to the place that it has in the row below: the way that it went."""
         (old_bar, old_runs), (new_bar, new_runs) = before, after
         old = {name_of(run): run for run in old_runs if is_moved(run)}
@@ -125,17 +126,17 @@ class Picture:
                 self.content.append(way(old_bar, old[name_of(run)], new_bar, run))
 
 
-def is_moved(run):
+def is_moved(run: Run) -> bool:
     """Whether a run is one area that moved."""
     return len(run.items) == 1 and run.mark is Mark.MOVED
 
 
-def name_of(run):
+def name_of(run: Run) -> tuple[int, int]:
     """The first area of a run, by slave and place in its record."""
     return run.items[0].place.station, run.items[0].place.area
 
 
-def way(old_bar, old, new_bar, new):
+def way(old_bar: Bar, old: Run, new_bar: Bar, new: Run) -> str:
     """The band between two places of an area; it ends above the ruler's numbers."""
     foot, top = old_bar.foot(), new_bar.top + 1
     station, area = name_of(new)
@@ -149,29 +150,29 @@ def way(old_bar, old, new_bar, new):
     return void("polygon", kind="way", points=" ".join(f"{spelt(x)},{spelt(y)}" for x, y in points), **told)
 
 
-def width_of(view):
+def width_of(view: View) -> int:
     """The width of a picture, by its longest row."""
     states = [state for state in (view.before, view.after) if state]
     lengths = [datagram.length for state in states for datagram in state.datagrams.values()]
     return max([LEAST_WIDTH, *(BARS + length * scale_of(length) + MARGIN + 24 for length in lengths)])
 
 
-def told_of(view):
-    """What the picture as a whole stands for: the epochs, and the edit with its answer."""
+def told_of(view: View) -> dict[str, Attribute]:
+    """What the picture as a whole stands for: the epochs, and what lies between them."""
     told = {"data_epoch": view.after.epoch}
-    if view.edit:
-        told |= {"data_epoch_before": view.before.epoch, "data_edit": view.edit.words}
-        told |= {"data_recut": view.edit.recut, "data_moved": view.edit.moved}
+    if view.change:
+        told |= {"data_epoch_before": view.before.epoch, "data_change": view.change.words}
+        told |= {"data_recut": view.change.recut, "data_moved": view.change.moved}
     return told
 
 
-def hatch():
+def hatch() -> str:
     """The pattern of gaps."""
     lines = void("path", kind="hatch", d="M-1 7L7 -1M-1 1L1 -1M5 7L7 5")
     return element("pattern", lines, id="gap-hatch", width=6, height=6, patternUnits="userSpaceOnUse")
 
 
-def picture(view, style=PICTURE):
+def picture(view: View, style: str = PICTURE) -> str:
     """The SVG document of a view. A page that has the style by itself asks for the picture without it."""
     width = width_of(view)
     head, top = heading(view, MARGIN, width)
@@ -186,7 +187,7 @@ def picture(view, style=PICTURE):
         element("title", f"The line of {text(view.name)}, epoch {view.after.epoch}"),
         element("style", style) if style else "",
         element("defs", hatch()),
-        void("rect", kind="paper", width="100%", height="100%"),
+        void("rect", kind="paper", width="100%", height="100%", fill=PAPER),
         head,
         *drawn.content,
         foot,

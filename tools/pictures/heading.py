@@ -1,9 +1,13 @@
 """What stands above and below the rows: the line and its edit, groups, legend, and what no datagram carries."""
 
 from pictures.bars import LOWER
-from pictures.elements import element, label, plural, void
+from pictures.elements import element, label, void
 from pictures.row_drawing import badge_at
+from pictures.states import Block, State
 from pictures.style import MARK_WORDS
+from pictures.views import View
+from projects.records import Group
+from projects.words import plural
 
 LINE = 17
 # A character of the running words is about so wide.
@@ -12,7 +16,7 @@ CHIP = 36
 MORE = "; and {} more"
 
 
-def listed(phrases, width, most):
+def listed(phrases: list[str], width: float, most: int) -> list[str]:
     """Phrases in lines that a width has room for, at most so many; the last one counts what was left out."""
     room, lines = int(width / CHARACTER), [""]
     for row, phrase in enumerate(cut(phrase, room) for phrase in phrases):
@@ -28,7 +32,7 @@ def listed(phrases, width, most):
     return lines
 
 
-def cut(phrase, room):
+def cut(phrase: str, room: int) -> str:
     """A phrase, or as much of its front as there is room for."""
     return phrase if len(phrase) <= room else f"{phrase[: room - 1]}…"
 
@@ -36,15 +40,15 @@ def cut(phrase, room):
 class Words:
     """Lines of running words, one below the other."""
 
-    def __init__(self, left, top, width):
+    def __init__(self, left: float, top: float, width: float) -> None:
         self.left, self.y, self.width, self.content = left, top, width - 2 * left, []
 
-    def add(self, words, kind="words"):
+    def add(self, words: str, kind: str = "words") -> None:
         """A line."""
         self.y += LINE
         self.content.append(label(self.left, self.y, words, kind))
 
-    def add_list(self, name, phrases, most=2):
+    def add_list(self, name: str, phrases: list[str], most: int = 2) -> None:
         """A name and the phrases behind it, where there are any."""
         if not phrases:
             return
@@ -57,24 +61,23 @@ class Words:
             self.content.append(label(self.left + indent, self.y, line, "words"))
 
 
-def group_words(group):
+def group_words(group: Group) -> str:
     """A group with its slaves."""
     return f"{group.title()}, {plural(len(group.slaves), 'slave')}"
 
 
-def is_present(group, state):
+def is_present(group: Group, state: State) -> bool:
     """Whether a group is in the line; the mandatory one always is."""
     return group.alias == 0 or group.slaves[0].station in state.blocks
 
 
-def heading(view, left, width):
+def heading(view: View, left: float, width: float) -> tuple[str, float]:
     """The markup above the rows, and where it ends."""
     words = Words(left, 10, width)
     words.add(f"{view.name}: the line in epoch {view.after.epoch}", "heading")
-    if view.edit:
-        edit = view.edit
-        said = f": from epoch {view.before.epoch} to epoch {edit.epoch}, recut {edit.recut}, moved {edit.moved}"
-        words.add(cut(edit.words, int((width - 2 * left) / CHARACTER) - len(said)) + said)
+    if view.change:
+        said = view.said_of_change()
+        words.add(cut(view.change.words, int((width - 2 * left) / CHARACTER) - len(said)) + said)
     refused = [f"{asked}: {said}" for asked, said in view.answers if said.startswith("refused")]
     words.add_list("Refused", refused)
     groups = view.project.groups
@@ -82,7 +85,8 @@ def heading(view, left, width):
     words.add_list("Present", [group_words(group) for group in present])
     words.add_list("Absent", [group_words(group) for group in groups if group not in present])
     written = view.blocks_to_write()
-    words.add_list("Blocks to write", block_phrases(written), 3)
+    differ = view.change and view.change.is_other_text
+    words.add_list("Other blocks" if differ else "Blocks to write", block_phrases(written), 3)
     told = {
         "data_present": " ".join(str(group.alias) for group in present),
         "data_written": " ".join(f"{station}/0x{block.register:04x}" for station, _, block in written),
@@ -91,7 +95,7 @@ def heading(view, left, width):
     return "\n".join([element("g", *words.content, kind="head", **told), chips]), bottom
 
 
-def block_phrases(written):
+def block_phrases(written: list[tuple[int, int, Block]]) -> list[str]:
     """The blocks that have to be written, slave by slave."""
     slaves = {}
     for station, _, block in written:
@@ -99,26 +103,26 @@ def block_phrases(written):
     return [f"{station}: {', '.join(rows)}" for station, rows in slaves.items()]
 
 
-def chip(kind, box, letter):
+def chip(kind: str, box: str | None, letter: str) -> str:
     """A sample of a box with its letter."""
     lower = LOWER[kind] if box == "band" else 0
     sample = void("rect", kind=box, x=0.0, y=float(lower), width=float(CHIP), height=float(15 - lower))
     return element("g", sample, label(CHIP / 2, 12 + lower / 4, letter, text_anchor="middle"), kind=f"legend {kind}")
 
 
-def legend(view, left, top, width):
+def legend(view: View, left: float, top: float, width: float) -> tuple[str, float]:
     """What colours, letters and lines mean, and where it ends."""
     samples = [
         ("out", "band", "O", "output area, master to slave"),
         ("in", "band", "I", "input area, slave to master, lower"),
-        ("out", "cell", "7", "variable, its number over its bits"),
+        ("out", "cell", "7", "variable, name or number over its bits"),
         ("gap", "cell", "–", "gap in an area"),
         ("unused", None, "", "bits of no area"),
         ("out", "band", "O ×9", "areas folded for want of room, their count"),
     ]
     content, x, y = [], left, top
     entries = [(chip(*sample[:3]), sample[3]) for sample in samples]
-    if view.edit:
+    if view.change:
         entries += [(badge_at(CHIP - 12, 1, mark), words) for mark, words in MARK_WORDS.items()]
     for drawn, words in entries:
         broad = CHIP + 8 + len(words) * CHARACTER + 18
@@ -132,7 +136,7 @@ def legend(view, left, top, width):
     return element("g", *content, kind="legends"), y + 44
 
 
-def footing(view, left, width, top):
+def footing(view: View, left: float, width: float, top: float) -> tuple[str, float]:
     """What is present and in no datagram, so that no slave is left out; and where the picture ends."""
     present = [slave for slave, _ in view.project.slaves() if slave.station in view.after.blocks]
     bare = [slave for slave in present if not slave.areas]

@@ -1,34 +1,54 @@
 """The report's style, and the little script that sorts and searches its tables; without it they stand as made."""
 
-from pictures.style import DARK, GREEN, LIGHT, PURPLE, VERMILLION
+from pictures.style import DARK, GREEN, LIGHT, PURPLE, VERMILLION, variables, with_plain
 from pictures.tables import selectors
 
 STYLE = f"""
-:root {{ {LIGHT}; color-scheme: light dark; }}
-@media (prefers-color-scheme: dark) {{ :root {{ {DARK}; }} }}
+:root {{ {variables(LIGHT)}; color-scheme: light dark; }}
+@media (prefers-color-scheme: dark) {{ :root {{ {variables(DARK)}; }} }}
 body {{ margin: 1.5rem; background: var(--paper); color: var(--ink); font: 14px/1.45 sans-serif; }}
 h1 {{ font-size: 1.4rem; }}
 h2 {{ font-size: 1.1rem; margin: 2rem 0 0.5rem; }}
 .scrolled {{ overflow-x: auto; border: 1px solid var(--fine); }}
 .picture {{ display: block; }}
 table {{ border-collapse: collapse; font-size: 13px; }}
-th, td {{ padding: 0.2rem 0.7rem 0.2rem 0; text-align: left; white-space: nowrap; }}
+th, td {{ padding: 0.2rem 0.7rem 0.2rem 0; text-align: left; vertical-align: top; }}
 th, td {{ border-bottom: 1px solid var(--fine); }}
+th {{ vertical-align: bottom; }}
 thead th {{ position: sticky; top: 0; background: var(--paper); }}
-{selectors("number", "td", "th")} {{ text-align: right; }}
-{selectors("words", "td")} {{ white-space: normal; min-width: 18rem; }}
-{selectors("code", "td")} {{ font-family: "DejaVu Sans Mono", Menlo, Consolas, monospace; }}
 th button {{ all: unset; cursor: pointer; font-weight: bold; }}
 th button:focus-visible {{ outline: 2px solid currentColor; }}
 th button::after {{ content: " \\2195"; color: var(--quiet); }}
 th[aria-sort=ascending] button::after {{ content: " \\2191"; color: var(--ink); }}
 th[aria-sort=descending] button::after {{ content: " \\2193"; color: var(--ink); }}
-tr.new td:last-child {{ box-shadow: inset 4px 0 {GREEN}; padding-left: 0.7rem; }}
-tr.moved td:last-child {{ box-shadow: inset 4px 0 {VERMILLION}; padding-left: 0.7rem; }}
-tr.gone td:last-child {{ box-shadow: inset 4px 0 {PURPLE}; padding-left: 0.7rem; }}
+tr:is(.new, .moved, .gone) td:first-child {{ padding-left: 0.7rem; white-space: nowrap; }}
+tr.new td:first-child {{ box-shadow: inset 4px 0 {GREEN}; }}
+tr.moved td:first-child {{ box-shadow: inset 4px 0 {VERMILLION}; }}
+tr.gone td:first-child {{ box-shadow: inset 4px 0 {PURPLE}; }}
 .found {{ color: var(--quiet); margin-left: 0.7rem; }}
 input {{ font: inherit; padding: 0.2rem 0.4rem; width: 22rem; max-width: 100%; }}
+@media print {{
+  @page {{ size: A4 landscape; margin: 12mm; }}
+  :root, .picture {{ {variables(LIGHT)}; color-scheme: light; }}
+  body {{ margin: 0; font-size: 11px; }}
+  table {{ font-size: 9px; width: 100%; }}
+  thead {{ display: table-header-group; }}
+  thead th {{ position: static; }}
+  th button::after, label, .found {{ display: none; }}
+  tr {{ break-inside: avoid; }}
+  h2 {{ break-after: avoid; }}
+  .scrolled {{ overflow: visible; border: none; }}
+  .picture {{ width: 100%; height: auto; max-height: 145mm; }}
+}}
 """
+MONOSPACED = 'font-family: "DejaVu Sans Mono", Menlo, Consolas, monospace; overflow-wrap: anywhere; min-width: 6rem'
+
+
+def style_of(columns: dict[str, list[str]]) -> str:
+    """The report's style; the columns of each table tell which cells are numbers, and which are code."""
+    numbers, code = selectors(columns, "number", "td", "th"), selectors(columns, "code", "td")
+    return with_plain(f"{STYLE}{numbers} {{ text-align: right; }}\n{code} {{ {MONOSPACED}; }}\n")
+
 
 SCRIPT = """
 "use strict";

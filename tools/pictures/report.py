@@ -1,16 +1,18 @@
 """The report: the picture, the line's datagrams, the register blocks of each slave, and all variables, in one page."""
 
 from pictures.drawing import picture
-from pictures.elements import element, plural, text
-from pictures.page import SCRIPT, STYLE
+from pictures.elements import element, text
+from pictures.page import SCRIPT, style_of
 from pictures.style import MARK_LETTERS, PICTURE
 from pictures.tables import Tables
+from pictures.views import View
+from projects.words import plural
 
 # More edits than these are shown only where they are asked for.
 FEW = 12
 
 
-def answers(view):
+def answers(view: View) -> str:
     """The edits that were asked for, each with what the program answered."""
     if not view.answers:
         return ""
@@ -21,7 +23,7 @@ def answers(view):
     return element("details", title, table, open="open" if len(rows) <= FEW else None)
 
 
-def summary(view):
+def summary(view: View) -> str:
     """The line in a sentence."""
     state = view.after
     total = sum(datagram.length for datagram in state.datagrams.values())
@@ -32,20 +34,20 @@ def summary(view):
         plural(len(state.variables), "variable"),
     ]
     said = f"Epoch {state.epoch}: {', '.join(counts)}."
-    if view.edit:
+    if view.change:
         marks = ", ".join(f"{letter} {mark.value}" for mark, letter in MARK_LETTERS.items())
-        said += f" The picture and the tables show the edit {view.edit.words}, before and after: {marks}."
+        said += f" Picture and tables show {view.change.words}{view.said_of_change()}, before and after: {marks}."
     return element("p", text(said))
 
 
-def report(view):
+def report(view: View) -> str:
     """The HTML document of a view; nothing in it is taken from elsewhere."""
     title, tables = f"{view.name}: the line in epoch {view.after.epoch}", Tables(view)
     head = [
         '<meta charset="utf-8">',
         '<meta name="viewport" content="width=device-width, initial-scale=1">',
         element("title", text(title)),
-        element("style", STYLE + PICTURE),
+        element("style", style_of(tables.columns()) + PICTURE),
     ]
     body = [
         element("h1", text(title)),

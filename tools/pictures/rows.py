@@ -1,9 +1,11 @@
 """What a row of the picture holds: a datagram's areas, variables, gaps and unused bits, and what of it is folded."""
 
+from collections.abc import Callable
 from dataclasses import dataclass
+from typing import Any
 
-from pictures.states import AreaPlace, Datagram
-from pictures.views import Mark
+from pictures.states import AreaPlace, Datagram, State, VariablePlace
+from pictures.views import Mark, Marks, View
 
 # A row is as wide as this where its bytes are then broad enough, else as a datagram of 1,486 bytes asks for.
 ROOM, LONG_ROOM = 832, 1486
@@ -13,6 +15,14 @@ LEAST_SCALE = 4
 NARROW = 10
 # A folded box as broad as this has room for its first and its last name, and is closed.
 BROAD = 168
+
+
+VariablesByArea = dict[tuple[int, int], list[VariablePlace]]
+Marking = Callable[[VariablePlace], Mark]
+# What is folded: fields, cells of a field, or runs of them, of which all have a mark.
+Item = Any
+Bounds = Callable[[Item], tuple[int, int]]
+Joins = Callable[[Item, Item], bool]
 
 
 @dataclass(frozen=True)
@@ -32,14 +42,14 @@ class Field:
     place: AreaPlace
     mark: Mark
     way: str
-    cells: list
+    cells: list[Cell]
 
 
 @dataclass(frozen=True)
 class Run:
     """Fields, or cells of one field, that stand in a row; one that is alone is drawn as itself, more are folded."""
 
-    items: list
+    items: list[Item]
     bit: int
     bits: int
     mark: Mark
@@ -52,16 +62,16 @@ class Row:
     state: str
     datagram: Datagram
     mark: Mark
-    fields: list
+    fields: list[Field]
 
 
-def scale_of(length):
+def scale_of(length: int) -> int:
     """Pixels for a byte of a row with so many bytes."""
     room = ROOM if length * LEAST_SCALE <= ROOM else LONG_ROOM
     return next(scale for scale in SCALES if scale * length <= room)
 
 
-def cells_of(place, variables, marked, gap_mark):
+def cells_of(place: AreaPlace, variables: list[VariablePlace], marked: Marking, gap_mark: Mark) -> list[Cell]:
     """The bits of an area from its first to its last: the variables in it, and gaps between them."""
     cells, bit = [], place.bit
     for variable in variables:
@@ -74,7 +84,7 @@ def cells_of(place, variables, marked, gap_mark):
     return cells
 
 
-def way_words(other, is_after):
+def way_words(other: AreaPlace, is_after: bool) -> str:
     """Where a moved area was, or where it will be."""
     return f"{'from' if is_after else 'to'} task {other.task} datagram {other.datagram} bit {other.bit}"
 
@@ -82,22 +92,23 @@ def way_words(other, is_after):
 class Rows:
     """Makes the rows of a view's states."""
 
-    def __init__(self, project, marks):
-        self.project, self.marks = project, marks
+    def __init__(self, view: View) -> None:
+        self.view, self.marks = view, Marks(view)
 
-    def variables_by_area(self, state):
+    def variables_by_area(self, state: State, is_after: bool) -> VariablesByArea:
         """The variables of each area, in the order of their bits."""
-        found = {}
+        found, homes = {}, self.view.declares(is_after).homes
         for place in sorted(state.variables.values(), key=lambda place: place.bit):
-            found.setdefault(self.project.homes[place.number][:2], []).append(place)
+            home = homes[place.number]
+            found.setdefault((home.slave.station, home.area.number), []).append(place)
         return found
 
-    def of_state(self, state, is_after):
+    def of_state(self, state: State, is_after: bool) -> dict[tuple[int, int], Row]:
         """The rows of a state by task and datagram."""
-        variables = self.variables_by_area(state)
+        variables = self.variables_by_area(state, is_after)
         return {name: self.row(state, datagram, variables, is_after) for name, datagram in state.datagrams.items()}
 
-    def row(self, state, datagram, variables, is_after):
+    def row(self, state: State, datagram: Datagram, variables: VariablesByArea, is_after: bool) -> Row:
         """The row of a datagram."""
         fields = []
         for place in state.areas_in(datagram):
@@ -111,7 +122,7 @@ class Rows:
         return Row("after" if is_after else "before", datagram, mark, fields)
 
     @staticmethod
-    def row_mark(datagram, fields, other, is_after):
+    def row_mark(datagram: Datagram, fields: list[Field], other: State | None, is_after: bool) -> Mark:
         """Of a datagram: new, gone, moved where anything in it is another, or kept."""
         if other is None:
             return Mark.KEPT
@@ -122,11 +133,11 @@ class Rows:
         return Mark.KEPT if found == datagram and marks <= {Mark.KEPT} else Mark.MOVED
 
 
-def runs_of(items, bounds, joins, narrow, broad):
+def runs_of(items: list[Item], bounds: Bounds, joins: Joins, narrow: float, broad: float) -> list[Run]:
     """The items in runs: items of fewer bits than `narrow` that `joins` lets stand together are in one, until the run
     has as many bits as `broad`. `bounds` tells an item's first bit and the one behind its last."""
 
-    def is_narrow(item):
+    def is_narrow(item: Item) -> bool:
         return bounds(item)[1] - bounds(item)[0] < narrow
 
     runs = []
@@ -140,7 +151,7 @@ def runs_of(items, bounds, joins, narrow, broad):
     return [Run(run, bounds(run[0])[0], bounds(run[-1])[1] - bounds(run[0])[0], run[0].mark) for run in runs]
 
 
-def field_runs(fields, scale):
+def field_runs(fields: list[Field], scale: int) -> list[Run]:
     """The areas of a row in runs of one direction and one mark."""
     return runs_of(
         fields,
@@ -151,7 +162,7 @@ def field_runs(fields, scale):
     )
 
 
-def cell_runs(cells, scale):
+def cell_runs(cells: list[Cell], scale: int) -> list[Run]:
     """The bits of an area in runs of one mark: of variables, of gaps, or of both where neither run would be broad."""
     narrow, broad = NARROW * 8 / scale, BROAD * 8 / scale
     alike = runs_of(
@@ -171,7 +182,7 @@ def cell_runs(cells, scale):
     return [Run([cell for part in run.items for cell in part.items], run.bit, run.bits, run.mark) for run in mixed]
 
 
-def unused_of(row, runs):
+def unused_of(row: Row, runs: list[Run]) -> list[tuple[int, int]]:
     """The bits of a row between its runs and behind the last one, as (bit, bits): no area has them."""
     unused, bit = [], 0
     for run in [*runs, None]:

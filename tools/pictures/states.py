@@ -4,6 +4,9 @@ import re
 from bisect import bisect_right
 from dataclasses import dataclass
 
+from projects.asking import Session
+from projects.records import Area, Project, Slave
+
 PARTS = re.compile(r"task (\d+) parts (\d+) (\d+)")
 DATAGRAM = re.compile(r"datagram (\d+) address 0x([0-9a-f]{8}) length (\d+) expected (\d+)")
 BLOCK = re.compile(r"(sm|fmmu) (\d+) at 0x([0-9a-f]{4}): ([0-9a-f ]+)")
@@ -31,19 +34,19 @@ class Block:
     register: int
     data: bytes
 
-    def title(self):
+    def title(self) -> str:
         """The block's name in the field."""
         return f"sync manager {self.number}" if self.kind == "sm" else f"FMMU {self.number}"
 
-    def short(self):
+    def short(self) -> str:
         """The block's name where there is little room."""
         return f"SM {self.number}" if self.kind == "sm" else f"FMMU {self.number}"
 
-    def is_active(self):
+    def is_active(self) -> bool:
         """Whether the slave uses it: byte 6 of a sync manager, byte 12 of an FMMU."""
         return self.data[6 if self.kind == "sm" else 12] == 1
 
-    def word(self, at, size=2):
+    def word(self, at: int, size: int = 2) -> int:
         """The number in some bytes of the block, the least significant first."""
         return int.from_bytes(self.data[at : at + size], "little")
 
@@ -61,7 +64,7 @@ class AreaPlace:
     bit: int
     bits: int
 
-    def end(self):
+    def end(self) -> int:
         """The first bit behind it."""
         return self.bit + self.bits
 
@@ -78,23 +81,27 @@ class VariablePlace:
     direction: str
 
 
+Datagrams = dict[tuple[int, int], Datagram]
+Areas = dict[tuple[int, int], list[AreaPlace]]
+
+
 @dataclass(frozen=True)
 class State:
     """A line behind some edits. `blocks` has the present slaves alone, by station address in declared order."""
 
     epoch: int
-    parts: dict
-    datagrams: dict
-    blocks: dict
-    areas: dict
-    variables: dict
+    parts: dict[int, tuple[int, int]]
+    datagrams: Datagrams
+    blocks: dict[int, list[Block]]
+    areas: Areas
+    variables: dict[int, VariablePlace]
 
-    def areas_in(self, datagram):
+    def areas_in(self, datagram: Datagram) -> list[AreaPlace]:
         """The areas that a datagram carries, in the order of their bits."""
         return self.areas.get((datagram.task, datagram.number), [])
 
 
-def datagrams_of(lines):
+def datagrams_of(lines: list[str]) -> tuple[dict[int, tuple[int, int]], Datagrams]:
     """Of the lines of `layout` the parts of each task, and the datagrams by task and number."""
     parts, datagrams, task = {}, {}, None
     for line in lines:
@@ -107,7 +114,7 @@ def datagrams_of(lines):
     return parts, datagrams
 
 
-def blocks_of(lines):
+def blocks_of(lines: list[str]) -> list[Block] | None:
     """The register blocks in the lines of `regs`; none where the slave is absent."""
     if lines == [ABSENT]:
         return None
@@ -115,7 +122,7 @@ def blocks_of(lines):
     return [Block(row[1], int(row[2]), int(row[3], 16), bytes.fromhex(row[4])) for row in found]
 
 
-def area_place(slave, area, fmmu, datagrams, addresses):
+def area_place(slave: Slave, area: Area, fmmu: Block, datagrams: list[Datagram], addresses: list[int]) -> AreaPlace:
     """Where an active FMMU maps an area: logical start address, length, start and stop bit tell its bits."""
     logical, length = fmmu.word(0, 4), fmmu.word(4)
     datagram = datagrams[bisect_right(addresses, logical) - 1]
@@ -125,7 +132,7 @@ def area_place(slave, area, fmmu, datagrams, addresses):
     return AreaPlace(slave.station, area.number, area.sync_manager, area.direction, *where)
 
 
-def areas_of(project, blocks, datagrams):
+def areas_of(project: Project, blocks: dict[int, list[Block]], datagrams: Datagrams) -> Areas:
     """The areas with bits by their task and datagram, in the order of their bits."""
     ordered = sorted(datagrams.values(), key=lambda datagram: datagram.address)
     addresses = [datagram.address for datagram in ordered]
@@ -141,13 +148,13 @@ def areas_of(project, blocks, datagrams):
     return areas
 
 
-def variables_of(lines):
+def variables_of(lines: list[str]) -> dict[int, VariablePlace]:
     """The places in answers to `place`, by the variables' numbers."""
     found = [PLACE.fullmatch(line) for line in lines if line != "none"]
     return {int(row[1]): VariablePlace(*map(int, row.groups()[:5]), row[6]) for row in found}
 
 
-def state_of(session, project):
+def state_of(session: Session, project: Project) -> State:
     """The state that the program tells when it is asked for everything."""
     slaves = [slave for slave, _ in project.slaves()]
     longer = [b"layout\n", *(b"regs %d\n" % slave.station for slave in slaves)]

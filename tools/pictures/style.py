@@ -1,5 +1,7 @@
 """Colours of Okabe and Ito, and the letter that stands beside each, so that no colour means anything by itself."""
 
+import re
+
 from pictures.views import Mark
 
 DIRECTION_LETTERS = {"out": "O", "in": "I"}
@@ -13,13 +15,27 @@ MARK_WORDS = {
 
 ORANGE, SKY_BLUE, GREEN, VERMILLION, PURPLE = "#e69f00", "#56b4e9", "#009e73", "#d55e00", "#cc79a7"
 
+PAPER = "#ffffff"
 # Light and dark: paper, ink, quiet words, fine lines.
-LIGHT = "--paper: #ffffff; --ink: #14181d; --quiet: #57606a; --fine: #c4cad1"
-DARK = "--paper: #12161b; --ink: #e9edf1; --quiet: #a3adb8; --fine: #3d4751"
+LIGHT = {"paper": PAPER, "ink": "#14181d", "quiet": "#57606a", "fine": "#c4cad1"}
+DARK = {"paper": "#12161b", "ink": "#e9edf1", "quiet": "#a3adb8", "fine": "#3d4751"}
+THEMED = re.compile(r"([\w-]+): ([^;{}]*)var\(--(\w+)\);")
 
-PICTURE = f"""
-.picture {{ {LIGHT}; color-scheme: light dark; font-family: "DejaVu Sans Mono", Menlo, Consolas, monospace; }}
-@media (prefers-color-scheme: dark) {{ .picture {{ {DARK}; }} }}
+
+def variables(colours: dict[str, str]) -> str:
+    """The declarations of colours by name."""
+    return "; ".join(f"--{name}: {colour}" for name, colour in colours.items())
+
+
+def with_plain(style: str) -> str:
+    """A style with the light colour before each that is taken by name, for readers that know no such names."""
+    return THEMED.sub(lambda found: f"{found[1]}: {found[2]}{LIGHT[found[3]]}; {found[0]}", style)
+
+
+PICTURE = with_plain(f"""
+.picture {{ {variables(LIGHT)}; color-scheme: light dark; }}
+.picture {{ font-family: "DejaVu Sans Mono", Menlo, Consolas, monospace; }}
+@media (prefers-color-scheme: dark) {{ .picture {{ {variables(DARK)}; }} }}
 .picture .paper {{ fill: var(--paper); }}
 .picture text {{ fill: var(--ink); font-size: 11px; }}
 .picture .heading {{ font: bold 17px sans-serif; }}
@@ -49,4 +65,4 @@ PICTURE = f"""
 .picture .badge.gone > rect {{ fill: {PURPLE}; }}
 .picture .badge text {{ font-weight: bold; }}
 .picture .way {{ fill: {VERMILLION}; fill-opacity: 0.22; stroke: {VERMILLION}; stroke-dasharray: 6 2; }}
-"""
+""")

@@ -1,37 +1,38 @@
 """The report's tables: datagrams, variables and register blocks, each with what an edit made of it."""
 
+from collections.abc import Iterator
+
 from pictures.elements import element, text
+from pictures.rows import Rows
+from pictures.states import Block, Datagram, VariablePlace
 from pictures.style import DIRECTION_LETTERS, DIRECTION_WORDS, MARK_LETTERS
-from pictures.views import Mark, mark_between
+from pictures.views import Mark, View, mark_between
 
-# The columns of each table, and those that an edit adds. What stands behind a bar tells how a column is set.
+# The columns of each table. What stands behind a bar tells how a column is set.
+CHANGE, NAME = "change|", "name|"
 DATAGRAMS = ["task|number", "datagram|number", "logical address|code", "bytes|number", "working counter|number"]
-DATAGRAM_CHANGES = ["bytes before|number", "working counter before|number", "change|"]
-VARIABLES = ["variable|number", "direction|", "bits|number", "task|number", "datagram|number", "first bit|number"]
-VARIABLES += ["byte.bit|number", "logical address|code", "station address|number", "slave|", "alias|number", "PDO|code"]
-VARIABLE_CHANGES = ["place before|", "change|"]
+DATAGRAMS_BEFORE = ["bytes before|number", "working counter before|number"]
+VARIABLES = ["variable|number", NAME, "direction|", "bits|number", "task|number", "datagram|number"]
+VARIABLES += ["first bit|number", "byte.bit|number", "logical address|code", "station address|number", "slave|"]
+VARIABLES += ["alias|number", "PDO|code"]
+VARIABLES_BEFORE = ["place before|"]
 BLOCKS = ["station address|number", "slave|", "alias|number", "area|number", "direction|", "block|", "register|code"]
-BLOCKS += ["bytes|code", "what they say|words"]
-BLOCK_CHANGES = ["bytes before|code", "change|"]
-COLUMNS = {
-    "datagrams": DATAGRAMS + DATAGRAM_CHANGES,
-    "variables": VARIABLES + VARIABLE_CHANGES,
-    "blocks": BLOCKS + BLOCK_CHANGES,
-}
+BLOCKS += ["bytes|code", "what they say|"]
+BLOCKS_BEFORE = ["bytes before|code"]
 
 
-def selectors(setting, *tags):
+def selectors(columns_of: dict[str, list[str]], setting: str, *tags: str) -> str:
     """The style's names of the cells of all columns that are set in a way, by their tags."""
     return ", ".join(
         f"#{name} {tag}:nth-child({at})"
-        for name, columns in COLUMNS.items()
+        for name, columns in columns_of.items()
         for at, column in enumerate(columns, 1)
         if column.endswith(f"|{setting}")
         for tag in tags
     )
 
 
-def table(name, columns, rows, title):
+def table(name: str, columns: list[str], rows: list[str], title: str) -> str:
     """A section with a table that can be sorted by each column and searched."""
     if not rows:
         return element("section", element("h2", title), element("p", "The line has none."))
@@ -42,105 +43,134 @@ def table(name, columns, rows, title):
     return element("section", element("h2", title), element("p", search, found), drawn, kind="searched")
 
 
-def row_of(told, name, cells, mark):
+def row_of(told: str, name: str | int, cells: list[str | int], mark: Mark) -> str:
     """A row of a table that stands for something, told by a name, with the mark that an edit left on it."""
     shown = "".join([f"<td>{text(words)}</td>" for words in cells])
     return f'<tr data-{told}="{name}" class="{mark.value}">{shown}</tr>\n'
 
 
-def or_nothing(record, *names):
+def or_nothing(record: object, *names: str) -> list[str | int]:
     """Fields of a record, or as many empty words where there is none."""
     return [getattr(record, name) if record else "" for name in names]
 
 
-def mark_words(mark):
+def mark_words(mark: Mark) -> str:
     """The letter and the word of a mark; nothing where nothing changed."""
     return "" if mark is Mark.KEPT else f"{MARK_LETTERS[mark]} {mark.value}"
 
 
-def direction_words(direction):
+def direction_words(direction: str) -> str:
     """A direction's letter and word."""
     return f"{DIRECTION_LETTERS[direction]} {DIRECTION_WORDS[direction]}"
 
 
 class Tables:
-    """Makes the tables of a view."""
+    """Makes the tables of a view: with a line before it, a row's change first, and what was before it last."""
 
-    def __init__(self, view):
-        self.view, self.is_edited = view, view.before is not None
-        self.slaves = {slave.station: (slave, group) for slave, group in view.project.slaves()}
+    def __init__(self, view: View) -> None:
+        self.view, self.has_before = view, view.before is not None
+        self.slaves = {
+            is_after: {slave.station: (slave, group) for slave, group in view.declares(is_after).slaves()}
+            for is_after in (True, False)
+        }
+        self.has_names = any(home.entry.name for side in (False, True) for home in view.declares(side).homes.values())
+        self.row_marks = datagram_marks(view)
 
-    def columns(self, columns, changes):
-        """The columns of a table, with those that an edit adds."""
-        return columns + changes if self.is_edited else columns
+    def columns(self) -> dict[str, list[str]]:
+        """The columns of each table by its name."""
+        variables = VARIABLES if self.has_names else [column for column in VARIABLES if column != NAME]
+        shown = {
+            "datagrams": (DATAGRAMS, DATAGRAMS_BEFORE),
+            "variables": (variables, VARIABLES_BEFORE),
+            "blocks": (BLOCKS, BLOCKS_BEFORE),
+        }
+        if not self.has_before:
+            return {name: own for name, (own, _) in shown.items()}
+        return {name: [CHANGE, *own, *before] for name, (own, before) in shown.items()}
 
-    def mark(self, before, after):
-        """The mark of what stands in the line before, after or both; without an edit all is as it is."""
-        return mark_between(before, after) if self.is_edited else Mark.KEPT
+    def row(self, told: str, name: str | int, cells: list[str | int], before: list[str | int], mark: Mark) -> str:
+        """A row with what was before, as words, and its mark."""
+        shown = [mark_words(mark), *cells, *before] if self.has_before else cells
+        return row_of(told, name, shown, mark)
 
-    def datagrams(self):
-        """Every datagram of the line; of an edit those of before, too."""
-        old, new = self.view.before.datagrams if self.is_edited else {}, self.view.after.datagrams
-        rows = [self.datagram(old.get(name), new.get(name)) for name in sorted(old.keys() | new.keys())]
-        return table("datagrams", self.columns(DATAGRAMS, DATAGRAM_CHANGES), rows, "Datagrams")
+    def mark(self, before: object, after: object) -> Mark:
+        """The mark of what stands in the line before, after or both; alone all is as it is."""
+        return mark_between(before, after) if self.has_before else Mark.KEPT
 
-    def datagram(self, before, after):
-        """A datagram; where it is gone its numbers of before alone."""
-        shown, mark = after or before, self.mark(before, after)
+    def table(self, name: str, rows: list[str], title: str) -> str:
+        """A table by its name."""
+        return table(name, self.columns()[name], rows, title)
+
+    def datagrams(self) -> str:
+        """Every datagram of the line, and those of the line before."""
+        old, new = self.view.before.datagrams if self.has_before else {}, self.view.after.datagrams
+        rows = [self.datagram(name, old.get(name), new.get(name)) for name in sorted(old.keys() | new.keys())]
+        return self.table("datagrams", rows, "Datagrams")
+
+    def datagram(self, name: tuple[int, int], before: Datagram | None, after: Datagram | None) -> str:
+        """A datagram; where it is gone its numbers of before alone. Its mark is that of its row in the picture."""
+        shown = after or before
         cells = [shown.task, shown.number, f"0x{shown.address:08x}", *or_nothing(after, "length", "expected")]
-        if self.is_edited:
-            cells += [*or_nothing(before, "length", "expected"), mark_words(mark)]
-        return row_of("datagram", f"{shown.task}/{shown.number}", cells, mark)
+        earlier = or_nothing(before, "length", "expected")
+        return self.row("datagram", f"{shown.task}/{shown.number}", cells, earlier, self.row_marks[name])
 
-    def variables(self):
-        """Every variable that the line carries; of an edit those that it carried before, too."""
-        old, new = self.view.before.variables if self.is_edited else {}, self.view.after.variables
+    def variables(self) -> str:
+        """Every variable that the line carries, and those that the line before carried."""
+        old, new = self.view.before.variables if self.has_before else {}, self.view.after.variables
         rows = [self.variable(name, old.get(name), new.get(name)) for name in sorted(old.keys() | new.keys())]
-        return table("variables", self.columns(VARIABLES, VARIABLE_CHANGES), rows, "Variables")
+        return self.table("variables", rows, "Variables")
 
-    def variable(self, variable, before, after):
+    def variable(self, variable: int, before: VariablePlace | None, after: VariablePlace | None) -> str:
         """A variable; where it is gone its place of before."""
-        station, _, pdo = self.view.project.homes[variable]
-        slave, group = self.slaves[station]
+        home = self.view.declares(after is not None).homes[variable]
         shown, state = (after, self.view.after) if after else (before, self.view.before)
         logical = state.datagrams[shown.task, shown.datagram].address + shown.bit // 8
-        cells = [variable, direction_words(shown.direction), shown.bits, shown.task, shown.datagram, shown.bit]
+        name = [home.entry.name] if self.has_names else []
+        cells = [variable, *name, direction_words(shown.direction), shown.bits, shown.task, shown.datagram, shown.bit]
         cells += [f"{shown.bit // 8}.{shown.bit % 8}", f"0x{logical:08x}"]
-        cells += [station, slave.name, group.alias, f"0x{pdo:04x}"]
-        mark = self.mark(before, after)
-        if self.is_edited:
-            place = f"task {before.task} datagram {before.datagram} bit {before.bit}" if before else ""
-            cells += [place, mark_words(mark)]
-        return row_of("variable", variable, cells, mark)
+        cells += [home.slave.station, home.slave.name, home.group.alias, f"0x{home.pdo.index:04x}"]
+        place = f"task {before.task} datagram {before.datagram} bit {before.bit}" if before else ""
+        return self.row("variable", variable, cells, [place], self.mark(before, after))
 
-    def blocks(self):
-        """Every register block of the line; of an edit those of the slaves that left, too."""
-        old, new = self.view.before.blocks if self.is_edited else {}, self.view.after.blocks
+    def blocks(self) -> str:
+        """Every register block of the line, and those of the line before."""
+        old, new = self.view.before.blocks if self.has_before else {}, self.view.after.blocks
         rows = [
-            self.block(station, row // 2, *pair)
-            for station in self.slaves
-            for row, pair in enumerate(pairs(old.get(station, []), new.get(station, [])))
+            self.block(station, *pair)
+            for station in {**self.slaves[True], **self.slaves[False]}
+            for pair in pairs(old.get(station, []), new.get(station, []))
         ]
-        return table("blocks", self.columns(BLOCKS, BLOCK_CHANGES), rows, "Register blocks")
+        return self.table("blocks", rows, "Register blocks")
 
-    def block(self, station, row, before, after):
-        """A register block; where its slave left, its bytes of before alone."""
-        slave, group = self.slaves[station]
-        shown, area, mark = after or before, slave.areas[row], self.mark(before, after)
-        cells = [station, slave.name, group.alias, row, direction_words(area.direction), shown.title()]
+    def block(self, station: int, area: int, before: Block | None, after: Block | None) -> str:
+        """A register block of an area; where it is gone, its bytes of before alone."""
+        slave, group = self.slaves[after is not None][station]
+        shown, direction = after or before, slave.areas[area].direction
+        cells = [station, slave.name, group.alias, area, direction_words(direction), shown.title()]
         cells += [f"0x{shown.register:04x}", after.data.hex(" ") if after else "", meaning(shown)]
-        if self.is_edited:
-            cells += [before.data.hex(" ") if before else "", mark_words(mark)]
-        return row_of("block", f"{station}/0x{shown.register:04x}", cells, mark)
+        earlier = before.data.hex(" ") if before else ""
+        return self.row("block", f"{station}/0x{shown.register:04x}", cells, [earlier], self.mark(before, after))
 
 
-def pairs(before, after):
-    """A slave's blocks before and after. Its record has the same areas in every state, so either has all or none."""
-    count = max(len(before), len(after))
-    return zip(before or [None] * count, after or [None] * count)
+def pairs(before: list[Block], after: list[Block]) -> Iterator[tuple[int, Block | None, Block | None]]:
+    """A slave's blocks before and after by their registers, each with the number of its area."""
+    # A slave's blocks stand in pairs, an area's sync manager and its FMMU.
+    old = {block.register: (row // 2, block) for row, block in enumerate(before)}
+    new = {block.register: (row // 2, block) for row, block in enumerate(after)}
+    for register in {**new, **old}:
+        (area, _) = new.get(register) or old[register]
+        yield area, old.get(register, (0, None))[1], new.get(register, (0, None))[1]
 
 
-def meaning(block):
+def datagram_marks(view: View) -> dict[tuple[int, int], Mark]:
+    """The mark of each datagram: of what it carries too, so that it is marked where the picture draws it twice."""
+    rows = Rows(view)
+    marks = {name: row.mark for name, row in rows.of_state(view.before, False).items()} if view.before else {}
+    after = {name: row.mark for name, row in rows.of_state(view.after, True).items()}
+    return {**marks, **{name: marks.get(name, mark) if mark is Mark.KEPT else mark for name, mark in after.items()}}
+
+
+def meaning(block: Block) -> str:
     """A block's fields in words, as ETG.1000.4 names them."""
     if not block.is_active():
         return "not active"

@@ -44,18 +44,18 @@ class PictureReader:
         self.expect("epoch", str(after.epoch), self.root.data("epoch"))
         before = str(told.before.epoch) if told.before else None
         self.expect("epoch before", before, self.root.data("epoch-before"))
-        words = told.edit[1].split() if told.edit else [None] * 6
-        self.expect("edit", told.edit[0] if told.edit else None, self.root.data("edit"))
-        self.expect("recut", words[3], self.root.data("recut"))
-        self.expect("moved", words[5], self.root.data("moved"))
+        change = told.change
+        for name in ("recut", "moved"):
+            self.expect(name, change and getattr(change, name), self.root.data(name))
+        self.expect("change", change and change.words, self.root.data("change"))
         head, foot = (self.root.all(lambda node: kind in node.kinds())[0] for kind in ("head", "foot"))
         written = {tuple(row.split("/")) for row in (head.data("written") or "").split()}
         self.expect("blocks to write", {(str(station), at) for station, at in told.written}, written)
-        if told.edit:
-            self.expect("their count", int(words[5]), len(written))
-            said = f": from epoch {before} to epoch {after.epoch}, recut {words[3]}, moved {words[5]}"
+        if change:
+            self.expect("their count", change.moved or str(len(written)), str(len(written)))
+            said = change.said
             lines = [line.removesuffix(said).rstrip("…") for line in head.words() if line.endswith(said)]
-            self.expect("lines of the edit", [True], [bool(line) and told.edit[0].startswith(line) for line in lines])
+            self.expect("lines of the change", [True], [bool(line) and change.words.startswith(line) for line in lines])
         present = {str(told.records.aliases[station]) for station in after.present}
         self.expect("present groups", present | {"0"}, set(head.data("present").split()))
         bare = {str(station) for station in after.present if not told.records.areas[station]}
@@ -69,7 +69,10 @@ class PictureReader:
         return list(self.told.states()) if name == "both" else [name]
 
     def read_parts(self, heading):
-        """The bytes of a task's outputs and inputs, as they are carried and as they are written."""
+        """A task's name, and the bytes of its outputs and inputs, as they are carried and as they are written."""
+        task = heading.number("task")
+        name = self.told.records.tasks.get(task) or self.told.earlier.tasks.get(task, "")
+        self.expect("name of a task", [f"Task {task} {name}".rstrip()], heading.words())
         for node in heading.all(lambda node: "parts" in node.kinds()):
             parts = node.number("outputs"), node.number("inputs")
             self.expect("parts", list(map(str, parts)), re.findall(r"\d+", node.words()[0]))
@@ -167,7 +170,8 @@ class PictureReader:
             allowed = [f"{stations}, {len(rows)} areas", stations, f"{letter} ×{len(rows)}"]
         else:
             short = f"{letter} {station} SM {manager}"
-            allowed = [f"{letter} {station}", short, f"{short} {self.told.records.shown_name(station)}"]
+            records = self.told.records_in(row.data("state"))
+            allowed = [f"{letter} {station}", short, f"{short} {records.shown_name(station)}"]
         if words or node.number("bits") * row.number("scale") >= NAMED_AREA * 8:
             self.expect(f"name of area {rows[0]}", True, len(words) == 1 and words[0] in allowed)
 
@@ -189,7 +193,8 @@ class PictureReader:
         """What is written in a variable's box: its number, or how many are folded, and its bits."""
         bits, mark = node.number("bits"), node.data("mark")
         self.expect(f"class of variable {numbers[0]}", mark, node.kinds()[2])
-        names, letter = [str(numbers[0])], mark[0].upper()
+        records, letter = self.told.records_in(row.data("state")), mark[0].upper()
+        names = [records.variable_names.get(numbers[0]) or str(numbers[0]), str(numbers[0])]
         if node.data("variables"):
             ends = f"{numbers[0]}…{numbers[-1]}"
             names = [f"{ends}, {len(numbers)} variables", ends] if numbers[1:] else ["1 variable"]

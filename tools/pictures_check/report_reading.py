@@ -26,6 +26,7 @@ class ReportReader:
         found = []
         for table in (node for node in self.root.tagged("table") if node.attributes.get("id") == name):
             columns = [node.text() for node in table.first("thead").tagged("th")]
+            self.expect(f"change first in {name}", bool(self.told.before), columns[0] == "change")
             for row in table.first("tbody").nodes:
                 found.append((row, dict(zip(columns, (cell.text() for cell in row.nodes)))))
         return found
@@ -56,9 +57,17 @@ class ReportReader:
             written["change"] = "" if mark == "kept" else f"{mark[0].upper()} {mark}"
         return mark
 
+    def changed_datagrams(self):
+        """The datagrams in which an area or a variable is marked."""
+        told, changed = self.told, set()
+        for name, state in told.states().items():
+            changed |= {place[2:4] for area, place in state.areas.items() if told.area_mark(area, name) != "kept"}
+            changed |= {place[:2] for own, place in state.variables.items() if told.variable_mark(own, name) != "kept"}
+        return changed
+
     def datagrams(self):
-        """Of each datagram address, length and expected working counter."""
-        wanted = {}
+        """Of each datagram address, length and expected working counter; and that it is marked by its contents too."""
+        wanted, changed = {}, self.changed_datagrams()
         for key in self.keys("datagrams"):
             before, after = self.pair("datagrams", key)
             numbers = [str(number) for number in after[1:]] if after else ["", ""]
@@ -67,7 +76,10 @@ class ReportReader:
             if self.told.before:
                 old = [str(number) for number in before[1:]] if before else ["", ""]
                 written |= {"bytes before": old[0], "working counter before": old[1]}
-            wanted[f"{key[0]}/{key[1]}"] = (self.changes(before, after, written), written)
+            mark = self.changes(before, after, written)
+            if mark == "kept" and key in changed:
+                mark, written["change"] = "moved", "M moved"
+            wanted[f"{key[0]}/{key[1]}"] = (mark, written)
         return wanted
 
     def variables(self):
@@ -81,9 +93,12 @@ class ReportReader:
             written |= {"first bit": str(bit), "byte.bit": f"{bit // 8}.{bit % 8}"}
             written |= {"direction": "O output" if direction == "out" else "I input"}
             written |= {"logical address": f"0x{address + bit // 8:08x}"}
-            station = self.told.records.homes[key][0]
-            written |= {"station address": str(station), "alias": str(self.told.records.aliases[station])}
-            written["slave"] = self.told.records.shown_name(station)
+            records = self.told.records_in("after" if after else "before")
+            station = records.homes[key][0]
+            written |= {"station address": str(station), "alias": str(records.aliases[station])}
+            written["slave"] = records.shown_name(station)
+            if self.told.records.variable_names or self.told.earlier.variable_names:
+                written["name"] = records.variable_names.get(key, "")
             if self.told.before:
                 written["place before"] = "task {} datagram {} bit {}".format(*before[:3]) if before else ""
             wanted[str(key)] = (self.changes(before, after, written), written)

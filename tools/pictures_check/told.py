@@ -3,11 +3,13 @@
 import re
 import subprocess
 import tomllib
+from dataclasses import dataclass
+from pathlib import Path
 
 # A question whose answer, which no other question has here, parts the answers about slaves.
 MARK, MARKED = "show 8 0", "refused 8 NoSuchTask"
 QUESTIONS = ("layout", "regs", "show", "place", "write", "send", "arrive", "read")
-QUESTIONS += ("scan", "name", "program", "cycle", "poke", "peek")
+QUESTIONS += ("scan", "name", "program", "cycle", "poke", "peek", "post", "take", "view")
 
 
 def run(program, text, commands):
@@ -35,7 +37,8 @@ class Records:
 
     def __init__(self, text, edits):
         document = tomllib.loads(text)
-        self.areas, self.homes, self.names, self.aliases = {}, {}, {}, {}
+        self.areas, self.homes, self.names, self.aliases, self.variable_names = {}, {}, {}, {}, {}
+        self.tasks = {task["number"]: task["name"] for task in document.get("task", [])}
         groups = [document, *document.get("group", [])]
         groups += [tomllib.loads(words[7:-2])["group"][0] for words in edits if words.startswith("declare")]
         for group, slave in ((group, slave) for group in groups for slave in group.get("slave", [])):
@@ -44,7 +47,10 @@ class Records:
             self.aliases[slave["station"]] = group.get("alias", 0)
         for station, areas in self.areas.items():
             for row, area in enumerate(areas):
-                self.homes |= {entry[0]: (station, row) for pdo in area.get("pdo", []) for entry in pdo["entries"]}
+                for pdo in area.get("pdo", []):
+                    variables = [variable for variable, _ in pdo["entries"]]
+                    self.homes |= {variable: (station, row) for variable in variables}
+                    self.variable_names |= dict(zip(variables, pdo.get("names", [])))
         self.homes.pop(0, None)
 
     def shown_name(self, station):
@@ -106,23 +112,65 @@ class State:
                 self.areas[area] = (int(manager), direction, task, number, first, behind - first)
 
 
-class Told:
-    """The state behind the last accepted edit, and the one before it where there is one."""
+@dataclass
+class Change:
+    """What must be said to lie between the two states: in words, behind them, and the numbers of a single answer."""
+
+    words: str
+    said: str
+    recut: str | None = None
+    moved: str | None = None
+
+
+class Line:
+    """An input: its text, its edits, what the program answered, and which edits it accepted."""
 
     def __init__(self, program, path):
-        text, edits = opened(path)
-        said = run(program, text, edits)
-        self.answers = [(words.split("\n")[0], line) for words, line in zip(edits, said)]
-        accepted = [row for row, line in enumerate(said) if line.startswith("epoch")]
-        self.records = Records(text, [edits[row] for row in accepted])
-        self.after = State(program, text, self.records, edits)
-        self.before, self.edit, self.written = None, None, set()
-        if accepted:
-            earlier = Records(text, [edits[row] for row in accepted[:-1]])
-            self.before = State(program, text, earlier, edits[: accepted[-1]])
-            self.edit = self.answers[accepted[-1]]
+        self.program = program
+        self.text, self.edits = opened(path)
+        self.said = run(program, self.text, self.edits)
+        self.accepted = [row for row, line in enumerate(self.said) if line.startswith("epoch")]
+
+    def state(self, count):
+        """The records and the state behind so many accepted edits."""
+        edits = self.edits[: self.accepted[count]] if count < len(self.accepted) else self.edits
+        records = Records(self.text, [self.edits[row] for row in self.accepted[:count]])
+        return records, State(self.program, self.text, records, edits)
+
+
+class Told:
+    """The state behind the last accepted edit; beside it the one before, that of an epoch, or that of another input."""
+
+    def __init__(self, program, path, since=None, against=None):
+        line = Line(program, path)
+        count = len(line.accepted)
+        self.answers = [(words.split("\n")[0], said) for words, said in zip(line.edits, line.said)]
+        self.records, self.after = line.state(count)
+        self.earlier, self.before, self.change, self.written = self.records, None, None, set()
+        if against:
+            other = Line(program, against)
+            self.earlier, self.before = other.state(len(other.accepted))
+            self.change = Change(f"against {Path(against).stem}", f": its line in epoch {self.before.epoch}")
+        elif count:
+            first = count - 1 if since is None else since
+            self.earlier, self.before = line.state(first)
+            self.change = self.edits_between([self.answers[row] for row in line.accepted[first:]])
+        if self.before:
             old = self.before.blocks
             self.written = {name for name, block in self.after.blocks.items() if old.get(name) != block}
+
+    def edits_between(self, answers):
+        """What must be said of edits with their answers."""
+        words = "; ".join(asked for asked, _ in answers)
+        said = f": from epoch {self.before.epoch} to epoch {self.after.epoch}"
+        if len(answers) > 1:
+            return Change(words, said)
+        recut, moved = answers[0][1].split()[3::2]
+        return Change(words, f"{said}, recut {recut}, moved {moved}", recut, moved)
+
+    def records_in(self, state):
+        """The records of a state by its name."""
+        return self.earlier if state == "before" else self.records
 
     def states(self):
         """The states by name."""

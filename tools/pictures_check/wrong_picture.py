@@ -4,7 +4,8 @@
     wrong_picture.py WAY PICTURE
 
 Each way is something that a maker could get wrong: a number that is carried, one that is written, the place of a box,
-an area left out, before and after exchanged; and in a report a number in a cell, and a row left out.
+an area left out, before and after exchanged; and in a report a number in a cell, a row left out, and a datagram whose
+change isn't told.
 """
 
 import re
@@ -13,7 +14,7 @@ from pathlib import Path
 
 AREA = r'<g class="area .*?</g>'
 BOX = r'(<g class="variable [^>]*><title>[^<]*</title><rect class="cell" x=")(\d+)'
-CELL = r'(<tr data-variable="[^>]*><td>.*?</td><td>.*?</td><td>)(\d+)'
+CELL = r'(<tr data-variable="[^>]*>(?:<td>[^<]*</td>){3}<td>)(\d+)'
 
 
 def once(pattern, new, text):
@@ -47,6 +48,7 @@ WAYS = {
     "left-out": lambda text: once(AREA, "", text),
     "exchanged": exchanged,
     "cell": lambda text: once(CELL, raised, text),
+    "unmarked": lambda text: once(r'(<tr data-datagram="[^"]*" class=")moved', r"\1kept", text),
     "row": lambda text: once(r'<tr data-block="[^>]*>.*?</tr>', "", text),
 }
 

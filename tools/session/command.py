@@ -1,0 +1,32 @@
+"""The command line of `tools/line`."""
+
+import argparse
+from pathlib import Path
+
+from projects.asking import BUILT, Program
+from projects.faults import FINE
+from projects.files import content_of, parted
+from session.line import Line
+from session.prompt import prompt
+from session.serving import serve
+
+
+def run(words: list[str]) -> int:
+    """Holds a session with a line."""
+    parser = argparse.ArgumentParser(
+        prog="tools/line",
+        description="A line at a prompt, or on a page of this machine: the program's commands, with names.",
+        epilog="Status: 0 at the end of the session, 2 the project can't be opened. docs/use/LINE.md has the commands.",
+    )
+    parser.add_argument("project", help="a project text, or an input of hotline, whose commands are left out")
+    parser.add_argument("--program", default=BUILT, help="the program that is asked, if not the built hotline")
+    parser.add_argument("--serve", action="store_true", help="a page on this machine in place of the prompt")
+    parser.add_argument("--port", type=int, default=0, help="the page's port; any free one if it is left out")
+    arguments = parser.parse_args(words)
+    text, _ = parted(content_of(arguments.project))
+    line = Line(Program(arguments.program), Path(arguments.project).stem, text)
+    if arguments.serve:
+        serve(line, arguments.port)
+    else:
+        prompt(line)
+    return FINE

@@ -1,0 +1,31 @@
+"""The command line of `tools/capture`."""
+
+import argparse
+from pathlib import Path
+
+from projects.asking import BUILT, Program
+from projects.faults import FINE, Refusal
+from projects.files import content_of, parted
+from wire.pcap import capture
+from wire.playing import frames_of
+
+
+def run(words: list[str]) -> int:
+    """Writes the frames of a run as a capture file."""
+    parser = argparse.ArgumentParser(
+        prog="tools/capture",
+        description="Writes the frames of a run, both ways, as a capture file that Wireshark opens.",
+        epilog="Status: 0 written, 2 the input can't be read or the program refuses it. docs/WIRESHARK.md has examples.",
+    )
+    parser.add_argument("input", help="an input of hotline: a text, a line %%%% and commands; - for stdin")
+    parser.add_argument("capture", help="the file that is written")
+    parser.add_argument("--program", default=BUILT, help="the program that is asked, if not the built hotline")
+    arguments = parser.parse_args(words)
+    text, commands = parted(content_of(arguments.input))
+    frames = frames_of(Program(arguments.program), Path(arguments.input).stem, text, commands)
+    try:
+        Path(arguments.capture).write_bytes(capture(frames))
+    except OSError as error:
+        raise Refusal(f"{arguments.capture}: {error.strerror}") from error
+    print(f"{len(frames)} frames are written to {arguments.capture}")
+    return FINE

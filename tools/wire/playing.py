@@ -1,0 +1,163 @@
+"""Plays an input with frames in place of the simulated line's commands, and sees that the program answers the same.
+
+`cycle` becomes `send` and an `arrive` for each frame that comes back from the plain line; `program` becomes `write` and
+`arrive` in turn; `scan` and `name` send the master's setup frames. So every frame of a run is known, both ways.
+"""
+
+import re
+from collections.abc import Iterator
+
+from projects.asking import Program, input_of
+from projects.faults import Refusal
+from projects.files import document_of
+from projects.names import number_in
+from projects.records import Project, read_project
+from session.replay import ACCEPTED, CHANGES, EDITS, Command, Kept, Replay, command_of
+from wire.frames import Frame, frame_bytes, read_frame
+from wire.line import Slaves
+
+SENT = re.compile(r"(?:sent|frame) \d+: ([0-9a-f]+)")
+UNPROGRAMMED = re.compile(r"refused 17 Unprogrammed (\d+)")
+DONE = "write done"
+
+
+def commands_in(content: bytes) -> list[Command]:
+    """The commands of an input, blank lines left out."""
+    commands: list[Command] = []
+    lines: list[bytes] = []
+    for line in content.split(b"\n"):
+        lines.append(line.removesuffix(b"\r"))
+        inside = lines[0].split() == [b"declare"]
+        if inside and (len(lines) == 1 or lines[-1] != b"%%"):
+            continue
+        if lines[0].strip():
+            commands.append(Command(b"\n".join(lines) + b"\n"))
+        lines = []
+    if lines:
+        raise Refusal("a declare in the input has no line %% after its document")
+    return commands
+
+
+class Play:
+    """A run of an input, and the frames that went over the line."""
+
+    def __init__(self, program: Program, name: str, text: bytes) -> None:
+        self.name, self.replay = name, Replay(program, text)
+        self.replay.answers([])
+        self.slaves = Slaves(self.project([]).groups)
+        self.frames: list[bytes] = []
+
+    def project(self, declared: list[bytes]) -> Project:
+        """The project with groups that were declared later."""
+        documents = [document_of("a declared group", text) for text in declared]
+        return read_project(document_of(self.name, self.replay.text), documents)
+
+    def play(self, commands: list[Command]) -> list[str]:
+        """The lines that the program should print for the commands; the frames are gathered meanwhile."""
+        return [line for command in commands for line in self.one(command)]
+
+    def one(self, command: Command) -> list[str]:
+        """The lines of one command."""
+        simulated = {"scan": self.scan, "name": self.give_names, "program": self.write_all}
+        if command.name in simulated:
+            return simulated[command.name]()
+        if command.name == "cycle":
+            return self.cycle(command.words[1:])
+        if command.name in ("poke", "peek"):
+            return self.memory(command)
+        return self.told(command)
+
+    def told(self, command: Command) -> list[str]:
+        """What the program answers to a command that the simulated line has no part in."""
+        lines = self.replay.answers([command])
+        if command.name in CHANGES:
+            self.replay.kept.append(Kept(command, lines))
+        if command.name == "arrive":
+            self.frames.append(bytes.fromhex(command.words[1]))
+        self.frames += [bytes.fromhex(found[1]) for line in lines if (found := SENT.fullmatch(line))]
+        if command.name in EDITS and ACCEPTED.fullmatch(lines[-1]):
+            self.follow(command)
+        return lines
+
+    def follow(self, command: Command) -> None:
+        """Takes an accepted edit to the plain line."""
+        if command.name != "declare":
+            self.slaves.edit(command.words)
+            return
+        declared = [one.command.document() for one in self.replay.kept if one.command.name == "declare"]
+        self.slaves.declare(self.project(declared[-1:]).groups[-1])
+
+    def round_trip(self, frame: Frame) -> Frame:
+        """Sends a frame over the plain line; what comes back is a frame of the capture too."""
+        back = self.slaves.back(frame)
+        self.frames.append(frame_bytes(back))
+        return back
+
+    def cycle(self, tasks: list[str]) -> list[str]:
+        """Process data of tasks, sent and taken in."""
+        lines = self.told(command_of(["send", *tasks]))
+        found = [SENT.fullmatch(line) for line in lines]
+        if not all(found):
+            return lines
+        # all frames are on the line before the first one is taken in
+        sent = self.frames[len(self.frames) - len(found) :]
+        backs = [self.round_trip(read_frame(content)) for content in sent]
+        return [line for back in backs for line in self.taken(back)]
+
+    def taken(self, back: Frame) -> list[str]:
+        """What the program answers to a frame that came back."""
+        command = command_of(["arrive", frame_bytes(back).hex()])
+        lines = self.replay.answers([command])
+        self.replay.kept.append(Kept(command, lines))
+        return lines
+
+    def write_all(self) -> list[str]:
+        """Owed register blocks, written one after another until one isn't done or none is owed."""
+        done = 0
+        while found := SENT.fullmatch(self.told(command_of(["write"]))[0]):
+            if self.taken(self.round_trip(read_frame(bytes.fromhex(found[1])))) != [DONE]:
+                break
+            done += 1
+        owed = UNPROGRAMMED.fullmatch(self.replay.answers([command_of(["send", "0"])])[0])
+        return [f"written {done} owed {owed[1] if owed else 0}"]
+
+    def setup(self, frames: list[Frame]) -> Iterator[Frame]:
+        """Sends frames that the master's core knows nothing of."""
+        for frame in frames:
+            self.frames.append(frame_bytes(frame))
+            yield self.round_trip(frame)
+
+    def scan(self) -> list[str]:
+        """The aliases by position."""
+        backs = [back.datagrams[0].data for back in self.setup(self.slaves.scan())]
+        return [f"slot {place} alias {int.from_bytes(data, 'little')}" for place, data in enumerate(backs)]
+
+    def give_names(self) -> list[str]:
+        """The station addresses by position."""
+        return [f"named {sum(back.datagrams[0].counter == 1 for back in self.setup(self.slaves.name()))}"]
+
+    def memory(self, command: Command) -> list[str]:
+        """A look into a machine's memory, or a change of it by the slave's own side."""
+        lines = self.replay.answers([command])
+        if lines[0].startswith("refused"):
+            return lines
+        station, at = (number_in(word) for word in command.words[1:3])
+        memory = self.slaves.machine(station).memory
+        if command.name == "poke":
+            content = bytes.fromhex(command.words[3])
+            memory[at : at + len(content)] = content
+            return lines
+        count = number_in(command.words[3])
+        return [f"mem 0x{at:04x}: {memory[at : at + count].hex(' ')}"]
+
+
+def frames_of(program: Program, name: str, text: bytes, commands: bytes) -> list[bytes]:
+    """The frames of an input's run, both ways and in order; a difference from the program's answers is a refusal."""
+    given = commands_in(commands)
+    printed = program.printed(input_of(text, [command.lines for command in given]))
+    play = Play(program, name, text)
+    worked_out = play.play(given)
+    if worked_out != printed:
+        place = next((at for at, pair in enumerate(zip(worked_out, printed)) if pair[0] != pair[1]), 0)
+        raise Refusal(f"line {place + 1} of the output differs: {printed[place]!r} is printed, {worked_out[place]!r} is worked out")
+    return play.frames
