@@ -7,6 +7,7 @@ import subprocess
 from pathlib import Path
 
 from checks import TOOLS, Checks
+from named_changer import named_changer
 
 from wire.frames import APRD, APWR, FPWR, LRW, Datagram, Frame, frame_bytes, read_frame
 from wire.machine import Machine, passed
@@ -43,6 +44,17 @@ FMMU_FIELDS = [
     f"ecat.fmmu.{name}"
     for name in ("lstart", "llen", "lstartbit", "lendbit", "pstart", "pstartbit", "type", "activate")
 ]
+# Frames 1 to 8 are the station addresses of four slaves, 9 a write that gets no answer, 10 to 33 the twelve blocks.
+LISTED = [
+    "1 out: a station address is written by position",
+    "2 back: a station address is written by position, counter 1",
+    "9 out: slave 1002 axis X, sync manager 2",
+    "10 out: slave 1002 axis X, sync manager 2",
+    "11 back: slave 1002 axis X, sync manager 2, counter 1",
+    "34 out: task 0 motion datagram 0; task 1 slow datagram 0",
+    "35 back: task 0 motion datagram 0, counter 6; task 1 slow datagram 0, counter 3",
+    "36 back: it can't be read",
+]
 WRONG_PROGRAMS = [
     ("a program that counts one station too many", "^named 5$/named 6"),
     ("a program that reads another memory", "^mem 0x1100: 01$/mem 0x1100: 00"),
@@ -55,6 +67,7 @@ def check(checks: Checks) -> None:
     check_frames(checks)
     for name, count in RUNS.items():
         check_run(checks, name, count)
+    check_listing(checks)
     check_blocks(checks)
     check_refusals(checks)
 
@@ -116,6 +129,16 @@ def check_in_wireshark(checks: Checks, name: str, path: Path, count: int) -> Non
     for condition, wanted in (("ecat", count), ("_ws.malformed", 0)):
         run = subprocess.run(["tshark", "-r", path, "-Y", condition], capture_output=True, timeout=60)
         checks.equal(f"{condition} frames of {name}", wanted, len(run.stdout.splitlines()))
+
+
+def check_listing(checks: Checks) -> None:
+    """What the frames of a named line carry, in words."""
+    commands = "name\nwrite\nprogram\ncycle 0 1\narrive 00\n"
+    named = checks.file("named.in", f"{named_changer()}%%\n{commands}")
+    ended = checks.tool("capture", "--list", named, checks.scratch / "named.pcap", "--program", checks.program)
+    lines = ended.said.splitlines()
+    for wanted in LISTED:
+        checks.equal(f"{wanted!r} in a listing", True, wanted in lines)
 
 
 def check_blocks(checks: Checks) -> None:

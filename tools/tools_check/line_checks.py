@@ -21,6 +21,12 @@ from projects.faults import Refusal
 from session.values import read_value
 
 PROMPT = b"\r\n> "
+PICTURES = TOOLS.parent / "build"
+ON_PAGE = [
+    *("connect gripper", "name", "program", "poke 1002 0x1180 3706e5030000", "poke gripper 0x1180 015802"),
+    *("set target_x=1200", "cycle motion slow"),
+]
+VIEWED = ("position_x", "pressure", "target_x")
 SECONDS = 60
 # Words, bits, and the views that the value has; worked out by hand from two's complement and IEEE 754.
 VALUES = [
@@ -175,18 +181,27 @@ def check_page(checks: Checks, project: Path) -> None:
         token = re.search(r'data-token="([^"]+)"', page)[1]
         checks.equal("the page", 200, status)
         check_strangers(checks, browser, token)
-        for command in ("name", "program", "set target_x=1200", "cycle motion slow", "connect gripper"):
+        for command in ON_PAGE:
             status, answer = browser.give(command, token)
             checks.equal(f"the page's {command}", (200, False), (status, json.loads(answer)["lines"][0].startswith("?")))
         state = json.loads(answer)
-        values = {name: value for name, _, value in state["values"]}
-        checks.equal("a value on the page", "1200, 0x000004b0", values["target_x"])
+        numbers = {name: value.split(",")[0] for name, _, value in state["values"] if "," in value}
+        checks.equal("the values on the page", viewed(checks, project), {name: numbers.get(name) for name in VIEWED})
         checks.equal("the last edit on the page", "connect 100", state["change"][0])
         checks.equal("the picture on the page", True, state["picture"].lstrip().startswith("<svg"))
         for command in ("save /tmp/stolen", "declare /etc/passwd"):
             lines = json.loads(browser.give(command, token)[1])["lines"]
             checks.equal(f"the page's {command}", "? NotHere", lines[0].split(":")[0])
-        check_in_browser(checks, browser, values)
+        check_in_browser(checks, browser, viewed(checks, project))
+
+
+def viewed(checks: Checks, project: Path) -> dict[str, str]:
+    """The same values as the program itself views them, and as its simulated slave has them."""
+    commands = "connect 100\nname\nprogram\npoke 1002 0x1180 3706e5030000\npoke 2001 0x1180 015802\npost 0 2=1200\ntake\ncycle 0 1\n"
+    looks = "view 0 12\nview 1 113\npeek 1002 0x1102 4\n"
+    _, lines = checks.hotline(project.read_bytes() + b"%%\n" + (commands + looks).encode())
+    target = int.from_bytes(bytes.fromhex(lines[-1].split(": ")[1]), "little")
+    return {"position_x": lines[-3].split()[-1], "pressure": lines[-2].split()[-1], "target_x": str(target)}
 
 
 def check_strangers(checks: Checks, browser: Browser, token: str) -> None:
@@ -202,11 +217,20 @@ def check_strangers(checks: Checks, browser: Browser, token: str) -> None:
 
 
 def check_in_browser(checks: Checks, browser: Browser, values: dict[str, str]) -> None:
-    """The page as headless Chromium has it after its script ran, where Chromium is installed."""
+    """The page as headless Chromium has it after its script ran, where it is installed; two pictures of it stay in build/."""
     chromium = shutil.which("chromium")
     if chromium is None:
         return
-    words = [chromium, "--headless", "--no-sandbox", "--disable-gpu", "--virtual-time-budget=8000", "--dump-dom"]
-    run = subprocess.run([*words, f"http://{browser.host}/"], capture_output=True, timeout=SECONDS)
-    rows = re.findall(r"<tr><td>(.*?)</td><td>.*?</td><td>(.*?)</td></tr>", run.stdout.decode())
-    checks.equal("the values in Chromium", values, dict(rows))
+    words = [chromium, "--headless", "--no-sandbox", "--disable-gpu", "--virtual-time-budget=8000", "--window-size=1100,1500"]
+    address = f"http://{browser.host}/"
+    run = subprocess.run([*words, "--dump-dom", address], capture_output=True, timeout=SECONDS)
+    rows = dict(re.findall(r"<tr><td>(.*?)</td><td>.*?</td><td>(\d+),.*?</td></tr>", run.stdout.decode()))
+    checks.equal("the values in Chromium", values, {name: rows.get(name) for name in values})
+    PICTURES.mkdir(exist_ok=True)
+    pictures = {}
+    for scheme, number in (("dark", 0), ("light", 1)):
+        path = PICTURES / f"line-{scheme}.png"
+        chosen = [f"--blink-settings=preferredColorScheme={number}", f"--screenshot={path}"]
+        subprocess.run([*words, *chosen, address], capture_output=True, timeout=SECONDS)
+        pictures[scheme] = path.read_bytes() if path.exists() else b""
+    checks.equal("pictures of the page, of two kinds", True, len({b"", *pictures.values()}) == 3)

@@ -7,7 +7,8 @@ from projects.asking import BUILT, Program
 from projects.faults import FINE, Refusal
 from projects.files import content_of, parted
 from wire.pcap import capture
-from wire.playing import frames_of
+from wire.listing import listing
+from wire.playing import played
 
 
 def run(words: list[str]) -> int:
@@ -19,13 +20,17 @@ def run(words: list[str]) -> int:
     )
     parser.add_argument("input", help="an input of hotline: a text, a line %%%% and commands; - for stdin")
     parser.add_argument("capture", help="the file that is written")
+    parser.add_argument("--list", action="store_true", help="print what each frame carries, by the names of the text")
     parser.add_argument("--program", default=BUILT, help="the program that is asked, if not the built hotline")
     arguments = parser.parse_args(words)
     text, commands = parted(content_of(arguments.input))
-    frames = frames_of(Program(arguments.program), Path(arguments.input).stem, text, commands)
+    play = played(Program(arguments.program), Path(arguments.input).stem, text, commands)
+    frames = [passed.content for passed in play.frames]
     try:
         Path(arguments.capture).write_bytes(capture(frames))
     except OSError as error:
         raise Refusal(f"{arguments.capture}: {error.strerror}") from error
+    if arguments.list:
+        print("\n".join(listing(play)))
     print(f"{len(frames)} frames are written to {arguments.capture}")
     return FINE

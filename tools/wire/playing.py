@@ -6,6 +6,7 @@
 
 import re
 from collections.abc import Iterator
+from dataclasses import dataclass
 
 from projects.asking import Program, input_of
 from projects.faults import Refusal
@@ -38,6 +39,14 @@ def commands_in(content: bytes) -> list[Command]:
     return commands
 
 
+@dataclass(frozen=True)
+class Passed:
+    """A frame that went over the line, out from the master or back to it."""
+
+    content: bytes
+    is_back: bool
+
+
 class Play:
     """A run of an input, and the frames that went over the line."""
 
@@ -45,7 +54,11 @@ class Play:
         self.name, self.replay = name, Replay(program, text)
         self.replay.answers([])
         self.slaves = Slaves(self.project([]).groups)
-        self.frames: list[bytes] = []
+        self.frames: list[Passed] = []
+
+    def declared(self) -> list[bytes]:
+        """The documents of the groups that were declared."""
+        return [one.command.document() for one in self.replay.kept if one.command.name == "declare"]
 
     def project(self, declared: list[bytes]) -> Project:
         """The project with groups that were declared later."""
@@ -73,8 +86,8 @@ class Play:
         if command.name in CHANGES:
             self.replay.kept.append(Kept(command, lines))
         if command.name == "arrive":
-            self.frames.append(bytes.fromhex(command.words[1]))
-        self.frames += [bytes.fromhex(found[1]) for line in lines if (found := SENT.fullmatch(line))]
+            self.frames.append(Passed(bytes.fromhex(command.words[1]), True))
+        self.frames += [Passed(bytes.fromhex(found[1]), False) for line in lines if (found := SENT.fullmatch(line))]
         if command.name in EDITS and ACCEPTED.fullmatch(lines[-1]):
             self.follow(command)
         return lines
@@ -84,13 +97,12 @@ class Play:
         if command.name != "declare":
             self.slaves.edit(command.words)
             return
-        declared = [one.command.document() for one in self.replay.kept if one.command.name == "declare"]
-        self.slaves.declare(self.project(declared[-1:]).groups[-1])
+        self.slaves.declare(self.project(self.declared()[-1:]).groups[-1])
 
     def round_trip(self, frame: Frame) -> Frame:
         """Sends a frame over the plain line; what comes back is a frame of the capture too."""
         back = self.slaves.back(frame)
-        self.frames.append(frame_bytes(back))
+        self.frames.append(Passed(frame_bytes(back), True))
         return back
 
     def cycle(self, tasks: list[str]) -> list[str]:
@@ -101,7 +113,7 @@ class Play:
             return lines
         # all frames are on the line before the first one is taken in
         sent = self.frames[len(self.frames) - len(found) :]
-        backs = [self.round_trip(read_frame(content)) for content in sent]
+        backs = [self.round_trip(read_frame(passed.content)) for passed in sent]
         return [line for back in backs for line in self.taken(back)]
 
     def taken(self, back: Frame) -> list[str]:
@@ -124,7 +136,7 @@ class Play:
     def setup(self, frames: list[Frame]) -> Iterator[Frame]:
         """Sends frames that the master's core knows nothing of."""
         for frame in frames:
-            self.frames.append(frame_bytes(frame))
+            self.frames.append(Passed(frame_bytes(frame), False))
             yield self.round_trip(frame)
 
     def scan(self) -> list[str]:
@@ -151,8 +163,8 @@ class Play:
         return [f"mem 0x{at:04x}: {memory[at : at + count].hex(' ')}"]
 
 
-def frames_of(program: Program, name: str, text: bytes, commands: bytes) -> list[bytes]:
-    """The frames of an input's run, both ways and in order; a difference from the program's answers is a refusal."""
+def played(program: Program, name: str, text: bytes, commands: bytes) -> Play:
+    """The run of an input with all its frames; a difference from the program's answers is a refusal."""
     given = commands_in(commands)
     printed = program.printed(input_of(text, [command.lines for command in given]))
     play = Play(program, name, text)
@@ -160,4 +172,4 @@ def frames_of(program: Program, name: str, text: bytes, commands: bytes) -> list
     if worked_out != printed:
         place = next((at for at, pair in enumerate(zip(worked_out, printed)) if pair[0] != pair[1]), 0)
         raise Refusal(f"line {place + 1} of the output differs: {printed[place]!r} is printed, {worked_out[place]!r} is worked out")
-    return play.frames
+    return play
