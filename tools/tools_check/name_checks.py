@@ -12,27 +12,21 @@ from projects.records import read_project
 from projects.toml import read_toml
 
 TEXT = """\
+slave = [
+  { name = "axis X", station = 1002, area = [
+    { sm = 2, dir = "out", phys = 0x1100, task = 0, assigned = [0x1600], pdo = [
+      { index = 0x1600, entries = [[1, 16], [0, 8], [2, 32]], names = ["x_control", "", "x_Target"] },
+      { index = 0x1601, entries = [[3, 1], [4, 1]], names = [
+        "",
+        "_brake2",
+      ] },
+    ] },
+  ] },
+]
+
 [[task]]
 number = 1
 name = "slow tasks"
-
-[[slave]]
-name = "axis X"
-station = 1002
-
-[[slave.area]]
-sm = 2
-dir = "out"
-phys = 0x1100
-task = 0
-assigned = [0x1600]
-pdo = [
-  { index = 0x1600, entries = [[1, 16], [0, 8], [2, 32]], names = ["x_control", "", "x_Target"] },
-  { index = 0x1601, entries = [[3, 1], [4, 1]], names = [
-    "",
-    "_brake2",
-  ] },
-]
 
 [[group]]
 name = "gripper 2"
@@ -81,33 +75,33 @@ PYTHON |= {"SLAVE_AXIS_X": 1002, "GROUP_GRIPPER_2": 100, "TASK_SLOW_TASKS": 1}
 
 # What is changed in the text, into what, the fault that it then has, and on which line of the text.
 FAULTS = [
-    ('"x_control", "", "x_Target"', '"x_control", ""', "NamesLength", 16),
-    ('"x_control", "", "x_Target"', '"x_control", "", "x_Target", ""', "NamesLength", 16),
-    ('["closed"]', '"closed"', "NamesKind", 36),
-    ('["closed"]', "[1]", "NamesKind", 36),
-    ('"_brake2"', '"X_CONTROL"', "RepeatedName", 19),
-    ('["closed"]', '["x_control"]', "RepeatedName", 36),
-    ('"_brake2"', '"2brake"', "NoIdentifier", 19),
-    ('"closed"', '"is closed"', "NoIdentifier", 36),
-    ('"closed"', '"geöffnet"', "NoIdentifier", 36),
-    ('"x_control", "", "x_Target"', '"x_control", "gap", "x_Target"', "NamedGap", 16),
-    ("number = 1", "number = 8", "NoSuchTask", 1),
-    ("number = 1", "number = true", "NoSuchTask", 1),
-    ("[[task]]", "[task]", "NoSuchTask", 1),
-    ("[[slave]]", '[[task]]\nnumber = 1\nname = "other"\n[[slave]]', "RepeatedTask", 5),
+    ('"x_control", "", "x_Target"', '"x_control", ""', "NamesLength", 4),
+    ('"x_control", "", "x_Target"', '"x_control", "", "x_Target", ""', "NamesLength", 4),
+    ('["closed"]', '"closed"', "NamesKind", 30),
+    ('["closed"]', "[1]", "NamesKind", 30),
+    ('"_brake2"', '"X_CONTROL"', "RepeatedName", 7),
+    ('["closed"]', '["x_control"]', "RepeatedName", 30),
+    ('"_brake2"', '"2brake"', "NoIdentifier", 7),
+    ('"closed"', '"is closed"', "NoIdentifier", 30),
+    ('"closed"', '"geöffnet"', "NoIdentifier", 30),
+    ('"x_control", "", "x_Target"', '"x_control", "gap", "x_Target"', "NamedGap", 4),
+    ("number = 1", "number = 8", "NoSuchTask", 13),
+    ("number = 1", "number = true", "NoSuchTask", 13),
+    ("[[task]]", "[task]", "NoSuchTask", 13),
+    ("[[group]]", '[[task]]\nnumber = 1\nname = "other"\n[[group]]', "RepeatedTask", 17),
 ]
 # The same of names for people, which are wrong only as constants.
 CONSTANT_FAULTS = [
-    ("[[group.slave]]", '[[group.slave]]\nname = "AXIS-x"', "RepeatedName", 27),
-    ('"gripper 2"', '"%"', "NoIdentifier", 23),
-    ('"slow tasks"', '"…"', "NoIdentifier", 1),
+    ("[[group.slave]]", '[[group.slave]]\nname = "AXIS-x"', "RepeatedName", 21),
+    ('"gripper 2"', '"%"', "NoIdentifier", 17),
+    ('"slow tasks"', '"…"', "NoIdentifier", 13),
 ]
 BROKEN = [
-    ("station = 2001", "", "MissingField", 27),
-    ("station = 2001", 'station = "x"', "MissingField", 28),
-    ('dir = "in"', 'dir = "IN"', "OutOfRange", 32),
-    ("[[5, 12]]", "[[5]]", "MissingField", 36),
-    ("[[5, 12]]", "[5]", "MissingField", 36),
+    ("station = 2001", "", "MissingField", 21),
+    ("station = 2001", 'station = "x"', "MissingField", 22),
+    ('dir = "in"', 'dir = "IN"', "OutOfRange", 26),
+    ("[[5, 12]]", "[[5]]", "MissingField", 30),
+    ("[[5, 12]]", "[5]", "MissingField", 30),
     ("assigned = []", "assigned = ]", "NotToml", None),
 ]
 
@@ -155,7 +149,7 @@ def check_page(checks: Checks) -> None:
 
 def check_program(checks: Checks) -> None:
     """The program ignores names: it configures the same line without them."""
-    plain = "\n".join(line for line in TEXT.splitlines() if not line.startswith("name ")).replace("names", "other")
+    plain = TEXT.replace("name", "label")
     behind = b"\n%%\nlayout\nregs 1002\nconnect 100\nregs 2001\nplace 1\n"
     wanted = checks.hotline(plain.encode() + behind)
     checks.equal("a line without names", 0, wanted[0])
