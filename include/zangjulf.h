@@ -24,6 +24,9 @@
 #include <stddef.h>
 #include <stdint.h>
 
+/* The version of this header and of the library that is built with it; docs/EMBEDDING.md says what its numbers promise. */
+#define ZANGJULF_VERSION "0.1.0"
+
 #ifdef __cplusplus
 extern "C" {
 #endif

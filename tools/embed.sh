@@ -3,7 +3,8 @@
 # sanitizer, from Rust and from Python: each plays examples/*.in, and what it prints is compared with *.out, byte for byte.
 # The C callers also try what a caller may do wrong, each growth of memory refused in turn, and a million drawn calls. What
 # drawn calls are answered is compared, byte for byte, with what the program hotline prints of the same commands; the
-# comparison is shown wrong programs and wrong libraries, and must find each. A master and its slaves run for five seconds
+# comparison is shown wrong programs and wrong libraries, and must find each. The library is installed below a folder, and a
+# C program outside the repository finds it by pkg-config and by CMake. A master and its slaves run for five seconds
 # where a network namespace can be made, and tshark reads their capture; where none can be made, that is said. What is missing
 # is named, and counts as failed: tools/embed.packages has the Debian packages. The last line is 'N passed, M failed'. A word
 # after its name is a program to be compared with in place of the built hotline.
@@ -118,6 +119,42 @@ compare_drawn() {
     done
 }
 
+# installed: the library below a folder of its own, and a C program in an empty folder that finds it there in two ways
+installed() {
+    outside=$scratch/outside
+    mkdir "$outside"
+    tools/install.sh "$scratch/prefix" >"$scratch/printed" 2>&1
+    tell $? "the library isn't installed"
+    readelf -d "$scratch/prefix/lib/libzangjulf.so" | grep -q 'soname: \[libzangjulf.so.0\]'
+    tell $? "the shared object has another name than libzangjulf.so.0"
+    ! nm -D --defined-only "$scratch/prefix/lib/libzangjulf.so" | grep -v ' A ZANGJULF_0$' | grep -qv ' zangjulf_'
+    tell $? "the shared object exports more than the header's calls"
+    cp tools/embed/play.c tools/embed/words.c tools/embed/words.h "$outside/"
+    if has pkg-config; then
+        (cd "$outside" && export PKG_CONFIG_PATH="$scratch/prefix/lib/pkgconfig" &&
+            gcc -std=c11 -Wall -Wextra -Werror play.c words.c $(pkg-config --cflags --libs zangjulf) -o by_pkg_config)
+        tell $? "no C program is built by pkg-config"
+        play "C by pkg-config" env LD_LIBRARY_PATH="$scratch/prefix/lib" "$outside/by_pkg_config"
+    fi
+    if has cmake && has make; then
+        cat >"$outside/CMakeLists.txt" <<END
+cmake_minimum_required(VERSION 3.16)
+project(outside C)
+find_package(Zangjulf 0.1 REQUIRED)
+add_executable(shared play.c words.c)
+target_link_libraries(shared Zangjulf::zangjulf)
+add_executable(archive play.c words.c)
+target_link_libraries(archive Zangjulf::static)
+END
+        (cd "$outside" && cmake -B made -DCMAKE_PREFIX_PATH="$scratch/prefix" . && cmake --build made) >"$scratch/printed" 2>&1
+        status=$?
+        tell $status "no C program is built by CMake"
+        [ $status -eq 0 ] || tail -n 10 "$scratch/printed"
+        play "C by CMake" "$outside/made/shared"
+        play "C by CMake, the archive" "$outside/made/archive"
+    fi
+}
+
 # read_capture: tshark reads the frames of the capture, as many as there are, and marks none malformed; one that is it marks
 read_capture() {
     tshark -r "$scratch/master.pcap" -Y ecat >"$scratch/frames" 2>"$scratch/tshark"
@@ -152,6 +189,7 @@ if has gcc; then
         compare_drawn
     fi
 fi
+has gcc && has readelf && installed
 if has cargo; then
     CARGO_TARGET_DIR=$scratch/target cargo build --quiet --offline --release --manifest-path bindings/rust/Cargo.toml --example play
     tell $? "the Rust player isn't built"

@@ -35,6 +35,10 @@ addlib $kit/c/liblibc_c.a
 save
 end
 EOF
-# the code is position independent, so the archive makes a shared object
-gcc -shared -Wl,-z,text -Wl,--whole-archive build/libzangjulf.a -Wl,--no-whole-archive -o build/libzangjulf.so
+# The code is position independent, so the archive makes a shared object. It exports the header's calls and nothing else,
+# and its name has the first number of the header's version: programs look for it by that name.
+major=$(sed -n 's/^#define ZANGJULF_VERSION "\([0-9]*\)\..*"$/\1/p' include/zangjulf.h)
+gcc -shared -Wl,-z,text,-z,relro,-z,now,-z,noexecstack -Wl,-soname,libzangjulf.so."$major" \
+    -Wl,--version-script=tools/package/zangjulf.map \
+    -Wl,--whole-archive build/libzangjulf.a -Wl,--no-whole-archive -o build/libzangjulf.so
 cp include/zangjulf.h build/
