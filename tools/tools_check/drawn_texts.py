@@ -78,6 +78,17 @@ KEYS = [
     "a b",
     "=",
 ]
+# Headers and dotted keys that meet after two others.
+MEETING = [
+    "[a.b.c]\n[a]\nb.x = 1\n[a.b]\n",
+    "[a.b.c]\n[a]\nb.x = 1\n[a.b.d]\n",
+    "[a.b.c]\n[a]\nb.c.x = 1\n",
+    "[a.b.c]\n[a]\nb.c = 1\n",
+    "[a.b.c]\n[a.b]\n[a]\nb.x = 1\n",
+    "[[a.b]]\n[a]\nb.x = 1\n",
+    "[[a]]\n[a.b.c]\n[[a]]\n[a.b]\nc.x = 1\n",
+    "[[a]]\n[a.b.c]\n[a.b]\nc.x = 1\n",
+]
 SPOILT = list("\"'\\[]{}=,.#\n\r\t \x00\x01\x7f_-+:0aexuU19") + [
     "\r\n",
     '"""',
@@ -176,7 +187,7 @@ class Drawer:
         texts += [self.tables().encode() for _ in range(count)]
         texts += [f"x = {scalar}\n".encode() for scalar in SCALARS] + [f"[{key}]\n{key} = 1\n".encode() for key in KEYS]
         texts += [f"x = [{scalar}]\ny = {{ z = {scalar} }}\n".encode() for scalar in SCALARS]
-        return texts + nested()
+        return texts + [text.encode() for text in MEETING] + nested()
 
 
 def nested() -> list[bytes]:
