@@ -107,8 +107,8 @@ def exclusions_broken(area: ChosenArea) -> Iterator[Loss]:
 def reach_losses(areas: list[ChosenArea]) -> Iterator[Loss]:
     """Areas whose offered PDOs all together overlap, which the program refuses."""
     spans = [Span(f"sync manager {area.manager.number}", area.manager.start, area.offered_bytes()) for area in areas]
-    for words in overlapping(spans):
-        yield Loss("Reach", f"{words}: hotline refuses the text until fewer PDOs are offered", True)
+    for one, other in overlapping(spans):
+        yield Loss("Reach", f"{one} overlaps {other}: hotline refuses the text until fewer PDOs are offered", True)
 
 
 def buffer_losses(device: Device, areas: list[ChosenArea]) -> Iterator[Loss]:
@@ -118,8 +118,8 @@ def buffer_losses(device: Device, areas: list[ChosenArea]) -> Iterator[Loss]:
     ]
     mailboxes = [manager for manager in device.sync_managers if manager.kind.startswith("MBox")]
     spans += [Span(f"mailbox {manager.number}", manager.start, manager.size) for manager in mailboxes]
-    for words in overlapping(spans):
-        yield Loss("ThreeBuffers", words, True)
+    for one, other in overlapping(spans):
+        yield Loss("ThreeBuffers", f"{one} overlaps {other}", True)
 
 
 def mandatory_losses(device: Device, areas: list[ChosenArea]) -> Iterator[Loss]:

@@ -13,23 +13,23 @@ def buffer_findings(project: Project, paths: dict[int, str]) -> Iterator[Finding
     """Buffers that overlap or end after the memory: as a slave's PDOs are assigned, or once all offered ones are."""
     for slave, _ in project.slaves():
         now = list(faults_of(slave, assigned_bytes))
-        later = [words for words in faults_of(slave, offered_bytes) if not now]
+        later = [] if now else list(faults_of(slave, offered_bytes))
         for kind, faults in (("ThreeBuffers", now), ("ThreeBuffersLater", later)):
-            for words in faults:
-                said = f"slave {slave.station}: {words}"
-                yield Finding(slave.areas[0].line, kind, said, paths[slave.station])
+            for line, words in faults:
+                yield Finding(line, kind, f"slave {slave.station}: {words}", paths[slave.station])
 
 
-def faults_of(slave: Slave, size_of: Callable[[Area], int]) -> Iterator[str]:
-    """What is wrong with the buffers of a slave, where a function gives an area's bytes."""
+def faults_of(slave: Slave, size_of: Callable[[Area], int]) -> Iterator[tuple[int, str]]:
+    """What is wrong with the buffers of a slave, by lines, where a function gives an area's bytes."""
     spans = [
-        Span(f"three buffers of sync manager {area.sync_manager}", area.phys, BUFFERS * size_of(area))
+        Span(f"three buffers of sync manager {area.sync_manager}", area.phys, BUFFERS * size_of(area), area.line)
         for area in slave.areas
     ]
-    yield from overlapping(spans)
+    for one, other in overlapping(spans):
+        yield other.line, f"{one} overlap {other}"
     for span in spans:
         if span.size and span.end > MEMORY_END:
-            yield f"{span} end after 0x{MEMORY_END - 1:04x}"
+            yield span.line, f"{span} end after 0x{MEMORY_END - 1:04x}"
 
 
 def assigned_bytes(area: Area) -> int:

@@ -18,11 +18,12 @@ CONTROL = {"out": 0x64, "in": 0x20}
 
 @dataclass(frozen=True)
 class Span:
-    """Bytes of a slave's memory, with what they belong to."""
+    """Bytes of a slave's memory, with what they belong to and the line of the text where that is, if it has one."""
 
     owner: str
     start: int
     size: int
+    line: int = 0
 
     @property
     def end(self) -> int:
@@ -33,8 +34,8 @@ class Span:
         return f"{self.owner} (0x{self.start:04x} to 0x{self.end - 1:04x})"
 
 
-def overlapping(spans: list[Span]) -> Iterator[str]:
-    """The pairs of spans that have a byte in common, in words."""
+def overlapping(spans: list[Span]) -> Iterator[tuple[Span, Span]]:
+    """The pairs of spans that have a byte in common."""
     for one, other in combinations((span for span in spans if span.size), 2):
         if one.start < other.end and other.start < one.end:
-            yield f"{one} overlaps {other}"
+            yield one, other

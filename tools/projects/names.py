@@ -54,7 +54,7 @@ class Variable:
 
 @dataclass(frozen=True)
 class Numbered:
-    """Something that a project names and numbers: the number, the name, and its line."""
+    """Something that a project names and numbers: the number, the name, and the name's line."""
 
     number: int
     name: str
@@ -67,8 +67,8 @@ class Names:
     def __init__(self, project: Project) -> None:
         homes = project.homes.items()
         self.variables = {number: Variable(number, home.entry.name, home) for number, home in homes}
-        self.slaves = [Numbered(slave.station, slave.own_name, slave.line) for slave, _ in project.slaves()]
-        self.groups = [Numbered(group.alias, group.name, group.line) for group in project.groups[1:]]
+        self.slaves = [Numbered(slave.station, slave.own_name, slave.name_line) for slave, _ in project.slaves()]
+        self.groups = [Numbered(group.alias, group.name, group.name_line) for group in project.groups[1:]]
         self.tasks = [
             Numbered(task, project.tasks.get(task, ""), project.task_lines.get(task, 1)) for task in range(TASKS)
         ]

@@ -73,6 +73,7 @@ class Slave:
     areas: list[Area]
     line: int
     own_name: str
+    name_line: int
 
 
 @dataclass(frozen=True)
@@ -83,6 +84,7 @@ class Group:
     name: str
     slaves: list[Slave]
     line: int
+    name_line: int
 
     def title(self) -> str:
         """What people call the group."""
@@ -138,10 +140,10 @@ def optional(table: Node, key: str) -> list[Node]:
     return [] if found is None else of_kind(found, key, list)
 
 
-def name_of(table: Node) -> str:
-    """The name that people gave; the format ignores the key, so it may be of any kind."""
+def name_of(table: Node) -> tuple[str, int]:
+    """The name that people gave, and its line; the format ignores the key, so it may be of any kind."""
     found = table.get("name")
-    return found.value if found and isinstance(found.value, str) else ""
+    return (found.value, found.line) if found and isinstance(found.value, str) else ("", table.line)
 
 
 class Records:
@@ -156,8 +158,8 @@ class Records:
 
     def group(self, table: Node) -> Group:
         """A group that comes and goes."""
-        alias, name = needed(table, "alias", int), name_of(table)
-        return Group(alias, name, self.slaves(table, name), table.line)
+        alias, (name, line) = needed(table, "alias", int), name_of(table)
+        return Group(alias, name, self.slaves(table, name), table.line, line)
 
     def slaves(self, table: Node, name: str) -> list[Slave]:
         """The slaves of a group, or of the document, which has no name."""
@@ -166,8 +168,8 @@ class Records:
     def slave(self, table: Node, name: str) -> Slave:
         """A slave."""
         areas = [self.area(number, area) for number, area in enumerate(optional(table, "area"))]
-        own = name_of(table)
-        return Slave(needed(table, "station", int), own or name, areas, table.line, own)
+        own, line = name_of(table)
+        return Slave(needed(table, "station", int), own or name, areas, table.line, own, line)
 
     def area(self, number: int, table: Node) -> Area:
         """An area of a slave."""
@@ -217,20 +219,20 @@ class Records:
         if tasks and not isinstance(tasks.value, list):
             self.fault(tasks.line, "NoSuchTask", "task isn't an array of tables")
         for table in document.listed("task"):
-            number, name = table.get("number"), name_of(table)
+            number, (name, line) = table.get("number"), name_of(table)
             if number is None or type(number.value) is not int or not 0 <= number.value < TASKS:
                 self.fault(table.line, "NoSuchTask", f"a named task has no number from 0 to {TASKS - 1}")
             elif number.value in named:
                 self.fault(table.line, "RepeatedTask", f"task {number.value} is named twice")
             elif name:
-                named[number.value] = (name, table.line)
+                named[number.value] = (name, line)
         return named
 
 
 def read_project(document: Node, declared: list[Node]) -> Project:
     """The project of a document, with the groups of the documents that were declared later."""
     records = Records()
-    groups = [Group(0, "", records.slaves(document, ""), 1)]
+    groups = [Group(0, "", records.slaves(document, ""), 1, 1)]
     groups += [records.group(table) for later in [document, *declared] for table in optional(later, "group")]
     tasks = records.tasks(document)
     homes = {

@@ -92,9 +92,9 @@ FAULTS = [
 ]
 # The same of names for people, which are wrong only as constants.
 CONSTANT_FAULTS = [
-    ("[[group.slave]]", '[[group.slave]]\nname = "AXIS-x"', "RepeatedName", 21),
-    ('"gripper 2"', '"%"', "NoIdentifier", 17),
-    ('"slow tasks"', '"…"', "NoIdentifier", 13),
+    ("[[group.slave]]", '[[group.slave]]\nname = "AXIS-x"', "RepeatedName", 22),
+    ('"gripper 2"', '"%"', "NoIdentifier", 18),
+    ('"slow tasks"', '"…"', "NoIdentifier", 15),
 ]
 BROKEN = [
     ("station = 2001", "", "MissingField", 21),
@@ -126,6 +126,13 @@ def check(checks: Checks) -> None:
     for old, new, kind, line in FAULTS + CONSTANT_FAULTS + BROKEN:
         path = checks.file("wrong.toml", TEXT.replace(old, new, 1))
         checks.refused(f"names, {old} as {new}", checks.tool("names", path, "--c"), kind, line)
+    longest = checks.file("long.toml", f"{TEXT}#".ljust(4_194_304))
+    checks.equal("names of the longest input", 0, checks.tool("names", longest, "--c").status)
+    checks.refused(
+        "names of a longer one",
+        checks.tool("names", checks.file("longer.toml", " " * 4_194_305), "--c"),
+        "TooLong",
+    )
     checks.equal("names without a language", 2, checks.tool("names", path).status)
     checks.equal("names of no file", 2, checks.tool("names", checks.scratch / "absent", "--c").status)
     checks.equal("help of names", 0, checks.tool("names", "--help").status)
