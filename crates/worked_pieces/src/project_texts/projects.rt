@@ -71,6 +71,8 @@ const TOOL_CHANGER: &str = r#"# A machine with a tool changer and a docking plac
 # Task 0 is the motion task, task 1 carries what may be slower.
 # `name` is no key of this format and is ignored, as every other key that it doesn't know.
 
+allow = ["SharedTask"] # read by tools/lint: the tools share both tasks with the machine, to show what a change moves
+
 [[slave]]
 name = "coupler"
 station = 1001
