@@ -39,5 +39,5 @@ pub record Serves (old new : Embedded) (edit : Edit) (asks : Bool) (number : ℕ
   pub carried : number ≡ DONE → asks ≡ false → new ≡ with_past old (Edited edit ∷ past_of old)
   pub asked : asks ≡ true → new ≡ old
   pub refused : number ≢ DONE → new ≡ old
-  pub untold : number ≢ DONE → number ≢ CROWDED → after ≡ before
+  pub unwritten : number ≢ DONE → number ≢ CROWDED → after ≡ before
   pub crowds : (task : ℕ) → number ≢ MEMORY → edited (state_of (past_of old)) edit ≡ Err (TooManyDatagrams task) → after ≡ record before { crowded = task }

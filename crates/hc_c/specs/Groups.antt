@@ -12,7 +12,7 @@ use Rattle.hc_c.specs.Edits.{Serves}
 -- the text is no group's for this fault, which is told, or memory was wanted; nothing changes
 pub record IsNoGroup (fault : ProjectFault) (old new : Embedded) (number cause cause' : ℕ) (before after : Cost) : Type 0 where
   pub told : number ≢ MEMORY → (number ≡ NO_GROUP) × (cause' ≡ project_fault_number fault)
-  pub uncaused : number ≢ NO_GROUP → cause' ≡ cause
+  pub unwritten : number ≢ NO_GROUP → cause' ≡ cause
   pub kept : new ≡ old
   pub untold : after ≡ before
 

@@ -91,7 +91,7 @@ fn tell_next(own: &mut Embedded, alloc: Global, out: &mut [u8], told: &mut Told)
     ensures room { result ≡ ROOM → Keeps own.old own.new told.new (length out.old) }
     ensures one { (result ≡ DONE) ⊎ ((result ≡ NOTHING) ⊎ (result ≡ ROOM)) }
     ensures untouched { result ≢ DONE → out.new ≡ out.old }
-    ensures untold { result ≡ NOTHING → told.new ≡ told.old }
+    ensures unwritten { result ≡ NOTHING → told.new ≡ told.old }
 {
     refill(own, alloc);
     let Some(change) = own.untold.first() else {
@@ -122,7 +122,7 @@ pub extern "C" fn zangjulf_next_change(
     ensures one { IsSome handle.old.holding.value → (result ≡ DONE) ⊎ ((result ≡ NOTHING) ⊎ (result ≡ ROOM)) }
     ensures held { is_some handle.new.holding.value ≡ is_some handle.old.holding.value }
     ensures untouched { result ≢ DONE → out.new ≡ out.old }
-    ensures untold { result ≡ NOTHING → told.new ≡ told.old }
+    ensures unwritten { result ≡ NOTHING → told.new ≡ told.old }
     ensures closed { handle.old.holding.value ≡ None → (result ≡ CLOSED) × (told.new ≡ told.old) }
 {
     let Some(mut own) = handle.take(alloc) else {

@@ -112,7 +112,7 @@ fn carry(own: &mut Embedded, alloc: Global, edit: &Edit, cost: &mut Cost) -> Res
 fn refuse(fault: EditFault, cost: &mut Cost) -> u8
     ensures number { result ≡ core_fault_number (edit_refusal fault) }
     ensures crowds { (task : ℕ) → fault ≡ TooManyDatagrams task → cost.new ≡ record cost.old { crowded = task } }
-    ensures untold { result ≢ CROWDED → cost.new ≡ cost.old }
+    ensures unwritten { result ≢ CROWDED → cost.new ≡ cost.old }
 {
     if let EditFault::TooManyDatagrams(task) = fault {
         cost.crowded = task;

@@ -21,7 +21,7 @@ fn open_project(alloc: Global, project: Project, task: &mut u8) -> Result<Box<Em
     ensures opened { IfOk result (λ own. own.value ≡ fresh project) }
     ensures accepted { OnOk result (crowded_task (line (opened project)) ≡ None) }
     ensures refused { IfErr result (λ number. ((number ≡ MEMORY) × (task.new ≡ task.old)) ⊎ ((number ≡ CROWDED) × (crowded_task (line (opened project)) ≡ Some task.new))) }
-    ensures untold { OnOk result (task.new ≡ task.old) }
+    ensures unwritten { OnOk result (task.new ≡ task.old) }
 {
     let core = match Core::new(alloc, project) {
         Ok(core) => core,
@@ -53,7 +53,7 @@ pub extern "C" fn zangjulf_open(
     ensures open { result ≡ DONE → IsSome handle.new.holding.value }
     ensures told { result ≢ MEMORY → result ≡ opening_number (project_in text.now) }
     ensures crowded { result ≡ CROWDED → crowded_in (project_in text.now) ≡ Some task.new }
-    ensures untold { result ≢ CROWDED → task.new ≡ task.old }
+    ensures unwritten { result ≢ CROWDED → task.new ≡ task.old }
     ensures closed { result ≢ DONE → handle.new.holding.value ≡ None }
 {
     drop(handle.take(alloc));

@@ -104,7 +104,7 @@ fn tell_slots(
     ensures number { result ≡ fit_number (slots_from core.now.past task 0 (length datagrams.now)) (length out.old) }
     ensures image { result ≡ DONE → HoldsSlots (epoch_of core.now.past) (slots_from core.now.past task 0 (length datagrams.now)) image.new out.old out.new sizes.old sizes.new }
     ensures untouched { result ≢ DONE → out.new ≡ out.old }
-    ensures untold { result ≢ DONE → (sizes.new ≡ sizes.old) × (image.new ≡ image.old) }
+    ensures unwritten { result ≢ DONE → (sizes.new ≡ sizes.old) × (image.new ≡ image.old) }
 {
     if !fit(core, task, 0, datagrams, out.len()) {
         return ROOM;
@@ -123,7 +123,7 @@ fn tell_image(core: &Core, task: u8, out: &mut [u8], sizes: &mut [usize], image:
     ensures number { result ≡ image_number (answer_to core.now.past (Reads task)) (length out.old) }
     ensures image { result ≡ DONE → HoldsImage (answer_to core.now.past (Reads task)) image.new out.old out.new sizes.old sizes.new }
     ensures untouched { result ≢ DONE → out.new ≡ out.old }
-    ensures untold { result ≢ DONE → (sizes.new ≡ sizes.old) × (image.new ≡ image.old) }
+    ensures unwritten { result ≢ DONE → (sizes.new ≡ sizes.old) × (image.new ≡ image.old) }
 {
     if task >= TASKS {
         return CoreFault::NoSuchTask.number();
@@ -149,7 +149,7 @@ pub extern "C" fn zangjulf_read(
     ensures told { IfSome handle.old.holding.value (λ old. result ≡ image_number (answer_to (past_of old) (Reads task)) (length out.old)) }
     ensures image { result ≡ DONE → IfSome handle.old.holding.value (λ old. HoldsImage (answer_to (past_of old) (Reads task)) image.new out.old out.new sizes.old sizes.new) }
     ensures untouched { result ≢ DONE → out.new ≡ out.old }
-    ensures untold { result ≢ DONE → (sizes.new ≡ sizes.old) × (image.new ≡ image.old) }
+    ensures unwritten { result ≢ DONE → (sizes.new ≡ sizes.old) × (image.new ≡ image.old) }
     ensures kept { handle.new.holding.value ≡ handle.old.holding.value }
     ensures closed { handle.old.holding.value ≡ None → result ≡ CLOSED }
 {

@@ -11,7 +11,7 @@ use hc_events::faults::CoreFault;
 pub fn refuse(fault: CoreFault, needed: &mut usize) -> u8
     ensures number { result ≡ core_fault_number fault }
     ensures room { result ≡ ROOM → fault ≡ Room needed.new }
-    ensures untold { result ≢ ROOM → needed.new ≡ needed.old }
+    ensures unwritten { result ≢ ROOM → needed.new ≡ needed.old }
 {
     if let CoreFault::Room(bytes) = fault {
         *needed = bytes;

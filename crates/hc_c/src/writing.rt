@@ -29,7 +29,7 @@ pub extern "C" fn zangjulf_next_write(
     ensures written { result ≡ DONE → IfSome handle.old.holding.value (λ old. HoldsWrite (past_of old) out.old out.new size.new) }
     ensures entries { result ≡ DONE → IfSome handle.old.holding.value (λ old. handle.new.holding.value ≡ Some (with_past old (entries_after (past_of old) SendsWrite))) }
     ensures needed { result ≡ ROOM → IfSome handle.old.holding.value (λ old. size.new ≡ write_size (owed_blocks (past_of old))) }
-    ensures untold { result ≢ DONE → result ≢ ROOM → size.new ≡ size.old }
+    ensures unwritten { result ≢ DONE → result ≢ ROOM → size.new ≡ size.old }
     ensures unchanged { result ≢ DONE → handle.new.holding.value ≡ handle.old.holding.value }
     ensures untouched { result ≢ DONE → out.new ≡ out.old }
     ensures closed { handle.old.holding.value ≡ None → (result ≡ CLOSED) × (size.new ≡ size.old) }

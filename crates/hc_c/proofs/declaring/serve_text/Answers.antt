@@ -18,12 +18,12 @@ untold (Ok group) own asks cause cost = (
     carried = λ is it. absurd (omega arith);
     asked = λ is. refl;
     refused = λ other. refl;
-    untold = λ other crowds. refl;
+    unwritten = λ other crowds. refl;
     crowds = λ task other is. absurd (other refl);
   },
   refl,
 )
-untold (Err fault) own asks cause cost = record { told = λ other. absurd (other refl); uncaused = λ other. refl; kept = refl; untold = refl }
+untold (Err fault) own asks cause cost = record { told = λ other. absurd (other refl); unwritten = λ other. refl; kept = refl; untold = refl }
 
 pub returns-in-Ok : goal.returns-in-Ok
 returns-in-Ok c =

@@ -16,7 +16,7 @@ returns-in-Ok c =
       carried = λ _ asks. told.carried asks;
       asked = λ asks. told.asked asks;
       refused = λ other. absurd (other refl);
-      untold = λ other _. absurd (other refl);
+      unwritten = λ other _. absurd (other refl);
       crowds = λ task other is. absurd (not_accepted (sym told.accepted ∙ is));
     }
 
@@ -30,7 +30,7 @@ returns-in-Err c =
       carried = λ is asks. absurd (not_done fault (sym number ∙ is));
       asked = λ asks. told.asked asks;
       refused = λ other. told.unchanged;
-      untold = λ other crowds. c.refuse.ensures.untold crowds ∙ told.untold;
+      unwritten = λ other crowds. c.refuse.ensures.unwritten crowds ∙ told.untold;
       crowds = λ task other is.
           c.refuse.ensures.crowds task (same_fault (sym (told.refused (not_memory fault (λ it. other (number ∙ it)))) ∙ is))
           ∙ ap (λ (cost : Cost). record cost { crowded = task }) told.untold;

@@ -32,7 +32,7 @@ returns-in-Some c =
       carried = λ is asks. absurd (not_done fault (sym number ∙ is));
       asked = λ asks. refl;
       refused = λ other. refl;
-      untold = λ other crowds. c.refuse.ensures.untold crowds;
+      unwritten = λ other crowds. c.refuse.ensures.unwritten crowds;
       crowds = λ task other is. c.refuse.ensures.crowds task (same_fault (sym refused ∙ is));
     }
 
