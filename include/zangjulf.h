@@ -16,6 +16,21 @@
  *
  * Memory is taken with malloc, grown with realloc and given back with free. Calls that take some can answer
  * ZANGJULF_MEMORY; then nothing changed, and the call may be given again, but by `zangjulf_open`, which closes what was open.
+ * A fault that is judged before memory is taken is answered whatever memory does: of an edit 1 to 11, of `zangjulf_send` 8
+ * and 17, of `zangjulf_arrive` 20 to 27.
+ *
+ * Refusals. ZANGJULF_DONE, and of `zangjulf_arrive` 101 to 103 too, answer a call that is done; with any other answer all
+ * that is handed in to be written is as it was, slices and structs and single numbers, but for what a call tells by it:
+ *
+ *   zangjulf_open                           12: `*task`
+ *   zangjulf_block                          29: `*block`
+ *   zangjulf_connect, _disconnect, _remap,
+ *   _move                                   12: `cost->crowded`
+ *   zangjulf_declare                       104: `*fault`
+ *   zangjulf_next_write, _preview           29: `*size`
+ *   zangjulf_send                           29: `sent->size`
+ *   zangjulf_next_change                    29: `*change`
+ *   zangjulf_arrive            20 to 27 and 28: `*count`, which is 0
  */
 #ifndef ZANGJULF_H
 #define ZANGJULF_H
@@ -183,7 +198,8 @@ struct zangjulf_block {
 uint8_t zangjulf_block(struct zangjulf *handle, uint16_t station, uint8_t number, uint8_t *out, size_t length,
                        struct zangjulf_block *block);
 
-/* Edits. Where `asks` is true nothing changes, and what the edit would do is told. */
+/* Edits. Where `asks` is true nothing changes, and what the edit would do is told. It is a byte, 0 or 1: a caller whose
+ * language has another bool passes no other number. */
 
 /* What an edit does. */
 struct zangjulf_cost {
@@ -192,7 +208,8 @@ struct zangjulf_cost {
     uint32_t moved;  /* how many register blocks of the new line weren't blocks with the same bytes at the same register of
                       * the same slave in the old line */
     uint32_t places; /* how many variables stand elsewhere, appear or go */
-    uint8_t crowded; /* where the edit is answered 12 the lowest task, 0 to 7, that would need more than 16 datagrams */
+    uint8_t crowded; /* where the edit is answered 12 the lowest task, 0 to 7, that would need more than 16 datagrams; 0 where
+                      * it is done */
 };
 
 /* The group with an alias joins the line. ZANGJULF_DONE; 1, 2, 12, 13; ZANGJULF_MEMORY or ZANGJULF_CLOSED. Unless it is done

@@ -1,6 +1,7 @@
 -- Ends of runs, their joins, and what they say of a datagram.
 use Rattle.std.specs.Prelude.{◌≡◌, ℕ, ◌+◌, ◌*◌, ◌/◌, ◌%◌, ◌<◌, ◌≤◌, ◌==◌, nat_le, Bool, true, false, ◌||◌, List, [], ◌∷◌, ◌++◌, slice_index, if◌then◌else◌, refl}
 use Rattle.std.proofs.Common.{sym, ap, ◌∙◌, arith}
+use Rattle.hc_records.specs.declared.keys.Key.{Key}
 use Rattle.hc_records.specs.declared.records.Dir.{Dir}
 use Rattle.hc_records.specs.Keys.{is_turn}
 use Rattle.hc_records.specs.TaskList.{Keyed}
@@ -111,6 +112,13 @@ area-le true byte area filled = omega arith
 area-le false true area filled = omega arith
 area-le false false area filled = omega arith
 
--- an end never falls when an area is appended
+-- an area takes nothing back
 pub with_area-le : (filled : Filled) (area : Keyed) → filled.bit ≤ (with_area filled area).bit
 with_area-le filled area = area-le (area.1 == 0) (nat_le 8 area.1 || is_turn filled.last area.0.dir) area filled
+
+-- an end never falls when an area is appended
+pub ended-le : (sum : Sum) (dir : Dir) (bits : ℕ) (filled : Filled) → (ended sum filled).bit ≤ (ended (joined sum (sum_of_area dir bits)) filled).bit
+ended-le sum dir bits filled =
+    let area : Keyed = ((let key : Key = record { dir = dir; rank = 0; area = 0 } in key), bits) in
+    let more : ended (joined sum (sum_of_area dir bits)) filled ≡ with_area (ended sum filled) area = ended-joined sum (sum_of_area dir bits) filled ∙ ended-area area (ended sum filled) in
+    rw more (with_area-le (ended sum filled) area)

@@ -1,11 +1,12 @@
 -- What follows from the definition of a sum. Each is the contract of a function of `laws`.
-use Rattle.std.specs.Prelude.{◌≡◌, ◌≤◌}
+use Rattle.std.specs.Prelude.{◌≡◌, ℕ, ◌≤◌, List}
+use Rattle.hc_records.specs.declared.records.Dir.{Dir}
 use Rattle.hc_records.specs.TaskList.{Keyed}
 use Rattle.hc_bitsum.specs.declared.filled.Filled.{Filled}
 use Rattle.hc_bitsum.specs.declared.sum.Sum.{Sum}
 use Rattle.hc_bitsum.specs.declared.sum.Sum.TheVariants.{Empty}
-use Rattle.hc_bitsum.specs.Filling.{with_area}
-use Rattle.hc_bitsum.specs.Sums.{joined}
+use Rattle.hc_bitsum.specs.Filling.{with_area, with_areas}
+use Rattle.hc_bitsum.specs.Sums.{ended, joined, sum_of, sum_of_area}
 
 -- three sums in a row join to the same, whichever two are joined first
 abbrev pub JoiningIsAssociative : Type 0
@@ -20,6 +21,14 @@ pub record IsNeutral (empty : Sum) : Type 0 where
 abbrev pub EmptyIsNeutral : Type 0
 EmptyIsNeutral = IsNeutral Empty
 
--- an end never falls when an area is appended
+-- an end never falls when an area is appended: wherever a run starts, one with an area appended ends no earlier
 abbrev pub EndsNeverFall : Type 0
-EndsNeverFall = (filled : Filled) (area : Keyed) → filled.bit ≤ (with_area filled area).bit
+EndsNeverFall = (sum : Sum) (dir : Dir) (bits : ℕ) (filled : Filled) → (ended sum filled).bit ≤ (ended (joined sum (sum_of_area dir bits)) filled).bit
+
+-- and so it is of what fills a datagram: an area never takes bits back
+abbrev pub AreasTakeNothingBack : Type 0
+AreasTakeNothingBack = (filled : Filled) (area : Keyed) → filled.bit ≤ (with_area filled area).bit
+
+-- the sum of a list of areas fills a datagram as these areas do by the rules of packing
+abbrev pub SumsFillAsTheirAreas : Type 0
+SumsFillAsTheirAreas = (list : List Keyed) (filled : Filled) → ended (sum_of list) filled ≡ with_areas filled list

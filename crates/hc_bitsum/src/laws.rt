@@ -1,6 +1,6 @@
 //! What follows from the definition of a sum, so that a reader can trust it: each function here does
 //! nothing, and its contract is a law. Nobody calls it.
-ghost use Rattle.hc_bitsum.specs.Laws.{EmptyIsNeutral, EndsNeverFall, JoiningIsAssociative};
+ghost use Rattle.hc_bitsum.specs.Laws.{AreasTakeNothingBack, EmptyIsNeutral, EndsNeverFall, JoiningIsAssociative, SumsFillAsTheirAreas};
 
 /// Of three runs in a row it doesn't matter which two are joined first.
 pub fn joining_is_associative()
@@ -12,8 +12,19 @@ pub fn empty_is_neutral()
     ensures { EmptyIsNeutral }
 {}
 
-/// An area never takes bits back: once it stands, the datagram's first free bit is the one before or a
-/// later one.
+/// An end never falls when an area is appended: wherever a run starts, the run with one more area ends at the
+/// same bit or at a later one.
 pub fn ends_never_fall()
     ensures { EndsNeverFall }
+{}
+
+/// An area never takes bits back: once it stands in a datagram, the first free bit is the one before or a later
+/// one.
+pub fn areas_take_nothing_back()
+    ensures { AreasTakeNothingBack }
+{}
+
+/// A run fills a datagram as its areas do, one after another, by the rules of packing.
+pub fn sums_fill_as_their_areas()
+    ensures { SumsFillAsTheirAreas }
 {}

@@ -1,5 +1,5 @@
 -- An edit that is prepared, and what is told of it where it lies.
-use Rattle.std.proofs.Common.{rules, ◌≡◌, ◌∙◌, ap, sym, subst, Result, Ok, Err, IfErr, IfOk, OnOk}
+use Rattle.std.proofs.Common.{rules, ◌≡◌, ◌∙◌, ap, sym, subst, Option, Some, None, Result, Ok, Err, IfErr, IfOk, IfSome, OnOk}
 use Rattle.std.specs.Result.{result_unwrap_or}
 use Rattle.hc_records.specs.declared.edit.Edit.{Edit}
 use Rattle.hc_records.specs.declared.faults.EditFault.{EditFault}
@@ -12,13 +12,22 @@ use Rattle.hc_core.specs.State.{CoreState}
 use Rattle.hc_c.specs.declared.editing.Cost.{Cost}
 use Rattle.hc_c.specs.Edits.{IsCost}
 
--- what is told of a result is refused where that is, and for its fault
+-- what is told of a result is refused where that is, and for its fault; one that must be refused for a fault is told so
 
 pub same-fact : {X Y E : Type 0} (first : Result X E) (second : Result Y E) (P : Type 0) → IfErr first (λ fault. second ≡ Err fault) → OnOk first P → OnOk second P
 same-fact first second P same is = search rules
 
 pub same-error : {X Y E : Type 0} (first : Result X E) (second : Result Y E) (P : E → Type 0) → IfErr second (λ fault. first ≡ Err fault) → IfErr first P → IfErr second P
 same-error first second P same is = search rules
+
+pub same-own : {X Y E : Type 0} (found : Option E) (first : Result X E) (second : Result Y E) → IfErr first (λ fault. second ≡ Err fault) → IfSome found (λ fault. first ≡ Err fault)
+    → IfSome found (λ fault. second ≡ Err fault)
+same-own None first second same own = tt
+same-own {X = X} {E = E} (Some fault) first second same own = subst (λ (it : Result X E). IfErr it (λ told. second ≡ Err told)) own same
+
+pub done-own : {X Y E : Type 0} (found : Option E) (value : X) (told : Result Y E) → IfSome found (λ fault. ◌≡◌ {A = Result X E} (Ok value) (Err fault)) → IfSome found (λ fault. told ≡ Err fault)
+done-own None value told own = tt
+done-own (Some fault) value told own = cc
 
 -- what a prepared edit of a core would do is what the edit does to the core's state
 

@@ -1,5 +1,6 @@
 -- The numbers of refused edits.
-use Rattle.std.proofs.Common.{◌≡◌, ◌≢◌, ap, Result, Ok, Err}
+use Rattle.std.proofs.Common.{◌≡◌, ◌≢◌, ◌∙◌, ℕ, ap, sym, IfSome, Option, Some, None, Result, Ok, Err}
+use Rattle.std.proofs.lemmas.Option.{same_Some}
 use Rattle.hc_records.specs.declared.faults.EditFault.{EditFault}
 use Rattle.hc_records.specs.declared.faults.EditFault.TheVariants.{UnknownAlias, AlreadyPresent, NotPresent, Mandatory, UnknownStation, Absent, NoSuchArea, NoSuchTask, UnknownPdo, RepeatedPdo, AreaTooBig, TooManyDatagrams, EpochsSpent, Memory, BadGroup, AliasTaken, StationTaken, VariableTaken, TooManyGroups, TooManySlaves}
 use Rattle.hc_records.specs.Line.{State}
@@ -38,3 +39,26 @@ not_accepted e = cc
 
 pub same_fault : {first second : EditFault} → ◌≡◌ {A = Result State EditFault} (Err first) (Err second) → first ≡ second
 same_fault e = cc
+
+-- a fault that an edit has by itself: one that is accepted has none, and of one that is refused it is the fault told
+
+same_found : {X : Type 0} {value : X} {fault : EditFault} → ◌≡◌ {A = Result X EditFault} (Ok value) (Err fault) → ⊥
+same_found e = cc
+
+same_told : {X : Type 0} {first second : EditFault} → ◌≡◌ {A = Result X EditFault} (Err first) (Err second) → first ≡ second
+same_told e = cc
+
+pub own-accepted : {X : Type 0} (found : Option EditFault) (value : X) (number : ℕ) → IfSome found (λ fault. ◌≡◌ {A = Result X EditFault} (Ok value) (Err fault))
+    → IfSome found (λ fault. number ≡ core_fault_number (edit_refusal fault))
+own-accepted None value number own = tt
+own-accepted (Some fault) value number own = absurd (same_found own)
+
+pub own-refused : (X : Type 0) (found : Option EditFault) (told : EditFault) (number : ℕ) → number ≡ core_fault_number (edit_refusal told)
+    → IfSome found (λ fault. ◌≡◌ {A = Result X EditFault} (Err told) (Err fault)) → IfSome found (λ fault. number ≡ core_fault_number (edit_refusal fault))
+own-refused X None told number is own = tt
+own-refused X (Some fault) told number is own = is ∙ ap (λ (it : EditFault). core_fault_number (edit_refusal it)) (same_told own)
+
+pub own-found : (found : Option EditFault) (told : EditFault) (number : ℕ) → number ≡ core_fault_number (edit_refusal told) → found ≡ Some told
+    → IfSome found (λ fault. number ≡ core_fault_number (edit_refusal fault))
+own-found None told number is same = tt
+own-found (Some fault) told number is same = is ∙ sym (ap (λ (it : EditFault). core_fault_number (edit_refusal it)) (same_Some fault told same))

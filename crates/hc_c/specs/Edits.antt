@@ -1,5 +1,5 @@
 -- What C is told of an edit.
-use Rattle.std.specs.Prelude.{◌≡◌, ◌≢◌, ℕ, Bool, true, false, ◌∷◌, length, Result, Ok, Err}
+use Rattle.std.specs.Prelude.{◌≡◌, ◌≢◌, ℕ, Bool, true, false, ◌∷◌, length, IfSome, Result, Ok, Err}
 use Rattle.hc_records.specs.declared.edit.Edit.{Edit}
 use Rattle.hc_records.specs.declared.faults.EditFault.{EditFault}
 use Rattle.hc_records.specs.declared.faults.EditFault.TheVariants.{TooManyDatagrams}
@@ -7,6 +7,7 @@ use Rattle.hc_records.specs.Boundaries.{recut}
 use Rattle.hc_records.specs.Edits.{edited, state_after}
 use Rattle.hc_records.specs.Line.{State, line}
 use Rattle.hc_registers.specs.Blocks.{moved}
+use Rattle.hc_edits.specs.Edits.{own_fault}
 use Rattle.hc_events.specs.Entries.{Edited}
 use Rattle.hc_events.specs.Faults.{core_fault_number, edit_refusal}
 use Rattle.hc_events.specs.Points.{state_of}
@@ -14,26 +15,29 @@ use Rattle.hc_places.specs.Swap.{changed_variables}
 use Rattle.hc_places.specs.Table.{table_of}
 use Rattle.hc_c.specs.declared.editing.Cost.{Cost}
 use Rattle.hc_c.specs.declared.embedded.Embedded.{Embedded}
-use Rattle.hc_c.specs.declared.numbers.TheConstants.{DONE, MEMORY}
+use Rattle.hc_c.specs.declared.numbers.TheConstants.{CROWDED, DONE, MEMORY}
 use Rattle.hc_c.specs.Embedded.{past_of, with_past}
 
--- what an edit does that leads from one state to another
+-- what an edit does that leads from one state to another; no task is crowded by it
 pub record IsCost (old new : State) (cost : Cost) : Type 0 where
   pub epoch : cost.epoch ≡ new.epoch
   pub recut : cost.recut ≡ recut (line old) (line new)
   pub moved : cost.moved ≡ moved (line old) (line new)
   pub places : cost.places ≡ length (changed_variables (table_of (line old)) (table_of (line new)))
+  pub crowded : cost.crowded ≡ 0
 
 -- 0 where the state accepts an edit, else its fault's number
 abbrev pub edit_number : Result State EditFault → ℕ
 edit_number (Ok state) = DONE
 edit_number (Err fault) = core_fault_number (edit_refusal fault)
 
--- the edit is judged as the core judges it, or memory was wanted; where it is accepted its cost is told, and it is carried out where C doesn't only ask; else nothing changes
+-- the edit is judged as the core judges it, or memory was wanted, which no fault that the edit has by itself waits for; where it is accepted its cost is told, and it is carried out where C doesn't only ask; else nothing changes, and of the cost only the crowded task is told, where there is one
 pub record Serves (old new : Embedded) (edit : Edit) (asks : Bool) (number : ℕ) (before after : Cost) : Type 0 where
   pub told : number ≢ MEMORY → number ≡ edit_number (edited (state_of (past_of old)) edit)
+  pub own : IfSome (own_fault (state_of (past_of old)).groups edit) (λ fault. number ≡ core_fault_number (edit_refusal fault))
   pub cost : number ≡ DONE → IsCost (state_of (past_of old)) (state_after (state_of (past_of old)) edit) after
   pub carried : number ≡ DONE → asks ≡ false → new ≡ with_past old (Edited edit ∷ past_of old)
   pub asked : asks ≡ true → new ≡ old
-  pub refused : number ≢ DONE → (new ≡ old) × (after ≡ record before { crowded = after.crowded })
-  pub crowds : (task : ℕ) → number ≢ MEMORY → edited (state_of (past_of old)) edit ≡ Err (TooManyDatagrams task) → after.crowded ≡ task
+  pub refused : number ≢ DONE → new ≡ old
+  pub unwritten : number ≢ DONE → number ≢ CROWDED → after ≡ before
+  pub crowds : (task : ℕ) → number ≢ MEMORY → edited (state_of (past_of old)) edit ≡ Err (TooManyDatagrams task) → after ≡ record before { crowded = task }

@@ -1,5 +1,5 @@
 //! Frames one after another in the caller's slice.
-ghost use Rattle.std.specs.Prelude.{◌≡◌, ◌≢◌, ◌*◌, ◌≤◌, ◌++◌, All, IfErr, IfOk, None, OnErr, OnOk, Some, drop, length, sum_by};
+ghost use Rattle.std.specs.Prelude.{◌≡◌, ◌≢◌, ◌*◌, ◌≤◌, ◌++◌, All, Err, IfErr, IfOk, IfSome, None, OnErr, OnOk, Some, drop, length, sum_by};
 ghost use Rattle.std.specs.List.{flat_map};
 ghost use Rattle.hc_records.specs.Lists.{lowest};
 ghost use Rattle.hc_frames.specs.declared.limits.TheConstants.{SETUP_SERIAL};
@@ -7,6 +7,7 @@ ghost use Rattle.hc_events.specs.declared.faults.CoreFault.TheVariants.{Memory};
 ghost use Rattle.hc_events.specs.Calls.{AreSentTogether, frames_size, send_into_faults};
 ghost use Rattle.hc_events.specs.Sendings.{size_of};
 ghost use Rattle.hc_events.specs.Steps.{SendsTasks, entries_after, proposal, sent_text, task_faults};
+ghost use Rattle.hc_core.specs.Early.{early_fault};
 ghost use Rattle.hc_core.specs.Filled.{CanBeFilled};
 ghost use Rattle.hc_core.specs.Proposed.{IsProposal};
 
@@ -89,6 +90,7 @@ fn propose_into(
     ensures room { IfOk result (λ found. found.1 ≤ room) }
     ensures accepted { OnOk result (lowest (task_faults core.now.past tasks.now) ≡ None) }
     ensures refused { IfErr result (λ fault. fault ≢ Memory → lowest (send_into_faults core.now.past tasks.now room) ≡ Some fault) }
+    ensures early { IfSome (early_fault core.now.past (SendsTasks tasks.now)) (λ fault. result ≡ Err fault) }
 {
     let frames = core.propose(alloc, tasks)?;
     let needed = size_of_all(frames.as_slice());
@@ -99,8 +101,8 @@ fn propose_into(
 }
 
 /// Tasks are sent, 1 to 8 distinct ones: their frames stand at the front of `out` one after another, and their bytes and
-/// how many they are are answered. The first of the faults 8, 17, 19 and 29 that holds, or 28; then nothing changed, `out`
-/// neither.
+/// how many they are are answered. The first of the faults 8, 17, 19 and 29 that holds, or 28, but never in the place of 8 or 17;
+/// then nothing changed, `out` neither.
 pub fn send_into(
     core: &mut Core,
     alloc: Global,
@@ -114,6 +116,7 @@ pub fn send_into(
     ensures accepted { OnOk result (lowest (send_into_faults core.old.past tasks.now (length out.old)) ≡ None) }
     ensures entries { OnOk result (core.new ≡ record core.old { past = entries_after core.old.past (SendsTasks tasks.now) }) }
     ensures refused { IfErr result (λ fault. fault ≢ Memory → lowest (send_into_faults core.old.past tasks.now (length out.old)) ≡ Some fault) }
+    ensures early { IfSome (early_fault core.old.past (SendsTasks tasks.now)) (λ fault. result ≡ Err fault) }
     ensures unchanged { OnErr result (core.new ≡ core.old) }
     ensures untouched { OnErr result (out.new ≡ out.old) }
 {

@@ -91,6 +91,7 @@ fn tell_next(own: &mut Embedded, alloc: Global, out: &mut [u8], told: &mut Told)
     ensures room { result ≡ ROOM → Keeps own.old own.new told.new (length out.old) }
     ensures one { (result ≡ DONE) ⊎ ((result ≡ NOTHING) ⊎ (result ≡ ROOM)) }
     ensures untouched { result ≢ DONE → out.new ≡ out.old }
+    ensures unwritten { result ≡ NOTHING → told.new ≡ told.old }
 {
     refill(own, alloc);
     let Some(change) = own.untold.first() else {
@@ -106,7 +107,8 @@ fn tell_next(own: &mut Embedded, alloc: Global, out: &mut [u8], told: &mut Told)
 
 /// The next change that C wasn't told yet, in the order in which they came: `DONE`, and its data stand at the front of
 /// `out`; `NOTHING` where there is none; `ROOM` where `out` is shorter than `told.size`, and the change is told again;
-/// or `CLOSED`. Only with `DONE` `out` is written. It takes no memory.
+/// or `CLOSED`. Only with `DONE` `out` is written, and `told` only with `DONE` and `ROOM`. With each answer but `CLOSED` the
+/// changes that were news are taken from the core, and the handle keeps those that weren't told. It takes no memory.
 #[unsafe(no_mangle)]
 pub extern "C" fn zangjulf_next_change(
     alloc: Global,
@@ -120,6 +122,7 @@ pub extern "C" fn zangjulf_next_change(
     ensures one { IsSome handle.old.holding.value → (result ≡ DONE) ⊎ ((result ≡ NOTHING) ⊎ (result ≡ ROOM)) }
     ensures held { is_some handle.new.holding.value ≡ is_some handle.old.holding.value }
     ensures untouched { result ≢ DONE → out.new ≡ out.old }
+    ensures unwritten { result ≡ NOTHING → told.new ≡ told.old }
     ensures closed { handle.old.holding.value ≡ None → (result ≡ CLOSED) × (told.new ≡ told.old) }
 {
     let Some(mut own) = handle.take(alloc) else {

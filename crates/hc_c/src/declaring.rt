@@ -22,7 +22,7 @@ fn serve_text(
     fault: &mut u8,
     cost: &mut Cost,
 ) -> u8
-    ensures { Declares (group_in text.now) own.old own.new asks result fault.new cost.old cost.new }
+    ensures { Declares (group_in text.now) own.old own.new asks result fault.old fault.new cost.old cost.new }
 {
     match read_group(alloc, text) {
         Ok(group) => serve(own, alloc, &Edit::Declare(group), asks, cost),
@@ -38,7 +38,7 @@ fn serve_text(
 /// could. The text is a project's with exactly one group and no mandatory slave. `DONE`, and `cost` tells the epoch that
 /// begins with it; else the lowest of the faults 13 and 31 to 35 that holds; `NO_GROUP`, and `fault` is why the text is no
 /// group's: the lowest of a project's faults 1 to 10, or behind them 12 where it is another project's; `MEMORY` or
-/// `CLOSED`. Unless it is done nothing changed.
+/// `CLOSED`. Unless it is done nothing changed, and `cost` is as it was; `fault` is written with `NO_GROUP` alone.
 #[unsafe(no_mangle)]
 pub extern "C" fn zangjulf_declare(
     alloc: Global,
@@ -48,7 +48,7 @@ pub extern "C" fn zangjulf_declare(
     fault: &mut u8,
     cost: &mut Cost,
 ) -> u8
-    ensures serves { IfSome handle.old.holding.value (λ old. IfSome handle.new.holding.value (λ new. Declares (group_in text.now) old new asks result fault.new cost.old cost.new)) }
+    ensures serves { IfSome handle.old.holding.value (λ old. IfSome handle.new.holding.value (λ new. Declares (group_in text.now) old new asks result fault.old fault.new cost.old cost.new)) }
     ensures held { is_some handle.new.holding.value ≡ is_some handle.old.holding.value }
     ensures closed { handle.old.holding.value ≡ None → (result ≡ CLOSED) × (cost.new ≡ cost.old) × (fault.new ≡ fault.old) }
 {

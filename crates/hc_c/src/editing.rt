@@ -3,17 +3,20 @@ ghost use Rattle.std.specs.Prelude.{◌≡◌, ◌≢◌, ◌∷◌, ℕ, Err, I
 ghost use Rattle.hc_records.specs.declared.edit.Edit.TheVariants.{Connect, Disconnect, Move, Remap};
 ghost use Rattle.hc_records.specs.declared.faults.EditFault.TheVariants.{Memory, TooManyDatagrams};
 ghost use Rattle.hc_records.specs.Edits.{edited, state_after};
+ghost use Rattle.hc_edits.specs.Edits.{own_fault};
 ghost use Rattle.hc_events.specs.Entries.{Edited};
 ghost use Rattle.hc_events.specs.Faults.{core_fault_number, edit_refusal};
 ghost use Rattle.hc_events.specs.Points.{state_of};
 ghost use Rattle.hc_plan.specs.Prepared.{IsPrepared};
 ghost use Rattle.hc_c.specs.Embedded.{past_of, with_past};
+ghost use Rattle.hc_c.specs.declared.numbers.TheConstants.{CROWDED};
 ghost use Rattle.hc_c.specs.Edits.{IsCost, Serves};
 
 use crate::embedded::Embedded;
 use crate::handle::Handle;
 use crate::numbers::{CLOSED, DONE, MEMORY};
 use hc_core::prepared::CoreEdit;
+use hc_edits::faults::remap_fault;
 use hc_events::faults::CoreFault;
 use hc_plan::prepared::PreparedEdit;
 use hc_records::edit::Edit;
@@ -34,7 +37,8 @@ pub struct Cost {
     moved: u32,
     /// How many variables stand elsewhere, appear or go.
     places: u32,
-    /// Of an edit that is refused because a task would need more than 16 datagrams the lowest such task, 0 to 7.
+    /// Of an edit that is refused because a task would need more than 16 datagrams the lowest such task, 0 to 7; 0 of one
+    /// that is done.
     crowded: u8,
 }
 
@@ -76,6 +80,7 @@ fn ask(own: &mut Embedded, alloc: Global, edit: &Edit, cost: &mut Cost) -> Resul
     ensures accepted { OnOk result (edited (state_of (past_of own.old)) edit.now ≡ Ok (state_after (state_of (past_of own.old)) edit.now)) }
     ensures cost { OnOk result (IsCost (state_of (past_of own.old)) (state_after (state_of (past_of own.old)) edit.now) cost.new) }
     ensures refused { IfErr result (λ fault. fault ≢ Memory → edited (state_of (past_of own.old)) edit.now ≡ Err fault) }
+    ensures own { IfSome (own_fault (state_of (past_of own.old)).groups edit.now) (λ fault. result ≡ Err fault) }
     ensures unchanged { own.new ≡ own.old }
     ensures untold { OnErr result (cost.new ≡ cost.old) }
 {
@@ -89,6 +94,7 @@ fn carry(own: &mut Embedded, alloc: Global, edit: &Edit, cost: &mut Cost) -> Res
     ensures cost { OnOk result (IsCost (state_of (past_of own.old)) (state_after (state_of (past_of own.old)) edit.now) cost.new) }
     ensures carried { OnOk result (own.new ≡ with_past own.old (Edited edit.now ∷ past_of own.old)) }
     ensures refused { IfErr result (λ fault. fault ≢ Memory → edited (state_of (past_of own.old)) edit.now ≡ Err fault) }
+    ensures own { IfSome (own_fault (state_of (past_of own.old)).groups edit.now) (λ fault. result ≡ Err fault) }
     ensures unchanged { OnErr result (own.new ≡ own.old) }
     ensures untold { OnErr result (cost.new ≡ cost.old) }
 {
@@ -105,8 +111,8 @@ fn carry(own: &mut Embedded, alloc: Global, edit: &Edit, cost: &mut Cost) -> Res
 /// The number of a refusal; where a task would need too many datagrams it is told.
 fn refuse(fault: EditFault, cost: &mut Cost) -> u8
     ensures number { result ≡ core_fault_number (edit_refusal fault) }
-    ensures rest { cost.new ≡ record cost.old { crowded = cost.new.crowded } }
-    ensures crowds { (task : ℕ) → fault ≡ TooManyDatagrams task → cost.new.crowded ≡ task }
+    ensures crowds { (task : ℕ) → fault ≡ TooManyDatagrams task → cost.new ≡ record cost.old { crowded = task } }
+    ensures unwritten { result ≢ CROWDED → cost.new ≡ cost.old }
 {
     if let EditFault::TooManyDatagrams(task) = fault {
         cost.crowded = task;
@@ -127,6 +133,7 @@ fn work_out(
     ensures carried { OnOk result (asks ≡ false → own.new ≡ with_past own.old (Edited edit.now ∷ past_of own.old)) }
     ensures asked { asks ≡ true → own.new ≡ own.old }
     ensures refused { IfErr result (λ fault. fault ≢ Memory → edited (state_of (past_of own.old)) edit.now ≡ Err fault) }
+    ensures own { IfSome (own_fault (state_of (past_of own.old)).groups edit.now) (λ fault. result ≡ Err fault) }
     ensures unchanged { OnErr result (own.new ≡ own.old) }
     ensures untold { OnErr result (cost.new ≡ cost.old) }
 {
@@ -153,8 +160,38 @@ pub(crate) fn serve(
     }
 }
 
+/// Serves a remap. It is judged before its indexes are copied, so that a fault which it has by itself is answered whatever
+/// memory does.
+fn serve_remap(
+    own: &mut Embedded,
+    alloc: Global,
+    station: u16,
+    area: u8,
+    pdos: &[u16],
+    asks: bool,
+    cost: &mut Cost,
+) -> u8
+    ensures { Serves own.old own.new (Remap station area pdos.now) asks result cost.old cost.new }
+{
+    if let Some(fault) = remap_fault(own.core.plan().groups(), station, area, pdos) {
+        return refuse(fault, cost);
+    }
+    match Vec::from_slice(alloc, pdos) {
+        Ok(pdos) => {
+            let edit = Edit::Remap {
+                station,
+                area,
+                pdos: Items::of(pdos),
+            };
+            serve(own, alloc, &edit, asks, cost)
+        }
+        Err(_) => MEMORY,
+    }
+}
+
 /// The group with an alias joins the line; where `asks`, it is only told what that would cost. `DONE`, and `cost` tells
-/// what it does; else the lowest of the faults 1, 2, 12 and 13 that holds, `MEMORY` or `CLOSED`, and nothing changed.
+/// what it does; else the lowest of the faults 1, 2, 12 and 13 that holds, `MEMORY`, but never in the place of 1 or 2, or
+/// `CLOSED`, and nothing changed: of `cost` only `crowded` is told, with 12.
 #[unsafe(no_mangle)]
 pub extern "C" fn zangjulf_connect(
     alloc: Global,
@@ -177,7 +214,8 @@ pub extern "C" fn zangjulf_connect(
 }
 
 /// The group with an alias leaves the line; where `asks`, it is only told what that would cost. `DONE`, and `cost` tells
-/// what it does; else the lowest of the faults 1, 3, 4, 12 and 13 that holds, `MEMORY` or `CLOSED`, and nothing changed.
+/// what it does; else the lowest of the faults 1, 3, 4, 12 and 13 that holds, `MEMORY`, but never in the place of 1, 3 or 4,
+/// or `CLOSED`, and nothing changed: of `cost` only `crowded` is told, with 12.
 #[unsafe(no_mangle)]
 pub extern "C" fn zangjulf_disconnect(
     alloc: Global,
@@ -201,7 +239,8 @@ pub extern "C" fn zangjulf_disconnect(
 
 /// An area, counted from 0, of the present slave with a station address gets the PDOs with these indexes assigned, in this
 /// order; where `asks`, it is only told what that would cost. `DONE`, and `cost` tells what it does; else the lowest of the
-/// faults 5 to 7 and 9 to 13 that holds, `MEMORY` or `CLOSED`, and nothing changed.
+/// faults 5 to 7 and 9 to 13 that holds, `MEMORY`, but never in the place of 5 to 11, or `CLOSED`, and nothing changed: of
+/// `cost` only `crowded` is told, with 12.
 #[unsafe(no_mangle)]
 pub extern "C" fn zangjulf_remap(
     alloc: Global,
@@ -219,24 +258,14 @@ pub extern "C" fn zangjulf_remap(
     let Some(mut own) = handle.take(alloc) else {
         return CLOSED;
     };
-    let number = match Vec::from_slice(alloc, pdos) {
-        Ok(pdos) => {
-            let edit = Edit::Remap {
-                station,
-                area,
-                pdos: Items::of(pdos),
-            };
-            serve(&mut own, alloc, &edit, asks, cost)
-        }
-        Err(_) => MEMORY,
-    };
+    let number = serve_remap(&mut own, alloc, station, area, pdos, asks, cost);
     *handle = Handle::of(own);
     number
 }
 
 /// An area, counted from 0, of the present slave with a station address moves to a task; where `asks`, it is only told what
 /// that would cost. `DONE`, and `cost` tells what it does; else the lowest of the faults 5 to 8, 12 and 13 that holds,
-/// `MEMORY` or `CLOSED`, and nothing changed.
+/// `MEMORY`, but never in the place of 5 to 8, or `CLOSED`, and nothing changed: of `cost` only `crowded` is told, with 12.
 #[unsafe(no_mangle)]
 pub extern "C" fn zangjulf_move(
     alloc: Global,

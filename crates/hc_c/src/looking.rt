@@ -263,7 +263,7 @@ fn tell_block(found: &LineBlock, out: &mut [u8], block: &mut Block) -> u8
 /// The register block with a number, from 0, in the order of the slave with a station address: for each area in record
 /// order its sync manager block, then its FMMU block. `DONE`, and its bytes stand at the front of `out`; `NOTHING` where no
 /// such slave is present or it has fewer blocks; `ROOM` where `out` has fewer than `block.size` bytes, and is as it was;
-/// or `CLOSED`.
+/// or `CLOSED`. With `NOTHING` and `CLOSED` `block` is as it was.
 #[unsafe(no_mangle)]
 pub extern "C" fn zangjulf_block(
     alloc: Global,
@@ -273,7 +273,7 @@ pub extern "C" fn zangjulf_block(
     out: &mut [u8],
     block: &mut Block,
 ) -> u8
-    ensures told { IfSome handle.old.holding.value (λ old. MatchOption (block_at (line_of (past_of old)) station number) (result ≡ NOTHING) (λ found. TellsBlock found result block.new out.old out.new)) }
+    ensures told { IfSome handle.old.holding.value (λ old. MatchOption (block_at (line_of (past_of old)) station number) ((result ≡ NOTHING) × (block.new ≡ block.old)) (λ found. TellsBlock found result block.new out.old out.new)) }
     ensures kept { handle.new.holding.value ≡ handle.old.holding.value }
     ensures untouched { result ≢ DONE → out.new ≡ out.old }
     ensures closed { handle.old.holding.value ≡ None → (result ≡ CLOSED) × (block.new ≡ block.old) }

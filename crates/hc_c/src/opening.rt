@@ -20,7 +20,8 @@ use std::alloc::Global;
 fn open_project(alloc: Global, project: Project, task: &mut u8) -> Result<Box<Embedded>, u8>
     ensures opened { IfOk result (λ own. own.value ≡ fresh project) }
     ensures accepted { OnOk result (crowded_task (line (opened project)) ≡ None) }
-    ensures refused { IfErr result (λ number. (number ≡ MEMORY) ⊎ ((number ≡ CROWDED) × (crowded_task (line (opened project)) ≡ Some task.new))) }
+    ensures refused { IfErr result (λ number. ((number ≡ MEMORY) × (task.new ≡ task.old)) ⊎ ((number ≡ CROWDED) × (crowded_task (line (opened project)) ≡ Some task.new))) }
+    ensures unwritten { OnOk result (task.new ≡ task.old) }
 {
     let core = match Core::new(alloc, project) {
         Ok(core) => core,
@@ -40,7 +41,7 @@ fn open_project(alloc: Global, project: Project, task: &mut u8) -> Result<Box<Em
 /// Opens the project of a text in place of what the handle held, and answers `DONE`: the mandatory group alone is present,
 /// and nothing has happened. Otherwise the handle is closed, and the answer is the project's fault, 1 to 10, the lowest
 /// whose condition holds; `CROWDED` where a task of the opening line needs more than 16 datagrams, and `task` is the lowest
-/// such; or `MEMORY`.
+/// such; or `MEMORY`. With every answer but `CROWDED` `task` is as it was.
 #[unsafe(no_mangle)]
 pub extern "C" fn zangjulf_open(
     alloc: Global,
@@ -52,6 +53,7 @@ pub extern "C" fn zangjulf_open(
     ensures open { result ≡ DONE → IsSome handle.new.holding.value }
     ensures told { result ≢ MEMORY → result ≡ opening_number (project_in text.now) }
     ensures crowded { result ≡ CROWDED → crowded_in (project_in text.now) ≡ Some task.new }
+    ensures unwritten { result ≢ CROWDED → task.new ≡ task.old }
     ensures closed { result ≢ DONE → handle.new.holding.value ≡ None }
 {
     drop(handle.take(alloc));

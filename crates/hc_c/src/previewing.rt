@@ -12,7 +12,7 @@ use std::alloc::Global;
 
 /// Tells the frame of a datagram: `DONE`; `NOTHING` where there is none; or `ROOM` where `out` is too short.
 fn tell_preview(core: &Core, task: u8, datagram: u8, out: &mut [u8], size: &mut usize) -> u8
-    ensures told { MatchOption (preview core.now.past task datagram) (result ≡ NOTHING) (λ frame. TellsPreview core.now.past frame result size.new out.old out.new) }
+    ensures told { MatchOption (preview core.now.past task datagram) ((result ≡ NOTHING) × (size.new ≡ size.old)) (λ frame. TellsPreview core.now.past frame result size.new out.old out.new) }
     ensures untouched { result ≢ DONE → out.new ≡ out.old }
 {
     let Some(frame) = core.preview(task, datagram) else {
@@ -29,7 +29,7 @@ fn tell_preview(core: &Core, task: u8, datagram: u8, out: &mut [u8], size: &mut 
 /// The frame of one datagram of a task alone, as it would be sent next, whether or not blocks are owed; nothing is sent by
 /// it. `DONE`, and it stands at the front of `out`, its bytes in `size`; `NOTHING` where the task has no such datagram,
 /// there is no such task, or no serial is left; `ROOM` where `out` has fewer than `size` bytes, and is as it was; or
-/// `CLOSED`. It takes no memory.
+/// `CLOSED`. With `NOTHING` and `CLOSED` `size` is as it was. It takes no memory.
 #[unsafe(no_mangle)]
 pub extern "C" fn zangjulf_preview(
     alloc: Global,
@@ -39,7 +39,7 @@ pub extern "C" fn zangjulf_preview(
     out: &mut [u8],
     size: &mut usize,
 ) -> u8
-    ensures told { IfSome handle.old.holding.value (λ old. MatchOption (preview (past_of old) task datagram) (result ≡ NOTHING) (λ frame. TellsPreview (past_of old) frame result size.new out.old out.new)) }
+    ensures told { IfSome handle.old.holding.value (λ old. MatchOption (preview (past_of old) task datagram) ((result ≡ NOTHING) × (size.new ≡ size.old)) (λ frame. TellsPreview (past_of old) frame result size.new out.old out.new)) }
     ensures kept { handle.new.holding.value ≡ handle.old.holding.value }
     ensures untouched { result ≢ DONE → out.new ≡ out.old }
     ensures closed { handle.old.holding.value ≡ None → (result ≡ CLOSED) × (size.new ≡ size.old) }

@@ -104,6 +104,7 @@ fn tell_slots(
     ensures number { result ≡ fit_number (slots_from core.now.past task 0 (length datagrams.now)) (length out.old) }
     ensures image { result ≡ DONE → HoldsSlots (epoch_of core.now.past) (slots_from core.now.past task 0 (length datagrams.now)) image.new out.old out.new sizes.old sizes.new }
     ensures untouched { result ≢ DONE → out.new ≡ out.old }
+    ensures unwritten { result ≢ DONE → (sizes.new ≡ sizes.old) × (image.new ≡ image.old) }
 {
     if !fit(core, task, 0, datagrams, out.len()) {
         return ROOM;
@@ -122,6 +123,7 @@ fn tell_image(core: &Core, task: u8, out: &mut [u8], sizes: &mut [usize], image:
     ensures number { result ≡ image_number (answer_to core.now.past (Reads task)) (length out.old) }
     ensures image { result ≡ DONE → HoldsImage (answer_to core.now.past (Reads task)) image.new out.old out.new sizes.old sizes.new }
     ensures untouched { result ≢ DONE → out.new ≡ out.old }
+    ensures unwritten { result ≢ DONE → (sizes.new ≡ sizes.old) × (image.new ≡ image.old) }
 {
     if task >= TASKS {
         return CoreFault::NoSuchTask.number();
@@ -133,8 +135,8 @@ fn tell_image(core: &Core, task: u8, out: &mut [u8], sizes: &mut [usize], image:
 /// What a task reads: of each of its datagrams the data of the last good answer in the present epoch, or none. `DONE`: the
 /// data stand at the front of `out` one after another, in the datagrams' order, and those that have none leave no gap;
 /// `sizes` has the bytes of each, 0 where it has none, as many as there is room for. Else fault 8 where the task is over 7,
-/// `ROOM` where `out` is too short, which 23,776 bytes never are, or `CLOSED`; `out` is then as it was. Nothing changes. It
-/// takes no memory.
+/// `ROOM` where `out` is too short, which 23,776 bytes never are, or `CLOSED`; `out`, `sizes` and `image` are then as they
+/// were. Nothing changes. It takes no memory.
 #[unsafe(no_mangle)]
 pub extern "C" fn zangjulf_read(
     alloc: Global,
@@ -147,8 +149,9 @@ pub extern "C" fn zangjulf_read(
     ensures told { IfSome handle.old.holding.value (λ old. result ≡ image_number (answer_to (past_of old) (Reads task)) (length out.old)) }
     ensures image { result ≡ DONE → IfSome handle.old.holding.value (λ old. HoldsImage (answer_to (past_of old) (Reads task)) image.new out.old out.new sizes.old sizes.new) }
     ensures untouched { result ≢ DONE → out.new ≡ out.old }
+    ensures unwritten { result ≢ DONE → (sizes.new ≡ sizes.old) × (image.new ≡ image.old) }
     ensures kept { handle.new.holding.value ≡ handle.old.holding.value }
-    ensures closed { handle.old.holding.value ≡ None → (result ≡ CLOSED) × (sizes.new ≡ sizes.old) × (image.new ≡ image.old) }
+    ensures closed { handle.old.holding.value ≡ None → result ≡ CLOSED }
 {
     let Some(own) = handle.take(alloc) else {
         return CLOSED;

@@ -1,7 +1,9 @@
 //! Tasks are sent.
 ghost use Rattle.std.specs.Prelude.{◌≡◌, ◌≢◌, ◌↔◌, IfSome, IsTrue, None, Some, length};
 ghost use Rattle.hc_records.specs.Lists.{has_repeat, lowest};
+ghost use Rattle.hc_core.specs.Early.{early_fault};
 ghost use Rattle.hc_events.specs.Calls.{AreSentTogether, frames_size, send_into_faults};
+ghost use Rattle.hc_events.specs.Faults.{core_fault_number};
 ghost use Rattle.hc_events.specs.Steps.{SendsTasks, entries_after};
 ghost use Rattle.hc_c.specs.Embedded.{past_of, with_past};
 ghost use Rattle.hc_c.specs.Numbers.{number_of};
@@ -49,7 +51,8 @@ fn are_sent_together(tasks: &[u8]) -> bool
 /// Tasks are sent, in their order: the frames stand at the front of `out` one after another, each of its own size, and
 /// `sent` tells their bytes and their number, which is 0 where the tasks have no datagram. `DONE`; else the first of the
 /// faults 8, 17, 19 and 29 that holds, `MEMORY`, `MISUSED` where they aren't 1 to 8 tasks, none twice, or `CLOSED`; and
-/// nothing is sent, and nothing changed, `out` neither. With 29 `sent.size` is the bytes that are needed.
+/// nothing is sent, and nothing changed, `out` neither. With 29 `sent.size` is the bytes that are needed; all else of `sent` is
+/// as it was. That there is no such task (8) and that blocks are owed (17) is answered whatever memory does.
 #[tactic(auto, using(crate::proofs::Rooms::frames_need))]
 #[unsafe(no_mangle)]
 pub extern "C" fn zangjulf_send(
@@ -60,9 +63,11 @@ pub extern "C" fn zangjulf_send(
     sent: &mut Sent,
 ) -> u8
     ensures told { IfSome handle.old.holding.value (λ old. AreSentTogether tasks.now → result ≢ MEMORY → result ≡ number_of (lowest (send_into_faults (past_of old) tasks.now (length out.old)))) }
+    ensures early { IfSome handle.old.holding.value (λ old. AreSentTogether tasks.now → IfSome (early_fault (past_of old) (SendsTasks tasks.now)) (λ fault. result ≡ core_fault_number fault)) }
     ensures sent { result ≡ DONE → IfSome handle.old.holding.value (λ old. HoldsFrames (past_of old) tasks.now out.old out.new sent.new) }
     ensures entries { result ≡ DONE → IfSome handle.old.holding.value (λ old. handle.new.holding.value ≡ Some (with_past old (entries_after (past_of old) (SendsTasks tasks.now)))) }
-    ensures needed { result ≡ ROOM → IfSome handle.old.holding.value (λ old. sent.new.size ≡ frames_size (past_of old) tasks.now) }
+    ensures needed { result ≡ ROOM → IfSome handle.old.holding.value (λ old. sent.new ≡ record sent.old { size = frames_size (past_of old) tasks.now }) }
+    ensures unwritten { result ≢ DONE → result ≢ ROOM → sent.new ≡ sent.old }
     ensures misused { IfSome handle.old.holding.value (λ old. ¬ AreSentTogether tasks.now → result ≡ MISUSED) }
     ensures unchanged { result ≢ DONE → handle.new.holding.value ≡ handle.old.holding.value }
     ensures untouched { result ≢ DONE → out.new ≡ out.old }

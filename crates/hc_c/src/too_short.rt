@@ -1,5 +1,5 @@
 //! Refusals of calls that write into a slice of C's.
-ghost use Rattle.std.specs.Prelude.{◌≡◌};
+ghost use Rattle.std.specs.Prelude.{◌≡◌, ◌≢◌};
 ghost use Rattle.hc_events.specs.declared.faults.CoreFault.TheVariants.{Room};
 ghost use Rattle.hc_events.specs.Faults.{core_fault_number};
 
@@ -11,6 +11,7 @@ use hc_events::faults::CoreFault;
 pub fn refuse(fault: CoreFault, needed: &mut usize) -> u8
     ensures number { result ≡ core_fault_number fault }
     ensures room { result ≡ ROOM → fault ≡ Room needed.new }
+    ensures unwritten { result ≢ ROOM → needed.new ≡ needed.old }
 {
     if let CoreFault::Room(bytes) = fault {
         *needed = bytes;

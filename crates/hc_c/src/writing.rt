@@ -16,7 +16,7 @@ use std::alloc::Global;
 
 /// The first owed register block is sent, with the next serial: its frame stands at the front of `out`, and `size` is its
 /// bytes. `DONE`; else the first of the faults 18, 19 and 29 that holds, or `CLOSED`, and nothing changed, `out` neither.
-/// With 29 `size` is the bytes that are needed. It takes no memory.
+/// With 29 `size` is the bytes that are needed, with every other refusal as it was. It takes no memory.
 #[tactic(auto, using(crate::proofs::Rooms::write_needs))]
 #[unsafe(no_mangle)]
 pub extern "C" fn zangjulf_next_write(
@@ -29,6 +29,7 @@ pub extern "C" fn zangjulf_next_write(
     ensures written { result ≡ DONE → IfSome handle.old.holding.value (λ old. HoldsWrite (past_of old) out.old out.new size.new) }
     ensures entries { result ≡ DONE → IfSome handle.old.holding.value (λ old. handle.new.holding.value ≡ Some (with_past old (entries_after (past_of old) SendsWrite))) }
     ensures needed { result ≡ ROOM → IfSome handle.old.holding.value (λ old. size.new ≡ write_size (owed_blocks (past_of old))) }
+    ensures unwritten { result ≢ DONE → result ≢ ROOM → size.new ≡ size.old }
     ensures unchanged { result ≢ DONE → handle.new.holding.value ≡ handle.old.holding.value }
     ensures untouched { result ≢ DONE → out.new ≡ out.old }
     ensures closed { handle.old.holding.value ≡ None → (result ≡ CLOSED) × (size.new ≡ size.old) }

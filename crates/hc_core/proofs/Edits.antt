@@ -13,7 +13,7 @@ use Rattle.hc_records.specs.Project.{lowest_fault}
 use Rattle.hc_edits.specs.Edits.{own_fault}
 use Rattle.hc_edits.proofs.lemmas.Accepted.{accepted-project}
 use Rattle.hc_places.specs.declared.swap.Swap.{Swap}
-use Rattle.hc_places.specs.Swap.{swapped}
+use Rattle.hc_places.specs.Swap.{Leads, swapped}
 use Rattle.hc_places.specs.Table.{Table, table_of}
 use Rattle.hc_plan.specs.Prepared.{IsPrepared, PreparedEdit}
 use Rattle.hc_plan.specs.declared.report.Report.{Report}
@@ -38,6 +38,7 @@ use Rattle.hc_owed.specs.Board.{Board, kept_of}
 use Rattle.hc_owed.specs.Laws.{known_over}
 use Rattle.hc_owed.specs.Room.{OwedRoom}
 use Rattle.hc_core.proofs.Awaits.{waits-edited}
+use Rattle.hc_core.proofs.News.{exact-joined}
 use Rattle.hc_core.proofs.Posts.{values-edited}
 use Rattle.hc_core.proofs.Known.{kept-alike, known-edited}
 use Rattle.hc_core.specs.Agreement.{Agree, CoreParts}
@@ -91,6 +92,11 @@ news-edited taken past edit changes new report accepted tell tells =
           accepted = search rules;
           leads = ap (λ state. swapped swap.change (table_of (line state))) behind ∙ tell.leads ∙ ap (λ state. table_of (line state)) (sym after) ∙ ap (λ state. table_of (line (state_after state swap.edit))) (sym behind);
         },
+        tt,
+      );
+      exact = exact-joined (state_of taken) changes (change.Swapped swap ∷ []) tells.exact (
+        subst (λ (state : State). Leads (table_of (line state)) (table_of (line (state_after state swap.edit))) swap) (sym behind)
+            (subst (λ (state : State). Leads (table_of (line (state_of past))) (table_of (line state)) swap) (sym after) (record { leads = tell.leads; says = tell.says; count = tell.places })),
         tt,
       );
       behind = swap_behind (state_of taken) changes swap ∙ ap (λ state. state_after state swap.edit) behind ∙ ap (state_after (state_of past)) tell.named;

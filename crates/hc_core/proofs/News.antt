@@ -9,6 +9,7 @@ use Rattle.hc_events.specs.declared.change.Change.{Change}
 use Rattle.hc_events.specs.declared.change.Change.TheVariants as change
 use Rattle.hc_events.specs.Arrivals.{Arrival}
 use Rattle.hc_events.specs.Entries.{Record, Came}
+use Rattle.hc_events.specs.Exact.{SwapsAreExactFrom}
 use Rattle.hc_events.specs.Points.{line_of}
 use Rattle.hc_events.specs.Accepted.{StandsIn}
 use Rattle.hc_events.specs.Images.{Fresh, fresh_by}
@@ -29,6 +30,15 @@ goods_legal state [] all = tt
 goods_legal state (good ∷ goods) all =
     search (rules, All-head, All-tail, goods_legal state goods (All-tail (FitsFresh StandsIn (line state)) good goods all))
 
+goods_exact : (state : State) (goods : List Fresh) → SwapsAreExactFrom state (map change_of goods)
+goods_exact state [] = tt
+goods_exact state (good ∷ goods) = goods_exact state goods
+
+pub exact-joined : (state : State) (first second : List Change) → SwapsAreExactFrom state first → SwapsAreExactFrom (state_behind state first) second → SwapsAreExactFrom state (first ++ second)
+exact-joined state [] second one other = other
+exact-joined state (change.Swapped swap ∷ first) second one other = (one.0, exact-joined (state_after state swap.edit) first second one.1 other)
+exact-joined state (change.Good good ∷ first) second one other = exact-joined state first second one other
+
 goods_behind : (state : State) (changes : List Change) (goods : List Fresh) → state_behind state (changes ++ map change_of goods) ≡ state_behind state changes
 goods_behind state [] [] = refl
 goods_behind state [] (good ∷ goods) = goods_behind state [] goods
@@ -38,7 +48,7 @@ goods_behind state (change.Good good ∷ changes) goods = goods_behind state cha
 pub news-came : (taken past : Record) (arrival : Arrival) (changes : List Change) (goods : List Fresh) → fresh_by past arrival ≡ goods → All (FitsFresh StandsIn (line_of past)) (fresh_by past arrival) → TellNews taken past changes
     → TellNews taken (Came arrival ∷ past) (changes ++ map change_of goods)
 news-came taken past arrival changes goods same fit tells =
-    search (rules, append_assoc, goods_told, map-append, legal-joined, goods_legal, goods_behind)
+    search (rules, append_assoc, goods_told, map-append, legal-joined, goods_legal, exact-joined, goods_exact, goods_behind)
 
 pub news-none : (taken past : Record) (arrival : Arrival) (changes : List Change) → fresh_by past arrival ≡ [] → TellNews taken past changes → TellNews taken (Came arrival ∷ past) changes
 news-none taken past arrival changes none tells = search rules

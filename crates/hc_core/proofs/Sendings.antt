@@ -71,6 +71,7 @@ agree-sent kept past taken tasks none owed left agree =
       tells = record {
         told = sent_alike news_of (λ before frame. refl) frames past ∙ agree.tells.told;
         legal = agree.tells.legal;
+        exact = agree.tells.exact;
         behind = agree.tells.behind ∙ sym same;
       };
     }
@@ -95,5 +96,5 @@ agree-wrote kept past taken n block owed first left sent agree = record {
   slots = agree.slots;
   values = values-wrote past block kept.outputs agree.values;
   known = sent ∙ kept-alike (known_with (name_of block) None (known_bytes past)) (known_bytes (Wrote block ∷ past)) (state_of past) (λ station number. sym (known-wrote past block station number));
-  tells = record { told = agree.tells.told; legal = agree.tells.legal; behind = agree.tells.behind };
+  tells = record { told = agree.tells.told; legal = agree.tells.legal; exact = agree.tells.exact; behind = agree.tells.behind };
 }

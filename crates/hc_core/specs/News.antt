@@ -3,11 +3,13 @@ use Rattle.std.specs.Prelude.{◌≡◌, List, ◌++◌, map}
 use Rattle.hc_events.specs.declared.change.Change.{Change}
 use Rattle.hc_events.specs.Changes.{AreLegalFrom, news_of, told_by}
 use Rattle.hc_events.specs.Entries.{Record}
+use Rattle.hc_events.specs.Exact.{SwapsAreExactFrom}
 use Rattle.hc_events.specs.NewsLaws.{state_behind}
 use Rattle.hc_events.specs.Points.{state_of}
 
--- changes tell what is news since an earlier record of a core: they are legal from the state as it was then, and lead to the present one
+-- changes tell what is news since an earlier record of a core: they are legal from the state as it was then, their swaps carry only what differs, and they lead to the present state
 pub record TellNews (taken past : Record) (changes : List Change) : Type 0 where
   pub told : news_of past ≡ news_of taken ++ map told_by changes
   pub legal : AreLegalFrom (state_of taken) changes
+  pub exact : SwapsAreExactFrom (state_of taken) changes
   pub behind : state_behind (state_of taken) changes ≡ state_of past

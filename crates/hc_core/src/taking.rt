@@ -12,8 +12,10 @@ use std::snapshot::Snapshot;
 
 impl Core {
     /// The changes since they were taken last, or since the opening, in order: what was news since then, legal
-    /// from the state as it was then, with swaps that lead from its line to the present one. They are no longer
-    /// kept, and the record stays. It takes no memory: `alloc` is for the empty list that is kept from now on.
+    /// from the state as it was then, with swaps that lead from its line to the present one. Each swap carries
+    /// only what differs: the tasks whose table differs, and the variables whose place differs, as many as
+    /// `Swap::places` answers. They are no longer kept, and the record stays. It takes no memory: `alloc` is for
+    /// the empty list that is kept from now on.
     pub fn take_changes(&mut self, alloc: Global) -> Vec<Change>
         ensures news { TellNews self.old.taken self.old.past result.items }
         ensures lead { SwapsLeadFrom (state_of self.old.taken) result.items }

@@ -90,7 +90,9 @@ fn assigning_fault(area: &Area, pdos: &[u16]) -> Option<EditFault>
     None
 }
 
-fn remap_fault(groups: &[Declared], station: u16, area: u8, pdos: &[u16]) -> Option<EditFault>
+/// The lowest fault that a remap with these indexes has by itself, as `own_fault` of that edit; a caller that has them
+/// in a slice needs no list of them for it. It takes no memory.
+pub fn remap_fault(groups: &[Declared], station: u16, area: u8, pdos: &[u16]) -> Option<EditFault>
     requires { IsCounted groups.now }
     ensures { result ≡ own_fault groups.now (Remap station area pdos.now) }
 {

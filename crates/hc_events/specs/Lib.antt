@@ -9,6 +9,7 @@ pub mod Images
 pub mod Outputs
 pub mod Owed
 pub mod Changes
+pub mod Exact
 pub mod Steps
 pub mod Outcomes
 pub mod Calls

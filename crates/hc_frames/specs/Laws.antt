@@ -44,10 +44,15 @@ CarriedFramesAreRead =
     (destination : List ℕ) (first serial : ℕ) (parts : List Carried) (behind : List ℕ) → length destination ≡ 6 → CanBeCarried serial parts
     → let bytes = carried_frame destination first serial parts behind in (fault_in bytes ≡ None) × (reading_of bytes ≡ record { serial = serial; parts = parts })
 
--- a returned text is readable, and tells the sending's serial, commands, numbers of data bytes, and addresses of stations and process data, with the data and the counters that it carries
+-- what slaves leave in the interrupt field and the working counter fits the 16 bits of each
+pub record FitsFields (part : Carried) : Type 0 where
+  pub interrupt : part.interrupt < 2 ^ 16
+  pub counter : part.counter < 2 ^ 16
+
+-- of a sending that a frame can carry, a returned text is readable, and tells the sending's serial, commands, numbers of data bytes, and addresses of stations and process data, with the data and the counters that it carries
 abbrev pub ReturnedFramesAreRead : Type 0
 ReturnedFramesAreRead =
-    (serial : ℕ) (ds : List Datagram) (parts : List Carried) (bytes : List ℕ) → IsReturned serial ds parts bytes → CanBeCarried serial parts
+    (serial : ℕ) (ds : List Datagram) (parts : List Carried) (bytes : List ℕ) → CanBeCarried serial (map sent ds) → IsReturned serial ds parts bytes → All FitsFields parts
     → (fault_in bytes ≡ None) × (reading_of bytes ≡ record { serial = serial; parts = parts })
     × (map (λ (part : Carried). part.command) parts ≡ map (λ (d : Datagram). d.command) ds)
     × (map (λ (part : Carried). length part.bytes) parts ≡ map (λ (d : Datagram). length d.bytes) ds)

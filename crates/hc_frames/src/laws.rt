@@ -37,8 +37,9 @@ pub fn carried_frames_are_read()
     ensures { CarriedFramesAreRead }
 {}
 
-/// A returned text of a sending is readable and tells the sending's serial, commands and numbers of data bytes, with the
-/// data and the working counters that it carries; and the sending's addresses where none is a position's.
+/// A returned text of a sending that a frame can carry is readable and tells the sending's serial, commands and numbers of
+/// data bytes, with the data and the working counters that it carries; and the sending's addresses where none is a
+/// position's. Its interrupt fields and working counters are numbers of 16 bits; all else follows from the sending.
 pub fn returned_frames_are_read()
     ensures { ReturnedFramesAreRead }
 {}

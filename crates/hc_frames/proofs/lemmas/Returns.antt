@@ -1,11 +1,14 @@
 -- What comes back of a sending.
-use Rattle.std.proofs.Common.{◌≡◌, ℕ, List, [], ◌∷◌, ◌++◌, length, map, replicate, refl, sym, ap, ◌∙◌, append_assoc}
+use Rattle.std.proofs.Common.{◌≡◌, ℕ, ◌+◌, ◌^◌, ◌<◌, ◌≤◌, All, List, [], ◌∷◌, ◌++◌, length, map, replicate, None, refl, sym, ap, ap₂, ◌∙◌, arith, append_assoc}
+use Rattle.std.proofs.lemmas.List.Elements.{All-cons, All-head, All-nil, All-tail}
+use Rattle.std.proofs.lemmas.List.Sums.{sum_by-cons}
 use Rattle.hc_frames.specs.declared.commands.Command.{Command}
 use Rattle.hc_frames.specs.declared.commands.Command.TheVariants.{Aprd, Apwr, Fpwr, Lrw}
 use Rattle.hc_frames.specs.Arrived.{Reading, fault_in, reading_of}
 use Rattle.hc_frames.specs.FrameText.{Carried, Datagram, datagrams_text, frame_head, padding, sent}
-use Rattle.hc_frames.specs.Laws.{BuiltFramesAreRead, FramesHaveOneReading, ReturnedFramesAreRead, SentFramesAreReturned}
-use Rattle.hc_frames.specs.Returned.{AllAddressed, AllComeBack, IsAddressed, KeepsAddress}
+use Rattle.hc_frames.specs.Laws.{BuiltFramesAreRead, CanBeCarried, FitsFields, FramesHaveOneReading, ReturnedFramesAreRead, SentFramesAreReturned}
+use Rattle.hc_frames.specs.Returned.{AllAddressed, AllComeBack, ComesBack, FitsLine, IsAddressed, IsReturned, KeepsAddress}
+use Rattle.hc_frames.specs.Sizes.{text_size}
 use Rattle.hc_frames.proofs.lemmas.Readings.{frame-read}
 
 same_commands : (ds : List Datagram) (parts : List Carried) → AllComeBack ds parts → map (λ (part : Carried). part.command) parts ≡ map (λ (d : Datagram). d.command) ds
@@ -36,10 +39,68 @@ same_addresses (d ∷ ds) (part ∷ parts) back addressed =
     ap (λ (n : ℕ). n ∷ map (λ (p : Carried). p.address) parts) (same_address d.command d.address part.address addressed.0 back.0.address)
     ∙ ap (λ (ns : List ℕ). d.address ∷ ns) (same_addresses ds parts back.1 addressed.1)
 
-pub returned-read : ReturnedFramesAreRead
+-- a returned text whose parts can be carried is read
+pub returned-read : (serial : ℕ) (ds : List Datagram) (parts : List Carried) (bytes : List ℕ) → IsReturned serial ds parts bytes → CanBeCarried serial parts
+    → (fault_in bytes ≡ None) × (reading_of bytes ≡ record { serial = serial; parts = parts })
+    × (map (λ (part : Carried). part.command) parts ≡ map (λ (d : Datagram). d.command) ds)
+    × (map (λ (part : Carried). length part.bytes) parts ≡ map (λ (d : Datagram). length d.bytes) ds)
+    × (AllAddressed ds → map (λ (part : Carried). part.address) parts ≡ map (λ (d : Datagram). d.address) ds)
 returned-read serial ds parts bytes back can =
     let read = frame-read (replicate 6 255) 2 serial parts back.text.0 refl can in
     (ap fault_in back.text.1 ∙ read.0, ap reading_of back.text.1 ∙ read.1, same_commands ds parts back.back, same_sizes ds parts back.back, same_addresses ds parts back.back)
+
+-- they can, where those of the sending could: they have as many bytes, and addresses of as many bits
+
+address_fits : (command : Command) (old new : ℕ) → KeepsAddress command old new → old < 2 ^ 32 → new < 2 ^ 32
+address_fits Aprd old new kept fits = omega arith
+address_fits Apwr old new kept fits = omega arith
+address_fits Fpwr old new kept fits = omega arith
+address_fits Lrw old new kept fits = omega arith
+
+part_fits : (d : Datagram) (part : Carried) → ComesBack d part → FitsLine (sent d) → FitsFields part → FitsLine part
+part_fits d part back fits fields =
+    let size : length part.bytes ≡ length d.bytes = back.size in
+    let filled : 1 ≤ length d.bytes = fits.filled in
+    let most : length d.bytes ≤ 1486 = fits.size in
+    record {
+      address = address_fits d.command d.address part.address back.address fits.address;
+      interrupt = fields.interrupt;
+      counter = fields.counter;
+      filled = omega arith;
+      size = omega arith;
+    }
+
+all_fit : (ds : List Datagram) (parts : List Carried) → AllComeBack ds parts → All FitsLine (map sent ds) → All FitsFields parts → All FitsLine parts
+all_fit [] [] back fits fields = All-nil FitsLine
+all_fit [] (part ∷ parts) back fits fields = absurd back
+all_fit (d ∷ ds) [] back fits fields = absurd back
+all_fit (d ∷ ds) (part ∷ parts) back fits fields =
+    All-cons FitsLine part parts (part_fits d part back.0 (All-head FitsLine (sent d) (map sent ds) fits) (All-head FitsFields part parts fields))
+    (all_fit ds parts back.1 (All-tail FitsLine (sent d) (map sent ds) fits) (All-tail FitsFields part parts fields))
+
+same_text : (ds : List Datagram) (parts : List Carried) → AllComeBack ds parts → text_size parts ≡ text_size (map sent ds)
+same_text [] [] back = refl
+same_text [] (part ∷ parts) back = absurd back
+same_text (d ∷ ds) [] back = absurd back
+same_text (d ∷ ds) (part ∷ parts) back =
+    sum_by-cons (λ (x : Carried). 12 + length x.bytes) part parts
+    ∙ ap₂ (λ (m n : ℕ). 12 + m + n) back.0.size (same_text ds parts back.1)
+    ∙ sym (sum_by-cons (λ (x : Carried). 12 + length x.bytes) (sent d) (map sent ds))
+
+same_some : (ds : List Datagram) (parts : List Carried) → AllComeBack ds parts → 0 < length (map sent ds) → 0 < length parts
+same_some [] [] back some = some
+same_some [] (part ∷ parts) back some = absurd back
+same_some (d ∷ ds) [] back some = absurd back
+same_some (d ∷ ds) (part ∷ parts) back some = omega arith
+
+pub returned-carried : (serial : ℕ) (ds : List Datagram) (parts : List Carried) → CanBeCarried serial (map sent ds) → AllComeBack ds parts → All FitsFields parts → CanBeCarried serial parts
+returned-carried serial ds parts can back fields =
+    let within : text_size (map sent ds) ≤ 1498 = can.within in
+    let same : text_size parts ≡ text_size (map sent ds) = same_text ds parts back in
+    record { some = same_some ds parts back can.some; low = can.low; fits = all_fit ds parts back can.fits fields; within = omega arith }
+
+pub returned-sent : ReturnedFramesAreRead
+returned-sent serial ds parts bytes can back fields = returned-read serial ds parts bytes back (returned-carried serial ds parts can back.back fields)
 
 address_kept : (command : Command) (address : ℕ) → KeepsAddress command address address
 address_kept Aprd address = refl

@@ -1,5 +1,5 @@
-use Rattle.hc_bitsum.proofs.Ends.{with_area-le}
+use Rattle.hc_bitsum.proofs.Ends.{ended-le}
 use Rattle.hc_bitsum.proofs.laws.ends_never_fall.Goals as goal
 
 pub returns : goal.returns
-returns c = with_area-le
+returns c = ended-le

@@ -1,7 +1,14 @@
-use Rattle.hc_c.proofs.Asked.{carried-cost}
+use Rattle.std.proofs.Common.{Ok}
+use Rattle.hc_edits.specs.Edits.{own_fault}
+use Rattle.hc_events.specs.Points.{state_of}
+use Rattle.hc_c.specs.Embedded.{past_of}
+use Rattle.hc_c.proofs.Asked.{carried-cost, done-own}
 use Rattle.hc_c.proofs.editing.carry.Goals as goal
 
 pub returns-in-Ok-clause-cost : goal.returns-in-Ok-clause-cost
 returns-in-Ok-clause-cost c =
     let told = c.cost_of.ensures in let ready = c.in-Ok.ensures in
     carried-cost c.edit.result.now c.in-Ok.ready c.args.own.now.core c.args.edit.now c.cost_of.result c.edit.ensures.edit c.edit.ensures.made told.cost told.prepared ready.made ready.edit
+
+pub returns-in-Ok-clause-own : goal.returns-in-Ok-clause-own
+returns-in-Ok-clause-own c = done-own (own_fault (state_of (past_of c.args.own.now)).groups c.args.edit.now) c.in-Ok.ready (Ok tt) c.in-Ok.ensures.own

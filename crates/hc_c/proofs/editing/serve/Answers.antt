@@ -1,17 +1,22 @@
 use Rattle.std.proofs.Common.{◌∙◌, ap, sym, refl}
+use Rattle.hc_edits.specs.Edits.{own_fault}
+use Rattle.hc_events.specs.Points.{state_of}
 use Rattle.hc_c.specs.declared.editing.Cost.{Cost}
 use Rattle.hc_c.specs.Edits.{edit_number}
-use Rattle.hc_c.proofs.Refusals.{not_accepted, not_done, not_memory, same_fault}
+use Rattle.hc_c.specs.Embedded.{past_of}
+use Rattle.hc_c.proofs.Refusals.{not_accepted, not_done, not_memory, own-accepted, own-refused, same_fault}
 use Rattle.hc_c.proofs.editing.serve.Goals as goal
 
 pub returns-in-Ok : goal.returns-in-Ok
 returns-in-Ok c =
     let told = c.in-Ok.ensures in record {
       told = λ _. sym (ap edit_number told.accepted);
+      own = own-accepted (own_fault (state_of (past_of c.args.own.now)).groups c.args.edit.now) tt 0 told.own;
       cost = λ _. told.cost;
       carried = λ _ asks. told.carried asks;
       asked = λ asks. told.asked asks;
       refused = λ other. absurd (other refl);
+      unwritten = λ other _. absurd (other refl);
       crowds = λ task other is. absurd (not_accepted (sym told.accepted ∙ is));
     }
 
@@ -20,9 +25,13 @@ returns-in-Err c =
     let fault = c.in-Err.fault in let told = c.in-Err.ensures in let number = c.refuse.ensures.number in
     record {
       told = λ other. number ∙ sym (ap edit_number (told.refused (not_memory fault (λ is. other (number ∙ is)))));
+      own = own-refused _ (own_fault (state_of (past_of c.args.own.now)).groups c.args.edit.now) fault c.refuse.result number told.own;
       cost = λ is. absurd (not_done fault (sym number ∙ is));
       carried = λ is asks. absurd (not_done fault (sym number ∙ is));
       asked = λ asks. told.asked asks;
-      refused = λ other. (told.unchanged, c.refuse.ensures.rest ∙ ap (λ (cost : Cost). record cost { crowded = c.refuse.new.cost.crowded }) told.untold);
-      crowds = λ task other is. c.refuse.ensures.crowds task (same_fault (sym (told.refused (not_memory fault (λ it. other (number ∙ it)))) ∙ is));
+      refused = λ other. told.unchanged;
+      unwritten = λ other crowds. c.refuse.ensures.unwritten crowds ∙ told.untold;
+      crowds = λ task other is.
+          c.refuse.ensures.crowds task (same_fault (sym (told.refused (not_memory fault (λ it. other (number ∙ it)))) ∙ is))
+          ∙ ap (λ (cost : Cost). record cost { crowded = task }) told.untold;
     }
