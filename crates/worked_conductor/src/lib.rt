@@ -8,6 +8,8 @@ mod at_once;
 #[cfg(test)]
 mod changer;
 #[cfg(test)]
+mod crowded;
+#[cfg(test)]
 mod dropped;
 #[cfg(test)]
 mod fates;

@@ -10,6 +10,7 @@ use hc_conductor::open;
 use hc_conductor::seat::TaskSeat;
 use hc_events::answer::{Answer, Outcome};
 use hc_project::read_project;
+use hc_publish::faults::OpenFault;
 use std::alloc::Global;
 use std::sync::Wait;
 
@@ -37,6 +38,14 @@ pdo = [{ index = 0x1a00, entries = [[2, 12]] }]
 
 /// The bytes of each frame of this line: no datagram fills more than the shortest frame.
 pub const FRAME: usize = 60;
+
+/// The line at its opening, or why it isn't opened.
+pub fn opening<R: Wait>(rt: &R, alloc: Global) -> Result<(Conductor, Vec<TaskSeat>), OpenFault> {
+    let Ok(project) = read_project(alloc, LINE.as_bytes()) else {
+        return Err(OpenFault::Memory);
+    };
+    open(rt, alloc, project)
+}
 
 /// The line at its opening.
 pub fn opened<R: Wait>(rt: &R, alloc: Global) -> Option<(Conductor, Vec<TaskSeat>)>

@@ -17,7 +17,7 @@ pub enum Unposted {
 }
 
 /// The outputs that are lent are one byte that is 0, and then this one.
-fn lends(seat: &mut TaskSeat, byte: u8) -> Result<(), Unposted> {
+pub fn lends(seat: &mut TaskSeat, byte: u8) -> Result<(), Unposted> {
     match seat.outputs() {
         Ok(outputs) => {
             let is_blank = &*outputs == [0].as_slice();
@@ -36,19 +36,6 @@ fn lends(seat: &mut TaskSeat, byte: u8) -> Result<(), Unposted> {
 pub fn post(seat: &mut TaskSeat, byte: u8) -> Result<(), Unposted> {
     lends(seat, byte)?;
     seat.post().map_err(Unposted::Fault)
-}
-
-/// Whether the byte is held for the next post, in the task's only byte of outputs.
-pub fn is_held(seat: &mut TaskSeat, byte: u8) -> bool
-    ensures { seat_origin seat.new ≡ seat_origin seat.old }
-{
-    if seat.hold().is_err() {
-        return false;
-    }
-    let outputs = seat.held_mut();
-    let is_blank = &*outputs == [0].as_slice();
-    outputs.fill(byte);
-    is_blank
 }
 
 /// Whether outputs are posted, each byte as this one.
