@@ -38,22 +38,9 @@ taken-joined (s ∷ ss) [] rs' posts each came = absurd each
 taken-joined (s ∷ ss) (r ∷ rs) [] posts each came = absurd came
 taken-joined (s ∷ ss) (r ∷ rs) (r' ∷ rs') [] each came = absurd came
 
--- a seat posts, or not: it has the same end, and posts or holds each buffer
-pub record StillJoins (s t : PostSender) : Type 0 where
-  pub same : SameSender s t
-  pub each : PostsEach s → PostsEach t
-
--- one by one
-abbrev pub EachStillJoins : List PostSender → List PostSender → Type 0
-EachStillJoins [] [] = Unit {0}
-EachStillJoins (s ∷ ss) (t ∷ ts) = StillJoins s t × EachStillJoins ss ts
-EachStillJoins ss ts = ⊥
-
-pub posted-joined : (ss ts : List PostSender) (rs : List PostReceiver) → EachRing AreJoined ss rs → EachStillJoins ss ts → EachRing AreJoined ts rs
-posted-joined [] [] [] each still = tt
-posted-joined (s ∷ ss) (t ∷ ts) (r ∷ rs) each still =
-    (record { ends = ends-still s t r r each.0.ends still.0.same (receiver-same r); each = still.0.each each.0.each; back = each.0.back }, posted-joined ss ts rs each.1 still.1)
-posted-joined [] [] (r ∷ rs) each still = absurd each
-posted-joined [] (t ∷ ts) rs each still = absurd still
-posted-joined (s ∷ ss) [] rs each still = absurd still
-posted-joined (s ∷ ss) (t ∷ ts) [] each still = absurd each
+-- the first seat posts, or not: it has the same end, and posted or holds each buffer; the others stay joined
+pub seat-joined : (s t : PostSender) (ss ts : List PostSender) → SameSender s t → (PostsEach s → PostsEach t) → ((rs : List PostReceiver) → EachRing AreJoined ss rs → EachRing AreJoined ts rs)
+    → (rs : List PostReceiver) → EachRing AreJoined (s ∷ ss) rs → EachRing AreJoined (t ∷ ts) rs
+seat-joined s t ss ts same each others (r ∷ rs) joined =
+    (record { ends = ends-still s t r r joined.0.ends same (receiver-same r); each = each joined.0.each; back = joined.0.back }, others rs joined.1)
+seat-joined s t ss ts same each others [] joined = absurd joined
