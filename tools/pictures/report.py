@@ -36,7 +36,8 @@ def summary(view: View) -> str:
     said = f"Epoch {state.epoch}: {', '.join(counts)}."
     if view.change:
         marks = ", ".join(f"{letter} {mark.value}" for mark, letter in MARK_LETTERS.items())
-        said += f" Picture and tables show {view.change.words}{view.said_of_change()}, before and after: {marks}."
+        shown = f"{'the line ' if view.change.is_other_text else ''}{view.change.words}{view.said_of_change()}"
+        said += f" Picture and tables show {shown}, before and after: {marks}."
     return element("p", text(said))
 
 

@@ -78,6 +78,17 @@ KEYS = [
     "a b",
     "=",
 ]
+# Headers and dotted keys that meet after two others.
+MEETING = [
+    "[a.b.c]\n[a]\nb.x = 1\n[a.b]\n",
+    "[a.b.c]\n[a]\nb.x = 1\n[a.b.d]\n",
+    "[a.b.c]\n[a]\nb.c.x = 1\n",
+    "[a.b.c]\n[a]\nb.c = 1\n",
+    "[a.b.c]\n[a.b]\n[a]\nb.x = 1\n",
+    "[[a.b]]\n[a]\nb.x = 1\n",
+    "[[a]]\n[a.b.c]\n[[a]]\n[a.b]\nc.x = 1\n",
+    "[[a]]\n[a.b.c]\n[a.b]\nc.x = 1\n",
+]
 SPOILT = list("\"'\\[]{}=,.#\n\r\t \x00\x01\x7f_-+:0aexuU19") + [
     "\r\n",
     '"""',
@@ -149,6 +160,15 @@ class Drawer:
         ends = [self.pick(["\n", "\n", "\n", "\r\n"]) for _ in lines]
         return self.pick(["", "", "", "\ufeff"]) + "".join(line + end for line, end in zip(lines, ends))
 
+    def tables(self) -> str:
+        """A document of headers and keys that often meet, since they have few parts of few letters."""
+        lines = []
+        for _ in range(self.pick([2, 3, 4, 5, 6])):
+            path = ".".join(self.random.choices("ab", k=self.pick([1, 1, 2, 2, 3])))
+            value = self.pick(["1", "{}", "[]", "{ a.b = 1 }", "[{ a = 1 }]", "{ a = 1, b.a = 1, b.b = 1 }"])
+            lines.append(self.pick([f"[{path}]", f"[[{path}]]", f"{path} = {value}"]))
+        return "\n".join(lines) + "\n"
+
     def spoilt(self, text: str) -> bytes:
         """A text with a few places changed, sometimes so that it isn't UTF-8."""
         for _ in range(self.pick([1, 1, 2, 3])):
@@ -161,12 +181,13 @@ class Drawer:
         return content
 
     def texts(self, count: int) -> list[bytes]:
-        """Documents, half of them spoilt; then each scalar as the value of a key, and nesting at its limit."""
+        """Documents, half of them spoilt; then headers and keys that meet, each scalar, and nesting at its limit."""
         drawn = [self.document() for _ in range(count)]
         texts = [self.spoilt(text) if row % 2 else text.encode() for row, text in enumerate(drawn)]
+        texts += [self.tables().encode() for _ in range(count)]
         texts += [f"x = {scalar}\n".encode() for scalar in SCALARS] + [f"[{key}]\n{key} = 1\n".encode() for key in KEYS]
         texts += [f"x = [{scalar}]\ny = {{ z = {scalar} }}\n".encode() for scalar in SCALARS]
-        return texts + nested()
+        return texts + [text.encode() for text in MEETING] + nested()
 
 
 def nested() -> list[bytes]:

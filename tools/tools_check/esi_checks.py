@@ -123,6 +123,8 @@ def check_line(checks: Checks) -> None:
     checks.equal("a line of three devices", 1, made.status)
     found = configured(checks, made.said, "layout\nregs 1001\nregs 1002\nregs 1003\n")
     checks.equal("blocks of three devices", LINE, found)
+    ended = checks.tool("lint", checks.file("line.toml", made.said), "--program", checks.program)
+    checks.equal("lint of three devices", (0, ""), (ended.status, ended.said))
     # The drive has another set assigned while the line runs: 2 bytes more, so the inputs of the drive move too.
     found = configured(checks, made.said, "remap 1003 0 0x1601\n")
     checks.equal("another set of the drive", ["epoch 1 recut 1 moved 3"], found)

@@ -10,7 +10,7 @@ from notations import PROJECT, Notation
 from projects.records import read_project
 from projects.toml import TomlFault, read_toml, walked
 
-SEED, DRAWN, NOTATIONS, ALONE = 20, 4000, 120, 150
+SEED, DRAWN, NOTATIONS, ALONE = 20, 3000, 100, 100
 # So many texts are declared in a run of the program.
 PORTION = 400
 MARKED = range(7_000_001, 7_001_000)
